@@ -1,0 +1,14 @@
+mod Known
+mod MadeAgain
+mod Sound
+mod Prompt
+mod Seam
+mod Question
+mod Telling
+mod Early
+mod EarlyRows
+mod Like
+mod Mentions
+mod Linking
+mod Unbound
+mod UnboundSeam

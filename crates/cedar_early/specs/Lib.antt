@@ -1,0 +1,14 @@
+pub mod Settling
+pub mod MadeAgain
+pub mod Partial
+pub mod Fair
+pub mod Prompt
+pub mod Seam
+pub mod Question
+pub mod Telling
+pub mod Early
+pub mod Like
+pub mod Mentions
+pub mod Linking
+pub mod Unbound
+pub mod UnboundSeam

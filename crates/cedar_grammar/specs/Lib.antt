@@ -1,0 +1,13 @@
+pub mod Token
+pub mod Tokens
+pub mod Escape
+pub mod Names
+pub mod Build
+pub mod Grammar
+pub mod Policy
+pub mod Policies
+pub mod Nesting
+pub mod Reading
+pub mod ReadingPolicies
+pub mod SoFar
+pub mod Laws

@@ -1,0 +1,7 @@
+mod Graph
+pub mod Answering
+mod Pattern
+mod Standing
+pub mod Rows
+pub mod Rising
+mod Sets

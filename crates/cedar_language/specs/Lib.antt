@@ -1,0 +1,15 @@
+pub mod Uid
+pub mod Tree
+pub mod Value
+pub mod Order
+pub mod Pattern
+pub mod Facts
+pub mod Operators
+pub mod Meaning
+pub mod Means
+pub mod Height
+pub mod Answering
+pub mod Authorization
+pub mod OrderLaws
+pub mod Sets
+pub mod WellFormed
