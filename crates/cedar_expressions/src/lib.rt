@@ -1,0 +1,9 @@
+//! Extension functions that expressions may call.
+#![tactic(auto)]
+
+mod extensions;
+
+pub use extensions::Extensions;
+
+#[cfg(test)]
+mod tests;

@@ -1,0 +1,11 @@
+//! Policies: their ids and effects.
+#![tactic(auto)]
+
+mod effect;
+mod policy_id;
+
+pub use effect::Effect;
+pub use policy_id::PolicyID;
+
+#[cfg(test)]
+mod tests;
