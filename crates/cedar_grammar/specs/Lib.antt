@@ -7,6 +7,7 @@ pub mod Grammar
 pub mod Policy
 pub mod Policies
 pub mod Nesting
+pub mod Gaps
 pub mod Reading
 pub mod ReadingPolicies
 pub mod SoFar

@@ -1,4 +1,4 @@
--- The syntax of a policy, and its condition.
+-- The syntax of a policy, its condition and its slots. (Cedar language reference, "Policy syntax" and "Policy templates".)
 use Rattle.std.specs.Prelude.{List, [], ◌∷◌, ◌++◌, Option, Some, None, true, map}
 use Rattle.cedar_language.specs.Uid.{Text, Name, Uid}
 use Rattle.cedar_language.specs.Tree as tree
@@ -19,11 +19,10 @@ pub data Constraint : Type 0 where
   of_type : Name → Constraint
   of_type_within : Name → Target → Constraint
 
--- what it asks of the action
+-- what it asks of the action; `action in E` is `action in [E]`
 pub data ActionConstraint : Type 0 where
   any_action : ActionConstraint
   action_equals : Uid → ActionConstraint
-  action_within : Uid → ActionConstraint
   action_within_any : List Uid → ActionConstraint
 
 -- Annotations stand by their keys in rising order; `body` is the tree of the clauses, where there are any.
@@ -52,7 +51,6 @@ constraint_tree v s (of_type_within p e) = is_in p (Var v) (target_tree s e)
 abbrev pub action_tree : ActionConstraint → Tree
 action_tree any_action = truth true
 action_tree (action_equals u) = binary tree.Equal (Var tree.Action) (Lit (tree.Entity u))
-action_tree (action_within u) = binary tree.In (Var tree.Action) (Lit (tree.Entity u))
 action_tree (action_within_any us) = binary tree.In (Var tree.Action) (Apply tree.MakeSet (trees (map (λ u. Lit (tree.Entity u)) us)))
 
 abbrev pub scope_tree : Policy → Tree
@@ -79,9 +77,32 @@ constraint_slots s (within e) = target_slots s e
 constraint_slots s (of_type p) = []
 constraint_slots s (of_type_within p e) = target_slots s e
 
--- the slots of a policy: those of its scope
+abbrev pub scope_slots : Policy → List SlotId
+scope_slots p = constraint_slots PrincipalSlot p.principal ++ constraint_slots ResourceSlot p.resource
+
+-- the slots of a policy are those of its scope, since no clause holds a slot
 abbrev pub slots : Policy → List SlotId
-slots p = constraint_slots PrincipalSlot p.principal ++ constraint_slots ResourceSlot p.resource
+slots p = scope_slots p
+
+-- the slots that a tree holds
+abbrev mutual
+  pub tree_slots : Tree → List SlotId
+  tree_slots (Lit l) = []
+  tree_slots (Var v) = []
+  tree_slots (Slot s) = s ∷ []
+  tree_slots (Unknown n t) = []
+  tree_slots (If t u v) = tree_slots t ++ (tree_slots u ++ tree_slots v)
+  tree_slots (And t u) = tree_slots t ++ tree_slots u
+  tree_slots (Or t u) = tree_slots t ++ tree_slots u
+  tree_slots (Apply op ts) = trees_slots ts
+
+  pub trees_slots : Trees → List SlotId
+  trees_slots no_trees = []
+  trees_slots (a_tree t ts) = tree_slots t ++ trees_slots ts
+
+abbrev pub body_slots : Option Tree → List SlotId
+body_slots None = []
+body_slots (Some c) = tree_slots c
 
 -- ---- binding slots
 
@@ -98,10 +119,6 @@ bound_constraint b (equals e) = equals (bound_target b e)
 bound_constraint b (within e) = within (bound_target b e)
 bound_constraint b (of_type p) = of_type p
 bound_constraint b (of_type_within p e) = of_type_within p (bound_target b e)
-
--- the policy with the bound entities in the place of its slots
-abbrev pub bound : Binding → Policy → Policy
-bound b p = record p { principal = bound_constraint (b PrincipalSlot) p.principal; resource = bound_constraint (b ResourceSlot) p.resource }
 
 abbrev pub bound_slot : SlotId → Option Uid → Tree
 bound_slot s None = Slot s
@@ -122,3 +139,11 @@ abbrev mutual
   pub bound_trees : Binding → Trees → Trees
   bound_trees b no_trees = no_trees
   bound_trees b (a_tree t ts) = a_tree (bound_tree b t) (bound_trees b ts)
+
+abbrev pub bound_body : Binding → Option Tree → Option Tree
+bound_body b None = None
+bound_body b (Some c) = Some (bound_tree b c)
+
+-- the policy with the bound entities in the place of its slots
+abbrev pub bound : Binding → Policy → Policy
+bound b p = record p { principal = bound_constraint (b PrincipalSlot) p.principal; resource = bound_constraint (b ResourceSlot) p.resource; body = bound_body b p.body }

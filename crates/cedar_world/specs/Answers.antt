@@ -1,5 +1,5 @@
 -- What an answer may say of a question: of a known one all that Cedar's rules say, and of another what stays so
--- whatever is told.
+-- whatever is told. (Cedar language reference, "Authorization".)
 use Rattle.std.specs.Prelude.{◌≡◌, ◌≢◌, Bool, Some, is_some, IsTrue, IsSome, List, [], ◌∷◌, map, filter}
 use Rattle.std.specs.FinMap as finite
 use Rattle.cedar_language.specs.Uid.{Text}
@@ -58,7 +58,8 @@ pub record IsSameButKinds (a whole : Answer) : Type 0 where
   pub may : a.may ≡ whole.may
   pub erring : (id : Text) → is_some (finite.get a.erring id) ≡ is_some (finite.get whole.erring id)
 
--- an answer to the same question after more was told: a decision stays, must and erring grow, and may shrinks
+-- An answer to the same question after more was told: a decision stays, must and erring grow, and may shrinks. An id keeps
+-- the kind of error that it was first shown with; which kind that is, is promised of the first answer alone.
 pub record Follows (old new : Answer) : Type 0 where
   pub decision : (d : Decision) → old.decision ≡ Some d → new.decision ≡ Some d
   pub must : IsWithin old.must new.must

@@ -1,7 +1,7 @@
 -- How texts are read and what trees mean, for the world's definitions.
-use Rattle.std.specs.Prelude.{◌≡◌, ◌⊎◌, ℕ, ◌<◌, max, false, Option, Some, None, List, []}
+use Rattle.std.specs.Prelude.{◌≡◌, ◌⊎◌, ℕ, ◌≤◌, true, false, Option, Some, None, List, []}
 use Rattle.std.specs.FinMap as map
-use Rattle.cedar_language.specs.Uid.{Text, Name}
+use Rattle.cedar_language.specs.Uid.{Text}
 use Rattle.cedar_language.specs.Tree.{Tree}
 use Rattle.cedar_language.specs.Value.{Value, RecordOf, no_values, NonValue, Outcome, Gives, Fails}
 use Rattle.cedar_language.specs.Facts.{Facts}
@@ -11,47 +11,55 @@ use Rattle.cedar_language.specs.Height.{height}
 use Rattle.cedar_early.specs.Settling.{Is, settled_in}
 use Rattle.cedar_early.specs.Prompt.{ErrsAs, ErrsEverywhere}
 use Rattle.cedar_early.specs.Question.{settled_of, held_of}
-use Rattle.cedar_grammar.specs.Token.{Token}
-use Rattle.cedar_grammar.specs.Tokens.{IsTokens}
-use Rattle.cedar_grammar.specs.Names.{Names}
 use Rattle.cedar_grammar.specs.Policies.{Reads, ReadsExpr}
-use Rattle.cedar_grammar.specs.Nesting.{IsNestingOfPolicies, IsNestingOfExpr, loose_nesting}
+use Rattle.cedar_grammar.specs.Nesting.{loose_nesting}
 use Rattle.cedar_world.specs.Syntax.{PolicySyntax}
 use Rattle.cedar_world.specs.Asking.{Question, Told}
-use Rattle.cedar_world.specs.World.{Functions}
+use Rattle.cedar_world.specs.Functions.{Functions, policy_names, body_names, function_of}
+use Rattle.cedar_world.specs.SoFar.{are_policies_so_far, is_body_so_far}
 
--- the names that texts may call, the caller's functions, and the limit of depth
+-- the functions that texts may call, and the limit of depth
 pub record Setting : Type 0 where
-  -- in policies, and in bodies, which may call `unknown` too
-  pub policy_names : Names
-  pub body_names : Names
   pub functions : Functions
   pub depth : ℕ
-  -- the name of an entity type, where a text is one
-  pub type_name : Text → Option Name
 
 module _ (by : Setting) where
   -- ---- texts
 
-  -- the text's policies, in its order, by the strict grammar
+  -- the text's policies, in its order, with a nesting of at most so much
+  abbrev pub ArePoliciesWithin : ℕ → Text → List PolicySyntax → Type 0
+  ArePoliciesWithin n text ss = Reads (policy_names by.functions) n text ss × (are_policies_so_far ss ≡ true)
+
   abbrev pub ArePolicies : Text → List PolicySyntax → Type 0
-  ArePolicies text ss = (n : ℕ) × Reads by.policy_names n text ss
+  ArePolicies text ss = (n : ℕ) × ArePoliciesWithin n text ss
 
   -- the text's one expression
-  abbrev pub IsBody : Text → Tree → Type 0
-  IsBody text tree = (n : ℕ) × ReadsExpr by.body_names n text tree
+  abbrev pub IsBodyWithin : ℕ → Text → Tree → Type 0
+  IsBodyWithin n text tree = ReadsExpr (body_names by.functions) n text tree × (is_body_so_far tree ≡ true)
 
-  -- The nesting passes the limit. Inside the grammar it is counted by constructs, and outside by places.
-  abbrev pub PoliciesTooDeep : Text → Type 0
-  PoliciesTooDeep text =
-      ((tokens : List Token) × (n : ℕ) × IsTokens text tokens × IsNestingOfPolicies by.policy_names tokens n × (by.depth < n))
-      ⊎ (((ss : List PolicySyntax) → ArePolicies text ss → ⊥) × (by.depth < loose_nesting text))
+  abbrev pub IsBody : Text → Tree → Type 0
+  IsBody text tree = (n : ℕ) × IsBodyWithin n text tree
+
+  -- ---- nesting: inside the grammar it is counted by constructs, and outside by places
+
+  abbrev pub PoliciesNestWithin : ℕ → Text → Type 0
+  PoliciesNestWithin n text =
+      ((ss : List PolicySyntax) × ArePoliciesWithin n text ss)
+      ⊎ (((ss : List PolicySyntax) → ArePolicies text ss → ⊥) × (loose_nesting text ≤ n))
 
   -- a body counts as deep as its tree is high, where that is more
-  abbrev pub BodyTooDeep : Text → Type 0
-  BodyTooDeep text =
-      ((tokens : List Token) × (n : ℕ) × (tree : Tree) × IsTokens text tokens × IsNestingOfExpr by.body_names tokens n × IsBody text tree × (by.depth < max n (height tree)))
-      ⊎ (((tree : Tree) → IsBody text tree → ⊥) × (by.depth < loose_nesting text))
+  abbrev pub BodyNestsWithin : ℕ → Text → Type 0
+  BodyNestsWithin n text =
+      ((tree : Tree) × IsBodyWithin n text tree × (height tree ≤ n))
+      ⊎ (((tree : Tree) → IsBody text tree → ⊥) × (loose_nesting text ≤ n))
+
+  -- ---- no text is read in two ways
+
+  abbrev pub PoliciesAreOne : Type 0
+  PoliciesAreOne = (text : Text) (ss rs : List PolicySyntax) → ArePolicies text ss → ArePolicies text rs → ss ≡ rs
+
+  abbrev pub BodiesAreOne : Type 0
+  BodiesAreOne = (text : Text) (s t : Tree) → IsBody text s → IsBody text t → s ≡ t
 
 -- what a tree without slots means for a known question
 abbrev pub means : Facts → Known → Tree → Outcome
@@ -75,7 +83,7 @@ abbrev pub functions_alone : Functions → Facts
 functions_alone functions = record {
   entity = λ uid. None;
   reaches = λ a b. false;
-  function = functions.function;
+  function = function_of functions;
   written = functions.written;
 }
 

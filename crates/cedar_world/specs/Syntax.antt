@@ -1,4 +1,4 @@
--- What a world reads of the syntax of one policy or template.
+-- What a world reads of the syntax of one policy or template. (Cedar language reference, "Policy syntax" and "Policy templates".)
 use Rattle.std.specs.Prelude.{Bool, true, false, Option, List, [], ◌∷◌}
 use Rattle.std.specs.List.{list_any}
 use Rattle.cedar_language.specs.Uid.{Uid}

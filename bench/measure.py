@@ -1,0 +1,65 @@
+#!/usr/bin/env python3
+"""Times the built program on asks and on loads, and prints how time grows.
+
+    python3 bench/measure.py --program crates/cedar_main/out/cedar_main [--repeat 5]
+
+Each case is a run of its own over standard input; the figure is the fastest of the repeats, in seconds.
+"""
+import argparse
+import subprocess
+import time
+
+ASK = '{principal: User::"u7", action: Action::"view", resource: Photo::"p", context: {}}'
+
+
+def frame(verb, body):
+    data = body.encode('utf-8')
+    return b'%s %d\n%s\n' % (verb.encode(), len(data), data)
+
+
+def policies(count):
+    return ''.join('permit(principal == User::"u%d", action, resource);\n' % n for n in range(count))
+
+
+def policies_of_size(size):
+    line = 'permit(principal == User::"someone", action == Action::"view", resource is Photo);\n'
+    return line * (size // len(line))
+
+
+def asks(count, held):
+    return frame('load', policies(held)) + frame('ask', ASK) * count
+
+
+def cases():
+    yield '10,000 asks, 100 policies', asks(10_000, 100)
+    yield '20,000 asks, 100 policies', asks(20_000, 100)
+    yield '10,000 asks, 200 policies', asks(10_000, 200)
+    for size in (64, 256, 512, 1024):
+        yield 'load of %d KiB' % size, frame('load', policies_of_size(size * 1024))
+    body = 'permit(principal, action in [' + ', '.join('Action::"a%d"' % n for n in range(40_000)) + '], resource);'
+    yield 'load of one list of 40,000 actions', frame('load', body[:1_048_576])
+
+
+def seconds(program, data, repeat):
+    best = None
+    for _ in range(repeat):
+        start = time.perf_counter()
+        done = subprocess.run([program], input=data, stdout=subprocess.PIPE, check=False)
+        taken = time.perf_counter() - start
+        assert done.returncode == 0 and done.stdout.endswith(b'end\n'), done.stdout[-200:]
+        best = taken if best is None else min(best, taken)
+    return best
+
+
+def main():
+    parser = argparse.ArgumentParser(description=__doc__)
+    parser.add_argument('--program', required=True)
+    parser.add_argument('--repeat', type=int, default=5)
+    options = parser.parse_args()
+    for name, data in cases():
+        taken = seconds(options.program, data, options.repeat)
+        print('%-40s %9d bytes  %8.3f s' % (name, len(data), taken), flush=True)
+
+
+if __name__ == '__main__':
+    main()

@@ -1,0 +1,11 @@
+mod Rests
+mod Runs
+mod Blanks
+mod OtherWords
+mod MarkReading
+mod Insides
+mod Ascii
+mod KindReading
+mod Reading
+mod PartReading
+mod Unescaping

@@ -1,0 +1,23 @@
+//! The tokens of a Cedar text.
+#![tactic(auto)]
+
+mod characters;
+mod error;
+mod escapes;
+mod kinds;
+mod marks;
+mod nesting;
+mod strings;
+mod tokenizer;
+mod tokens;
+mod words;
+
+pub use error::{TokenError, UnescapeError};
+pub use escapes::Part;
+pub use nesting::loose_nesting;
+pub use strings::{unescape, unescape_parts};
+pub use tokenizer::tokenize;
+pub use tokens::{Mark, Span, Token, TokenKind, Word};
+
+#[cfg(test)]
+mod tests;

@@ -1,0 +1,6 @@
+pub mod Bytes
+pub mod FrameLaws
+pub mod Frames
+pub mod Heads
+pub mod Quotes
+pub mod Spelling

@@ -1,0 +1,5 @@
+use Rattle.cedar_frames.proofs.FrameLaws as laws
+use Rattle.cedar_frames.proofs.laws.faults_hold_no_frame.Goals as goal
+
+pub returns : goal.returns
+returns c = laws.faults_hold_no_frame

@@ -1,0 +1,5 @@
+use Rattle.cedar_frames.proofs.FrameLaws as laws
+use Rattle.cedar_frames.proofs.laws.frames_begin.Goals as goal
+
+pub returns : goal.returns
+returns c = laws.frames_begin

@@ -1,0 +1,12 @@
+use Rattle.std.proofs.Common.{arith}
+use Rattle.std.proofs.lemmas.List.{length-drop}
+use Rattle.cedar_frames.proofs.Bytes.{appends_tail, tail_is_drop}
+use Rattle.std.proofs.lemmas.Grind.{common_steps}
+use Rattle.cedar_frames.proofs.writing.put.Goals as goal
+
+pub loop-at-preserved : goal.loop-at-preserved
+loop-at-preserved g c = record {
+  in_range = let fits = simp (tail_is_drop, length-drop) at c.in-Ok.ensures.bound in omega arith;
+  sound = grind (arith, common_steps);
+  written = appends_tail _ _ _ c.args.bytes.now c.loop-at.at c.in-Ok.count c.loop-at.invariant.written c.in-Ok.ensures.bytes;
+}

@@ -1,0 +1,9 @@
+pub mod Frames
+pub mod Heads
+pub mod Laws
+pub mod Parts
+pub mod Quoting
+pub mod Reading
+pub mod SoFar
+pub mod Watching
+pub mod Writing

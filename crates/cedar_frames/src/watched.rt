@@ -1,0 +1,87 @@
+// A reader or a writer, and whether one of its calls has failed.
+ghost use Rattle.std.specs.Prelude.{◌≡◌, false, length, is_err, ◌||◌};
+ghost use Rattle.std.specs.Io.{ReadsAtMost, WritesAtMost};
+ghost use Rattle.std.specs.Io.KnownBytes.{Keeps, ReadConsumes, WriteAppends};
+ghost use Rattle.cedar_frames.specs.Watching.{watched_inner, watched_failed, write_fails};
+
+use std::io;
+use std::io::{Read, Write};
+
+/// A device that passes calls on, and keeps for good whether one of them failed.
+///
+/// A call fails that answers an error, also one that was interrupted, and so does a write that
+/// takes nothing of a slice that isn't empty.
+#[derive(Debug, Drop)]
+pub struct Watched<D> {
+    inner: D,
+    failed: bool,
+}
+
+impl<D> Watched<D> {
+    /// A device of which no call has failed yet.
+    pub fn new(inner: D) -> Watched<D>
+        ensures inner { watched_inner result ≡ inner }
+        ensures failed { watched_failed result ≡ false }
+    {
+        Watched {
+            inner,
+            failed: false,
+        }
+    }
+
+    /// Whether a call has failed.
+    pub fn failed(&self) -> bool
+        ensures { result ≡ watched_failed self.now }
+    {
+        self.failed
+    }
+
+    /// Keeps in mind whether a call failed.
+    fn note(&mut self, fails: bool)
+        ensures inner { watched_inner self.new ≡ watched_inner self.old }
+        ensures failed { watched_failed self.new ≡ (fails || watched_failed self.old) }
+    {
+        self.failed |= fails;
+    }
+}
+
+impl<R: Read> Read for Watched<R> {
+    ghost remaining = { λ w. R.remaining (watched_inner w) };
+
+    fn read(&mut self, buf: &mut [u8]) -> io::Result<usize>
+        ensures bound { ReadsAtMost result buf.new }
+        ensures bytes { ReadConsumes (R.remaining (watched_inner self.old)) (R.remaining (watched_inner self.new)) result buf.new }
+        ensures failed { watched_failed self.new ≡ (is_err result || watched_failed self.old) }
+    {
+        let outcome = self.inner.read(buf);
+        self.note(outcome.is_err());
+        outcome
+    }
+}
+
+impl<W: Write> Write for Watched<W> {
+    ghost contents = { λ w. W.contents (watched_inner w) };
+
+    fn write(&mut self, buf: &[u8]) -> io::Result<usize>
+        ensures bound { WritesAtMost result buf.now }
+        ensures bytes { WriteAppends (W.contents (watched_inner self.old)) (W.contents (watched_inner self.new)) result buf.now }
+        ensures failed { watched_failed self.new ≡ (write_fails result (length buf.now) || watched_failed self.old) }
+    {
+        let outcome = self.inner.write(buf);
+        let fails = match outcome {
+            Ok(count) => count == 0 && !buf.is_empty(),
+            Err(_) => true,
+        };
+        self.note(fails);
+        outcome
+    }
+
+    fn flush(&mut self) -> io::Result<()>
+        ensures bytes { Keeps (W.contents (watched_inner self.old)) (W.contents (watched_inner self.new)) }
+        ensures failed { watched_failed self.new ≡ (is_err result || watched_failed self.old) }
+    {
+        let outcome = self.inner.flush();
+        self.note(outcome.is_err());
+        outcome
+    }
+}

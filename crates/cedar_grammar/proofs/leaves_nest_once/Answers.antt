@@ -1,0 +1,5 @@
+use Rattle.cedar_grammar.proofs.Leaves.{entities_nest_once, no_policies_nest_once}
+use Rattle.cedar_grammar.proofs.leaves_nest_once.Goals as goal
+
+pub returns : goal.returns
+returns c = record { entities = entities_nest_once; no_policies = no_policies_nest_once }

@@ -1,0 +1,4 @@
+pub mod Finding
+pub mod Qualifying
+pub mod Sameness
+pub mod Splitting

@@ -1,0 +1,17 @@
+mod Steps
+mod Entities
+mod Items
+mod SoFar
+mod Records
+mod BodiesSound
+mod BodiesComplete
+mod Bodies
+mod Places
+mod Deep
+mod PoliciesSound
+mod PoliciesComplete
+mod PoliciesDeep
+mod Policies
+mod Rows
+mod Texts
+mod Loops

@@ -1,0 +1,4 @@
+pub mod Reading
+pub mod Bodies
+pub mod Policies
+pub mod Laws

@@ -1,0 +1,4 @@
+pub mod ErringIds
+pub mod Lists
+pub mod Sets
+pub mod Sorting

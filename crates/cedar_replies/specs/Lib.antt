@@ -1,0 +1,6 @@
+pub mod Decisions
+pub mod Erring
+pub mod Kinds
+pub mod Lines
+pub mod Refusals
+pub mod Replies

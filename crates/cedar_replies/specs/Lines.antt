@@ -1,0 +1,10 @@
+-- How the parts of a line are written.
+use Rattle.std.specs.Prelude.{ℕ, List, ◌++◌, codes}
+use Rattle.cedar_language.specs.Uid.{Text}
+use Rattle.cedar_frames.specs.Quoting.{quoted}
+use Rattle.cedar_replies.specs.declared.error_kind.ErrorKind.{ErrorKind}
+use Rattle.cedar_replies.specs.Kinds.{error_name}
+
+-- an erring id and its kind
+abbrev pub with_name : Text × ErrorKind → List ℕ
+with_name e = (quoted e.0 ++ codes ":") ++ error_name e.1

@@ -1,0 +1,21 @@
+//! What a session answers to a command: a reply or a refusal, and the line that says it.
+#![tactic(auto)]
+
+mod answer;
+mod decision;
+mod erring;
+mod error_kind;
+mod lines;
+mod policy_ids;
+mod refusal;
+
+pub use answer::{Answer, Reply};
+pub use decision::Decision;
+pub use erring::Erring;
+pub use error_kind::ErrorKind;
+pub use lines::put_line;
+pub use policy_ids::PolicyIds;
+pub use refusal::Refusal;
+
+#[cfg(test)]
+mod tests;

@@ -1,0 +1,175 @@
+-- How a session that loads and asks shows its steps.
+use Rattle.std.proofs.Common.{◌≡◌, inl, ℕ, suc, ◌+◌, ◌≤◌, ◌<◌, false, Some, None, IsSome, List, [], ◌∷◌, ◌++◌, length, refl, sym, ◌∙◌, ap, subst, true≢false, arith}
+use Rattle.std.specs.FinMap as map
+use Rattle.cedar_language.specs.Uid as uid
+use Rattle.cedar_language.specs.Tree.{Tree}
+use Rattle.cedar_language.specs.Height.{height}
+use Rattle.cedar_world.specs.Syntax.{PolicySyntax}
+use Rattle.cedar_world.specs.Answer.{Answer}
+use Rattle.cedar_world.specs.World.{World, Policy, Policies}
+use Rattle.cedar_world.specs.PolicyEdits.{numbered, HasRoom, HaveRoom, own_ids, Names, joined, Loads}
+use Rattle.cedar_world.specs.SoFar.{MustRename}
+use Rattle.cedar_world.specs.Asking.{Question}
+use Rattle.cedar_world.specs.Bodies.{is_restricted, ask_body}
+use Rattle.cedar_world.specs.Setting.{Setting, ArePoliciesWithin, ArePolicies, PoliciesNestWithin, PoliciesAreOne, IsBodyWithin, IsBody, BodyNestsWithin, BodiesAreOne}
+use Rattle.cedar_world.specs.Commands.{Verb, Load, Ask, Tell, Refusal, NotUtf8, Text, Depth, NotRestricted, Shape, Evaluation, BadUnknown, IdConflict, Memory, Named, Answered, Refused, rank}
+use Rattle.cedar_world.specs.Refusals.{Stands, Refuses, AskCases}
+use Rattle.cedar_world.specs.Step.{Step, IsFirstAnswer, opens}
+use Rattle.cedar_world.proofs.Parts.{not_none}
+use Rattle.cedar_world.proofs.OneLoad.{room_or_conflict}
+use Rattle.cedar_world.proofs.SoFar.{body_is_restricted, asks_plainly, plain_errs_not, plain_names_nothing}
+
+-- ---- policies that all have room stand under their own numbers
+
+names_own : (policies : Policies) (count i from : ℕ) (ss : List PolicySyntax) → HaveRoom policies i ss → Names policies count i from ss (own_ids i ss)
+names_own policies count i from [] room = tt
+names_own policies count i from (s ∷ ss) room = inl (room.0, refl, names_own policies count (suc i) from ss room.1)
+
+pub loads_own : (policies : Policies) (ss : List PolicySyntax) → HaveRoom policies 0 ss → Loads policies ss (own_ids 0 ss) (joined policies ss (own_ids 0 ss))
+loads_own policies ss room = record { names = names_own policies (length ss) 0 0 ss room; policies = refl }
+
+-- a policy that has room conflicts with none
+room_for : (policies : Policies) (i : ℕ) (ss before after : List PolicySyntax) (s : PolicySyntax) → HaveRoom policies i ss → ss ≡ before ++ s ∷ after → HasRoom policies (numbered (i + length before)) s
+room_for policies i ss before after s room e = found i before (subst (HaveRoom policies i) e room)
+  where
+    found : (i : ℕ) (before : List PolicySyntax) → HaveRoom policies i (before ++ s ∷ after) → HasRoom policies (numbered (i + length before)) s
+    found i [] room = subst (λ n. HasRoom policies (numbered n) s) (omega arith) room.0
+    found i (b ∷ before) room = subst (λ n. HasRoom policies (numbered n) s) (omega arith) (found (suc i) before room.1)
+
+pub room_renames_none : (policies : Policies) (ss : List PolicySyntax) → HaveRoom policies 0 ss → MustRename policies ss → ⊥
+room_renames_none policies ss room h =
+    let has : HasRoom policies (numbered (length h.0)) h.2 = subst (λ n. HasRoom policies (numbered n) h.2) (omega arith) (room_for policies 0 ss h.0 h.1 h.2 room h.3) in
+    room_or_conflict policies (numbered (length h.0)) h.2 has h.4
+
+-- ---- one policy more, for a loop over a text's policies
+
+pub room_more : (policies : Policies) (i : ℕ) (done : List PolicySyntax) (s : PolicySyntax) → HaveRoom policies i done → HasRoom policies (numbered (i + length done)) s → HaveRoom policies i (done ++ s ∷ [])
+room_more policies i [] s room has = (subst (λ n. HasRoom policies (numbered n) s) (omega arith) has, tt)
+room_more policies i (d ∷ done) s room has = (room.0, room_more policies (suc i) done s room.1 (subst (λ n. HasRoom policies (numbered n) s) (omega arith) has))
+
+pub own_ids_more : (i : ℕ) (done : List PolicySyntax) (s : PolicySyntax) → own_ids i (done ++ s ∷ []) ≡ own_ids i done ++ numbered (i + length done) ∷ []
+own_ids_more i [] s = ap (λ n. numbered n ∷ []) (omega arith)
+own_ids_more i (d ∷ done) s = ap (λ ids. numbered i ∷ ids) (own_ids_more (suc i) done s ∙ ap (λ n. own_ids (suc i) done ++ numbered n ∷ []) (omega arith))
+
+pub joined_more : (policies : Policies) (i : ℕ) (done : List PolicySyntax) (s : PolicySyntax) (id : uid.Text)
+    → joined policies (done ++ s ∷ []) (own_ids i done ++ id ∷ []) ≡ map.insert (joined policies done (own_ids i done)) id (Policy s)
+joined_more policies i [] s id = refl
+joined_more policies i (d ∷ done) s id = joined_more (map.insert policies (numbered i) (Policy d)) (suc i) done s id
+
+not_below : (n : ℕ) → n < n → ⊥
+not_below n below = omega arith
+
+-- ---- commands
+
+module _ (by : Setting) (old : World) (text : uid.Text) where
+  -- ---- want of memory, but that no question is open is seen without it
+
+  pub lacks_memory : (verb : Verb) → (verb ≡ Tell → IsSome old.asked) → Step by old verb text (Refused Memory) old
+  lacks_memory Tell open_now = (open_now refl, refl)
+  lacks_memory verb open_now = (tt, refl)
+
+  pub load_lacks_memory : Step by old Load text (Refused Memory) old
+  load_lacks_memory = (tt, refl)
+
+  pub ask_lacks_memory : Step by old Ask text (Refused Memory) old
+  ask_lacks_memory = (tt, refl)
+
+  -- ---- `load`
+
+  -- no text of policies
+  pub load_is_no_text : ((ss : List PolicySyntax) → ArePolicies by text ss → ⊥) → Step by old Load text (Refused Text) old
+  load_is_no_text none = ((none, before), refl)
+    where
+      before : (s : Refusal) → rank s < rank Text → Stands by old text Load s → ⊥
+      before Text below h = not_below 2 below
+      before Depth below h = omega arith
+      before IdConflict below h = omega arith
+      before s below h = h
+
+  -- nested too deep
+  pub load_is_deep : (PoliciesNestWithin by by.depth text → ⊥) → Step by old Load text (Refused Depth) old
+  load_is_deep deep = (inl deep, refl)
+
+  -- a policy's own number is bound to something else
+  pub load_conflicts : (ss : List PolicySyntax) → ArePoliciesWithin by by.depth text ss → MustRename old.policies ss → Step by old Load text (Refused IdConflict) old
+  load_conflicts ss reads renames = (((ss, (by.depth, reads), renames), before), refl)
+    where
+      before : (s : Refusal) → rank s < rank IdConflict → Stands by old text Load s → ⊥
+      before Text below h = h ss (by.depth, reads)
+      before Depth below h = h (inl (ss, reads))
+      before IdConflict below h = not_below 14 below
+      before s below h = h
+
+  -- the policies have room, and stand under these ids
+  pub load_stands : PoliciesAreOne by → (ss : List PolicySyntax) (ids : List uid.Text) (new : World) → ArePoliciesWithin by by.depth text ss → (MustRename old.policies ss → ⊥)
+      → Loads old.policies ss ids new.policies → new ≡ record old { policies = new.policies; asked = None } → Step by old Load text (Named ids) new
+  load_stands once ss ids new reads room loads is = (λ r h. refuses r h, (ss, (by.depth, reads), (loads, is)))
+    where
+      stands : (r : Refusal) → Stands by old text Load r → ⊥
+      stands Text h = h ss (by.depth, reads)
+      stands Depth h = h (inl (ss, reads))
+      stands IdConflict h = room (subst (MustRename old.policies) (once text h.0 ss h.1 (by.depth, reads)) h.2)
+      stands r h = h
+
+      refuses : (r : Refusal) → Refuses by old text Load r → ⊥
+      refuses Depth h = stands Depth h
+      refuses r h = stands r h.0
+
+  -- the same, each policy under its own number
+  pub load_stands_own : PoliciesAreOne by → (ss : List PolicySyntax) (new : World) → ArePoliciesWithin by by.depth text ss → HaveRoom old.policies 0 ss
+      → new ≡ record old { policies = joined old.policies ss (own_ids 0 ss); asked = None } → Step by old Load text (Named (own_ids 0 ss)) new
+  load_stands_own once ss new reads room is =
+      let policies : new.policies ≡ joined old.policies ss (own_ids 0 ss) = ap (λ w. w.policies) is in
+      load_stands once ss (own_ids 0 ss) new reads (room_renames_none old.policies ss room)
+      (subst (Loads old.policies ss (own_ids 0 ss)) (sym policies) (loads_own old.policies ss room))
+      (is ∙ ap (λ p. record old { policies = p; asked = None }) (sym policies))
+
+  -- ---- `ask`
+
+  pub ask_is_no_text : ((tree : Tree) → IsBody by text tree → ⊥) → Step by old Ask text (Refused Text) old
+  ask_is_no_text none = ((none, before), refl)
+    where
+      before : (s : Refusal) → rank s < rank Text → Stands by old text Ask s → ⊥
+      before NotUtf8 below h = h.4
+      before Text below h = not_below 2 below
+      before s below h = omega arith
+
+  pub ask_is_deep : (BodyNestsWithin by by.depth text → ⊥) → Step by old Ask text (Refused Depth) old
+  ask_is_deep deep = (inl deep, refl)
+
+  -- data alone is read so far
+  restricted : (tree : Tree) → IsBody by text tree → is_restricted tree ≡ false → ⊥
+  restricted tree reads not = true≢false (sym (body_is_restricted tree reads.1.1) ∙ not)
+
+  -- no question
+  pub ask_is_misshapen : (tree : Tree) → IsBodyWithin by by.depth text tree → height tree ≤ by.depth → ask_body tree ≡ None → Step by old Ask text (Refused Shape) old
+  ask_is_misshapen tree reads high none = (((tree, (by.depth, reads), none), before), refl)
+    where
+      before : (s : Refusal) → rank s < rank Shape → Stands by old text Ask s → ⊥
+      before NotUtf8 below h = h.4
+      before Text below h = h tree (by.depth, reads)
+      before Depth below h = h (inl (tree, reads, high))
+      before NotRestricted below h = restricted h.0 h.1 h.2
+      before Shape below h = not_below 5 below
+      before s below h = omega arith
+
+  -- a question, and its first answer
+  pub ask_stands : BodiesAreOne by → (tree : Tree) (q : Question) (answer : Answer) (new : World) → IsBodyWithin by by.depth text tree → height tree ≤ by.depth
+      → ask_body tree ≡ Some q → IsFirstAnswer by old q answer → new ≡ opens old q map.empty answer → Step by old Ask text (Answered answer) new
+  ask_stands once tree q answer new reads high asks first is = (λ r h. refuses r h, (tree, q, (by.depth, reads), asks, (first, is)))
+    where
+      cases : (r : Refusal) (p : Question) (t : Tree) → ask_body t ≡ Some p → AskCases by old p r → ⊥
+      cases Evaluation p t e h = true≢false (sym h ∙ plain_errs_not by p.context (asks_plainly t p e))
+      cases BadUnknown p t e h = true≢false (sym h ∙ plain_names_nothing p.context (asks_plainly t p e))
+      cases r p t e h = h
+
+      stands : (r : Refusal) → Stands by old text Ask r → ⊥
+      stands Text h = h tree (by.depth, reads)
+      stands Depth h = h (inl (tree, reads, high))
+      stands NotRestricted h = restricted h.0 h.1 h.2
+      stands Shape h = not_none q (sym h.2 ∙ ap ask_body (once text h.0 tree h.1 (by.depth, reads)) ∙ asks)
+      stands r h = cases r h.1 h.0 h.3 h.4
+
+      refuses : (r : Refusal) → Refuses by old text Ask r → ⊥
+      refuses Depth h = stands Depth h
+      refuses r h = stands r h.0

@@ -1,0 +1,5 @@
+use Rattle.cedar_world.proofs.Named as named
+use Rattle.cedar_world.proofs.names_are_found.Goals as goal
+
+pub returns : goal.returns
+returns c functions = named.names_are_found functions
