@@ -28,8 +28,10 @@ impl Body {
         reader: &mut Watched<R>,
         len: usize,
     ) -> Result<Body, ReadFailed>
-        ensures body { IfOk result (λ body. (taken : List ℕ) × Reads R.remaining reader.old reader.new taken × ReadsBody R.remaining len body taken reader.new) }
-        ensures err { OnErr result ((taken : List ℕ) × Reads R.remaining reader.old reader.new taken × (length taken < len)) }
+        ensures body { IfOk result (λ body. (taken : List ℕ) × Reads R.remaining reader.old reader.new taken
+            × ReadsBody R.remaining len body taken reader.new) }
+        ensures err { OnErr result ((taken : List ℕ) × Reads R.remaining reader.old reader.new taken
+            × (length taken < len)) }
         ensures failed { watched_failed reader.new ≡ (is_err result || watched_failed reader.old) }
     {
         let mut scratch = [0u8; PIECE];

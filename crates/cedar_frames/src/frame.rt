@@ -46,8 +46,10 @@ fn read_line<R: Read>(
     reader: &mut Watched<R>,
     line: &mut [u8; LINE_ROOM],
 ) -> Result<Line, ReadFailed>
-    ensures line { IfOk result (λ read. (taken : List ℕ) × Reads R.remaining reader.old reader.new taken × ReadsLine R.remaining read taken line.new reader.new) }
-    ensures err { OnErr result ((taken : List ℕ) × Reads R.remaining reader.old reader.new taken × IsPartialLine taken) }
+    ensures line { IfOk result (λ read. (taken : List ℕ) × Reads R.remaining reader.old reader.new taken
+        × ReadsLine R.remaining read taken line.new reader.new) }
+    ensures err { OnErr result ((taken : List ℕ) × Reads R.remaining reader.old reader.new taken
+        × IsPartialLine taken) }
     ensures failed { watched_failed reader.new ≡ (is_err result || watched_failed reader.old) }
 {
     for at in 0..LINE_ROOM {
@@ -68,8 +70,10 @@ fn read_line<R: Read>(
 /// as soon as a byte shows it, and nothing behind that byte is read. An error is answered only
 /// where the reader has failed; the bytes taken are then no more than a part of a frame.
 pub fn next_frame<R: Read>(alloc: Global, reader: &mut Watched<R>) -> Result<Next, ReadFailed>
-    ensures next { IfOk result (λ next. (taken : List ℕ) × Reads R.remaining reader.old reader.new taken × ReadsNext R.remaining next taken reader.new) }
-    ensures err { OnErr result ((taken : List ℕ) × Reads R.remaining reader.old reader.new taken × IsPartial taken) }
+    ensures next { IfOk result (λ next. (taken : List ℕ) × Reads R.remaining reader.old reader.new taken
+        × ReadsNext R.remaining next taken reader.new) }
+    ensures err { OnErr result ((taken : List ℕ) × Reads R.remaining reader.old reader.new taken
+        × IsPartial taken) }
     ensures failed { watched_failed reader.new ≡ (is_err result || watched_failed reader.old) }
 {
     let mut line = [0u8; LINE_ROOM];

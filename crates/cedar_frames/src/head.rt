@@ -25,7 +25,8 @@ pub(crate) enum HeadLine {
 /// The number that the digits spell, or `None` where they are no digits or begin with a needless zero.
 fn numeral(digits: &[u8]) -> Option<u128>
     requires { length digits.now ≤ HEAD_LIMIT }
-    ensures found { IfSome result (λ n. (is_numeral digits.now ≡ true) × (n ≡ number_of digits.now)) }
+    ensures found { IfSome result (λ n. (is_numeral digits.now ≡ true)
+        × (n ≡ number_of digits.now)) }
     ensures none { IfNone result (is_numeral digits.now ≡ false) }
 {
     let mut value: u128 = 0;
@@ -43,7 +44,8 @@ fn numeral(digits: &[u8]) -> Option<u128>
 
 /// What stands before the first space of a line, and what stands behind it.
 fn around_space(line: &[u8]) -> Option<(&[u8], &[u8])>
-    ensures found { IfSome result (λ parts. (line.now ≡ parts.0.now ++ 32 ∷ parts.1.now) × (lacks 32 parts.0.now ≡ true)) }
+    ensures found { IfSome result (λ parts. (line.now ≡ parts.0.now ++ 32 ∷ parts.1.now)
+        × (lacks 32 parts.0.now ≡ true)) }
     ensures none { IfNone result (lacks 32 line.now ≡ true) }
 {
     for (at, byte) in line.iter().enumerate() {

@@ -27,8 +27,10 @@ impl Error for ReadFailed {}
 ///
 /// An error is answered only where the reader has failed, and then no byte was taken.
 pub fn read_byte<R: Read>(reader: &mut Watched<R>) -> Result<Option<u8>, ReadFailed>
-    ensures byte { IfOk result (λ next. IfSome next (λ b. Reads R.remaining reader.old reader.new (b ∷ []))) }
-    ensures end { IfOk result (λ next. IfNone next (Reads R.remaining reader.old reader.new [] × IsReadOut R.remaining reader.new)) }
+    ensures byte { IfOk result (λ next. IfSome next (λ b.
+        Reads R.remaining reader.old reader.new (b ∷ []))) }
+    ensures end { IfOk result (λ next. IfNone next (Reads R.remaining reader.old reader.new []
+        × IsReadOut R.remaining reader.new)) }
     ensures err { OnErr result (Reads R.remaining reader.old reader.new []) }
     ensures failed { watched_failed reader.new ≡ (is_err result || watched_failed reader.old) }
 {
@@ -48,7 +50,8 @@ pub(crate) fn read_piece<R: Read>(
 ) -> Result<usize, ReadFailed>
     requires { most ≤ length scratch.old }
     ensures within { IfOk result (λ count. count ≤ most) }
-    ensures bytes { IfOk result (λ count. Reads R.remaining reader.old reader.new (take count scratch.new)) }
+    ensures bytes { IfOk result (λ count.
+        Reads R.remaining reader.old reader.new (take count scratch.new)) }
     ensures end { IfOk result (λ count. count ≡ 0 → 0 < most → IsReadOut R.remaining reader.new) }
     ensures err { OnErr result (Reads R.remaining reader.old reader.new []) }
     ensures failed { watched_failed reader.new ≡ (is_err result || watched_failed reader.old) }

@@ -50,7 +50,8 @@ impl<R: Read> Read for Watched<R> {
 
     fn read(&mut self, buf: &mut [u8]) -> io::Result<usize>
         ensures bound { ReadsAtMost result buf.new }
-        ensures bytes { ReadConsumes (R.remaining (watched_inner self.old)) (R.remaining (watched_inner self.new)) result buf.new }
+        ensures bytes { ReadConsumes (R.remaining (watched_inner self.old))
+            (R.remaining (watched_inner self.new)) result buf.new }
         ensures failed { watched_failed self.new ≡ (is_err result || watched_failed self.old) }
     {
         let outcome = self.inner.read(buf);
@@ -64,8 +65,10 @@ impl<W: Write> Write for Watched<W> {
 
     fn write(&mut self, buf: &[u8]) -> io::Result<usize>
         ensures bound { WritesAtMost result buf.now }
-        ensures bytes { WriteAppends (W.contents (watched_inner self.old)) (W.contents (watched_inner self.new)) result buf.now }
-        ensures failed { watched_failed self.new ≡ (write_fails result (length buf.now) || watched_failed self.old) }
+        ensures bytes { WriteAppends (W.contents (watched_inner self.old))
+            (W.contents (watched_inner self.new)) result buf.now }
+        ensures failed { watched_failed self.new
+            ≡ (write_fails result (length buf.now) || watched_failed self.old) }
     {
         let outcome = self.inner.write(buf);
         let fails = match outcome {
