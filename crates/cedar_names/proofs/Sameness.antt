@@ -1,12 +1,10 @@
 -- `==` of names and of uids holds of the same ones alone, and so do ties in their orders.
-use Rattle.std.proofs.Common.{◌≡◌, ◌&&◌, true, refl, ap, ◌∙◌}
-use Rattle.std.specs.declared.cmp.Ordering.TheVariants.{Equal}
+use Rattle.std.proofs.Common.{◌≡◌, refl, ap}
 use Rattle.std.specs.FinMap.{IsAntisymmetric}
 use Rattle.std.specs.Cmp.{first_so, second_so}
 use Rattle.std.specs.Cmp.Lexicographic.{pointwise_decides, bytes_decides}
 use Rattle.cedar_language.specs.Uid.{Uid}
-use Rattle.cedar_language.specs.Order.{same_text, same_name, same_uid}
-use Rattle.cedar_language.specs.OrderLaws.{name_cmp_same, text_cmp_same}
+use Rattle.cedar_language.specs.Order.{same_name, same_uid}
 use Rattle.cedar_names.specs.Laws.{TestsSame, uid_cmp_ties}
 use Rattle.cedar_names.specs.Uids.{uid_cmp}
 

@@ -1,5 +1,5 @@
 -- How a text is cut into the identifiers of a name.
-use Rattle.std.proofs.Common.{◌≡◌, ◌≢◌, ℕ, zero, suc, ◌<◌, ◌≤◌, ◌+◌, List, [], ◌∷◌, ◌++◌, length, take, drop, Bool, true, false, refl, sym, ap, ◌∙◌, subst, arith, append_assoc, append-nil, codes, ◌&&◌, IsTrue, Result, Ok, Err, Some, None, length-append}
+use Rattle.std.proofs.Common.{◌≡◌, ◌≢◌, ℕ, zero, suc, ◌<◌, ◌≤◌, [], ◌∷◌, ◌++◌, length, take, drop, true, refl, sym, ap, ◌∙◌, subst, arith, append_assoc, append-nil, codes, ◌&&◌, IsTrue, Err, None, length-append}
 use Rattle.std.proofs.lemmas.Bool.{false≢true}
 use Rattle.std.proofs.lemmas.Grind.{flat_map-append}
 use Rattle.std.proofs.lemmas.List.{take-append-drop}
@@ -9,9 +9,9 @@ use Rattle.std.specs.Cmp.{first_so, second_so}
 use Rattle.std.specs.List.{list_all, flat_map}
 use Rattle.std.specs.Str.Pattern.{FindsText, SplitsAroundMatch}
 use Rattle.cedar_language.specs.Uid.{Text, Name}
-use Rattle.cedar_names.specs.Identifiers.{is_in_identifier, begins_identifier, is_identifier, is_id, IsId}
+use Rattle.cedar_names.specs.Identifiers.{is_in_identifier, begins_identifier, is_id, IsId}
 use Rattle.cedar_names.specs.Names.{IsName, name_text}
-use Rattle.cedar_names.specs.Reading.{Spells, IsNoName, ReadsId, ReadsInternalName}
+use Rattle.cedar_names.specs.Reading.{Spells, ReadsId, ReadsInternalName}
 use Rattle.cedar_names.specs.declared.errors.ParseNameError.{ParseNameError}
 use Rattle.cedar_names.specs.declared.errors.ParseNameError.TheVariants.{NotNormalized, Reserved, Memory}
 

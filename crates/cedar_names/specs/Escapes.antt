@@ -1,5 +1,5 @@
 -- How a uid is written: its type, and its id between quotes with escapes.
-use Rattle.std.specs.Prelude.{ℕ, ◌==◌, ◌||◌, nat_lt, List, [], ◌∷◌, ◌++◌, Bool, if◌then◌else◌, false, codes, encode_utf8}
+use Rattle.std.specs.Prelude.{ℕ, ◌==◌, ◌||◌, nat_lt, ◌++◌, Bool, if◌then◌else◌, false, codes, encode_utf8}
 use Rattle.std.specs.List.{flat_map}
 use Rattle.std.specs.Fmt.{digits}
 use Rattle.std.specs.Str.{chars}

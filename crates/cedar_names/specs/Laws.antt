@@ -1,13 +1,13 @@
 -- Laws of names and uids: their equality, order and hash agree, and each name is written in its own way.
 use Rattle.std.specs.Prelude.{◌≡◌, ◌≢◌, ◌↔◌, [], Option, Some, Bool, false, IsTrue, refl}
-use Rattle.std.specs.Ordering.{as_partial_cmp, eq_by_cmp, on}
-use Rattle.std.specs.Cmp.{IsEquivalence, IsPartialEquivalence, IsPartialOrder, IsTotalOrder, partial_equiv_from_equiv, partial_order_from_agreeing_total, and_equiv, on_equiv, both_tied, nat_eq_equiv}
-use Rattle.std.specs.Cmp.Lexicographic.{pointwise, lists_equiv, lists_ties, nat_list_eq_equiv, texts_ties, bytes_decides}
+use Rattle.std.specs.Ordering.{as_partial_cmp, eq_by_cmp}
+use Rattle.std.specs.Cmp.{IsEquivalence, IsPartialEquivalence, IsPartialOrder, IsTotalOrder, partial_equiv_from_equiv, partial_order_from_agreeing_total, and_equiv, on_equiv, both_tied}
+use Rattle.std.specs.Cmp.Lexicographic.{lists_equiv, lists_ties, nat_list_eq_equiv, texts_ties, bytes_decides}
 use Rattle.std.specs.Hash as fed
 use Rattle.std.specs.Hash.{Alike, same_Alike, items_Alike, on_Alike, and-Alike}
 use Rattle.std.proofs.lemmas.Cmp.{then_total, on_total}
-use Rattle.cedar_language.specs.Uid.{Text, Name, Uid}
-use Rattle.cedar_language.specs.Order.{text_cmp, name_cmp, same_text, same_name, same_uid}
+use Rattle.cedar_language.specs.Uid.{Name, Uid}
+use Rattle.cedar_language.specs.Order.{text_cmp, name_cmp, same_name, same_uid}
 use Rattle.cedar_language.specs.OrderLaws.{text_cmp_total, name_cmp_total}
 use Rattle.cedar_names.specs.Names.{IsName, name_text, name_hash, is_unqualified, qualified}
 use Rattle.cedar_names.specs.Uids.{uid_cmp, uid_hash}

@@ -1,5 +1,5 @@
 -- What reading a text as an identifier or a name answers.
-use Rattle.std.specs.Prelude.{◌≡◌, ◌≢◌, ⊤, [], ◌∷◌, true, false, Result, Ok, Err, IsTrue}
+use Rattle.std.specs.Prelude.{◌≡◌, ◌≢◌, ⊤, [], ◌∷◌, true, false, Result, Ok, Err}
 use Rattle.cedar_language.specs.Uid.{Text, Name, Uid}
 use Rattle.cedar_names.specs.Identifiers.{IsId, IsAnyId, IsUnreservedId, reserved}
 use Rattle.cedar_names.specs.Names.{IsName, name_text, is_reserved_name}

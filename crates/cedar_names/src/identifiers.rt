@@ -7,6 +7,7 @@ ghost use Rattle.cedar_names.specs.Identifiers.{IsId, IsAnyId, IsUnreservedId, r
 
 use crate::texts::SharedText;
 use std::alloc::{AllocError, Global};
+use std::convert::AsStr;
 use std::fmt;
 use std::marker::Model;
 use std::rc::RcStr;
@@ -34,7 +35,7 @@ pub(crate) fn is_identifier(text: &str) -> bool
 {
     match text.as_bytes().split_first() {
         None => false,
-        Some((first, more)) => { begins_identifier(*first) && are_in_identifier(more) }
+        Some((first, more)) => begins_identifier(*first) && are_in_identifier(more),
     }
 }
 
@@ -300,5 +301,29 @@ impl fmt::Display for AnyId {
 
     fn fmt<W: fmt::Write>(&self, f: &mut fmt::Formatter<W>) -> fmt::Result {
         fmt::Display::fmt(&self.text, f)
+    }
+}
+
+impl AsStr for Id {
+    ghost text = { λ id. id };
+
+    fn as_str(&self) -> &str {
+        self.as_str()
+    }
+}
+
+impl AsStr for UnreservedId {
+    ghost text = { λ id. id };
+
+    fn as_str(&self) -> &str {
+        self.as_str()
+    }
+}
+
+impl AsStr for AnyId {
+    ghost text = { λ id. id };
+
+    fn as_str(&self) -> &str {
+        self.as_str()
     }
 }

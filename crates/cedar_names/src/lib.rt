@@ -11,5 +11,7 @@ pub mod places;
 pub mod raw_names;
 pub mod reading;
 pub mod slots;
+#[cfg(test)]
+mod tests;
 mod texts;
 pub mod uids;

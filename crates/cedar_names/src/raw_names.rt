@@ -200,7 +200,7 @@ impl AllDefs {
 }
 
 /// A name that resolves to the first of some candidates that is declared.
-#[derive(Debug, PartialEq, Eq, PartialOrd, Ord, Hash, Drop)]
+#[derive(Debug, PartialEq, Eq, PartialOrd, Ord, Hash, Clone, Drop)]
 pub struct ConditionalName {
     possibilities: Vec<InternalName>,
     reference_type: ReferenceType,
@@ -268,7 +268,7 @@ impl ConditionalName {
 }
 
 /// No candidate of a name is declared.
-#[derive(Debug, PartialEq, Eq, Drop, Error)]
+#[derive(Debug, PartialEq, Eq, Clone, Drop, Error)]
 #[error("`{}` is not declared", .undefined_type.raw)]
 pub struct TypeNotDefinedError {
     pub undefined_type: ConditionalName,

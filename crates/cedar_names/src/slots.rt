@@ -87,7 +87,7 @@ impl fmt::Display for SlotId {
 }
 
 /// A slot where it is written. `==` and hash look past the place.
-#[derive(Debug, Drop)]
+#[derive(Clone, Debug, Drop)]
 #[derive_where(PartialEq, Eq, Hash)]
 pub struct Slot {
     pub id: SlotId,

@@ -14,6 +14,7 @@ use crate::places::Loc;
 use crate::texts::SharedText;
 use std::alloc::{AllocError, Global};
 use std::cmp::Ordering;
+use std::convert::AsStr;
 use std::fmt;
 use std::hash::{Hash, Hasher};
 use std::marker::Model;
@@ -75,6 +76,14 @@ impl Eid {
         ensures { IfOk result (λ copy. copy ≡ self.now) }
     {
         Clone::clone(self)
+    }
+}
+
+impl AsStr for Eid {
+    ghost text = { λ eid. eid };
+
+    fn as_str(&self) -> &str {
+        self.as_str()
     }
 }
 

@@ -1,5 +1,5 @@
 -- The text is the identifiers read, each with `::` after it, and the rest; each name so written begins with them.
-use Rattle.std.proofs.Common.{◌≡◌, length}
+use Rattle.std.proofs.Common.{length}
 use denote.Text.{Utf8}
 use denote.Shadow.{shadow}
 use Rattle.cedar_names.proofs.Splitting.{IsRead}

@@ -1,0 +1,309 @@
+// Printed texts, readings and refusals, and that calls succeed where there is memory.
+use crate::conversions::FromIn;
+use crate::errors::ParseNameError;
+use crate::identifiers::{AnyId, Id, UnreservedId, is_normalized_ident};
+use crate::names::{InternalName, Name};
+use crate::places::{Loc, Span};
+use crate::raw_names::{AllDefs, ConditionalName, RawName, ReferenceType};
+use crate::reading::FromNormalizedStr;
+use crate::slots::{Slot, SlotId};
+use crate::uids::{Eid, EntityType, EntityUID};
+use std::alloc::Global;
+use std::collections::BTreeSet;
+use std::hash::{DefaultHasher, Hash, Hasher};
+use std::rc::RcStr;
+use std::test::Fail;
+
+fn internal(alloc: Global, text: &str) -> Result<InternalName, ParseNameError> {
+    InternalName::from_normalized_str(alloc, text)
+}
+
+fn name(alloc: Global, text: &str) -> Result<Name, ParseNameError> {
+    Name::from_normalized_str(alloc, text)
+}
+
+fn reads<T: FromNormalizedStr + Drop>(alloc: Global, text: &str) -> bool {
+    T::from_normalized_str(alloc, text).is_ok()
+}
+
+#[test]
+fn identifiers_are_read(rt: HostRuntime) {
+    let alloc = rt.alloc();
+    // The text, and whether it is any identifier, one that is no keyword, one that isn't reserved.
+    let table = [
+        ("_A9", true, true, true),
+        ("principal", true, true, true),
+        ("__cedar", true, true, false),
+        ("is", true, false, false),
+        ("", false, false, false),
+        ("9a", false, false, false),
+        ("a b", false, false, false),
+        ("é", false, false, false),
+    ];
+    for (text, any, id, unreserved) in table {
+        assert_eq!(rt; reads::<AnyId>(alloc, text), any, "{text}");
+        assert_eq!(rt; reads::<Id>(alloc, text), id, "{text}");
+        assert_eq!(rt; reads::<UnreservedId>(alloc, text), unreserved, "{text}");
+        assert_eq!(rt; is_normalized_ident(text), unreserved, "{text}");
+    }
+}
+
+#[test]
+fn names_are_read(rt: HostRuntime) {
+    let alloc = rt.alloc();
+    // The text, whether it is a name, and whether it is one without `__cedar`.
+    let table = [
+        ("A", true, true),
+        ("A::B::C", true, true),
+        ("A::__cedar", true, false),
+        ("", false, false),
+        ("A :: B", false, false),
+        ("A::", false, false),
+        ("A:::B", false, false),
+        ("A::if", false, false),
+    ];
+    for (text, internal, unreserved) in table {
+        assert_eq!(rt; reads::<InternalName>(alloc, text), internal, "{text}");
+        assert_eq!(rt; reads::<RawName>(alloc, text), internal, "{text}");
+        assert_eq!(rt; reads::<Name>(alloc, text), unreserved, "{text}");
+        assert_eq!(rt; reads::<EntityType>(alloc, text), unreserved, "{text}");
+    }
+}
+
+/// The text of the name that is read, printed again.
+fn printed(alloc: Global, text: &str) -> Result<String, ParseNameError> {
+    Ok(internal(alloc, text)?.clone(alloc)?.to_string(alloc)?)
+}
+
+/// The name's text where a name without a namespace is read.
+fn unqualified(alloc: Global, text: &str) -> Result<String, ParseNameError> {
+    Ok(InternalName::parse_unqualified_name(alloc, text)?.to_string(alloc)?)
+}
+
+fn namespace(alloc: Global, text: &str) -> Result<String, ParseNameError> {
+    Ok(internal(alloc, text)?.namespace(alloc)?)
+}
+
+/// `text` in the namespace `M::N`.
+fn in_namespace(alloc: Global, text: &str) -> Result<String, ParseNameError> {
+    let namespace = internal(alloc, "M::N")?;
+    let qualified = internal(alloc, text)?.qualify_with(alloc, Some(&namespace))?;
+    Ok(qualified.to_string(alloc)?)
+}
+
+/// The same, as the type of an entity.
+fn type_in_namespace(alloc: Global, text: &str) -> Result<String, ParseNameError> {
+    let namespace = name(alloc, "M::N")?;
+    let entity_type = EntityType::from(name(alloc, text)?);
+    Ok(
+        entity_type
+            .qualify_with(alloc, Some(&namespace))?
+            .to_string(alloc)?,
+    )
+}
+
+#[test]
+fn names_are_printed(rt: HostRuntime) -> Result<(), Fail> {
+    let alloc = rt.alloc();
+    // The name, its namespace, and the name in `M::N`.
+    let table = [
+        ("A", "", "M::N::A"),
+        ("A::B", "A", "A::B"),
+        ("A::B::C", "A::B", "A::B::C"),
+    ];
+    for (text, path, qualified) in table {
+        assert_eq!(rt; printed(alloc, text)?.as_str(), text);
+        assert_eq!(rt; namespace(alloc, text)?.as_str(), path);
+        assert_eq!(rt; in_namespace(alloc, text)?.as_str(), qualified);
+        assert_eq!(rt; type_in_namespace(alloc, text)?.as_str(), qualified);
+    }
+    assert_eq!(rt; unqualified(alloc, "A")?.as_str(), "A");
+    Ok(())
+}
+
+/// An identifier made a name, and the name an identifier again.
+fn converted(alloc: Global, text: &str) -> Result<bool, Fail> {
+    let id = UnreservedId::from_normalized_str(alloc, text)?;
+    let name = Name::from_in(alloc, id)?;
+    let back = UnreservedId::from_in(alloc, name)?;
+    Ok(back.as_str() == text)
+}
+
+/// The same of one that may be `__cedar`.
+fn converted_internal(alloc: Global, text: &str) -> Result<bool, Fail> {
+    let name = InternalName::from_in(alloc, Id::from_normalized_str(alloc, text)?)?;
+    Ok(Id::from_in(alloc, name)?.as_str() == text)
+}
+
+#[test]
+fn identifiers_and_names_convert(rt: HostRuntime) -> Result<(), Fail> {
+    assert!(rt; converted(rt.alloc(), "A")?);
+    assert!(rt; converted_internal(rt.alloc(), "__cedar")?);
+    Ok(())
+}
+
+fn declared(alloc: Global, text: &str) -> Result<BTreeSet<InternalName>, Fail> {
+    let mut names = BTreeSet::new(alloc);
+    names.insert(internal(alloc, text)?)?;
+    Ok(names)
+}
+
+/// What `text` in the namespace `M` resolves to, where the common type `A` and the entity type `M::A`
+/// are declared.
+fn resolved(alloc: Global, text: &str, kind: ReferenceType) -> Result<String, Fail> {
+    let namespace = internal(alloc, "M")?;
+    let name = RawName::from_name(internal(alloc, text)?);
+    let name = name.conditionally_qualify_with(alloc, Some(&namespace), kind)?;
+    resolved_among(alloc, name)
+}
+
+fn resolved_among(alloc: Global, name: ConditionalName) -> Result<String, Fail> {
+    let all_defs = AllDefs {
+        common_types: declared(alloc, "A")?,
+        entity_types: declared(alloc, "M::A")?,
+    };
+    Ok(match name.resolve(&all_defs) {
+        Ok(name) => name.to_string(alloc)?,
+        Err(error) => error.to_string(alloc)?,
+    })
+}
+
+#[test]
+fn first_declared_names_resolve(rt: HostRuntime) -> Result<(), Fail> {
+    let table = [
+        ("A", ReferenceType::Common, "A"),
+        ("A", ReferenceType::Entity, "M::A"),
+        ("A", ReferenceType::CommonOrEntity, "M::A"),
+        (
+            "N::A",
+            ReferenceType::CommonOrEntity,
+            "`N::A` is not declared",
+        ),
+        ("M::A", ReferenceType::Common, "`M::A` is not declared"),
+    ];
+    for (text, kind, want) in table {
+        assert_eq!(rt; resolved(rt.alloc(), text, kind)?.as_str(), want);
+    }
+    Ok(())
+}
+
+fn uid(alloc: Global, id: &str) -> Result<EntityUID, ParseNameError> {
+    EntityUID::with_eid_and_type(alloc, "User", id)
+}
+
+fn escaped(alloc: Global, id: &str) -> Result<RcStr, Fail> {
+    Ok(Eid::new(RcStr::from_str(alloc, id)?).escaped(alloc)?)
+}
+
+#[test]
+fn uids_are_printed(rt: HostRuntime) -> Result<(), Fail> {
+    let alloc = rt.alloc();
+    let table = [
+        ("\0\t\n\r", "\\0\\t\\n\\r"),
+        ("\"'\\", "\\\"\\'\\\\"),
+        ("\u{1}\u{1f}\u{7f}", "\\u{1}\\u{1f}\\u{7f}"),
+        (" *+é", " *+é"),
+    ];
+    for (id, want) in table {
+        assert_eq!(rt; escaped(alloc, id)?.as_str(), want);
+    }
+    assert_eq!(rt;
+        uid(alloc, "a\"")?.to_string(alloc)?.as_str(),
+        "User::\"a\\\"\""
+    );
+    Ok(())
+}
+
+fn hash_of<T: Hash>(value: &T) -> u64 {
+    let mut hasher = DefaultHasher::new();
+    value.hash(&mut hasher);
+    hasher.finish()
+}
+
+fn place(alloc: Global) -> Result<Loc, Fail> {
+    let src = RcStr::from_str(alloc, "User::\"a\"")?;
+    Ok(Loc::new(Span { start: 0, end: 4 }, src))
+}
+
+/// The uid, as it is written at `loc`.
+fn placed(alloc: Global, uid: EntityUID, loc: Loc) -> Result<EntityUID, Fail> {
+    let (entity_type, eid) = uid.components();
+    let entity_type = entity_type.with_loc(alloc, Some(&loc))?;
+    Ok(EntityUID::from_components(entity_type, eid, Some(loc)))
+}
+
+fn are_alike<T: Hash + PartialEq>(one: &T, other: &T) -> bool {
+    *one == *other && hash_of(one) == hash_of(other)
+}
+
+#[test]
+fn places_of_uids_do_not_count(rt: HostRuntime) -> Result<(), Fail> {
+    let bare = uid(rt.alloc(), "a")?;
+    let placed = placed(rt.alloc(), bare.clone(rt.alloc())?, place(rt.alloc())?)?;
+    assert!(rt; placed.loc().is_some() && placed.entity_type().loc().is_some());
+    assert!(rt; are_alike(&placed, &bare));
+    Ok(())
+}
+
+fn slot(loc: Option<Loc>) -> Slot {
+    Slot {
+        id: SlotId::principal(),
+        loc,
+    }
+}
+
+#[test]
+fn places_of_slots_do_not_count(rt: HostRuntime) -> Result<(), Fail> {
+    assert!(rt; are_alike(&slot(Some(place(rt.alloc())?)), &slot(None)));
+    Ok(())
+}
+
+#[test]
+fn slots_are_printed(rt: HostRuntime) -> Result<(), Fail> {
+    assert_eq!(rt;
+        SlotId::principal().to_string(rt.alloc())?.as_str(),
+        "?principal"
+    );
+    assert_eq!(rt;
+        SlotId::resource().to_string(rt.alloc())?.as_str(),
+        "?resource"
+    );
+    Ok(())
+}
+
+fn snippet_is(alloc: Global, span: Span, want: Option<&str>) -> Result<bool, Fail> {
+    let loc = Loc::new(span, RcStr::from_str(alloc, "aéb")?);
+    Ok(loc.snippet() == want)
+}
+
+#[test]
+fn snippets_are_cut_at_characters(rt: HostRuntime) -> Result<(), Fail> {
+    let table = [
+        (1, 3, Some("é")),
+        (1, 2, None),
+        (2, 1, None),
+        (3, 5, None),
+        (4, 4, Some("")),
+    ];
+    for (start, end, want) in table {
+        assert!(rt;
+            snippet_is(rt.alloc(), Span { start, end }, want)?,
+            "{start} to {end}"
+        );
+    }
+    Ok(())
+}
+
+fn is_below(alloc: Global, low: &str, high: &str) -> Result<bool, ParseNameError> {
+    Ok(name(alloc, low)? < name(alloc, high)?)
+}
+
+#[test]
+fn names_are_ordered(rt: HostRuntime) -> Result<(), Fail> {
+    let table = [("A", "A::B"), ("A::B", "A::C"), ("A::C", "AB"), ("AB", "B")];
+    for (low, high) in table {
+        assert!(rt; is_below(rt.alloc(), low, high)?, "{low} below {high}");
+    }
+    assert!(rt; uid(rt.alloc(), "a")? < uid(rt.alloc(), "b")?);
+    Ok(())
+}
