@@ -15,3 +15,9 @@ mod Policies
 mod Rows
 mod Texts
 mod Loops
+mod Spelled
+mod Ids
+mod ItemLoops
+mod BodyCases
+mod KeysSeen
+mod Refusing

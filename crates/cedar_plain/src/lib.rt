@@ -5,7 +5,17 @@
 //! give the one tree, or the policies, that Cedar's grammar has of them, or one of two faults.
 #![tactic(auto)]
 
+mod body;
+mod cursor;
+mod error;
+mod names;
+mod read;
+
 ghost use Rattle.cedar_plain.specs.Laws.{ReadsBodies, ReadsPolicies, WrongBodies, WrongPolicies, DeepBodies, DeepPolicies, LowBodies};
+
+pub use body::Body;
+pub use error::ReadError;
+pub use read::read_body;
 
 /// Within each nesting the reading functions give what the grammar has within it of bodies of
 /// strings, entities, lists and records, and of policies without annotations, slots and clauses,
@@ -33,3 +43,6 @@ pub fn deep_texts_have_places()
 pub fn bodies_are_low()
     ensures { LowBodies }
 {}
+
+#[cfg(test)]
+mod tests;
