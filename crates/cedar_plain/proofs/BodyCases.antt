@@ -1,5 +1,5 @@
 -- What a body is that begins with a brace, and the trees of records.
-use Rattle.std.proofs.Common.{◌≡◌, ℕ, zero, suc, ◌-◌, ◌≤◌, false, true, List, map, refl, sym, ap, ◌∙◌, arith, Vec, Ok}
+use Rattle.std.proofs.Common.{◌≡◌, ℕ, zero, suc, ◌-◌, false, true, List, map, refl, sym, ap, ◌∙◌, arith, Vec, Ok}
 use Rattle.std.proofs.lemmas.Simd.{map-map}
 use Rattle.std.specs.Rc.{rc_str_bytes}
 use Rattle.std.specs.declared.alloc.Global.{Global}

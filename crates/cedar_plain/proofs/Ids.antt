@@ -1,16 +1,13 @@
 -- What the loop keeps that reads the identifiers of a name.
-use Rattle.std.proofs.Common.{◌≡◌, ◌<◌, ◌≤◌, Bool, true, false, List, [], ◌∷◌, ◌++◌, length, Option, Some, None, Result, Ok, refl, sym, ap, ◌∙◌, subst, cond, arith}
-use Rattle.std.specs.Prelude.{IsTrue, not, ◌||◌}
-use Rattle.std.specs.List.{list_any}
-use Rattle.std.proofs.lemmas.List.{append-nil, append_assoc}
+use Rattle.std.proofs.Common.{◌≡◌, ◌<◌, ◌≤◌, Bool, true, false, List, [], ◌∷◌, ◌++◌, length, Some, None, Ok, refl, sym, ap, ◌∙◌, arith}
+use Rattle.std.specs.Prelude.{IsTrue, not}
+use Rattle.std.proofs.lemmas.List.{append_assoc}
 use Rattle.std.proofs.lemmas.List.Folds.{list_any-append}
 use Rattle.cedar_language.specs.Uid.{Text, Name}
-use Rattle.cedar_grammar.specs.Token as token
 use Rattle.cedar_grammar.specs.Token.{Token}
 use Rattle.cedar_names.specs.Identifiers.{is_reserved, IsUnreservedId}
 use Rattle.cedar_names.specs.Names.{is_reserved_name}
-use Rattle.cedar_plain.specs.Reading as reading
-use Rattle.cedar_plain.specs.Reading.{Fault, Reading, ◌>>=◌, found, first_id, without_first, next_id, more_ids, path_at}
+use Rattle.cedar_plain.specs.Reading.{found, first_id, without_first, next_id, more_ids, path_at}
 use Rattle.cedar_plain.proofs.Loops.{more_ids-next}
 
 -- the identifiers so far and those that follow are all, and none so far is reserved

@@ -21,3 +21,5 @@ mod ItemLoops
 mod BodyCases
 mod KeysSeen
 mod Refusing
+mod Takes
+mod PolicyLoop

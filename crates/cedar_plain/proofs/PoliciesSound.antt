@@ -37,7 +37,7 @@ action_target-holds : (n : ℕ) (ts : List Token) → Holds (λ u. ActionEntity 
 action_target-holds n ts =
     then (target-holds token.Principal n ts) (λ u d. choose (ends_in_action (u.0).type_name) (λ e. ok (action-of token.Principal n ts u.0 u.1 d e)) (λ e. err))
 
-listed-holds : (n : ℕ) (ts : List Token) → Holds (λ u. ListedAction n ts u.0 u.1 × Unit {0}) (listed_at n ts)
+pub listed-holds : (n : ℕ) (ts : List Token) → Holds (λ u. ListedAction n ts u.0 u.1 × Unit {0}) (listed_at n ts)
 listed-holds zero ts = err
 listed-holds (suc n) ts = weaker (action_target-holds n ts) (λ u d. (d, tt))
 
@@ -136,7 +136,7 @@ module _ (names : Names) (n : ℕ) where
   unfolding plain
   plain-so-far e p a r h k = rw (h PrincipalSlot, k ResourceSlot) refl
 
-  policy-holds : (ts : List Token) → Holds (λ p. PolicyRule names n ts p.0 p.1 × (is_policy_so_far p.0 ≡ true)) (policy_at n ts)
+  pub policy-holds : (ts : List Token) → Holds (λ p. PolicyRule names n ts p.0 p.1 × (is_policy_so_far p.0 ≡ true)) (policy_at n ts)
   unfolding policy_at plain
   policy-holds ts =
       then (effect-holds ts) (λ e de.

@@ -1,5 +1,8 @@
 -- What the answers of reading tokens say of their text.
-use Rattle.std.proofs.Common.{◌≡◌, ℕ, ◌≤◌, List, [], Result, Ok, Err}
+use Rattle.std.proofs.Common.{◌≡◌, ℕ, ◌≤◌, List, [], Result, Ok, Err, Vec, map}
+use Rattle.std.specs.declared.alloc.Global.{Global}
+use Rattle.cedar_scopes.specs.declared.scope.ScopePolicy.{ScopePolicy}
+use Rattle.cedar_scopes.specs.Scopes.{policy_of}
 use Rattle.std.specs.Prelude.{IfOk, IfErr}
 use Rattle.cedar_language.specs.Height.{height}
 use Rattle.cedar_language.specs.Tree.{Tree}
@@ -58,3 +61,12 @@ module _ (bytes : Text) (ts : List Token) (are : IsTokens bytes ts) (n : ℕ) wh
   pub body_err : (r : Result Body ReadError) → GivesAll tree_of r (read_body n ts) → IfErr r (Refuses IsBody n bytes)
   body_err (Ok body) h = tt
   body_err (Err e) h = body_refused e h
+
+  pub policies_ok : (r : Result (Vec ScopePolicy Global) ReadError) → GivesAll (λ v. map policy_of v.items) r (read_policies n ts)
+      → IfOk r (λ policies. (names : Names) → ArePolicies names n bytes (map policy_of policies.items))
+  policies_ok (Ok policies) h = policies_are (map policy_of policies.items) h
+  policies_ok (Err e) h = tt
+
+  pub policies_err : (r : Result (Vec ScopePolicy Global) ReadError) → GivesAll (λ v. map policy_of v.items) r (read_policies n ts) → IfErr r (Refuses ArePolicies n bytes)
+  policies_err (Ok policies) h = tt
+  policies_err (Err e) h = policies_refused e h

@@ -6,3 +6,4 @@ pub mod Gives
 pub mod Errors
 pub mod Trees
 pub mod Texts
+pub mod Scopes

@@ -5,17 +5,21 @@
 //! give the one tree, or the policies, that Cedar's grammar has of them, or one of two faults.
 #![tactic(auto)]
 
+mod actions;
 mod body;
+mod constraints;
 mod cursor;
 mod error;
 mod names;
+mod policy;
 mod read;
+mod scopes;
 
 ghost use Rattle.cedar_plain.specs.Laws.{ReadsBodies, ReadsPolicies, WrongBodies, WrongPolicies, DeepBodies, DeepPolicies, LowBodies};
 
 pub use body::Body;
 pub use error::ReadError;
-pub use read::read_body;
+pub use read::{read_body, read_policies};
 
 /// Within each nesting the reading functions give what the grammar has within it of bodies of
 /// strings, entities, lists and records, and of policies without annotations, slots and clauses,

@@ -43,11 +43,10 @@ pub entries_of : {X : Type 0} (es : List (Text × X)) → IsStrictlySortedBy tex
 entries_of es h =
     let sorted = rises es h in
     ap finite.entries (finite.same_map text_total text_same (finite.from_entries es) (finite.from_sorted es)
-        (λ q. finite.get-from_entries text_total es q ∙ sym (finite.get-from_sorted text_cmp es q sorted)))
+    (λ q. finite.get-from_entries text_total es q ∙ sym (finite.get-from_sorted text_cmp es q sorted)))
     ∙ finite.entries-from_sorted text_cmp es sorted
 
 -- ---- sets of ids
-
 
 -- each with nothing besides, as a set keeps it
 abbrev paired : List Text → List (Text × Unit {0})
@@ -87,8 +86,8 @@ same_after_dedup : (ids : List Text) (q : Text) → list_any (text_eq q) (dedup 
 same_after_dedup ids q =
     let equiv = eq_by_cmp_equiv text_total in
     agree _ _
-      (λ h. list_any-from_Contains equiv q ids (Contains-from_dedup same_text ids q (Contains-from_any tells q _ h)))
-      (λ h. list_any-from_Contains equiv q _ (Contains-dedup nat_list_eq_equiv same_tells ids q (Contains-from_any tells q ids h)))
+    (λ h. list_any-from_Contains equiv q ids (Contains-from_dedup same_text ids q (Contains-from_any tells q _ h)))
+    (λ h. list_any-from_Contains equiv q _ (Contains-dedup nat_list_eq_equiv same_tells ids q (Contains-from_any tells q ids h)))
 
 -- a sort and a `dedup` leave the same set, in order
 pub sorted_ids : (ids sorted : List Text) → IsPermutation ids sorted → ids_of (dedup same_text sorted) ≡ ids_of ids

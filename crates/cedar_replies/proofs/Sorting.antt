@@ -96,11 +96,11 @@ pub same_entries : (es sorted : List Entry) → IsPermutation es sorted → IsSt
     → finite.from_entries {R = text_cmp} (with_kinds (dedup same_id sorted)) ≡ finite.from_entries (with_kinds es)
 same_entries es sorted moved stable h =
     finite.same_map text_total text_same _ _ (λ q.
-      finite.get-from_entries text_total _ q
-      ∙ find_kind q (dedup same_id sorted) (kinds_kept es sorted moved h)
-      ∙ ap (λ o. and_then o kind_of) (find_dedup q sorted ∙ find_sorted es sorted stable q)
-      ∙ sym (find_kind q es h)
-      ∙ sym (finite.get-from_entries text_total _ q))
+    finite.get-from_entries text_total _ q
+    ∙ find_kind q (dedup same_id sorted) (kinds_kept es sorted moved h)
+    ∙ ap (λ o. and_then o kind_of) (find_dedup q sorted ∙ find_sorted es sorted stable q)
+    ∙ sym (find_kind q es h)
+    ∙ sym (finite.get-from_entries text_total _ q))
 
 ids_below : (k : Text) (es : List Entry) → AllByRecursion (λ (e : Entry). text_cmp k e.0 ≡ Less) es → AllByRecursion (λ id. text_cmp k id ≡ Less) (map (λ (e : Entry). e.0) es)
 ids_below k [] h = tt

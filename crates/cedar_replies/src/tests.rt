@@ -30,12 +30,15 @@ fn sets_go_by_bytes(rt: HostRuntime) -> Result<(), Fail> {
     let entries = vec![in alloc;
         (PolicyID::from_string(alloc, "q")?, ErrorKind::TypeError),
         (PolicyID::from_string(alloc, "p")?, ErrorKind::NonValue),
-        (PolicyID::from_string(alloc, "q")?, ErrorKind::IntegerOverflow)
+        (
+            PolicyID::from_string(alloc, "q")?,
+            ErrorKind::IntegerOverflow
+        ),
     ]?;
     let erring = Erring::new(entries)?;
     let sorted = vec![in alloc;
         (PolicyID::from_string(alloc, "p")?, ErrorKind::NonValue),
-        (PolicyID::from_string(alloc, "q")?, ErrorKind::TypeError)
+        (PolicyID::from_string(alloc, "q")?, ErrorKind::TypeError),
     ]?;
     assert_eq!(rt; erring.clone()?.as_slice(), sorted.as_slice());
     Ok(())
@@ -56,7 +59,10 @@ fn lines_say_replies(rt: HostRuntime) -> Result<(), Fail> {
         may: PolicyIds::new(ids(alloc, &["a\"b"])?),
         erring: Erring::new(vec![in alloc;
             (PolicyID::from_string(alloc, "q")?, ErrorKind::TypeError),
-            (PolicyID::from_string(alloc, "p")?, ErrorKind::RecordAttrDoesNotExist)
+            (
+                PolicyID::from_string(alloc, "p")?,
+                ErrorKind::RecordAttrDoesNotExist
+            ),
         ]?)?,
     };
     let rows = [

@@ -1,26 +1,24 @@
 -- Policies of a list that are judged: one more, and the answer that they give.
-use Rattle.std.proofs.Common.{◌≡◌, ◌⊎◌, inl, inr, ℕ, suc, ◌+◌, ◌<◌, ◌≤◌, ◌^◌, Bool, true, false, not, ◌||◌, cond, Option, Some, None, is_some, List, [], ◌∷◌, ◌++◌, map, filter, length, take, get_or, All, Contains, refl, sym, ◌∙◌, ap, subst, true≢false, arith}
+use Rattle.std.proofs.Common.{◌≡◌, ◌⊎◌, inl, inr, ℕ, suc, ◌+◌, ◌<◌, ◌≤◌, ◌^◌, Bool, true, false, not, ◌||◌, cond, Option, Some, None, List, [], ◌∷◌, ◌++◌, map, filter, length, take, get_or, All, Contains, refl, sym, ◌∙◌, ap, subst, arith}
 use Rattle.std.proofs.lemmas.List.{map-append}
 use Rattle.std.proofs.lemmas.List.Elements.{All-nil, All-cons}
-use Rattle.std.specs.Option.{option_map}
-use Rattle.std.specs.Ordering.{eq_by_cmp, is_eq}
+use Rattle.std.specs.Ordering.{eq_by_cmp}
 use Rattle.std.specs.Cmp.{Equal-is}
 use Rattle.std.specs.FinMap as finite
-use Rattle.cedar_language.specs.Uid.{Text, Uid}
+use Rattle.cedar_language.specs.Uid.{Text}
 use Rattle.cedar_language.specs.Tree.{SlotId, PrincipalSlot, ResourceSlot}
 use Rattle.cedar_language.specs.Value.{Kind}
 use Rattle.cedar_language.specs.Order.{text_cmp, same_uid}
 use Rattle.cedar_language.specs.OrderLaws.{text_cmp_total, text_cmp_same}
-use Rattle.cedar_language.specs.Answering.{Effect, Permit, Forbid, Standing, Satisfied, Unsatisfied, Erring, Residual, Judged, some, decision, decision_by, in_must, in_may, satisfied_permit, satisfied_forbid, residual_permit, residual_forbid, is_satisfied, is_residual}
+use Rattle.cedar_language.specs.Answering.{Effect, Permit, Forbid, Standing, Satisfied, Unsatisfied, Erring, Residual, Judged, some, decision, decision_by, in_must, in_may, satisfied_permit, satisfied_forbid, residual_permit, residual_forbid}
 use Rattle.cedar_grammar.specs.Policy.{constraint_slots}
 use Rattle.cedar_world.specs.Answer.{Answer, ids_of}
 use Rattle.cedar_world.specs.Answers.{ids_with, errors_of, erring_as}
-use Rattle.cedar_world.specs.Syntax.{PolicySyntax, is_template, are_some}
+use Rattle.cedar_world.specs.Syntax.{PolicySyntax, is_template}
 use Rattle.cedar_world.specs.PolicyEdits.{numbered, own_ids, joined}
 use Rattle.cedar_world.specs.World.{World, Policy, Policies, standing_for, in_force_as, in_force_at}
 use Rattle.cedar_world.specs.Asking as asking
 use Rattle.cedar_world.specs.Asking.{Entries}
-use Rattle.cedar_world.specs.Setting.{Setting}
 use Rattle.cedar_answers.specs.Scope.{standing_met, scope_met}
 use Rattle.cedar_policies.specs.Effects.{effect_of}
 use Rattle.cedar_answers.specs.Standing.{Says, answer_by}

@@ -1,6 +1,6 @@
 -- Policies under their own numbers.
 use Prim.Native.Nat.{zero}
-use Rattle.std.proofs.Common.{◌≡◌, ◌≢◌, ◌⊎◌, inl, inr, ℕ, suc, ◌+◌, ◌<◌, ◌≤◌, ◌^◌, Bool, true, false, cond, Option, Some, None, is_some, List, [], ◌∷◌, ◌++◌, map, length, get_or, take, drop, refl, sym, ◌∙◌, ap, subst, true≢false, add-one, below_more, arith, codes, decimal}
+use Rattle.std.proofs.Common.{◌≡◌, ◌⊎◌, inl, inr, ℕ, suc, ◌+◌, ◌<◌, ◌≤◌, ◌^◌, Bool, true, false, cond, Some, None, is_some, List, [], ◌∷◌, ◌++◌, map, length, get_or, take, refl, sym, ◌∙◌, ap, subst, add-one, below_more, arith, codes, decimal}
 use Rattle.std.proofs.lemmas.List.{map-append, take_more, length-take}
 use Rattle.std.specs.Str.Parse.{digits_value}
 use Rattle.std.proofs.lemmas.Fmt.{decimal_is_IsNumeral}
@@ -12,7 +12,7 @@ use Rattle.cedar_language.specs.Order.{text_cmp}
 use Rattle.cedar_language.specs.OrderLaws.{text_cmp_total, text_cmp_same}
 use Rattle.cedar_world.specs.Syntax.{PolicySyntax}
 use Rattle.cedar_world.specs.World.{Bound, Policy, Policies}
-use Rattle.cedar_world.specs.PolicyEdits.{numbered, HasRoom, Conflicts, HaveRoom, own_ids, joined}
+use Rattle.cedar_world.specs.PolicyEdits.{numbered, Conflicts, HaveRoom, own_ids, joined}
 use Rattle.cedar_world.specs.SoFar.{MustRename}
 use Rattle.cedar_scopes.specs.declared.scope.ScopePolicy.{ScopePolicy}
 use Rattle.cedar_scopes.specs.Scopes.{policy_of}

@@ -1,10 +1,10 @@
 -- Parts of scopes pass their tests exactly where they are one.
 use Rattle.std.proofs.Common.{◌≡◌, ◌↔◌, Bool, true, false, ◌&&◌, IsTrue, List, refl, sym, ◌∙◌, ap, subst, true≢false}
 use Rattle.std.specs.Cmp.Lexicographic.{pointwise, pointwise_decides, bytes_decides}
-use Rattle.cedar_language.specs.Uid.{Text, Name, Uid}
+use Rattle.cedar_language.specs.Uid.{Name, Uid}
 use Rattle.cedar_language.specs.Order.{same_text, same_name, same_uid}
 use Rattle.cedar_language.specs.Answering.{Effect, Permit, Forbid}
-use Rattle.cedar_grammar.specs.Policy.{Target, the_entity, the_slot, Constraint, anything, equals, within, of_type, of_type_within, ActionConstraint, any_action, action_equals, action_within_any, Policy}
+use Rattle.cedar_grammar.specs.Policy.{the_entity, Constraint, anything, equals, within, of_type, of_type_within, ActionConstraint, any_action, action_equals, action_within_any, Policy}
 use Rattle.cedar_scopes.specs.declared.scope.EntityConstraint as asked
 use Rattle.cedar_scopes.specs.declared.scope.EntityConstraint.TheVariants as entity
 use Rattle.cedar_scopes.specs.declared.scope.ActionConstraint as acted

@@ -1,6 +1,6 @@
 -- Choices among judged policies, by effect and by standing.
-use Rattle.std.specs.Prelude.{Bool, true, false, ◌&&◌, ◌||◌, List}
-use Rattle.cedar_language.specs.Answering.{Effect, Permit, Forbid, Standing, Satisfied, Unsatisfied, Erring, Residual, Judged, is_satisfied, is_residual, some, satisfied_permit, satisfied_forbid, residual_permit, residual_forbid}
+use Rattle.std.specs.Prelude.{Bool, false, ◌||◌, List}
+use Rattle.cedar_language.specs.Answering.{Effect, Permit, Forbid, Standing, Satisfied, Residual, Judged, is_satisfied, is_residual, some, satisfied_permit, satisfied_forbid, residual_permit, residual_forbid}
 use Rattle.cedar_scopes.specs.declared.choice.Choice.{Choice}
 
 -- whether a satisfied and an open policy of an effect is chosen

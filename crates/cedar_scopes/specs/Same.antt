@@ -1,10 +1,9 @@
 -- Whether two policies are the same thing, by their parts.
-use Rattle.std.specs.Prelude.{◌≡◌, ◌↔◌, Bool, true, false, ◌&&◌, IsTrue, List, [], ◌∷◌}
+use Rattle.std.specs.Prelude.{Bool, true, false, ◌&&◌}
 use Rattle.std.specs.Cmp.Lexicographic.{pointwise}
-use Rattle.cedar_language.specs.Uid.{Uid}
 use Rattle.cedar_language.specs.Order.{same_name, same_uid}
 use Rattle.cedar_language.specs.Answering.{Effect, Permit, Forbid}
-use Rattle.cedar_grammar.specs.Policy.{Target, the_entity, the_slot, Constraint, anything, equals, within, of_type, of_type_within, ActionConstraint, any_action, action_equals, action_within_any, Policy}
+use Rattle.cedar_grammar.specs.Policy.{the_entity, Constraint, anything, equals, within, of_type, of_type_within, ActionConstraint, any_action, action_equals, action_within_any, Policy}
 
 abbrev pub same_constraint : Constraint → Constraint → Bool
 same_constraint anything anything = true

@@ -1,6 +1,5 @@
 -- Policies with scopes alone, as the grammar has them.
 use Rattle.std.specs.Prelude.{[], None}
-use Rattle.cedar_names.specs.declared.uids.EntityUID.{EntityUID}
 use Rattle.cedar_grammar.specs.Policy as policy
 use Rattle.cedar_grammar.specs.Policy.{the_entity}
 use Rattle.cedar_policies.specs.Effects.{effect_of}

@@ -7,7 +7,6 @@ use cedar_names::uids::{EntityType, EntityUID};
 use cedar_policies::Effect;
 
 /// What a scope asks of the principal, or of the resource. (Cedar language reference, "Policy scope".)
-#[derive(Drop)]
 pub enum EntityConstraint {
     Any,
     Equal(EntityUID),
@@ -17,7 +16,6 @@ pub enum EntityConstraint {
 }
 
 /// What a scope asks of the action; `action in E` is `action in [E]`.
-#[derive(Drop)]
 pub enum ActionConstraint {
     Any,
     Equal(EntityUID),
@@ -84,5 +82,27 @@ impl ScopePolicy {
         ensures { IsTrue result ↔ (policy_of self.now ≡ policy_of other.now) }
     {
         self.has_same_parts(other)
+    }
+}
+
+// By hand, so that letting go of one is a call.
+impl Drop for EntityConstraint {
+    fn drop(self) {
+        match self {
+            EntityConstraint::Any => {}
+            EntityConstraint::Equal(_uid) | EntityConstraint::In(_uid) => {}
+            EntityConstraint::Is(_entity_type) => {}
+            EntityConstraint::IsIn(_entity_type, _uid) => {}
+        }
+    }
+}
+
+impl Drop for ActionConstraint {
+    fn drop(self) {
+        match self {
+            ActionConstraint::Any => {}
+            ActionConstraint::Equal(_uid) => {}
+            ActionConstraint::In(_uids) => {}
+        }
     }
 }

@@ -14,6 +14,6 @@ returns g c =
     let must_is : listed (map quoted c.as_slice.result.now) ≡ ids_listed (finite.entries a.must) = ap (λ l. listed (map quoted l)) c.as_slice.ensures ∙ ap listed (map_firsts quoted (finite.entries a.must)) in
     let may_is : listed (map quoted c.as_slice-2.result.now) ≡ ids_listed (finite.entries a.may) = ap (λ l. listed (map quoted l)) c.as_slice-2.ensures ∙ ap listed (map_firsts quoted (finite.entries a.may)) in
     let erring_is : listed (map with_name c.as_slice-3.result.now) ≡ listed (map with_kind (finite.entries a.erring)) =
-        ap listed (names_are_kinds c.as_slice-3.result.now c.as_slice-3.ensures.kinds ∙ ap (map with_kind) c.as_slice-3.ensures.entries) in
+    ap listed (names_are_kinds c.as_slice-3.result.now c.as_slice-3.ensures.kinds ∙ ap (map with_kind) c.as_slice-3.ensures.entries) in
     answer_put _ _ _ _ _ _ _ _ _ _ _ _ _ _ _ _ _ _ _ (ids_listed (finite.entries a.must)) (ids_listed (finite.entries a.may)) (listed (map with_kind (finite.entries a.erring)))
-        name c.put-2.ensures (rw must_is at c.put_ids.ensures) c.put-3.ensures (rw may_is at c.put_ids-2.ensures) c.put-4.ensures (rw erring_is at c.put_erring.ensures) c.put-5.ensures
+    name c.put-2.ensures (rw must_is at c.put_ids.ensures) c.put-3.ensures (rw may_is at c.put_ids-2.ensures) c.put-4.ensures (rw erring_is at c.put_erring.ensures) c.put-5.ensures

@@ -1,4 +1,4 @@
-use Rattle.std.proofs.Common.{◌≡◌, map, take, length}
+use Rattle.std.proofs.Common.{◌≡◌, map, take}
 use Rattle.cedar_world.specs.PolicyEdits.{own_ids}
 use Rattle.cedar_scopes.specs.Scopes.{policy_of}
 use Rattle.cedar_scopes.proofs.numbers.text_ids.Given as goal

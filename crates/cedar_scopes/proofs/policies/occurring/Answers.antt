@@ -1,7 +1,6 @@
 use Rattle.std.proofs.Common.{sym, ◌∙◌, ap, map, take}
 use Rattle.std.proofs.lemmas.List.{take_all}
-use Rattle.cedar_language.specs.Order.{same_uid}
-use Rattle.cedar_answers.specs.Scope.{standing_met, scope_met}
+use Rattle.cedar_answers.specs.Scope.{standing_met}
 use Rattle.cedar_policies.specs.Effects.{effect_of}
 use Rattle.cedar_scopes.specs.Scopes.{policy_of}
 use Rattle.cedar_scopes.specs.Questions.{question_of}

@@ -1,11 +1,11 @@
-use Rattle.std.proofs.Common.{◌≡◌, ◌++◌, ◌∷◌, [], ◌<◌, ◌≤◌, map, length, Ok, refl, sym, ap, ◌∙◌, arith}
+use Rattle.std.proofs.Common.{map, sym, ap, ◌∙◌, arith}
 use Rattle.std.proofs.lemmas.Result.{err_from_is_err_and}
 use Rattle.std.proofs.lemmas.List.{map_push}
 use Rattle.cedar_grammar.specs.Token as token
 use Rattle.cedar_grammar.specs.Build.{keys}
 use Rattle.cedar_grammar.specs.Names.{are_distinct}
 use Rattle.cedar_plain.specs.Trees.{tree_of, keyed_tree}
-use Rattle.cedar_plain.specs.Bodies.{body_at, body_of, entry_of, entries_of}
+use Rattle.cedar_plain.specs.Bodies.{body_at, entry_of}
 use Rattle.cedar_plain.proofs.ItemLoops.{loop_closed, loop_fails, loop_more, loop_more_fewer, loop_last_fails, loop_last_ok}
 use Rattle.cedar_plain.proofs.BodyCases.{brace_read, tree_record, record_is}
 use Rattle.cedar_plain.proofs.cursor.Cursor.+body.Goals as goal
