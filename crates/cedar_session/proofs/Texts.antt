@@ -1,0 +1,98 @@
+-- Steps of a session, from what its texts are read as.
+use Rattle.std.proofs.Common.{◌≡◌, ◌<◌, ◌≤◌, ◌⊎◌, inl, inr, ℕ, List, Option, Some, None, Result, Ok, Err, Vec, Global, sym, ap, subst, arith}
+use Rattle.std.specs.FinMap as finite
+use Rattle.cedar_language.specs.Uid as uid
+use Rattle.cedar_language.specs.Tree.{Tree}
+use Rattle.cedar_language.specs.Height.{height}
+use Rattle.cedar_grammar.specs.Names.{Names}
+use Rattle.cedar_grammar.specs.Nesting.{loose_nesting}
+use Rattle.cedar_policies.specs.declared.policy_id.PolicyID.{PolicyID}
+use Rattle.cedar_plain.specs.Texts as plain
+use Rattle.cedar_scopes.specs.declared.question.Question.{Question}
+use Rattle.cedar_scopes.specs.Questions.{question_of}
+use Rattle.cedar_world.specs.Syntax.{PolicySyntax}
+use Rattle.cedar_world.specs.World.{World, Policies}
+use Rattle.cedar_world.specs.Functions.{policy_names, body_names}
+use Rattle.cedar_world.specs.Bodies.{ask_body}
+use Rattle.cedar_world.specs.Setting.{Setting, ArePoliciesWithin, ArePolicies, PoliciesNestWithin, PoliciesAreOne, IsBodyWithin, IsBody, BodyNestsWithin, BodiesAreOne}
+use Rattle.cedar_world.specs.Commands as commands
+use Rattle.cedar_world.specs.Commands.{Load, Ask, Named, Answered, Refused}
+use Rattle.cedar_world.specs.Step.{Step, IsFirstAnswer}
+use Rattle.cedar_world.proofs.LoadAndAsk.{load_lacks_memory, load_is_no_text, load_is_deep, load_conflicts, load_stands_own, ask_lacks_memory, ask_is_no_text, ask_is_deep, ask_is_misshapen, ask_stands}
+use Rattle.cedar_replies.specs.declared.answer.Answer.{Answer}
+use Rattle.cedar_replies.specs.declared.refusal.Refusal.{Refusal}
+use Rattle.cedar_replies.specs.declared.refusal.Refusal.TheVariants.{Text, Depth, Shape, IdConflict, Memory}
+use Rattle.cedar_replies.specs.Refusals.{refusal_of}
+use Rattle.cedar_replies.specs.Replies.{answer_of}
+use Rattle.cedar_session.specs.Reading.{ReadsLoad, ReadsAsk, Places, Gives}
+
+-- ---- what is read under all names is read under a session's
+
+module _ (by : Setting) (depth : ℕ) (text : uid.Text) (same : by.depth ≡ depth) where
+  pub policies_read : (ss : List PolicySyntax) → ((names : Names) → plain.ArePolicies names depth text ss) → ArePoliciesWithin by by.depth text ss
+  policies_read ss reads = subst (λ n. ArePoliciesWithin by n text ss) (sym same) (reads (policy_names by.functions))
+
+  pub no_policies : ((names : Names) (n : ℕ) (ss : List PolicySyntax) → plain.ArePolicies names n text ss → ⊥) → (ss : List PolicySyntax) → ArePolicies by text ss → ⊥
+  no_policies none ss h = none (policy_names by.functions) h.0 ss h.1
+
+  pub deep_policies : ((names : Names) (n : ℕ) (ss : List PolicySyntax) → n ≤ depth → plain.ArePolicies names n text ss → ⊥) × (depth < loose_nesting text) → PoliciesNestWithin by by.depth text → ⊥
+  deep_policies deep h = within (subst (λ n. PoliciesNestWithin by n text) same h)
+    where
+      within : PoliciesNestWithin by depth text → ⊥
+      within (inl h) = deep.0 (policy_names by.functions) depth h.0 (omega arith) h.1
+      within (inr h) = let few = h.1 in let many = deep.1 in omega arith
+
+  pub no_body : ((names : Names) (n : ℕ) (tree : Tree) → plain.IsBody names n text tree → ⊥) → (tree : Tree) → IsBody by text tree → ⊥
+  no_body none tree h = none (body_names by.functions) h.0 tree h.1
+
+  pub deep_body : ((names : Names) (n : ℕ) (tree : Tree) → n ≤ depth → plain.IsBody names n text tree → ⊥) × (depth < loose_nesting text) → BodyNestsWithin by by.depth text → ⊥
+  deep_body deep h = within (subst (λ n. BodyNestsWithin by n text) same h)
+    where
+      within : BodyNestsWithin by depth text → ⊥
+      within (inl h) = deep.0 (body_names by.functions) depth h.0 (omega arith) h.1
+      within (inr h) = let few = h.1 in let many = deep.1 in omega arith
+
+  -- what is said of a body that was read
+  pub body_read : (tree : Tree) → ((names : Names) → plain.IsBody names depth text tree) → height tree ≤ depth → IsBodyWithin by by.depth text tree × (height tree ≤ by.depth)
+  body_read tree reads low = subst (λ n. IsBodyWithin by n text tree × (height tree ≤ n)) (sym same) (reads (body_names by.functions), low)
+
+-- the question of a body, or that it states none
+pub asks : (by : Setting) (text : uid.Text) (tree : Tree) → IsBodyWithin by by.depth text tree → height tree ≤ by.depth → (r : Result Question Refusal) → Gives question_of (ask_body tree) r → ReadsAsk by text r
+asks by text tree reads low (Ok question) g = (tree, reads, low, g)
+asks by text tree reads low (Err Shape) g = (tree, reads, low, g)
+asks by text tree reads low (Err Memory) g = tt
+asks by text tree reads low (Err r) g = absurd g
+
+-- ---- steps
+
+module _ (by : Setting) (old : World) (text : uid.Text) where
+  pub unread_load : (r : Refusal) → ReadsLoad by text (Err r) → Step by old Load text (Refused (refusal_of r)) old
+  unread_load Text h = load_is_no_text by old text h
+  unread_load Depth h = load_is_deep by old text h
+  unread_load Memory h = load_lacks_memory by old text
+  unread_load r h = absurd h
+
+  pub misplaced : (ss : List PolicySyntax) (new : Policies) (r : Refusal) → ArePoliciesWithin by by.depth text ss → Places old.policies ss (Err r) new
+      → Step by old Load text (Refused (refusal_of r)) (record old { policies = new })
+  misplaced ss new IdConflict reads h = subst (λ p. Step by old Load text (Refused commands.IdConflict) (record old { policies = p })) (sym h.1) (load_conflicts by old text ss reads h.0)
+  misplaced ss new Memory reads h = subst (λ p. Step by old Load text (Refused commands.Memory) (record old { policies = p })) (sym h) (load_lacks_memory by old text)
+  misplaced ss new r reads h = absurd h
+
+  pub loaded : PoliciesAreOne by → (ss : List PolicySyntax) (new : Policies) (ids : Vec PolicyID Global) → ArePoliciesWithin by by.depth text ss → Places old.policies ss (Ok ids) new
+      → Step by old Load text (Named ids.items) (record old { policies = new; asked = None })
+  loaded once ss new ids reads h =
+      subst (λ is. Step by old Load text (Named is) (record old { policies = new; asked = None })) (sym h.0)
+      (load_stands_own by old text once ss (record old { policies = new; asked = None }) reads h.1 (ap (λ p. record old { policies = p; asked = None }) h.2))
+
+  pub unread_ask : (r : Refusal) → ReadsAsk by text (Err r) → Step by old Ask text (Refused (refusal_of r)) old
+  unread_ask Text h = ask_is_no_text by old text h
+  unread_ask Depth h = ask_is_deep by old text h
+  unread_ask Shape h = ask_is_misshapen by old text h.0 h.1 h.2 h.3
+  unread_ask Memory h = ask_lacks_memory by old text
+  unread_ask r h = absurd h
+
+  pub asked : BodiesAreOne by → (question : Question) (answer kept : Answer) → kept ≡ answer → ReadsAsk by text (Ok question) → IsFirstAnswer by old (question_of question) (answer_of answer)
+      → Step by old Ask text (Answered (answer_of answer)) (record old { asked = Some (record { question = question_of question; told = finite.empty; last = answer_of kept }) })
+  asked once question answer kept same h first =
+      ask_stands by old text once h.0 (question_of question) (answer_of answer) _ h.1 h.2 h.3 first
+      (ap (λ a. record old { asked = Some (record { question = question_of question; told = finite.empty; last = answer_of a }) }) same)

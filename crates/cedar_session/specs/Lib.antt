@@ -1,0 +1,5 @@
+pub mod Commands
+pub mod Fields
+pub mod Reading
+pub mod Running
+pub mod Sessions

@@ -1,0 +1,30 @@
+// Commands with their texts.
+ghost use Rattle.std.specs.Prelude.{◌≡◌, true};
+ghost use Rattle.cedar_frames.specs.SoFar.{is_offered};
+ghost use Rattle.cedar_session.specs.Commands.{command_verb, command_text};
+
+use cedar_frames::Verb;
+
+/// A command, with the text that says what it is about.
+#[derive(Clone, Copy, Debug)]
+pub enum Command<'t> {
+    /// Adds the policies of a text.
+    Load(&'t str),
+    /// Asks the question that a body states.
+    Ask(&'t str),
+}
+
+impl<'t> Command<'t> {
+    /// The command of a verb that is offered.
+    pub fn of(verb: Verb, text: &'t str) -> Command<'t>
+        requires { is_offered verb ≡ true }
+        ensures verb { command_verb result ≡ verb }
+        ensures text { command_text result ≡ text.now }
+    {
+        match verb {
+            Verb::Load => Command::Load(text),
+            Verb::Ask => Command::Ask(text),
+            _ => unreachable!(),
+        }
+    }
+}

@@ -1,0 +1,20 @@
+//! A session that answers commands on policies, and a program's work that reads them as frames.
+#![tactic(auto)]
+
+mod asking;
+mod command;
+mod entry;
+mod finishing;
+mod reading;
+mod running;
+mod session;
+
+pub use command::Command;
+pub use entry::program;
+pub use running::{End, RunError, run};
+pub use session::Session;
+
+#[cfg(test)]
+mod rows;
+#[cfg(test)]
+mod tests;

@@ -1,0 +1,116 @@
+// Frames in, answer lines out.
+ghost use Rattle.std.specs.Prelude.{◌≡◌, ◌≤◌, ℕ, List, false, true, length, IfOk, IfSome, IsErrOf, Ok, Err};
+ghost use Rattle.cedar_frames.specs.Watching.{watched_failed};
+ghost use Rattle.cedar_frames.specs.Heads.{body_limit};
+ghost use Rattle.cedar_frames.specs.SoFar.{is_offered};
+ghost use Rattle.cedar_frames.specs.Reading.{Reads};
+ghost use Rattle.cedar_world.specs.RunText.{FrameStep, RunText, TextBeforeFailure, TextCutShort};
+ghost use Rattle.cedar_replies.specs.Replies.{reply_of};
+ghost use Rattle.cedar_session.specs.Sessions.{world_of, setting_of};
+ghost use Rattle.cedar_session.specs.Running.{end_of, EndsInput, Adds};
+
+use crate::command::Command;
+use crate::finishing::{failed_read, finish};
+use crate::session::Session;
+use cedar_frames::{Fault, Next, Verb, Watched, next_frame, read_byte};
+use cedar_replies::{Refusal, Reply, put_line};
+use std::io::{Read, Write};
+
+/// How a run ended.
+#[derive(Clone, Copy, Debug, PartialEq, Eq)]
+pub enum End {
+    /// By the end of the input, behind a whole frame.
+    Clean,
+    /// By bytes that are no frame.
+    Fault(Fault),
+}
+
+/// Which device failed.
+#[derive(Clone, Copy, Debug, PartialEq, Eq)]
+pub enum RunError {
+    /// The reader.
+    Read,
+    /// The writer.
+    Write,
+}
+
+/// Answers the command of a frame. A body that isn't UTF-8 takes no memory to refuse.
+fn answer(
+    session: &mut Session<'_, '_>,
+    verb: Verb,
+    body: &Option<Vec<u8>>,
+) -> Result<Reply, Refusal>
+    requires offered { is_offered verb ≡ true }
+    requires fits { IfSome body.now (λ held. length held.items ≤ body_limit) }
+    ensures step { (bytes : List ℕ) → IfSome body.now (λ held. held.items ≡ bytes) → FrameStep (setting_of session.old) (world_of session.old) verb bytes (reply_of result) (world_of session.new) }
+    ensures setting { setting_of session.new ≡ setting_of session.old }
+{
+    let Some(bytes) = body else {
+        return Err(Refusal::Memory);
+    };
+    match str::from_utf8(bytes.as_slice()) {
+        Ok(text) => session.apply(&Command::of(verb, text)),
+        Err(_) => Err(Refusal::NotUtf8),
+    }
+}
+
+/// Answers the frames that a reader gives, a line for each, until it ends or gives no frame, and
+/// then writes `end` or the fault.
+///
+/// It ends after 2^64 - 1 frames at the latest. `RunError::Read` is told only where the reader
+/// failed: the whole frames before are answered, and nothing follows. `RunError::Write` is told
+/// only where the writer failed, be it when it was flushed at the end: the command whose answer
+/// failed has been done.
+pub fn run<R: Read, W: Write>(
+    session: &mut Session<'_, '_>,
+    reader: &mut Watched<R>,
+    writer: &mut Watched<W>,
+) -> Result<End, RunError>
+    requires reader { watched_failed reader.old ≡ false }
+    requires writer { watched_failed writer.old ≡ false }
+
+    // A device's fault is told only where that device failed, and an end only where none did.
+    ensures read_failed { IsErrOf result RunError.Read → watched_failed reader.new ≡ true }
+    ensures write_failed { IsErrOf result RunError.Write → watched_failed writer.new ≡ true }
+    ensures none_failed { IfOk result (λ end. (watched_failed reader.new ≡ false) × (watched_failed writer.new ≡ false)) }
+
+    // What is written for what is read.
+    ensures text { IfOk result (λ end. (bytes text : List ℕ)
+        × Reads R.remaining reader.old reader.new bytes
+        × EndsInput R.remaining end reader.new
+        × Adds W.contents writer.old writer.new text
+        × RunText (setting_of session.old) bytes (world_of session.old) text (end_of end) (world_of session.new)) }
+    ensures before_failure { IsErrOf result RunError.Read → (bytes text : List ℕ)
+        × Reads R.remaining reader.old reader.new bytes
+        × Adds W.contents writer.old writer.new text
+        × TextBeforeFailure (setting_of session.old) bytes (world_of session.old) text (world_of session.new) }
+    ensures cut_short { IsErrOf result RunError.Write → (bytes text : List ℕ)
+        × Reads R.remaining reader.old reader.new bytes
+        × Adds W.contents writer.old writer.new text
+        × TextCutShort (setting_of session.old) bytes (world_of session.old) text (world_of session.new) }
+
+    ensures setting { setting_of session.new ≡ setting_of session.old }
+{
+    for turn in 0..u64::MAX {
+        let _ = turn;
+        let Ok(next) = next_frame(session.allocator(), reader) else {
+            return Err(failed_read(writer));
+        };
+        match next {
+            Next::End => return finish(writer, End::Clean),
+            Next::Fault(fault) => return finish(writer, End::Fault(fault)),
+            Next::Frame(verb, body) => {
+                let outcome = answer(session, verb, &body);
+                put_line(writer, &outcome);
+                if writer.failed() {
+                    return Err(RunError::Write);
+                }
+            }
+        }
+    }
+    match read_byte(reader) {
+        Ok(None) => finish(writer, End::Clean),
+        Ok(Some(_)) => finish(writer, End::Fault(Fault::TooMany)),
+        Err(_) => Err(failed_read(writer)),
+    }
+}

@@ -1,0 +1,110 @@
+// A session, and what it does at a command.
+ghost use Rattle.std.specs.Prelude.{◌≡◌, ◌≤◌, length, IfOk, OnErr, IsErrOf, Ok, Err};
+ghost use Rattle.cedar_frames.specs.Heads.{body_limit};
+ghost use Rattle.cedar_world.specs.World.{new_world};
+ghost use Rattle.cedar_replies.specs.Replies.{reply_of};
+ghost use Rattle.cedar_session.specs.Commands.{command_verb, command_text};
+
+use crate::command::Command;
+use crate::reading::{placed, policies_of_text, question_of_text};
+use cedar_expressions::Extensions;
+use cedar_policies::PolicyID;
+use cedar_replies::{Answer, Refusal, Reply};
+use cedar_scopes::{PolicyList, Question};
+use std::alloc::Global;
+
+/// A question that was asked, and the answer that was given last.
+#[derive(Drop)]
+struct Asked {
+    question: Question,
+    answer: Answer,
+}
+
+/// Policies that are in force, and at most one open question.
+#[derive(Drop)]
+pub struct Session<'e, 'f> {
+    allocator: Global,
+    extensions: &'e Extensions<'f>,
+    depth: u32,
+    policies: PolicyList,
+    asked: Option<Asked>,
+}
+
+impl<'e, 'f> Session<'e, 'f> {
+    ghost use Rattle.cedar_frames.specs.declared.verb.Verb.TheVariants.{Load as LoadVerb, Ask as AskVerb};
+    ghost use Rattle.cedar_world.specs.Step.{Step};
+    ghost use Rattle.cedar_session.specs.Sessions.{world_of, setting_of, setting_with, load_reply, ask_reply};
+
+    /// A session without policies.
+    pub fn new(
+        allocator: Global,
+        extensions: &'e Extensions<'f>,
+        depth: u32,
+    ) -> Result<Session<'e, 'f>, Refusal>
+        ensures world { IfOk result (λ session. world_of session ≡ new_world) }
+        ensures setting { IfOk result (λ session. setting_of session ≡ setting_with extensions.now depth) }
+        ensures err { OnErr result (IsErrOf result Refusal.Memory) }
+    {
+        Ok(Session {
+            allocator,
+            extensions,
+            depth,
+            policies: PolicyList::new(allocator),
+            asked: None,
+        })
+    }
+
+    /// What the session's parts are made with.
+    pub fn allocator(&self) -> Global {
+        self.allocator
+    }
+
+    /// Loads the policies of a text, the i-th of them under `policy<i>`, and answers these ids in the
+    /// text's order. An open question is closed.
+    ///
+    /// It is refused `Text`, `Depth`, `IdConflict` where one of the ids is another policy's, and
+    /// `Memory`; then nothing changes.
+    pub fn load(&mut self, text: &str) -> Result<Vec<PolicyID>, Refusal>
+        requires { length text.now ≤ body_limit }
+        ensures step { Step (setting_of self.old) (world_of self.old) LoadVerb text.now (load_reply result) (world_of self.new) }
+        ensures setting { setting_of self.new ≡ setting_of self.old }
+    {
+        cedar_world::texts_are_one();
+        let policies = policies_of_text(self.allocator, text, self.depth)?;
+        let ids = placed(self.allocator, &mut self.policies, policies)?;
+        self.asked = None;
+        Ok(ids)
+    }
+
+    /// Answers the question of a body, which is then the open one.
+    /// (Cedar language reference, "Authorization".)
+    ///
+    /// It is refused `Text`, `Depth`, `Shape` and `Memory`; then nothing changes.
+    pub fn ask(&mut self, text: &str) -> Result<Answer, Refusal>
+        requires { length text.now ≤ body_limit }
+        ensures step { Step (setting_of self.old) (world_of self.old) AskVerb text.now (ask_reply result) (world_of self.new) }
+        ensures setting { setting_of self.new ≡ setting_of self.old }
+    {
+        cedar_world::texts_are_one();
+        let question = question_of_text(self.allocator, text, self.depth)?;
+        let answer = self.policies.answer(self.allocator, &question)?;
+        let kept = answer.clone()?;
+        self.asked = Some(Asked {
+            question,
+            answer: kept,
+        });
+        Ok(answer)
+    }
+
+    /// Answers a command. A refused one changes nothing.
+    pub fn apply(&mut self, command: &Command<'_>) -> Result<Reply, Refusal>
+        requires { length (command_text command.now) ≤ body_limit }
+        ensures step { Step (setting_of self.old) (world_of self.old) (command_verb command.now) (command_text command.now) (reply_of result) (world_of self.new) }
+        ensures setting { setting_of self.new ≡ setting_of self.old }
+    {
+        match *command {
+            Command::Load(text) => Ok(Reply::Ids(self.load(text)?)),
+            Command::Ask(text) => Ok(Reply::Answer(self.ask(text)?)),
+        }
+    }
+}
