@@ -1,4 +1,5 @@
 pub mod Uid
+pub mod Words
 pub mod Tree
 pub mod Value
 pub mod Order

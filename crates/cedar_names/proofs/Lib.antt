@@ -1,4 +1,3 @@
-pub mod Finding
 pub mod Qualifying
 pub mod Sameness
 pub mod Splitting

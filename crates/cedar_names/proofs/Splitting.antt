@@ -9,7 +9,8 @@ use Rattle.std.specs.Cmp.{first_so, second_so}
 use Rattle.std.specs.List.{list_all, flat_map}
 use Rattle.std.specs.Str.Pattern.{FindsText, SplitsAroundMatch}
 use Rattle.cedar_language.specs.Uid.{Text, Name}
-use Rattle.cedar_names.specs.Identifiers.{is_in_identifier, begins_identifier, is_id, IsId}
+use Rattle.cedar_language.specs.Words.{begins_word, is_in_word}
+use Rattle.cedar_names.specs.Identifiers.{is_id, IsId}
 use Rattle.cedar_names.specs.Names.{IsName, name_text}
 use Rattle.cedar_names.specs.Reading.{Spells, ReadsId, ReadsInternalName}
 use Rattle.cedar_names.specs.declared.errors.ParseNameError.{ParseNameError}
@@ -20,20 +21,20 @@ abbrev Plain : Text → Type 0
 Plain [] = Unit {0}
 Plain (c ∷ cs) = (c ≢ 58) × Plain cs
 
-within_plain : (c : ℕ) → is_in_identifier c ≡ true → c ≢ 58
-within_plain c h e = false≢true (subst (λ (d : ℕ). is_in_identifier d ≡ true) e h)
+within_plain : (c : ℕ) → is_in_word c ≡ true → c ≢ 58
+within_plain c h e = false≢true (subst (λ (d : ℕ). is_in_word d ≡ true) e h)
 
-begins_plain : (c : ℕ) → begins_identifier c ≡ true → c ≢ 58
-begins_plain c h e = false≢true (subst (λ (d : ℕ). begins_identifier d ≡ true) e h)
+begins_plain : (c : ℕ) → begins_word c ≡ true → c ≢ 58
+begins_plain c h e = false≢true (subst (λ (d : ℕ). begins_word d ≡ true) e h)
 
-all_plain : (cs : Text) → list_all is_in_identifier cs ≡ true → Plain cs
+all_plain : (cs : Text) → list_all is_in_word cs ≡ true → Plain cs
 all_plain [] h = tt
 all_plain (c ∷ cs) h = (within_plain c (first_so _ _ h), all_plain cs (second_so _ _ h))
 
 id_plain : (s : Text) → IsId s → Plain s
 id_plain [] h = tt
 id_plain (c ∷ cs) h =
-    let w = first_so (begins_identifier c && list_all is_in_identifier cs) _ h in
+    let w = first_so (begins_word c && list_all is_in_word cs) _ h in
     (begins_plain c (first_so _ _ w), all_plain cs (second_so _ _ w))
 
 -- the first separator after a plain text is right behind it

@@ -1,22 +1,14 @@
 -- Which texts are identifiers. (Cedar language reference, "Policy grammar".)
-use Rattle.std.specs.Prelude.{ℕ, ◌==◌, ◌||◌, ◌&&◌, not, List, [], ◌∷◌, Bool, false, codes, IsTrue}
+use Rattle.std.specs.Prelude.{◌&&◌, not, List, [], ◌∷◌, Bool, false, codes, IsTrue}
 use Rattle.std.specs.List.{list_any, list_all}
-use Rattle.std.specs.Char.{is_ascii_alphabetic, is_ascii_alphanumeric}
 use Rattle.cedar_language.specs.Uid.{Text}
+use Rattle.cedar_language.specs.Words.{begins_word, is_in_word}
 use Rattle.cedar_language.specs.Order.{same_text}
-
--- an ASCII letter or `_`
-abbrev pub begins_identifier : ℕ → Bool
-begins_identifier c = is_ascii_alphabetic c || c == 95
-
--- an ASCII letter, a digit or `_`
-abbrev pub is_in_identifier : ℕ → Bool
-is_in_identifier c = is_ascii_alphanumeric c || c == 95
 
 -- an ASCII letter or `_`, then letters, digits or `_`
 abbrev pub is_identifier : Text → Bool
 is_identifier [] = false
-is_identifier (c ∷ cs) = begins_identifier c && list_all is_in_identifier cs
+is_identifier (c ∷ cs) = begins_word c && list_all is_in_word cs
 
 -- the words of the grammar that can't stand as identifiers
 abbrev pub keywords : List Text

@@ -1,16 +1,14 @@
--- Laws of names and uids: their equality, order and hash agree, and each name is written in its own way.
+-- Laws of names: their equality, order and hash agree, and each name is written in its own way.
 use Rattle.std.specs.Prelude.{◌≡◌, ◌≢◌, ◌↔◌, [], Option, Some, Bool, false, IsTrue, refl}
 use Rattle.std.specs.Ordering.{as_partial_cmp, eq_by_cmp}
-use Rattle.std.specs.Cmp.{IsEquivalence, IsPartialEquivalence, IsPartialOrder, IsTotalOrder, partial_equiv_from_equiv, partial_order_from_agreeing_total, and_equiv, on_equiv, both_tied}
+use Rattle.std.specs.Cmp.{IsEquivalence, IsPartialEquivalence, IsPartialOrder, partial_equiv_from_equiv, partial_order_from_agreeing_total}
 use Rattle.std.specs.Cmp.Lexicographic.{lists_equiv, lists_ties, nat_list_eq_equiv, texts_ties, bytes_decides}
 use Rattle.std.specs.Hash as fed
-use Rattle.std.specs.Hash.{Alike, same_Alike, items_Alike, on_Alike, and-Alike}
-use Rattle.std.proofs.lemmas.Cmp.{then_total, on_total}
-use Rattle.cedar_language.specs.Uid.{Name, Uid}
-use Rattle.cedar_language.specs.Order.{text_cmp, name_cmp, same_name, same_uid}
-use Rattle.cedar_language.specs.OrderLaws.{text_cmp_total, name_cmp_total}
+use Rattle.std.specs.Hash.{Alike, same_Alike, items_Alike}
+use Rattle.cedar_language.specs.Uid.{Name}
+use Rattle.cedar_language.specs.Order.{text_cmp, name_cmp, same_name}
+use Rattle.cedar_language.specs.OrderLaws.{name_cmp_total}
 use Rattle.cedar_names.specs.Names.{IsName, name_text, name_hash, is_unqualified, qualified}
-use Rattle.cedar_names.specs.Uids.{uid_cmp, uid_hash}
 
 pub same_name_equiv : IsEquivalence same_name
 same_name_equiv = lists_equiv nat_list_eq_equiv
@@ -26,24 +24,6 @@ name_cmp_partial = partial_order_from_agreeing_total name_cmp name_cmp_total (λ
 
 pub name_hash_alike : Alike same_name name_hash
 name_hash_alike = items_Alike (same_Alike fed.str bytes_decides)
-
-pub same_uid_equiv : IsEquivalence same_uid
-same_uid_equiv = and_equiv (on_equiv (λ (u : Uid). u.type_name) same_name_equiv) (on_equiv (λ (u : Uid). u.id) nat_list_eq_equiv)
-
-pub same_uid_partial_equiv : IsPartialEquivalence same_uid
-same_uid_partial_equiv = partial_equiv_from_equiv same_uid_equiv
-
-pub uid_cmp_total : IsTotalOrder uid_cmp
-uid_cmp_total = then_total (on_total (λ (u : Uid). u.type_name) name_cmp_total) (on_total (λ (u : Uid). u.id) text_cmp_total)
-
-pub uid_cmp_ties : (u v : Uid) → same_uid u v ≡ eq_by_cmp uid_cmp u v
-uid_cmp_ties u v = both_tied _ _ _ _ (name_cmp_ties u.type_name v.type_name) (texts_ties u.id v.id)
-
-pub uid_cmp_partial : IsPartialOrder same_uid (as_partial_cmp uid_cmp)
-uid_cmp_partial = partial_order_from_agreeing_total uid_cmp uid_cmp_total (λ x y. refl) uid_cmp_ties
-
-pub uid_hash_alike : Alike same_uid uid_hash
-uid_hash_alike = and-Alike (on_Alike (λ (u : Uid). u.type_name) name_hash_alike) (on_Alike (λ (u : Uid). u.id) (same_Alike fed.str bytes_decides))
 
 -- the test holds of the same values alone
 abbrev pub TestsSame : {K : Type 0} → (K → K → Bool) → Type 0

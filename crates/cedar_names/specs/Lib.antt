@@ -1,9 +1,5 @@
 pub mod Identifiers
 pub mod Names
-pub mod Uids
-pub mod Escapes
-pub mod Slots
 pub mod Reading
 pub mod Converting
-pub mod Raw
 pub mod Laws

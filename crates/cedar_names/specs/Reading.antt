@@ -1,6 +1,6 @@
 -- What reading a text as an identifier or a name answers.
 use Rattle.std.specs.Prelude.{◌≡◌, ◌≢◌, ⊤, [], ◌∷◌, true, false, Result, Ok, Err}
-use Rattle.cedar_language.specs.Uid.{Text, Name, Uid}
+use Rattle.cedar_language.specs.Uid.{Text, Name}
 use Rattle.cedar_names.specs.Identifiers.{IsId, IsAnyId, IsUnreservedId, reserved}
 use Rattle.cedar_names.specs.Names.{IsName, name_text, is_reserved_name}
 use Rattle.cedar_names.specs.declared.errors.ParseNameError.{ParseNameError}
@@ -59,10 +59,3 @@ ReadsUnqualifiedName s (Ok n) = (n ≡ s ∷ []) × IsUnreservedId s
 ReadsUnqualifiedName s (Err NotNormalized) = ¬ (IsId s)
 ReadsUnqualifiedName s (Err (Reserved e)) = (s ≡ reserved) × (e.name ≡ s ∷ [])
 ReadsUnqualifiedName s (Err (Memory e)) = ⊤
-
--- a uid of a type without a namespace
-abbrev pub ReadsUidParts : Text → Text → Result Uid ParseNameError → Type 0
-ReadsUidParts s id (Ok u) = (u ≡ record { type_name = s ∷ []; id = id }) × IsUnreservedId s
-ReadsUidParts s id (Err NotNormalized) = ¬ (IsId s)
-ReadsUidParts s id (Err (Reserved e)) = (s ≡ reserved) × (e.name ≡ s ∷ [])
-ReadsUidParts s id (Err (Memory e)) = ⊤

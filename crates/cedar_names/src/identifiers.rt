@@ -2,6 +2,7 @@
 ghost use Rattle.std.specs.Prelude.{◌≡◌, ◌≢◌, ◌↔◌, IsTrue, IfOk, MatchResult};
 ghost use Rattle.std.specs.List.{list_all};
 ghost use Rattle.std.specs.Rc.{rc_str_bytes};
+ghost use Rattle.cedar_language.specs.Words.{begins_word, is_in_word};
 ghost use Rattle.cedar_names.specs.Identifiers as identifiers;
 ghost use Rattle.cedar_names.specs.Identifiers.{IsId, IsAnyId, IsUnreservedId, reserved};
 
@@ -35,24 +36,24 @@ pub(crate) fn is_identifier(text: &str) -> bool
 {
     match text.as_bytes().split_first() {
         None => false,
-        Some((first, more)) => begins_identifier(*first) && are_in_identifier(more),
+        Some((first, more)) => begins_word(*first) && are_in_identifier(more),
     }
 }
 
 fn are_in_identifier(bytes: &[u8]) -> bool
-    ensures { result ≡ list_all identifiers.is_in_identifier bytes.now }
+    ensures { result ≡ list_all is_in_word bytes.now }
 {
-    bytes.iter().all(|byte| is_in_identifier(*byte))
+    bytes.iter().all(|byte| is_in_word(*byte))
 }
 
-fn begins_identifier(byte: u8) -> bool
-    ensures { result ≡ identifiers.begins_identifier byte }
+fn begins_word(byte: u8) -> bool
+    ensures { result ≡ begins_word byte }
 {
     byte.is_ascii_alphabetic() || byte == b'_'
 }
 
-fn is_in_identifier(byte: u8) -> bool
-    ensures { result ≡ identifiers.is_in_identifier byte }
+fn is_in_word(byte: u8) -> bool
+    ensures { result ≡ is_in_word byte }
 {
     byte.is_ascii_alphanumeric() || byte == b'_'
 }

@@ -181,11 +181,7 @@ impl InternalName {
     }
 
     /// The same name, written at `loc`; refused for memory alone.
-    pub(crate) fn with_loc(
-        &self,
-        alloc: Global,
-        loc: Option<&Loc>,
-    ) -> Result<InternalName, AllocError>
+    pub fn with_loc(&self, alloc: Global, loc: Option<&Loc>) -> Result<InternalName, AllocError>
         ensures { IfOk result (λ name. name ≡ self.now) }
     {
         let loc = match loc {
@@ -391,7 +387,7 @@ impl Name {
     }
 
     /// The same name, written at `loc`; refused for memory alone.
-    pub(crate) fn with_loc(&self, alloc: Global, loc: Option<&Loc>) -> Result<Name, AllocError>
+    pub fn with_loc(&self, alloc: Global, loc: Option<&Loc>) -> Result<Name, AllocError>
         ensures { IfOk result (λ name. name ≡ self.now) }
     {
         let name = self.name.with_loc(alloc, loc)?;

@@ -6,7 +6,6 @@ ghost use Rattle.cedar_names.specs.declared.errors.ParseNameError.{ParseNameErro
 use crate::errors::{ParseNameError, ReservedNameError};
 use crate::identifiers::{AnyId, Id, UnreservedId, is_id, is_identifier};
 use crate::names::{InternalName, Name};
-use crate::uids::EntityType;
 use std::alloc::Global;
 use std::rc::RcStr;
 
@@ -88,15 +87,5 @@ impl FromNormalizedStr for Name {
     fn from_normalized_str(alloc: Global, text: &str) -> Result<Name, ParseNameError> {
         let name = InternalName::from_normalized_str(alloc, text)?;
         Ok(Name::try_from(name)?)
-    }
-}
-
-impl FromNormalizedStr for EntityType {
-    ghost use Rattle.cedar_names.specs.Reading.{ReadsName};
-
-    ghost reads = { ReadsName };
-
-    fn from_normalized_str(alloc: Global, text: &str) -> Result<EntityType, ParseNameError> {
-        Ok(EntityType::from(Name::from_normalized_str(alloc, text)?))
     }
 }

@@ -4,12 +4,8 @@ use crate::errors::ParseNameError;
 use crate::identifiers::{AnyId, Id, UnreservedId, is_normalized_ident};
 use crate::names::{InternalName, Name};
 use crate::places::{Loc, Span};
-use crate::raw_names::{AllDefs, ConditionalName, RawName, ReferenceType};
 use crate::reading::FromNormalizedStr;
-use crate::slots::{Slot, SlotId};
-use crate::uids::{Eid, EntityType, EntityUID};
 use std::alloc::Global;
-use std::collections::BTreeSet;
 use std::hash::{DefaultHasher, Hash, Hasher};
 use std::rc::RcStr;
 use std::test::Fail;
@@ -64,9 +60,7 @@ fn names_are_read(rt: HostRuntime) {
     ];
     for (text, internal, unreserved) in table {
         assert_eq!(rt; reads::<InternalName>(alloc, text), internal, "{text}");
-        assert_eq!(rt; reads::<RawName>(alloc, text), internal, "{text}");
         assert_eq!(rt; reads::<Name>(alloc, text), unreserved, "{text}");
-        assert_eq!(rt; reads::<EntityType>(alloc, text), unreserved, "{text}");
     }
 }
 
@@ -91,17 +85,6 @@ fn in_namespace(alloc: Global, text: &str) -> Result<String, ParseNameError> {
     Ok(qualified.to_string(alloc)?)
 }
 
-/// The same, as the type of an entity.
-fn type_in_namespace(alloc: Global, text: &str) -> Result<String, ParseNameError> {
-    let namespace = name(alloc, "M::N")?;
-    let entity_type = EntityType::from(name(alloc, text)?);
-    Ok(
-        entity_type
-            .qualify_with(alloc, Some(&namespace))?
-            .to_string(alloc)?,
-    )
-}
-
 #[test]
 fn names_are_printed(rt: HostRuntime) -> Result<(), Fail> {
     let alloc = rt.alloc();
@@ -115,7 +98,6 @@ fn names_are_printed(rt: HostRuntime) -> Result<(), Fail> {
         assert_eq!(rt; printed(alloc, text)?.as_str(), text);
         assert_eq!(rt; namespace(alloc, text)?.as_str(), path);
         assert_eq!(rt; in_namespace(alloc, text)?.as_str(), qualified);
-        assert_eq!(rt; type_in_namespace(alloc, text)?.as_str(), qualified);
     }
     assert_eq!(rt; unqualified(alloc, "A")?.as_str(), "A");
     Ok(())
@@ -142,78 +124,6 @@ fn identifiers_and_names_convert(rt: HostRuntime) -> Result<(), Fail> {
     Ok(())
 }
 
-fn declared(alloc: Global, text: &str) -> Result<BTreeSet<InternalName>, Fail> {
-    let mut names = BTreeSet::new(alloc);
-    names.insert(internal(alloc, text)?)?;
-    Ok(names)
-}
-
-/// What `text` in the namespace `M` resolves to, where the common type `A` and the entity type `M::A`
-/// are declared.
-fn resolved(alloc: Global, text: &str, kind: ReferenceType) -> Result<String, Fail> {
-    let namespace = internal(alloc, "M")?;
-    let name = RawName::from_name(internal(alloc, text)?);
-    let name = name.conditionally_qualify_with(alloc, Some(&namespace), kind)?;
-    resolved_among(alloc, name)
-}
-
-fn resolved_among(alloc: Global, name: ConditionalName) -> Result<String, Fail> {
-    let all_defs = AllDefs {
-        common_types: declared(alloc, "A")?,
-        entity_types: declared(alloc, "M::A")?,
-    };
-    Ok(match name.resolve(&all_defs) {
-        Ok(name) => name.to_string(alloc)?,
-        Err(error) => error.to_string(alloc)?,
-    })
-}
-
-#[test]
-fn first_declared_names_resolve(rt: HostRuntime) -> Result<(), Fail> {
-    let table = [
-        ("A", ReferenceType::Common, "A"),
-        ("A", ReferenceType::Entity, "M::A"),
-        ("A", ReferenceType::CommonOrEntity, "M::A"),
-        (
-            "N::A",
-            ReferenceType::CommonOrEntity,
-            "`N::A` is not declared",
-        ),
-        ("M::A", ReferenceType::Common, "`M::A` is not declared"),
-    ];
-    for (text, kind, want) in table {
-        assert_eq!(rt; resolved(rt.alloc(), text, kind)?.as_str(), want);
-    }
-    Ok(())
-}
-
-fn uid(alloc: Global, id: &str) -> Result<EntityUID, ParseNameError> {
-    EntityUID::with_eid_and_type(alloc, "User", id)
-}
-
-fn escaped(alloc: Global, id: &str) -> Result<RcStr, Fail> {
-    Ok(Eid::new(RcStr::from_str(alloc, id)?).escaped(alloc)?)
-}
-
-#[test]
-fn uids_are_printed(rt: HostRuntime) -> Result<(), Fail> {
-    let alloc = rt.alloc();
-    let table = [
-        ("\0\t\n\r", "\\0\\t\\n\\r"),
-        ("\"'\\", "\\\"\\'\\\\"),
-        ("\u{1}\u{1f}\u{7f}", "\\u{1}\\u{1f}\\u{7f}"),
-        (" *+é", " *+é"),
-    ];
-    for (id, want) in table {
-        assert_eq!(rt; escaped(alloc, id)?.as_str(), want);
-    }
-    assert_eq!(rt;
-        uid(alloc, "a\"")?.to_string(alloc)?.as_str(),
-        "User::\"a\\\"\""
-    );
-    Ok(())
-}
-
 fn hash_of<T: Hash>(value: &T) -> u64 {
     let mut hasher = DefaultHasher::new();
     value.hash(&mut hasher);
@@ -225,49 +135,16 @@ fn place(alloc: Global) -> Result<Loc, Fail> {
     Ok(Loc::new(Span { start: 0, end: 4 }, src))
 }
 
-/// The uid, as it is written at `loc`.
-fn placed(alloc: Global, uid: EntityUID, loc: Loc) -> Result<EntityUID, Fail> {
-    let (entity_type, eid) = uid.components();
-    let entity_type = entity_type.with_loc(alloc, Some(&loc))?;
-    Ok(EntityUID::from_components(entity_type, eid, Some(loc)))
-}
-
 fn are_alike<T: Hash + PartialEq>(one: &T, other: &T) -> bool {
     *one == *other && hash_of(one) == hash_of(other)
 }
 
 #[test]
-fn places_of_uids_do_not_count(rt: HostRuntime) -> Result<(), Fail> {
-    let bare = uid(rt.alloc(), "a")?;
-    let placed = placed(rt.alloc(), bare.clone(rt.alloc())?, place(rt.alloc())?)?;
-    assert!(rt; placed.loc().is_some() && placed.entity_type().loc().is_some());
+fn places_of_names_do_not_count(rt: HostRuntime) -> Result<(), Fail> {
+    let bare = name(rt.alloc(), "A::B")?;
+    let placed = bare.with_loc(rt.alloc(), Some(&place(rt.alloc())?))?;
+    assert!(rt; placed.loc().is_some());
     assert!(rt; are_alike(&placed, &bare));
-    Ok(())
-}
-
-fn slot(loc: Option<Loc>) -> Slot {
-    Slot {
-        id: SlotId::principal(),
-        loc,
-    }
-}
-
-#[test]
-fn places_of_slots_do_not_count(rt: HostRuntime) -> Result<(), Fail> {
-    assert!(rt; are_alike(&slot(Some(place(rt.alloc())?)), &slot(None)));
-    Ok(())
-}
-
-#[test]
-fn slots_are_printed(rt: HostRuntime) -> Result<(), Fail> {
-    assert_eq!(rt;
-        SlotId::principal().to_string(rt.alloc())?.as_str(),
-        "?principal"
-    );
-    assert_eq!(rt;
-        SlotId::resource().to_string(rt.alloc())?.as_str(),
-        "?resource"
-    );
     Ok(())
 }
 
@@ -304,6 +181,5 @@ fn names_are_ordered(rt: HostRuntime) -> Result<(), Fail> {
     for (low, high) in table {
         assert!(rt; is_below(rt.alloc(), low, high)?, "{low} below {high}");
     }
-    assert!(rt; uid(rt.alloc(), "a")? < uid(rt.alloc(), "b")?);
     Ok(())
 }

@@ -11,7 +11,7 @@ use std::rc::RcStr;
 
 /// A text that is shared, seen as its bytes.
 #[derive(Debug, Drop)]
-pub(crate) struct SharedText {
+pub struct SharedText {
     text: RcStr,
 }
 
@@ -25,19 +25,22 @@ impl Model for SharedText {
 }
 
 impl SharedText {
-    pub(crate) fn new(text: RcStr) -> SharedText
+    /// The text, shared.
+    pub fn new(text: RcStr) -> SharedText
         ensures { result ≡ rc_str_bytes text }
     {
         SharedText { text }
     }
 
-    pub(crate) fn as_str(&self) -> &str
+    /// The text.
+    pub fn as_str(&self) -> &str
         ensures { result.now ≡ self.now }
     {
         self.text.as_str()
     }
 
-    pub(crate) fn into_smolstr(self) -> RcStr
+    /// The text.
+    pub fn into_smolstr(self) -> RcStr
         ensures { rc_str_bytes result ≡ self }
     {
         self.text

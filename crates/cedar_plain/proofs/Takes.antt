@@ -9,7 +9,7 @@ use Rattle.cedar_grammar.specs.Policy.{Policy}
 use Rattle.cedar_grammar.specs.Token.{Token}
 use Rattle.cedar_grammar.proofs.PoliciesComplete.{listed-eats, policy-eats}
 use Rattle.cedar_names.specs.Names.{basename_of}
-use Rattle.cedar_names.specs.Uids.{IsActionType}
+use Rattle.cedar_uids.specs.Uids.{IsActionType}
 use Rattle.cedar_plain.specs.Policies.{listed_at, policy_at}
 use Rattle.cedar_plain.proofs.Steps.{held}
 use Rattle.cedar_plain.proofs.PoliciesSound.{listed-holds, policy-holds}

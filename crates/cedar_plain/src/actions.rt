@@ -10,7 +10,7 @@ ghost use Rattle.cedar_scopes.specs.Scopes.{action_of};
 use crate::cursor::{Cursor, Keyword};
 use crate::error::ReadError;
 use cedar_cst::Mark;
-use cedar_names::uids::EntityUID;
+use cedar_uids::uids::EntityUID;
 use cedar_scopes::ActionConstraint;
 use std::alloc::Global;
 

@@ -11,7 +11,7 @@ ghost use Rattle.cedar_plain.specs.Bodies.{body_at, entry_of, entries_of};
 use crate::cursor::Cursor;
 use crate::error::ReadError;
 use cedar_cst::Mark;
-use cedar_names::uids::EntityUID;
+use cedar_uids::uids::EntityUID;
 use std::alloc::{AllocError, Global};
 use std::collections::BTreeSet;
 use std::rc::RcStr;

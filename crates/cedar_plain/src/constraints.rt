@@ -6,7 +6,7 @@ ghost use Rattle.cedar_scopes.specs.Scopes.{constraint_of};
 use crate::cursor::{Cursor, Keyword};
 use crate::error::ReadError;
 use cedar_cst::Mark;
-use cedar_names::uids::{EntityType, EntityUID};
+use cedar_uids::uids::{EntityType, EntityUID};
 use cedar_scopes::EntityConstraint;
 use std::alloc::Global;
 

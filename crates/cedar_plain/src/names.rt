@@ -8,7 +8,7 @@ use crate::error::ReadError;
 use cedar_cst::Mark;
 use cedar_names::identifiers::Id;
 use cedar_names::names::{InternalName, Name};
-use cedar_names::uids::{Eid, EntityType, EntityUID};
+use cedar_uids::uids::{Eid, EntityType, EntityUID};
 use std::alloc::Global;
 use std::rc::RcStr;
 

@@ -1,5 +1,5 @@
 // What is asked.
-use cedar_names::uids::EntityUID;
+use cedar_uids::uids::EntityUID;
 
 /// A question: each of its parts is given or missing, and so is a context, which has no entries.
 #[derive(Drop)]

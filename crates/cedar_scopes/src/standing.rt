@@ -8,7 +8,7 @@ ghost use Rattle.cedar_scopes.specs.Questions.{part_of, question_of};
 
 use crate::question::Question;
 use crate::scope::{ActionConstraint, EntityConstraint, ScopePolicy};
-use cedar_names::uids::EntityUID;
+use cedar_uids::uids::EntityUID;
 
 impl EntityConstraint {
     /// Whether an entity is what is asked for.

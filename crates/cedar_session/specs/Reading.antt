@@ -6,7 +6,7 @@ use Rattle.cedar_language.specs.Uid as uid
 use Rattle.cedar_language.specs.Uid.{Uid}
 use Rattle.cedar_language.specs.Tree.{Tree, no_trees}
 use Rattle.cedar_language.specs.Height.{height}
-use Rattle.cedar_names.specs.declared.uids.EntityUID.{EntityUID}
+use Rattle.cedar_uids.specs.declared.uids.EntityUID.{EntityUID}
 use Rattle.cedar_policies.specs.declared.policy_id.PolicyID.{PolicyID}
 use Rattle.cedar_world.specs.Syntax.{PolicySyntax}
 use Rattle.cedar_world.specs.World.{Policies}

@@ -1,0 +1,6 @@
+//! Names of a schema before they are resolved.
+#![tactic(auto)]
+
+pub mod raw_names;
+#[cfg(test)]
+mod tests;
