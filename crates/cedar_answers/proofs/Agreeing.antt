@@ -1,7 +1,7 @@
 -- What is settled of a tree is what the tree means, wherever that is said of its leaves.
 use Rattle.std.proofs.Common.{◌≡◌, true, false, Option, refl}
 use Rattle.cedar_language.specs.Uid.{Text, Name}
-use Rattle.cedar_language.specs.Tree.{Boolean, Variable, Context, SlotId, Operator, GetAttr, HasAttr, Tree, Lit, Var, Slot, Unknown, If, And, Or, Apply, Trees, no_trees, a_tree}
+use Rattle.cedar_language.specs.Tree.{Boolean, Variable, Context, SlotId, Operator, GetAttr, HasAttr, Tree, Lit, Var, Slot, Unknown, If, And, Or, Apply, Trees, no_trees, a_tree, ValueType}
 use Rattle.cedar_language.specs.Value.{Plain, no_values, a_value, Kind, TypeError, Outcome, Gives, Fails}
 use Rattle.cedar_language.specs.Facts.{Facts}
 use Rattle.cedar_language.specs.Operators.{applied}
@@ -71,7 +71,7 @@ apply_agrees facts op (AllAre vs) os h = rw h (agrees (applied facts op vs))
 -- what is known of the leaves is what they mean, and so are the entries of an open context
 pub record LeavesAgree (facts : Facts) (around : Around) (request : Request) : Type 0 where
   pub variable : (v : Variable) → Agrees (around.variable v) (Gives (request.variable v))
-  pub unknown : (n : Text) (ty : Option Name) → Agrees (around.unknown n ty) (request.unknown n ty)
+  pub unknown : (n : Text) (ty : Option ValueType) → Agrees (around.unknown n ty) (request.unknown n ty)
   pub slot : (s : SlotId) → Agrees (around.slot s) (slot_outcome (request.slots s))
   pub in_context : (a : Text) → Agrees (around.in_context a) (applied facts (GetAttr a) (a_value (request.variable Context) no_values))
   pub has_in_context : (a : Text) → Agrees (around.has_in_context a) (applied facts (HasAttr a) (a_value (request.variable Context) no_values))

@@ -1,10 +1,10 @@
 -- Answers that are values are made again by their trees.
-use Rattle.std.proofs.Common.{◌≡◌, Bool, true, false, cond, Option, Some, None, List, [], ◌∷◌, refl, ◌∙◌, ap}
+use Rattle.std.proofs.Common.{◌≡◌, Bool, true, false, cond, Option, Some, None, List, [], ◌∷◌, refl}
 use Rattle.cedar_language.specs.Uid.{Text, Name, Uid}
-use Rattle.cedar_language.specs.Tree.{Literal, Boolean, Long, String, Entity, Variable, Principal, Action, Resource, Context, SlotId, Operator, Not, Neg, IsEmpty, Equal, Less, LessEq, Add, Sub, Mul, In, Contains, ContainsAll, ContainsAny, GetTag, HasTag, GetAttr, HasAttr, HasPath, Like, MakeSet, MakeRecord, Call, Tree, Lit, Var, Slot, Unknown, If, And, Or, Apply, Trees, no_trees, a_tree}
+use Rattle.cedar_language.specs.Tree.{Literal, Boolean, Long, String, Entity, Variable, Principal, Action, Resource, Context, SlotId, Operator, Not, Neg, IsEmpty, Equal, Less, LessEq, Add, Sub, Mul, In, Contains, ContainsAll, ContainsAny, GetTag, HasTag, GetAttr, HasAttr, HasPath, Like, MakeSet, MakeRecord, Call, Tree, Lit, Var, Slot, Unknown, If, And, Or, Apply, Trees, no_trees, a_tree, EntityType}
 use Rattle.cedar_language.specs.Tree as tree
 use Rattle.cedar_language.specs.Value.{Value, Plain, SetOf, RecordOf, ExtensionOf, Values, no_values, a_value, Kind, TypeError, Outcome, Gives, Fails}
-use Rattle.cedar_language.specs.Order.{same_text, rising, IsRising, put, placed, members, value_cmp}
+use Rattle.cedar_language.specs.Order.{same_text, rising, put, placed, value_cmp}
 use Rattle.cedar_language.specs.Facts.{Held, Function, Facts}
 use Rattle.cedar_language.specs.Operators.{found, applied, truth, or_fails}
 use Rattle.cedar_early.specs.MadeAgain.{IsMadeAgain, AreMadeAgain, HoldsMade}
@@ -14,11 +14,7 @@ use Rattle.std.proofs.Common.{Ordering, ℤ, ◌+ℤ◌, ◌-ℤ◌, ◌*ℤ◌,
 use Rattle.cedar_language.specs.Operators as op
 use Rattle.cedar_language.specs.Tree.{PatternElem}
 use Rattle.cedar_language.specs.Value.{IntegerOverflow}
-use Rattle.std.specs.Ordering.{ordering_reverse}
 use Rattle.std.specs.declared.cmp.Ordering.TheVariants as ordering
-use Rattle.std.specs.List.Sorted.{IsStrictlySortedBy}
-use Rattle.std.specs.List.{AllByRecursion}
-use Rattle.cedar_language.specs.OrderLaws.{value_cmp_total}
 use Rattle.cedar_language.proofs.Rising.{rising_rises}
 
 module _ (facts : Facts) where
@@ -279,7 +275,7 @@ module _ (facts : Facts) where
       has_left_made a _ = tt
 
       is_left_made : (ty : Name) (r : Tree) → IsMadeAnswer facts (is_answer ty r)
-      is_left_made ty (Unknown n (Some u)) = tt
+      is_left_made ty (Unknown n (Some (EntityType u))) = tt
       is_left_made ty _ = tt
 
       equal_left_made : (b : Bool) (r s : Tree) → IsMadeAnswer facts (equal_answer b r s)

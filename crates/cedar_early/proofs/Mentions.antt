@@ -2,8 +2,8 @@
 use Rattle.std.proofs.Common.{◌≡◌, ap, ◌≢◌, Bool, true, false, ◌&&◌, Option, Some, None, refl}
 use Rattle.cedar_language.specs.Meaning.{Request, apply_of, meaning, meanings}
 use Rattle.cedar_language.specs.Value.{Outcome}
-use Rattle.cedar_language.specs.Uid.{Text, Name, Uid}
-use Rattle.cedar_language.specs.Tree.{Variable, Principal, Action, Resource, Context, SlotId, Operator, GetAttr, HasAttr, MakeRecord, Tree, Lit, Var, Slot, Unknown, If, And, Or, Apply, Trees, no_trees, a_tree}
+use Rattle.cedar_language.specs.Uid.{Text, Uid}
+use Rattle.cedar_language.specs.Tree.{Variable, Principal, Action, Resource, Context, SlotId, Operator, GetAttr, HasAttr, MakeRecord, Tree, Lit, Var, Slot, Unknown, If, And, Or, Apply, Trees, no_trees, a_tree, ValueType}
 use Rattle.cedar_language.specs.Value.{Value}
 use Rattle.cedar_language.specs.Facts.{Facts}
 use Rattle.cedar_language.specs.Meaning.{slot_outcome}
@@ -71,7 +71,7 @@ pub known_trees_settle : KnownTreesSettle
 known_trees_settle facts q slots told t h =
     not_open _ (closed_at facts (settled_of facts q slots told) (is_known q) true (variable_closed facts q told) (λ s k. slot_closed (slots s)) t h)
 
-module _ (facts : Facts) (request : Request) (names : Text → Option Name → Outcome) where
+module _ (facts : Facts) (request : Request) (names : Text → Option ValueType → Outcome) where
   mutual
     same_meaning : (t : Tree) → mentions_only (λ v. true) true t ≡ true → meaning facts request t ≡ meaning facts (with_names names request) t
     same_meaning (Lit l) h = refl

@@ -1,7 +1,7 @@
 -- Telling more values carries on what is settled.
 use Rattle.std.proofs.Common.{◌≡◌, ◌≢◌, Bool, true, false, cond, ◌&&◌, Option, Some, None, List, [], ◌∷◌, refl, sym, ap, subst}
 use Rattle.cedar_language.specs.Uid.{Text, Name, Uid}
-use Rattle.cedar_language.specs.Tree.{Boolean, Long, String, Entity, Variable, Principal, Action, Resource, Context, SlotId, Operator, GetAttr, HasAttr, MakeSet, MakeRecord, Tree, Lit, Var, Slot, Unknown, If, And, Or, Apply, Trees, no_trees, a_tree}
+use Rattle.cedar_language.specs.Tree.{Boolean, Long, String, Entity, Variable, Principal, Action, Resource, Context, SlotId, Operator, GetAttr, HasAttr, MakeSet, MakeRecord, Tree, Lit, Var, Slot, Unknown, If, And, Or, Apply, Trees, no_trees, a_tree, ValueType, BooleanType, LongType, StringType, SetType, RecordType, EntityType, ExtensionType}
 use Rattle.cedar_language.specs.Value.{Value, Plain, SetOf, RecordOf, ExtensionOf, Values, no_values, a_value, Kind, RecordAttrDoesNotExist, UnlinkedSlot}
 use Rattle.cedar_language.specs.Order.{same_text, rising, put, placed, value_cmp}
 use Rattle.cedar_language.specs.Facts.{Facts}
@@ -17,7 +17,7 @@ use Rattle.std.specs.declared.cmp.Ordering.{Ordering}
 use Rattle.std.specs.declared.cmp.Ordering.TheVariants as ordering
 use Rattle.cedar_early.specs.Seam.{Carries}
 use Rattle.cedar_early.specs.Prompt.{Meets, Shows, seen}
-use Rattle.cedar_early.specs.Question.{Part, Given, Missing, Entries, NoContext, WithEntries, Question, Told, of_type, name_settled, name_held, settled_names, held_names, is_simple_name, is_simple, are_simple, only_value, entry_settled, has_settled, in_context, has_in_context, part_settled, context_settled, variable_settled, settled_of, part_held, context_held, variable_held, held_of, Extends, AreMadeTold, IsAccepted, TellingCarries, all_told, filled, IsFilling, AnswersAreFair, AnswersArePrompt, FittingAreHeld}
+use Rattle.cedar_early.specs.Question.{Part, Given, Missing, Entries, NoContext, WithEntries, Question, Told, of_type, name_settled, name_held, settled_names, held_names, is_simple_name, is_simple, are_simple, only_value, entry_settled, has_settled, in_context, has_in_context, part_settled, context_settled, variable_settled, settled_of, part_held, context_held, variable_held, held_of, Extends, AreMadeTold, IsAccepted, TellingCarries, all_told, filled, IsFilling, AnswersAreFair, AnswersArePrompt, FittingAreHeld, entity_type}
 use Rattle.cedar_language.proofs.Rising.{rising_same}
 use Rattle.cedar_early.proofs.MadeAgain.{made}
 use Rattle.cedar_early.proofs.Sound.{and_true, tree_of_is, is_sound}
@@ -27,7 +27,7 @@ use Rattle.cedar_early.proofs.Prompt.{is_prompt}
 -- where less is known of the leaves, less is settled
 module _ (facts : Facts) (a b : Around)
     (variable : (v : Variable) → Below (a.variable v) (b.variable v))
-    (unknown : (n : Text) (ty : Option Name) → Below (a.unknown n ty) (b.unknown n ty))
+    (unknown : (n : Text) (ty : Option ValueType) → Below (a.unknown n ty) (b.unknown n ty))
     (slot : (s : SlotId) → Below (a.slot s) (b.slot s))
     (no_entry : (n : Text) → a.in_context n ≡ Open) (no_has : (n : Text) → a.has_in_context n ≡ Open) where
   entry_mono : (op : Operator) (ts : Trees) (x y : Settling) → Below x y → Below (or_entry a op ts x) (or_entry b op ts y)
@@ -60,40 +60,40 @@ module _ (facts : Facts) (a b : Around)
   read_mono (Refused k) = refl
 
 -- a name told keeps its value
-pub name_carries : (facts : Facts) (around : Around) (n : Text) (ty : Option Name) (o p : Option Value) → ((v : Value) → o ≡ Some v → p ≡ Some v) →
+pub name_carries : (facts : Facts) (around : Around) (n : Text) (ty : Option ValueType) (o p : Option Value) → ((v : Value) → o ≡ Some v → p ≡ Some v) →
     around.unknown n ty ≡ name_settled p ty → Below (name_settled p ty) (read facts around (name_held o n ty))
 name_carries facts around n ty (Some v) p f e = let g : p ≡ Some v = f v refl in rw g refl
 name_carries facts around n ty None p f e = below_is _ _ (sym e)
 
-name_not : (o : Option Value) (ty : Option Name) → name_settled o ty ≢ Errs
+name_not : (o : Option Value) (ty : Option ValueType) → name_settled o ty ≢ Errs
 name_not (Some v) ty h = cc
 name_not None ty h = cc
 
 part_not : (p : Part) (o : Option Value) → part_settled p o ≢ Errs
 part_not (Given u) o h = cc
-part_not (Missing ty) o h = name_not o ty h
+part_not (Missing ty) o h = name_not o (entity_type ty) h
 
 -- a value in the place of an unknown with a stated type is an entity of it
-of_type_is : (ty : Name) (v : Value) → IsOfType ty (of_type (Some ty) v)
+of_type_is : (ty : Name) (v : Value) → IsOfType ty (of_type (Some (EntityType ty)) v)
 of_type_is ty (Plain (Entity u)) = (record { type_name = ty; id = u.id }, refl, refl)
 of_type_is ty _ = (record { type_name = ty; id = [] }, refl, refl)
 
-name_typed : (ty : Name) (o : Option Value) (v : Value) → name_settled o (Some ty) ≡ Is v → IsOfType ty v
-name_typed ty (Some w) v e = let g : of_type (Some ty) w ≡ v = cc in subst (IsOfType ty) g (of_type_is ty w)
+name_typed : (ty : Name) (o : Option Value) (v : Value) → name_settled o (Some (EntityType ty)) ≡ Is v → IsOfType ty v
+name_typed ty (Some w) v e = let g : of_type (Some (EntityType ty)) w ≡ v = cc in subst (IsOfType ty) g (of_type_is ty w)
 name_typed ty None v e = cc
 
-pub of_type_made : (facts : Facts) (ty : Option Name) (v : Value) → IsMadeAgain facts v → IsMadeAgain facts (of_type ty v)
-of_type_made facts None v h = h
-of_type_made facts (Some ty) (Plain (Entity u)) h = tt
-of_type_made facts (Some ty) _ h = tt
+pub of_type_made : (facts : Facts) (ty : Option ValueType) (v : Value) → IsMadeAgain facts v → IsMadeAgain facts (of_type ty v)
+of_type_made facts (Some (EntityType ty)) (Plain (Entity u)) h = tt
+of_type_made facts (Some (EntityType ty)) _ h = tt
+of_type_made facts _ v h = h
 
-name_made : (facts : Facts) (n : Text) (ty : Option Name) (o : Option Value) → ((v : Value) → o ≡ Some v → IsMadeAgain facts v) → IsMadeAnswer facts (name_held o n ty)
+name_made : (facts : Facts) (n : Text) (ty : Option ValueType) (o : Option Value) → ((v : Value) → o ≡ Some v → IsMadeAgain facts v) → IsMadeAnswer facts (name_held o n ty)
 name_made facts n ty (Some v) f = of_type_made facts ty v (f v refl)
 name_made facts n ty None f = tt
 
 part_made : (facts : Facts) (n : Text) (p : Part) (o : Option Value) → ((v : Value) → o ≡ Some v → IsMadeAgain facts v) → IsMadeAnswer facts (part_held p o n)
 part_made facts n (Given u) o f = tt
-part_made facts n (Missing ty) o f = name_made facts n ty o f
+part_made facts n (Missing ty) o f = name_made facts n (entity_type ty) o f
 
 slot_made : (facts : Facts) (o : Option Uid) → IsMadeAnswer facts (answer_of (slot_outcome o))
 slot_made facts (Some u) = tt
@@ -160,10 +160,10 @@ module _ (facts : Facts) (good : HoldsMade facts) (q : Question) (slots : Slots)
     has_in_context = λ a. Open;
   }
 
-  names_below : (around : Around) → ((n : Text) (ty : Option Name) → around.unknown n ty ≡ name_settled (later n) ty) → (p : Answer) → Below (read facts (settled_names later) p) (read facts around p)
+  names_below : (around : Around) → ((n : Text) (ty : Option ValueType) → around.unknown n ty ≡ name_settled (later n) ty) → (p : Answer) → Below (read facts (settled_names later) p) (read facts around p)
   names_below around e p = read_mono facts (settled_names later) around (λ v. tt) (λ n ty. below_is _ _ (sym (e n ty))) (λ s. tt) (λ n. refl) (λ n. refl) p
 
-  variable_carries : (around : Around) → ((n : Text) (ty : Option Name) → around.unknown n ty ≡ name_settled (later n) ty) → (context : Entries) →
+  variable_carries : (around : Around) → ((n : Text) (ty : Option ValueType) → around.unknown n ty ≡ name_settled (later n) ty) → (context : Entries) →
       Below (context_settled facts later context) (read facts around (context_held facts told context))
   variable_carries around e NoContext = name_carries facts around (codes "context") None (told (codes "context")) (later (codes "context")) (extends (codes "context")) (e (codes "context") None)
   variable_carries around e (WithEntries ks ts) =
@@ -171,12 +171,12 @@ module _ (facts : Facts) (good : HoldsMade facts) (q : Question) (slots : Slots)
       (residuals_settle facts good (settled_names later) (held_names told) base_carries (names_made facts told are_made) (Apply (MakeRecord ks) ts))
       (names_below around e (partial_in facts (held_names told) (Apply (MakeRecord ks) ts)))
 
-  part_carries : (around : Around) → ((n : Text) (ty : Option Name) → around.unknown n ty ≡ name_settled (later n) ty) → (n : Text) (p : Part) →
+  part_carries : (around : Around) → ((n : Text) (ty : Option ValueType) → around.unknown n ty ≡ name_settled (later n) ty) → (n : Text) (p : Part) →
       Below (part_settled p (later n)) (read facts around (part_held p (told n) n))
   part_carries around e n (Given u) = refl
-  part_carries around e n (Missing ty) = name_carries facts around n ty (told n) (later n) (extends n) (e n ty)
+  part_carries around e n (Missing ty) = name_carries facts around n (entity_type ty) (told n) (later n) (extends n) (e n (entity_type ty))
 
-  pub each_carries : (around : Around) → ((n : Text) (ty : Option Name) → around.unknown n ty ≡ name_settled (later n) ty) → (v : Variable) →
+  pub each_carries : (around : Around) → ((n : Text) (ty : Option ValueType) → around.unknown n ty ≡ name_settled (later n) ty) → (v : Variable) →
       Below (variable_settled facts q later v) (read facts around (variable_held facts q told v))
   each_carries around e Principal = part_carries around e (codes "principal") q.principal
   each_carries around e Action = part_carries around e (codes "action") q.action
@@ -215,7 +215,7 @@ module _ (facts : Facts) (good : HoldsMade facts) (q : Question) (slots : Slots)
   ArePlainAnswers (SomeLeft rs) = are_plain rs ≡ true
   ArePlainAnswers (SomeRefused k) = ⊥
 
-  simple_name : (n : Text) (ty : Option Name) (o : Option Value) → ((v : Value) → o ≡ Some v → later n ≡ Some v) → is_simple_name facts (later n) ty ≡ true →
+  simple_name : (n : Text) (ty : Option ValueType) (o : Option Value) → ((v : Value) → o ≡ Some v → later n ≡ Some v) → is_simple_name facts (later n) ty ≡ true →
       IsPlainAnswer (name_held o n ty)
   simple_name n ty (Some v) f h = let e : later n ≡ Some v = f v refl in rw e at h
   simple_name n ty None f h = refl
@@ -497,7 +497,7 @@ below_value (Is v) y h e = h
 
 part_full : (p : Part) (v : Value) → (w : Value) × (part_settled p (Some v) ≡ Is w)
 part_full (Given u) v = (Plain (Entity u), refl)
-part_full (Missing ty) v = (of_type ty v, refl)
+part_full (Missing ty) v = (of_type (entity_type ty) v, refl)
 
 slot_closed : (o : Option Uid) → kindless (slot_outcome o) ≢ Open
 slot_closed (Some u) h = cc
@@ -544,13 +544,13 @@ meets_below errs_as Open p m = tt
 meets_below errs_as Errs p (k, e, is) = rw e refl
 meets_below errs_as (Is v) p m = rw m refl
 
-name_shows : (o : Option Value) (n : Text) (ty : Option Name) → Below (name_settled o ty) (seen (name_held o n ty))
+name_shows : (o : Option Value) (n : Text) (ty : Option ValueType) → Below (name_settled o ty) (seen (name_held o n ty))
 name_shows (Some v) n ty = refl
 name_shows None n ty = tt
 
 part_shows : (p : Part) (o : Option Value) (n : Text) → Below (part_settled p o) (seen (part_held p o n))
 part_shows (Given u) o n = refl
-part_shows (Missing ty) o n = name_shows o n ty
+part_shows (Missing ty) o n = name_shows o n (entity_type ty)
 
 pub names_shown : (facts : Facts) (told : Told) → Shows facts (settled_names told) (held_names told)
 names_shown facts told = record {
@@ -703,12 +703,18 @@ answers_prompt facts good q slots told are_made ok t =
 
 pub fitting_are_held : FittingAreHeld
 fitting_are_held v n None h = refl
-fitting_are_held (Plain (Entity u)) n (Some ty) h =
+fitting_are_held (Plain (Entity u)) n (Some (EntityType ty)) h =
     let e : u.type_name ≡ ty = (pointwise_decides bytes_decides u.type_name ty).0 h in
     rw (h, ← e) refl
-fitting_are_held (Plain (Boolean b)) n (Some ty) h = cc
-fitting_are_held (Plain (Long m)) n (Some ty) h = cc
-fitting_are_held (Plain (String s)) n (Some ty) h = cc
-fitting_are_held (SetOf vs) n (Some ty) h = cc
-fitting_are_held (RecordOf ks vs) n (Some ty) h = cc
-fitting_are_held (ExtensionOf e) n (Some ty) h = cc
+fitting_are_held (Plain (Boolean b)) n (Some (EntityType ty)) h = cc
+fitting_are_held (Plain (Long m)) n (Some (EntityType ty)) h = cc
+fitting_are_held (Plain (String s)) n (Some (EntityType ty)) h = cc
+fitting_are_held (SetOf vs) n (Some (EntityType ty)) h = cc
+fitting_are_held (RecordOf ks vs) n (Some (EntityType ty)) h = cc
+fitting_are_held (ExtensionOf e) n (Some (EntityType ty)) h = cc
+fitting_are_held v n (Some BooleanType) h = rw h refl
+fitting_are_held v n (Some LongType) h = rw h refl
+fitting_are_held v n (Some StringType) h = rw h refl
+fitting_are_held v n (Some SetType) h = rw h refl
+fitting_are_held v n (Some RecordType) h = rw h refl
+fitting_are_held v n (Some (ExtensionType ty)) h = rw h refl

@@ -1,7 +1,7 @@
 -- What later values settle of a residual.
 use Rattle.std.proofs.Common.{◌≡◌, ◌≢◌, Bool, true, false, not, cond, Option, Some, None, List, [], ◌∷◌, refl, sym, ap, subst}
 use Rattle.cedar_language.specs.Uid.{Text, Name}
-use Rattle.cedar_language.specs.Tree.{Literal, Boolean, Long, String, Entity, Variable, Principal, Action, Resource, Context, SlotId, Operator, Not, Neg, IsEmpty, Equal, Less, LessEq, Add, Sub, Mul, In, Contains, ContainsAll, ContainsAny, GetTag, HasTag, GetAttr, HasAttr, HasPath, Like, MakeSet, MakeRecord, Call, Tree, Lit, Var, Slot, Unknown, If, And, Or, Apply, Trees, no_trees, a_tree}
+use Rattle.cedar_language.specs.Tree.{Literal, Boolean, Long, String, Entity, Variable, Principal, Action, Resource, Context, SlotId, Operator, Not, Neg, IsEmpty, Equal, Less, LessEq, Add, Sub, Mul, In, Contains, ContainsAll, ContainsAny, GetTag, HasTag, GetAttr, HasAttr, HasPath, Like, MakeSet, MakeRecord, Call, Tree, Lit, Var, Slot, Unknown, If, And, Or, Apply, Trees, no_trees, a_tree, EntityType}
 use Rattle.cedar_language.specs.Tree as tree
 use Rattle.cedar_language.specs.Value.{Value, Plain, no_values}
 use Rattle.cedar_language.specs.Order.{same_text, same_name}
@@ -291,8 +291,8 @@ module _ (facts : Facts) (good : HoldsMade facts) (later : Around) (holds : Hold
 
   type_carries : (ty : Name) (r : Tree) →
       Below (apply_settled facts (tree.Is ty) (and_more (settled_in facts later r) (AllAre no_values))) (read facts later (is_answer ty r))
-  type_carries ty (Unknown n (Some u)) =
-      typed_carries ty u (later.unknown n (Some u)) (carries.name_never_errs n (Some u)) (λ w e. carries.typed n u w e)
+  type_carries ty (Unknown n (Some (EntityType u))) =
+      typed_carries ty u (later.unknown n (Some (EntityType u))) (carries.name_never_errs n (Some (EntityType u))) (λ w e. carries.typed n u w e)
   type_carries ty r = raised (tree.Is ty) (a_tree r no_trees) _
 
   -- open, or an entity of the type
@@ -308,10 +308,10 @@ module _ (facts : Facts) (good : HoldsMade facts) (later : Around) (holds : Hold
 
   stated_carries : (r : Tree) (u : Name) → stated_type r ≡ Some u → MayBe u (settled_in facts later r)
   stated_carries (Lit (Entity e)) u h = let g : e.type_name ≡ u = cc in (e, refl, g)
-  stated_carries (Unknown n (Some ty)) u h =
+  stated_carries (Unknown n (Some (EntityType ty))) u h =
       let g : ty ≡ u = cc in
-      let P : Name → Type 0 = λ z. MayBe z (later.unknown n (Some ty)) in
-      subst P g (may_be ty (later.unknown n (Some ty)) (carries.name_never_errs n (Some ty)) (λ w e. carries.typed n ty w e))
+      let P : Name → Type 0 = λ z. MayBe z (later.unknown n (Some (EntityType ty))) in
+      subst P g (may_be ty (later.unknown n (Some (EntityType ty))) (carries.name_never_errs n (Some (EntityType ty))) (λ w e. carries.typed n ty w e))
   stated_carries _ u h = cc
 
   differ_carries : (u w : Name) (x y : Settling) → MayBe u x → MayBe w y → not (same_name u w) ≡ true →

@@ -1,7 +1,7 @@
 -- Every answer means what its tree means.
 use Rattle.std.proofs.Common.{◌≡◌, ◌≢◌, Bool, true, false, not, cond, ◌&&◌, Option, Some, None, List, [], ◌∷◌, refl, sym, ◌∙◌, ap}
 use Rattle.cedar_language.specs.Uid.{Text, Name, Uid}
-use Rattle.cedar_language.specs.Tree.{Literal, Boolean, Long, String, Entity, Variable, Principal, Action, Resource, Context, SlotId, Operator, Not, Neg, IsEmpty, Equal, Less, LessEq, Add, Sub, Mul, In, Contains, ContainsAll, ContainsAny, GetTag, HasTag, GetAttr, HasAttr, HasPath, Like, MakeSet, MakeRecord, Call, Tree, Lit, Var, Slot, Unknown, If, And, Or, Apply, Trees, no_trees, a_tree}
+use Rattle.cedar_language.specs.Tree.{Literal, Boolean, Long, String, Entity, Variable, Principal, Action, Resource, Context, SlotId, Operator, Not, Neg, IsEmpty, Equal, Less, LessEq, Add, Sub, Mul, In, Contains, ContainsAll, ContainsAny, GetTag, HasTag, GetAttr, HasAttr, HasPath, Like, MakeSet, MakeRecord, Call, Tree, Lit, Var, Slot, Unknown, If, And, Or, Apply, Trees, no_trees, a_tree, EntityType}
 use Rattle.cedar_language.specs.Tree as tree
 use Rattle.cedar_language.specs.Value.{Value, Plain, SetOf, RecordOf, ExtensionOf, Values, no_values, a_value, Outcome, Gives, Fails}
 use Rattle.cedar_language.specs.Order.{same, same_text, same_name, rising}
@@ -321,15 +321,15 @@ module _ (facts : Facts) (good : HoldsMade facts) (around : Around) (full : IsFu
     typed_is ty u x (w, e, (v, is, of_type)) = rw (e, is, of_type) refl
 
     type_is : (ty : Name) (r : Tree) → apply_settled facts (tree.Is ty) (and_more (settled_in facts around r) (AllAre no_values)) ≡ read facts around (is_answer ty r)
-    type_is ty (Unknown n (Some u)) =
-        let (w, e) = full.unknown n (Some u) in typed_is ty u (around.unknown n (Some u)) (w, e, full.typed n u w e)
+    type_is ty (Unknown n (Some (EntityType u))) =
+        let (w, e) = full.unknown n (Some (EntityType u)) in typed_is ty u (around.unknown n (Some (EntityType u))) (w, e, full.typed n u w e)
     type_is ty r = sym (no_entry (tree.Is ty) (a_tree r no_trees) _)
 
     typed_entity : (r : Tree) (u : Name) → stated_type r ≡ Some u → (e : Uid) × (settled_in facts around r ≡ Is (Plain (Entity e))) × (e.type_name ≡ u)
     typed_entity (Lit (Entity e)) u h = let g : e.type_name ≡ u = cc in (e, refl, g)
-    typed_entity (Unknown n (Some ty)) u h =
+    typed_entity (Unknown n (Some (EntityType ty))) u h =
         let g : ty ≡ u = cc in
-        let (w, at) = full.unknown n (Some ty) in
+        let (w, at) = full.unknown n (Some (EntityType ty)) in
         let (e, is, of_type) = full.typed n ty w at in
         (e, at ∙ ap Is is, of_type ∙ g)
     typed_entity _ u h = cc

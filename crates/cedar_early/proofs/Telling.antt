@@ -1,7 +1,7 @@
 -- Residuals and contexts evaluated again.
 use Rattle.std.proofs.Common.{◌≡◌, true, Option, Some, None, List, refl, sym, ◌∙◌}
 use Rattle.cedar_language.specs.Uid.{Text, Name}
-use Rattle.cedar_language.specs.Tree.{MakeSet, MakeRecord, Call, Tree, Lit, Unknown, Apply, Trees, no_trees, a_tree}
+use Rattle.cedar_language.specs.Tree.{MakeSet, MakeRecord, Call, Tree, Lit, Unknown, Apply, Trees, no_trees, a_tree, ValueType}
 use Rattle.cedar_language.specs.Value.{Value, Values, no_values, a_value, Kind, Outcome, Gives, Fails}
 use Rattle.cedar_language.specs.Facts.{Facts}
 use Rattle.cedar_language.specs.Operators.{applied}
@@ -63,7 +63,7 @@ module _ (facts : Facts) (good : HoldsMade facts) (told later : Told) (extends :
   values_again no_values m = refl
   values_again (a_value v vs) m = rw (value_again v m.0, values_again vs m.1) refl
 
-  name_again : (n : Text) (ty : Option Name) (o : Option Value) → told n ≡ o →
+  name_again : (n : Text) (ty : Option ValueType) (o : Option Value) → told n ≡ o →
       partial_in facts (held_names later) (best_effort facts (name_held o n ty) (Unknown n ty)) ≡ name_held (later n) n ty
   name_again n ty (Some v) h = rw (extends n v h) (value_again (of_type ty v) (of_type_made facts ty v (are_made n v h)))
   name_again n ty None h = refl

@@ -9,14 +9,14 @@ use Rattle.cedar_early.specs.Settling.{Settling, Open, Errs, Is, kindless, settl
 use Rattle.cedar_early.specs.MadeAgain.{HoldsMade}
 use Rattle.cedar_early.specs.Partial.{Answer, Known, Left, Refused, answer_of, partial_in}
 use Rattle.cedar_early.specs.Prompt.{ErrsAs, ErrsEverywhere, seen}
-use Rattle.cedar_early.specs.Question.{Part, Given, Missing, Question, Told, of_type, settled_of, held_of, AreMadeTold, IsAccepted, IsFilling, all_told}
+use Rattle.cedar_early.specs.Question.{Part, Given, Missing, Question, Told, entity_type, of_type, settled_of, held_of, AreMadeTold, IsAccepted, IsFilling, all_told}
 use Rattle.cedar_language.specs.Answering.{Standing, Satisfied, Unsatisfied, Erring, Residual, Judged, IsFair, IsAsSharp}
 use Rattle.cedar_language.specs.Authorization.{Policy, standing_of}
 
 -- the question that is known under a filling, its context meaning this value
 abbrev pub part_value : Part → Value → Value
 part_value (Given u) v = Plain (Entity u)
-part_value (Missing ty) v = of_type ty v
+part_value (Missing ty) v = of_type (entity_type ty) v
 
 abbrev pub filled_value : Question → (Text → Value) → Value → Variable → Value
 filled_value q f context Principal = part_value q.principal (f (codes "principal"))

@@ -1,7 +1,7 @@
 -- What an answer of partial evaluation promises of a tree.
 use Rattle.std.specs.Prelude.{◌≡◌, ◌≢◌, Option, Some}
 use Rattle.cedar_language.specs.Uid.{Text, Name, Uid}
-use Rattle.cedar_language.specs.Tree.{Entity, Variable, SlotId, Tree}
+use Rattle.cedar_language.specs.Tree.{Entity, Variable, SlotId, Tree, ValueType, EntityType}
 use Rattle.cedar_language.specs.Value.{Value, Plain}
 use Rattle.cedar_language.specs.Facts.{Facts}
 use Rattle.cedar_early.specs.Settling.{Settling, Open, Errs, Is, Settlings, SomeErrs, AllAre, Around, settled_in, all_settled_in}
@@ -15,9 +15,9 @@ IsOfType ty v = (u : Uid) × (v ≡ Plain (Entity u)) × (u.type_name ≡ ty)
 -- every leaf is known, and a slot has its entity or none; nothing is said of an open context
 pub record IsFull (around : Around) : Type 0 where
   pub variable : (v : Variable) → (w : Value) × (around.variable v ≡ Is w)
-  pub unknown : (n : Text) (ty : Option Name) → (w : Value) × (around.unknown n ty ≡ Is w)
-  -- an unknown with a stated type is an entity of this type
-  pub typed : (n : Text) (ty : Name) (w : Value) → around.unknown n (Some ty) ≡ Is w → IsOfType ty w
+  pub unknown : (n : Text) (ty : Option ValueType) → (w : Value) × (around.unknown n ty ≡ Is w)
+  -- an unknown with a stated type of entities is an entity of this type
+  pub typed : (n : Text) (ty : Name) (w : Value) → around.unknown n (Some (EntityType ty)) ≡ Is w → IsOfType ty w
   pub slot : (s : SlotId) → around.slot s ≢ Open
   pub in_context : (a : Text) → around.in_context a ≡ Open
   pub has_in_context : (a : Text) → around.has_in_context a ≡ Open
@@ -36,7 +36,7 @@ read_all facts around (SomeRefused k) = SomeErrs
 -- what is held for the leaves means what they mean
 pub record Tells (facts : Facts) (around : Around) (holds : Holds) : Type 0 where
   pub variable : (v : Variable) → around.variable v ≡ read facts around (holds.variable v)
-  pub unknown : (n : Text) (ty : Option Name) → around.unknown n ty ≡ read facts around (holds.unknown n ty)
+  pub unknown : (n : Text) (ty : Option ValueType) → around.unknown n ty ≡ read facts around (holds.unknown n ty)
   pub slot : (s : SlotId) → around.slot s ≡ read facts around (holds.slot s)
 
 -- an answer that is a value is made again by a tree for it
@@ -46,7 +46,7 @@ IsMadeAnswer facts p = Unit {0}
 
 pub record AreMadeLeaves (facts : Facts) (holds : Holds) : Type 0 where
   pub variable : (v : Variable) → IsMadeAnswer facts (holds.variable v)
-  pub unknown : (n : Text) (ty : Option Name) → IsMadeAnswer facts (holds.unknown n ty)
+  pub unknown : (n : Text) (ty : Option ValueType) → IsMadeAnswer facts (holds.unknown n ty)
   pub slot : (s : SlotId) → IsMadeAnswer facts (holds.slot s)
 
 -- every answer means what its tree means, wherever all is known

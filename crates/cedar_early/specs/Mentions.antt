@@ -1,7 +1,7 @@
 -- A tree that mentions nothing unknown settles, whatever stands for what is missing.
 use Rattle.std.specs.Prelude.{Option, ◌≡◌, ◌≢◌, Bool, true, false, ◌&&◌}
-use Rattle.cedar_language.specs.Uid.{Text, Name}
-use Rattle.cedar_language.specs.Tree.{Variable, Principal, Action, Resource, Context, Tree, Lit, Var, Slot, Unknown, If, And, Or, Apply, Trees, no_trees, a_tree}
+use Rattle.cedar_language.specs.Uid.{Text}
+use Rattle.cedar_language.specs.Tree.{Variable, Principal, Action, Resource, Context, Tree, Lit, Var, Slot, Unknown, If, And, Or, Apply, Trees, no_trees, a_tree, ValueType}
 use Rattle.cedar_language.specs.Facts.{Facts}
 use Rattle.cedar_language.specs.Value.{Outcome}
 use Rattle.cedar_language.specs.Meaning.{Slots, Request, meaning}
@@ -43,11 +43,11 @@ abbrev pub KnownTreesSettle : Type 0
 KnownTreesSettle =
     (facts : Facts) (q : Question) (slots : Slots) (told : Told) (t : Tree) → mentions_only (is_known q) true t ≡ true → settled_in facts (settled_of facts q slots told) t ≢ Open
 
-abbrev pub with_names : (Text → Option Name → Outcome) → Request → Request
+abbrev pub with_names : (Text → Option ValueType → Outcome) → Request → Request
 with_names names request = record { variable = request.variable; unknown = names; slots = request.slots }
 
 -- of a tree without unknown leaves the meaning has nothing to do with what stands for them
 abbrev pub NamesDontMatter : Type 0
 NamesDontMatter =
-    (facts : Facts) (request : Request) (names : Text → Option Name → Outcome) (t : Tree) → mentions_only (λ v. true) true t ≡ true →
+    (facts : Facts) (request : Request) (names : Text → Option ValueType → Outcome) (t : Tree) → mentions_only (λ v. true) true t ≡ true →
     meaning facts request t ≡ meaning facts (with_names names request) t

@@ -1,7 +1,7 @@
 -- Partial evaluation: a value, a residual that is left because something is unknown, or an error.
 use Rattle.std.specs.Prelude.{◌≡◌, Bool, true, false, not, cond, ◌&&◌, Option, Some, None, List, [], ◌∷◌}
 use Rattle.cedar_language.specs.Uid.{Text, Name}
-use Rattle.cedar_language.specs.Tree.{Boolean, Entity, Variable, SlotId, Operator, Equal, Is, GetAttr, HasAttr, MakeSet, MakeRecord, Tree, Lit, Var, Slot, Unknown, If, And, Or, Apply, Trees, no_trees, a_tree}
+use Rattle.cedar_language.specs.Tree.{Boolean, Entity, Variable, SlotId, Operator, Equal, Is, GetAttr, HasAttr, MakeSet, MakeRecord, Tree, Lit, Var, Slot, Unknown, If, And, Or, Apply, Trees, no_trees, a_tree, ValueType, EntityType}
 use Rattle.cedar_language.specs.Value.{Value, Plain, Values, no_values, a_value, Kind, TypeError, RecordAttrDoesNotExist, Outcome, Gives, Fails}
 use Rattle.cedar_language.specs.Order.{same_text, same_name}
 use Rattle.cedar_language.specs.Facts.{Facts}
@@ -84,7 +84,7 @@ abbrev mutual
 -- what the evaluator holds for the leaves
 pub record Holds : Type 0 where
   pub variable : Variable → Answer
-  pub unknown : Text → Option Name → Answer
+  pub unknown : Text → Option ValueType → Answer
   pub slot : SlotId → Answer
 
 -- operands that are all values make a value, else a residual stays
@@ -133,15 +133,15 @@ abbrev pub has_answer : Text → Tree → Answer
 has_answer a (Apply (MakeRecord ks) rs) = has_entry_answer a (Apply (MakeRecord ks) rs) (are_plain rs) (found_tree ks rs a)
 has_answer a r = Left (Apply (HasAttr a) (a_tree r no_trees))
 
--- `is` on an unknown with a stated type is decided by that type
+-- `is` on an unknown with a stated type of entities is decided by that type
 abbrev pub is_answer : Name → Tree → Answer
-is_answer ty (Unknown n (Some u)) = Known (Plain (Boolean (same_name u ty)))
+is_answer ty (Unknown n (Some (EntityType u))) = Known (Plain (Boolean (same_name u ty)))
 is_answer ty r = Left (Apply (Is ty) (a_tree r no_trees))
 
--- the type of an entity, or of an unknown with a stated type
+-- the type of an entity, or of an unknown with a stated type of entities
 abbrev pub stated_type : Tree → Option Name
 stated_type (Lit (Entity u)) = Some u.type_name
-stated_type (Unknown n (Some u)) = Some u
+stated_type (Unknown n (Some (EntityType u))) = Some u
 stated_type _ = None
 
 abbrev pub types_differ : Option Name → Option Name → Bool

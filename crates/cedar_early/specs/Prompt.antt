@@ -1,7 +1,7 @@
 -- Kinds of errors to which a tree settles, and what a prompt answer gives.
 use Rattle.std.specs.Prelude.{◌≡◌, ◌≢◌, true, false, Option}
-use Rattle.cedar_language.specs.Uid.{Text, Name}
-use Rattle.cedar_language.specs.Tree.{Boolean, Variable, Context, SlotId, Operator, GetAttr, HasAttr, Tree, Var, Slot, If, And, Or, Apply, Trees, no_trees, a_tree}
+use Rattle.cedar_language.specs.Uid.{Text}
+use Rattle.cedar_language.specs.Tree.{Boolean, Variable, Context, SlotId, Operator, GetAttr, HasAttr, Tree, Var, Slot, If, And, Or, Apply, Trees, no_trees, a_tree, ValueType}
 use Rattle.cedar_language.specs.Value.{Value, Plain, Values, no_values, Kind, TypeError, RecordAttrDoesNotExist, UnlinkedSlot, Fails}
 use Rattle.cedar_language.specs.Facts.{Facts}
 use Rattle.cedar_language.specs.Operators.{applied}
@@ -60,8 +60,8 @@ Meets errs_as (Is v) p = p ≡ Known v
 pub record Shows (facts : Facts) (around : Around) (holds : Holds) : Type 0 where
   pub variable : (v : Variable) → Below (around.variable v) (seen (holds.variable v))
   pub never_errs : (v : Variable) → around.variable v ≢ Errs
-  pub unknown : (n : Text) (ty : Option Name) → Below (around.unknown n ty) (seen (holds.unknown n ty))
-  pub name_never_errs : (n : Text) (ty : Option Name) → around.unknown n ty ≢ Errs
+  pub unknown : (n : Text) (ty : Option ValueType) → Below (around.unknown n ty) (seen (holds.unknown n ty))
+  pub name_never_errs : (n : Text) (ty : Option ValueType) → around.unknown n ty ≢ Errs
   pub slot : (s : SlotId) → Meets (λ k. k ≡ UnlinkedSlot) (around.slot s) (holds.slot s)
   pub in_context : (a : Text) → Meets (λ k. k ≡ RecordAttrDoesNotExist) (around.in_context a) (apply_answer facts holds (GetAttr a) (and_next facts (holds.variable Context) (AllKnown no_values)))
   pub has_in_context : (a : Text) → (around.has_in_context a ≢ Errs) × Below (around.has_in_context a) (seen (apply_answer facts holds (HasAttr a) (and_next facts (holds.variable Context) (AllKnown no_values))))

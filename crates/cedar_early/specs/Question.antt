@@ -1,8 +1,8 @@
 -- A question with missing parts and unknown names, and what is settled and held of its leaves once values are told.
 use Rattle.std.specs.Prelude.{◌≡◌, ◌≢◌, Bool, true, false, ◌&&◌, Option, Some, None, List, [], codes}
 use Rattle.cedar_language.specs.Uid.{Text, Name, Uid}
-use Rattle.cedar_language.specs.Tree.{Boolean, Entity, MakeSet, MakeRecord, Variable, Principal, Action, Resource, Context, Tree, Lit, Var, Slot, Unknown, Apply, Trees, no_trees, a_tree}
-use Rattle.cedar_language.specs.Value.{Value, Plain, Kind, TypeError}
+use Rattle.cedar_language.specs.Tree.{Boolean, Entity, MakeSet, MakeRecord, Variable, Principal, Action, Resource, Context, Tree, Lit, Var, Slot, Unknown, Apply, Trees, no_trees, a_tree, ValueType, BooleanType, LongType, StringType, SetType, RecordType, EntityType, ExtensionType, Long, String}
+use Rattle.cedar_language.specs.Value.{Value, Plain, Kind, TypeError, SetOf, RecordOf, ExtensionOf}
 use Rattle.cedar_language.specs.Order.{same_name}
 use Rattle.cedar_language.specs.Facts.{Facts}
 use Rattle.cedar_language.specs.Meaning.{Slots, slot_outcome}
@@ -29,6 +29,11 @@ pub record Question : Type 0 where
   pub resource : Part
   pub context : Entries
 
+-- the annotation of a missing part
+abbrev pub entity_type : Option Name → Option ValueType
+entity_type (Some ty) = Some (EntityType ty)
+entity_type None = None
+
 -- values of unknown names; what is missing is an unknown named as its variable
 abbrev pub Told : Type 0
 Told = Text → Option Value
@@ -39,18 +44,18 @@ variable_name Action = codes "action"
 variable_name Resource = codes "resource"
 variable_name Context = codes "context"
 
--- a value in the place of an unknown with a stated type: an entity of this type stays as it is,
+-- a value in the place of an unknown with a stated type of entities: an entity of this type stays as it is,
 -- and for any other value stands some entity of the type
-abbrev pub of_type : Option Name → Value → Value
-of_type None v = v
-of_type (Some ty) (Plain (Entity u)) = Plain (Entity (record { type_name = ty; id = u.id }))
-of_type (Some ty) _ = Plain (Entity (record { type_name = ty; id = [] }))
+abbrev pub of_type : Option ValueType → Value → Value
+of_type (Some (EntityType ty)) (Plain (Entity u)) = Plain (Entity (record { type_name = ty; id = u.id }))
+of_type (Some (EntityType ty)) _ = Plain (Entity (record { type_name = ty; id = [] }))
+of_type _ v = v
 
-abbrev pub name_settled : Option Value → Option Name → Settling
+abbrev pub name_settled : Option Value → Option ValueType → Settling
 name_settled (Some v) ty = Is (of_type ty v)
 name_settled None ty = Open
 
-abbrev pub name_held : Option Value → Text → Option Name → Answer
+abbrev pub name_held : Option Value → Text → Option ValueType → Answer
 name_held (Some v) n ty = Known (of_type ty v)
 name_held None n ty = Left (Unknown n ty)
 
@@ -71,7 +76,7 @@ held_names told = record {
   slot = λ s. Left (Slot s);
 }
 
-abbrev pub is_simple_name : Facts → Option Value → Option Name → Bool
+abbrev pub is_simple_name : Facts → Option Value → Option ValueType → Bool
 is_simple_name facts None ty = true
 is_simple_name facts (Some v) ty = is_plain (tree_of facts (of_type ty v))
 
@@ -113,7 +118,7 @@ has_in_context facts told (WithEntries ks ts) a = has_settled (are_simple facts 
 
 abbrev pub part_settled : Part → Option Value → Settling
 part_settled (Given u) o = Is (Plain (Entity u))
-part_settled (Missing ty) o = name_settled o ty
+part_settled (Missing ty) o = name_settled o (entity_type ty)
 
 abbrev pub context_settled : Facts → Told → Entries → Settling
 context_settled facts told NoContext = name_settled (told (codes "context")) None
@@ -137,7 +142,7 @@ settled_of facts q slots told = record {
 
 abbrev pub part_held : Part → Option Value → Text → Answer
 part_held (Given u) o n = Known (Plain (Entity u))
-part_held (Missing ty) o n = name_held o n ty
+part_held (Missing ty) o n = name_held o n (entity_type ty)
 
 abbrev pub context_held : Facts → Told → Entries → Answer
 context_held facts told NoContext = name_held (told (codes "context")) (codes "context") None
@@ -210,23 +215,32 @@ AnswersArePrompt =
 
 -- ---- what the evaluator reads: a told value of another type than the one stated is a TypeError
 
-abbrev pub fits : Option Name → Value → Bool
+abbrev pub is_of_type : ValueType → Value → Bool
+is_of_type BooleanType (Plain (Boolean b)) = true
+is_of_type LongType (Plain (Long n)) = true
+is_of_type StringType (Plain (String s)) = true
+is_of_type SetType (SetOf vs) = true
+is_of_type RecordType (RecordOf ks vs) = true
+is_of_type (EntityType ty) (Plain (Entity u)) = same_name u.type_name ty
+is_of_type (ExtensionType ty) (ExtensionOf e) = same_name e.type_name ty
+is_of_type _ _ = false
+
+abbrev pub fits : Option ValueType → Value → Bool
 fits None v = true
-fits (Some ty) (Plain (Entity u)) = same_name u.type_name ty
-fits (Some ty) _ = false
+fits (Some ty) v = is_of_type ty v
 
 abbrev pub told_answer : Bool → Value → Answer
 told_answer true v = Known v
 told_answer false v = Refused TypeError
 
-abbrev pub name_read : Option Value → Text → Option Name → Answer
+abbrev pub name_read : Option Value → Text → Option ValueType → Answer
 name_read (Some v) n ty = told_answer (fits ty v) v
 name_read None n ty = Left (Unknown n ty)
 
 abbrev pub part_read : Part → Option Value → Text → Answer
 part_read (Given u) o n = Known (Plain (Entity u))
-part_read (Missing ty) o n = name_read o n ty
+part_read (Missing ty) o n = name_read o n (entity_type ty)
 
 -- where a value fits, it is read as it is held
 abbrev pub FittingAreHeld : Type 0
-FittingAreHeld = (v : Value) (n : Text) (ty : Option Name) → fits ty v ≡ true → name_read (Some v) n ty ≡ name_held (Some v) n ty
+FittingAreHeld = (v : Value) (n : Text) (ty : Option ValueType) → fits ty v ≡ true → name_read (Some v) n ty ≡ name_held (Some v) n ty

@@ -1,7 +1,7 @@
 -- A residual in which a slot still stands, once slots are no longer bound.
 use Rattle.std.specs.Prelude.{◌≡◌, Option}
-use Rattle.cedar_language.specs.Uid.{Text, Name}
-use Rattle.cedar_language.specs.Tree.{Variable, SlotId, Tree}
+use Rattle.cedar_language.specs.Uid.{Text}
+use Rattle.cedar_language.specs.Tree.{Variable, SlotId, Tree, ValueType}
 use Rattle.cedar_language.specs.Value.{Value}
 use Rattle.cedar_language.specs.Facts.{Facts}
 use Rattle.cedar_language.specs.Meaning.{Slots}
@@ -24,7 +24,7 @@ unbound around = record {
 -- what is held for the leaves means what they mean, also where slots are no longer bound
 pub record TellsUnbound (facts : Facts) (around : Around) (holds : Holds) : Type 0 where
   pub variable : (v : Variable) → around.variable v ≡ read facts (unbound around) (holds.variable v)
-  pub unknown : (n : Text) (ty : Option Name) → around.unknown n ty ≡ read facts (unbound around) (holds.unknown n ty)
+  pub unknown : (n : Text) (ty : Option ValueType) → around.unknown n ty ≡ read facts (unbound around) (holds.unknown n ty)
   pub slot : (s : SlotId) → around.slot s ≡ read facts (unbound around) (holds.slot s)
 
 -- every answer means without slots what its tree means with them

@@ -1,7 +1,7 @@
 -- What later values settle of a residual in which slots are no longer bound.
 use Rattle.std.specs.Prelude.{◌≡◌, ◌≢◌, Option, Some}
 use Rattle.cedar_language.specs.Uid.{Text, Name}
-use Rattle.cedar_language.specs.Tree.{GetAttr, HasAttr, Variable, Context, SlotId, Tree}
+use Rattle.cedar_language.specs.Tree.{GetAttr, HasAttr, Variable, Context, SlotId, Tree, ValueType, EntityType}
 use Rattle.cedar_language.specs.Value.{Value, no_values}
 use Rattle.cedar_language.specs.Facts.{Facts}
 use Rattle.cedar_early.specs.Settling.{Around, Errs, Is, Below, settled_in}
@@ -17,9 +17,9 @@ use Rattle.cedar_early.specs.Unbound.{unbound}
 pub record CarriesUnbound (facts : Facts) (later : Around) (holds : Holds) : Type 0 where
   pub variable : (v : Variable) → Below (later.variable v) (read facts (unbound later) (holds.variable v))
   pub never_errs : (v : Variable) → later.variable v ≢ Errs
-  pub unknown : (n : Text) (ty : Option Name) → Below (later.unknown n ty) (read facts (unbound later) (holds.unknown n ty))
-  pub name_never_errs : (n : Text) (ty : Option Name) → later.unknown n ty ≢ Errs
-  pub typed : (n : Text) (ty : Name) (v : Value) → later.unknown n (Some ty) ≡ Is v → IsOfType ty v
+  pub unknown : (n : Text) (ty : Option ValueType) → Below (later.unknown n ty) (read facts (unbound later) (holds.unknown n ty))
+  pub name_never_errs : (n : Text) (ty : Option ValueType) → later.unknown n ty ≢ Errs
+  pub typed : (n : Text) (ty : Name) (v : Value) → later.unknown n (Some (EntityType ty)) ≡ Is v → IsOfType ty v
   pub slot : (s : SlotId) → Below (later.slot s) (read facts (unbound later) (holds.slot s))
   pub in_context : (a : Text) → Below (later.in_context a) (read facts (unbound later) (apply_answer facts holds (GetAttr a) (and_next facts (holds.variable Context) (AllKnown no_values))))
   pub has_in_context : (a : Text) → Below (later.has_in_context a) (read facts (unbound later) (apply_answer facts holds (HasAttr a) (and_next facts (holds.variable Context) (AllKnown no_values))))
