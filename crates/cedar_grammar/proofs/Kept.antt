@@ -8,7 +8,7 @@ use Rattle.cedar_grammar.specs.Token.{Token, Mark, Word, word, number, text, slo
 use Rattle.cedar_grammar.specs.Names.{Names}
 use Rattle.cedar_grammar.specs.Build.{Link, linked, Comparison}
 use Rattle.cedar_grammar.specs.Grammar.{Rule, Inner, Ids, one_id, more_ids, EntityRule, entity, Items, no_items, last_item, an_item, Entry, id_entry, text_entry, Primary, true_is, false_is, number_is, text_is, variable_is, entity_is, call_is, group_is, list_is, record_is, Access, attribute, call, index, Accesses, no_access, an_access, Member, member, Signs, no_sign, a_sign, IsNumber, Unary, plain, not_is, neg_is, negative_is, link_of, Tail, stop, go_on, Chain, chain, Mul, comparison_of, Relation, alone, compare, has_text, has_ids, like_is, is_type, is_type_in, And, Expr, or_is, if_is, Within}
-use Rattle.cedar_grammar.specs.Policy.{Binding}
+use Rattle.cedar_grammar.specs.Policy.{Slots}
 use Rattle.cedar_grammar.specs.Policies.{slot_of, Filled, all_filled, kept, replaced}
 use Rattle.cedar_grammar.proofs.Eats.{Eats, access-eats, accesses-eats, within-eats}
 
@@ -32,7 +32,7 @@ comparison-stays : (o : Token) (c : Comparison) → comparison_of o ≡ Some c �
 comparison-stays (slot w) c e = absurd (cc e)
 comparison-stays o c e = refl
 
-module _ (b : Binding) where
+module _ (b : Slots) where
   -- the tokens in front stay
   pub keeps : (front : List Token) → stay front ≡ true → (ts us : List Token) → Filled b (front ++ ts) us → (more : List Token) × (us ≡ front ++ more) × Filled b ts more
   keeps [] e ts us f = (us, refl, f)

@@ -7,7 +7,7 @@ use Rattle.cedar_grammar.specs.Token.{Token, Mark, Word, word, text, slot, mark}
 use Rattle.cedar_grammar.specs.Names.{Names}
 use Rattle.cedar_grammar.specs.Build.{Keyed}
 use Rattle.cedar_grammar.specs.Grammar.{Rule, Ids, one_id, more_ids, EntityRule, entity, Within}
-use Rattle.cedar_grammar.specs.Policy.{Effect, ActionConstraint, Target, the_entity, the_slot, Constraint, anything, equals, within, of_type, of_type_within, Policy, tree_slots, trees_slots, body_slots, Binding, bound_target, bound_constraint, bound_tree, bound_trees, bound_body, bound}
+use Rattle.cedar_grammar.specs.Policy.{Effect, ActionConstraint, Target, the_entity, the_slot, Constraint, anything, equals, within, of_type, of_type_within, Policy, tree_slots, trees_slots, body_slots, Slots, bound_target, bound_constraint, bound_tree, bound_trees, bound_body, bound}
 use Rattle.cedar_grammar.specs.Policies.{Annotation, key_alone, key_value, Each, no_more, one_more, TargetRule, entity_target, slot_target, in_parens, ConstraintRule, no_constraint, equals_target, in_target, is_type, is_type_in, ActionEntity, action_entity, action_in_parens, ListedAction, ActionRule, no_action, equals_action, in_action, in_actions, ScopeEnd, closed, comma_closed, Clause, when_is, unless_is, HeadRule, head, ScopeRule, scope, PolicyRule, policy, PolicyWithin, ArePolicies, body_of, slot_of, Filled, all_filled, kept, replaced}
 use Rattle.cedar_grammar.specs.Laws.{LinksAreRead, LinksAreOne}
 use Rattle.cedar_grammar.proofs.Kept.{stay, keeps, Keeps, kept-as, ahead, ids-keep, entity-keeps, items-keep, within-keeps}
@@ -17,7 +17,7 @@ use Rattle.cedar_grammar.proofs.PoliciesGrow.{one_policies}
 -- ---- a tree without slots stays as it is
 
 mutual
-  tree-stays : (b : Binding) (t : Tree) → Free t → bound_tree b t ≡ t
+  tree-stays : (b : Slots) (t : Tree) → Free t → bound_tree b t ≡ t
   tree-stays b (Lit l) e = refl
   tree-stays b (Var v) e = refl
   tree-stays b (Slot s) e = absurd (cc e)
@@ -29,11 +29,11 @@ mutual
   tree-stays b (Or t u) e = rw (tree-stays b t (first-empty (tree_slots t) (tree_slots u) e), tree-stays b u (second-empty (tree_slots t) (tree_slots u) e))
   tree-stays b (Apply op ts) e = ap (λ q. Apply op q) (trees-stay b ts e)
 
-  trees-stay : (b : Binding) (ts : Trees) → trees_slots ts ≡ [] → bound_trees b ts ≡ ts
+  trees-stay : (b : Slots) (ts : Trees) → trees_slots ts ≡ [] → bound_trees b ts ≡ ts
   trees-stay b no_trees e = refl
   trees-stay b (a_tree t ts) e = rw (tree-stays b t (first-empty (tree_slots t) (trees_slots ts) e), trees-stay b ts (second-empty (tree_slots t) (trees_slots ts) e))
 
-body-stays : (b : Binding) (o : Option Tree) → body_slots o ≡ [] → bound_body b o ≡ o
+body-stays : (b : Slots) (o : Option Tree) → body_slots o ≡ [] → bound_body b o ≡ o
 body-stays b None e = refl
 body-stays b (Some c) e = ap Some (tree-stays b c e)
 
@@ -50,7 +50,7 @@ entity-bound : (o : Option Uid) (u : Uid) → the_entity u ≡ bound_target o (t
 entity-bound None u = refl
 entity-bound (Some v) u = refl
 
-module _ (b : Binding) where
+module _ (b : Slots) where
   -- ---- rules without slots
 
   each-keeps : {A : Type 0} (r : Rule A) → Keeps b r → Keeps b (Each r)
@@ -188,7 +188,7 @@ module _ (b : Binding) where
   policy_within-moves names zero ts x rest us d f = absurd d
   policy_within-moves names (suc n) ts x rest us d f = policy-moves names n ts x rest us d f
 
-nothing-filled : (b : Binding) (us : List Token) → Filled b [] us → us ≡ []
+nothing-filled : (b : Slots) (us : List Token) → Filled b [] us → us ≡ []
 nothing-filled b us all_filled = refl
 
 pub links_are_read : LinksAreRead

@@ -1,8 +1,9 @@
 -- The syntax of a policy, its condition and its slots. (Cedar language reference, "Policy syntax" and "Policy templates".)
 use Rattle.std.specs.Prelude.{List, [], ◌∷◌, ◌++◌, Option, Some, None, true, map}
 use Rattle.cedar_language.specs.Uid.{Text, Name, Uid}
+pub use Rattle.cedar_language.specs.Slots.{Slots, tree_slots, trees_slots, bound_slot, bound_tree, bound_trees}
 use Rattle.cedar_language.specs.Tree as tree
-use Rattle.cedar_language.specs.Tree.{Tree, Trees, Lit, Var, Slot, Unknown, If, And, Or, Apply, no_trees, a_tree, SlotId, PrincipalSlot, ResourceSlot, Variable}
+use Rattle.cedar_language.specs.Tree.{Tree, Trees, Lit, Var, Slot, Apply, no_trees, a_tree, SlotId, PrincipalSlot, ResourceSlot, Variable}
 pub use Rattle.cedar_language.specs.Answering.{Effect, Permit, Forbid}
 use Rattle.cedar_grammar.specs.Build.{truth, trees, unary, binary, conjunction, is_in, Keyed}
 
@@ -84,30 +85,11 @@ scope_slots p = constraint_slots PrincipalSlot p.principal ++ constraint_slots R
 abbrev pub slots : Policy → List SlotId
 slots p = scope_slots p
 
--- the slots that a tree holds
-abbrev mutual
-  pub tree_slots : Tree → List SlotId
-  tree_slots (Lit l) = []
-  tree_slots (Var v) = []
-  tree_slots (Slot s) = s ∷ []
-  tree_slots (Unknown n t) = []
-  tree_slots (If t u v) = tree_slots t ++ (tree_slots u ++ tree_slots v)
-  tree_slots (And t u) = tree_slots t ++ tree_slots u
-  tree_slots (Or t u) = tree_slots t ++ tree_slots u
-  tree_slots (Apply op ts) = trees_slots ts
-
-  pub trees_slots : Trees → List SlotId
-  trees_slots no_trees = []
-  trees_slots (a_tree t ts) = tree_slots t ++ trees_slots ts
-
 abbrev pub body_slots : Option Tree → List SlotId
 body_slots None = []
 body_slots (Some c) = tree_slots c
 
 -- ---- binding slots
-
-abbrev pub Binding : Type 0
-Binding = SlotId → Option Uid
 
 abbrev pub bound_target : Option Uid → Target → Target
 bound_target (Some u) the_slot = the_entity u
@@ -120,30 +102,10 @@ bound_constraint b (within e) = within (bound_target b e)
 bound_constraint b (of_type p) = of_type p
 bound_constraint b (of_type_within p e) = of_type_within p (bound_target b e)
 
-abbrev pub bound_slot : SlotId → Option Uid → Tree
-bound_slot s None = Slot s
-bound_slot s (Some u) = Lit (tree.Entity u)
-
--- a tree with the bound entities in the place of its slots
-abbrev mutual
-  pub bound_tree : Binding → Tree → Tree
-  bound_tree b (Lit l) = Lit l
-  bound_tree b (Var v) = Var v
-  bound_tree b (Slot s) = bound_slot s (b s)
-  bound_tree b (Unknown n t) = Unknown n t
-  bound_tree b (If t u v) = If (bound_tree b t) (bound_tree b u) (bound_tree b v)
-  bound_tree b (And t u) = And (bound_tree b t) (bound_tree b u)
-  bound_tree b (Or t u) = Or (bound_tree b t) (bound_tree b u)
-  bound_tree b (Apply op ts) = Apply op (bound_trees b ts)
-
-  pub bound_trees : Binding → Trees → Trees
-  bound_trees b no_trees = no_trees
-  bound_trees b (a_tree t ts) = a_tree (bound_tree b t) (bound_trees b ts)
-
-abbrev pub bound_body : Binding → Option Tree → Option Tree
+abbrev pub bound_body : Slots → Option Tree → Option Tree
 bound_body b None = None
 bound_body b (Some c) = Some (bound_tree b c)
 
 -- the policy with the bound entities in the place of its slots
-abbrev pub bound : Binding → Policy → Policy
+abbrev pub bound : Slots → Policy → Policy
 bound b p = record p { principal = bound_constraint (b PrincipalSlot) p.principal; resource = bound_constraint (b ResourceSlot) p.resource; body = bound_body b p.body }

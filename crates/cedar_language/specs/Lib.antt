@@ -1,6 +1,8 @@
 pub mod Uid
 pub mod Words
 pub mod Tree
+pub mod Restricted
+pub mod Slots
 pub mod Value
 pub mod Order
 pub mod Pattern

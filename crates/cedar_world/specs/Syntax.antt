@@ -3,7 +3,7 @@ use Rattle.std.specs.Prelude.{Bool, true, false, Option, List, [], ◌∷◌}
 use Rattle.std.specs.List.{list_any}
 use Rattle.cedar_language.specs.Uid.{Uid}
 use Rattle.cedar_language.specs.Tree.{SlotId, PrincipalSlot, ResourceSlot}
-use Rattle.cedar_grammar.specs.Policy.{Policy, slots, Binding, bound}
+use Rattle.cedar_grammar.specs.Policy.{Policy, slots, Slots, bound}
 pub use Rattle.cedar_grammar.specs.Policy.{condition}
 
 -- Two texts of policies are the same thing where their syntax is equal.
@@ -31,7 +31,7 @@ pub record Bindings : Type 0 where
   pub principal : Option Uid
   pub resource : Option Uid
 
-abbrev pub binding_of : Bindings → Binding
+abbrev pub binding_of : Bindings → Slots
 binding_of b PrincipalSlot = b.principal
 binding_of b ResourceSlot = b.resource
 
