@@ -1,7 +1,8 @@
-//! Uids of Cedar: types and ids of entities, and the slots of templates that stand for them.
+//! Uids of Cedar: types and ids of entities, how texts are escaped between quotes, and the slots of
+//! templates.
 #![tactic(auto)]
 
-mod escapes;
+pub mod escapes;
 pub mod laws;
 pub mod slots;
 #[cfg(test)]
