@@ -1,0 +1,5 @@
+pub mod Members
+pub mod NodeLemmas
+pub mod Search
+pub mod Finding
+pub mod Refusal

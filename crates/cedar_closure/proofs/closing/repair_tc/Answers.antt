@@ -1,0 +1,44 @@
+use Rattle.std.proofs.Common.{IsTrue, sym, ◌∙◌, subst}
+use Rattle.std.specs.Option.{is_some}
+use Rattle.std.specs.HashMap.{get}
+use Rattle.cedar_closure.specs.Found.{finds}
+use Rattle.cedar_closure.specs.Graph.{edges_at}
+use Rattle.cedar_closure.proofs.Members.{member_alike}
+use Rattle.cedar_closure.proofs.NodeLemmas.{edges_alike, edge_from_node}
+use Rattle.cedar_closure.proofs.Finding.{Reaches-alike, Reaches-to, fixes, closes}
+use Rattle.cedar_closure.proofs.closing.repair_tc.Goals as goal
+
+pub returns-in-Some-clause-refused : goal.returns-in-Some-clause-refused
+returns-in-Some-clause-refused g c =
+    let eq = g.K.PartialEq.eq in
+    let laws = g.met.K.Eq.laws in
+    let edges = g.V.TCNode.edges in
+    let next = edges_at eq edges c.args.nodes.now in
+    let same = edges_alike laws edges c.args.nodes.now in
+    let x = c.in-Some.on_cycle.now in
+    let k = c.in_ok-clone.field-0 in
+    let clone : IsTrue (eq x k) = c.requires x k c.in_ok-clone.ensures.cases in
+    let found : IsTrue (finds eq c.in_ok-all.all.items x x) = subst (λ rs. IsTrue (finds eq rs x x)) c.deref.ensures.value c.in-Some.ensures.found in
+    let sound = c.in_ok-all.ensures.sound x x found in (
+      c.if-enforce_dag.true,
+      (
+        sym (member_alike laws c.args.keys_to_fix.now x k clone) ∙ sound.0,
+        Reaches-alike laws next same k x k (laws.symm k x ∙ clone) (Reaches-to laws next same x x k clone sound.1),
+      ),
+    )
+
+pub returns-clause-fixed : goal.returns-clause-fixed
+returns-clause-fixed g c =
+    let eq = g.K.PartialEq.eq in
+    let edges = g.V.TCNode.edges in
+    let m = c.args.nodes.now in
+    fixes eq (edges_at eq edges m) (edges_at eq edges c.add_all.new.nodes) (λ a. is_some (get eq m a)) c.args.keys_to_fix.now c.in_ok-all.all.items
+    c.in_ok-add_all.ensures.added (edge_from_node g.met.K.Eq.laws edges m) c.in_ok-all.ensures.sound c.in_ok-all.ensures.whole
+
+pub returns-clause-edges : goal.returns-clause-edges
+returns-clause-edges g c =
+    let eq = g.K.PartialEq.eq in
+    let edges = g.V.TCNode.edges in
+    let m = c.args.nodes.now in
+    closes eq (edges_at eq edges m) (edges_at eq edges c.add_all.new.nodes) (λ a. is_some (get eq m a)) c.args.keys_to_fix.now c.in_ok-all.all.items
+    c.in_ok-add_all.ensures.added (edge_from_node g.met.K.Eq.laws edges m) c.in_ok-all.ensures.sound c.in_ok-all.ensures.whole

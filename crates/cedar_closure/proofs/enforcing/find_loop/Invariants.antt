@@ -1,0 +1,9 @@
+use Rattle.std.proofs.Common.{IsTrue}
+use Rattle.std.specs.Set.{is_member}
+use Rattle.cedar_closure.specs.Graph.{HasEdge}
+use Rattle.cedar_closure.proofs.enforcing.find_loop.Given as goal
+
+abbrev pub invariant-loop-key : goal.invariant-loop-key
+invariant-loop-key g l =
+    let eq = g.K.PartialEq.eq in
+    (a : g.row.K.Denot) → HasEdge eq g.V.TCNode.edges l.nodes a a → IsTrue (is_member eq l.key-iterator a)

@@ -1,0 +1,30 @@
+-- A graph that is held as a map from keys to nodes. `eq` says which keys are one, and `edges` to which keys edges lead from a node.
+use Rattle.std.specs.Prelude.{Bool, false, List, [], IsTrue, ◌≡◌}
+use Rattle.std.specs.Option.{option_map_or, MatchOption, IsSomeAnd}
+use Rattle.std.specs.declared.option.Option.TheVariants.{None}
+use Rattle.std.specs.Set.{is_member}
+use Rattle.std.specs.HashMap.{HashMap, get}
+use Rattle.cedar_language.specs.Facts.{Reaches}
+
+module _ {K : Type 0} (eq : K → K → Bool) where
+  -- ys has the keys that xs has
+  abbrev pub SameKeys : List K → List K → Type 0
+  SameKeys xs ys = (q : K) → is_member eq ys q ≡ is_member eq xs q
+
+  -- each key that isn't listed has an edge to all that it reaches
+  abbrev pub IsClosedBeside : List K → (K → K → Type 0) → Type 0
+  IsClosedBeside listed IsEdge = (a b : K) → is_member eq listed a ≡ false → Reaches IsEdge a b → IsEdge a b
+
+module _ {K V S : Type 0} (eq : K → K → Bool) (edges : V → List K) where
+  -- where the edges of the node at k lead; nowhere, if there is no node
+  abbrev pub edges_at : HashMap K V S → K → List K
+  edges_at m k = option_map_or edges (get eq m k) []
+
+  -- an edge leads from the node at a to b
+  abbrev pub HasEdge : HashMap K V S → K → K → Type 0
+  HasEdge m a b = IsTrue (is_member eq (edges_at m a) b)
+
+module _ {K V S : Type 0} (eq : K → K → Bool) (Same : V → V → Type 0) where
+  -- n has a node where m has one, and the two are the same but for edges
+  abbrev pub SameNodes : HashMap K V S → HashMap K V S → Type 0
+  SameNodes m n = (q : K) → MatchOption (get eq m q) (get eq n q ≡ None) (λ v. IsSomeAnd (get eq n q) (Same v))

@@ -1,0 +1,4 @@
+pub mod Paths
+pub mod Graph
+pub mod Refused
+pub mod Found

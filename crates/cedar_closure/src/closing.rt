@@ -1,0 +1,181 @@
+// Adding the edges that a transitive closure has.
+ghost use Rattle.std.specs.Prelude.{◌≡◌, ◌↔◌, ◌||◌, ◌&&◌, false, ◌++◌, IfOk, OnOk, IfErr, IfSome, IfNone, IsTrue, is_some};
+ghost use Rattle.std.specs.Set.{is_member, ClonesAreEqual};
+ghost use Rattle.std.specs.HashMap.{get};
+ghost use Rattle.cedar_closure.specs.Graph.{edges_at, HasEdge, SameKeys, SameNodes, IsClosedBeside};
+ghost use Rattle.cedar_language.specs.Facts.{Reaches};
+ghost use Rattle.cedar_closure.specs.Found.{finds};
+ghost use Rattle.cedar_closure.specs.Refused.{IsTcRefusal};
+
+use crate::errors::{HasCycle, TcError};
+use crate::nodes::TCNode;
+use crate::reaching::reached_from;
+use std::alloc::{AllocError, Global};
+use std::collections::HashMap;
+use std::hash::Hash;
+
+// A key, and the keys that it reaches.
+#[derive(Drop)]
+struct Reached<K> {
+    from: K,
+    keys: Vec<K>,
+}
+
+// The keys that each of the listed ones reaches.
+fn reached_from_each<K: Eq + Hash + Clone + Drop, V: TCNode<K>>(
+    alloc: Global,
+    nodes: &HashMap<K, V>,
+    listed: &[K],
+) -> Result<Vec<Reached<K>>, AllocError>
+    requires { ClonesAreEqual K.eq K.is_clone }
+    ensures sound { IfOk result (λ all. (a q : K) → IsTrue (finds K.eq all.items a q) →
+        IsTrue (is_member K.eq listed.now a) × Reaches (HasEdge K.eq V.edges nodes.now) a q) }
+    ensures whole { IfOk result (λ all. (a q : K) → IsTrue (is_member K.eq listed.now a) →
+        Reaches (HasEdge K.eq V.edges nodes.now) a q → IsTrue (finds K.eq all.items a q)) }
+{
+    let mut all = Vec::new(alloc);
+    for from in listed {
+        let keys = reached_from(alloc, nodes, from)?;
+        let from = from.clone()?;
+        all.push(Reached { from, keys })?;
+    }
+    Ok(all)
+}
+
+// A key that reaches itself, if there is one.
+fn find_cycle<K: Eq + Hash>(all: &[Reached<K>]) -> Option<&K>
+    ensures found { IfSome result (λ k. IsTrue (finds K.eq all.now k.now k.now)) }
+    ensures none { IfNone result ((a : K) → finds K.eq all.now a a ≡ false) }
+{
+    for reached in all {
+        if reached.keys.contains(&reached.from) {
+            return Some(&reached.from);
+        }
+    }
+    None
+}
+
+// Adds an edge to each of the keys.
+fn add_edges<K: Eq + Hash + Drop, V: TCNode<K>>(
+    node: &mut V,
+    keys: Vec<K>,
+) -> Result<(), AllocError>
+    ensures added { OnOk result (SameKeys K.eq (keys.items ++ V.edges node.old) (V.edges node.new)) }
+    ensures same { V.is_same node.old node.new }
+{
+    for key in keys {
+        node.add_edge_to(key)?;
+    }
+    Ok(())
+}
+
+// Adds an edge to each key that a key reaches at its node, where it has one.
+fn add_reached<K: Eq + Hash + Drop, V: TCNode<K>>(
+    nodes: &mut HashMap<K, V>,
+    reached: Reached<K>,
+) -> Result<(), AllocError>
+    ensures added { OnOk result ((a q : K) → is_member K.eq (edges_at K.eq V.edges nodes.new a) q
+        ≡ (is_member K.eq (edges_at K.eq V.edges nodes.old a) q
+        || (is_some (get K.eq nodes.old a) && (K.eq a reached.from && is_member K.eq reached.keys.items q)))) }
+    ensures same { SameNodes K.eq V.is_same nodes.old nodes.new }
+{
+    let Reached { from, keys } = reached;
+    if let Some(node) = nodes.get_mut(&from) {
+        add_edges(node, keys)?;
+    }
+    Ok(())
+}
+
+// Adds what was found at each node.
+fn add_all<K: Eq + Hash + Drop, V: TCNode<K>>(
+    nodes: &mut HashMap<K, V>,
+    all: Vec<Reached<K>>,
+) -> Result<(), AllocError>
+    ensures added { OnOk result ((a q : K) → is_member K.eq (edges_at K.eq V.edges nodes.new a) q
+        ≡ (is_member K.eq (edges_at K.eq V.edges nodes.old a) q
+        || (is_some (get K.eq nodes.old a) && finds K.eq all.items a q))) }
+    ensures same { SameNodes K.eq V.is_same nodes.old nodes.new }
+{
+    for reached in all {
+        add_reached(nodes, reached)?;
+    }
+    Ok(())
+}
+
+/// The keys of the map.
+pub(crate) fn keys_of<K: Eq + Hash + Clone + Drop, V>(
+    alloc: Global,
+    nodes: &HashMap<K, V>,
+) -> Result<Vec<K>, AllocError>
+    requires { ClonesAreEqual K.eq K.is_clone }
+    ensures { IfOk result (λ v. (q : K) → is_member K.eq v.items q ≡ is_some (get K.eq nodes.now q)) }
+{
+    let mut listed = Vec::new(alloc);
+    for key in nodes.keys() {
+        listed.push(key.clone()?)?;
+    }
+    Ok(listed)
+}
+
+/// Gives each node an edge to each key that one or more edges lead to from it, cycles included.
+/// Where `enforce_dag`, a graph with a cycle is refused.
+///
+/// For each node it looks once at the edges of each key that the node reaches. The map may have any keys.
+/// `HasCycle` names a node of a cycle; refused otherwise only where memory runs out.
+/// A refused call leaves the nodes, with edges that may differ.
+pub fn compute_tc<K: Eq + Hash + Clone + Drop, V: TCNode<K>>(
+    alloc: Global,
+    nodes: &mut HashMap<K, V>,
+    enforce_dag: bool,
+) -> Result<(), TcError<K>>
+    requires { ClonesAreEqual K.eq K.is_clone }
+    ensures edges { OnOk result ((a b : K) →
+        HasEdge K.eq V.edges nodes.new a b ↔ Reaches (HasEdge K.eq V.edges nodes.old) a b) }
+    ensures acyclic { OnOk result (IsTrue enforce_dag →
+        (a : K) → ¬ (Reaches (HasEdge K.eq V.edges nodes.old) a a)) }
+    ensures refused { IfErr result (IsTcRefusal enforce_dag (λ k. Reaches (HasEdge K.eq V.edges nodes.old) k k)) }
+    ensures same { SameNodes K.eq V.is_same nodes.old nodes.new }
+{
+    let listed = keys_of(alloc, nodes)?;
+    match repair_tc(alloc, nodes, &listed, enforce_dag) {
+        Ok(()) => Ok(()),
+        Err(refusal) => Err(refusal),
+    }
+}
+
+/// Gives each node at one of `keys_to_fix` an edge to each key that one or more edges lead to from it.
+/// Where every other node has all these edges, then every node does in the end.
+/// Where `enforce_dag`, it is refused if one of `keys_to_fix` is on a cycle.
+///
+/// `HasCycle` names such a key; refused otherwise only where memory runs out.
+/// A refused call leaves the nodes, with edges that may differ.
+pub fn repair_tc<K: Eq + Hash + Clone + Drop, V: TCNode<K>>(
+    alloc: Global,
+    nodes: &mut HashMap<K, V>,
+    keys_to_fix: &[K],
+    enforce_dag: bool,
+) -> Result<(), TcError<K>>
+    requires { ClonesAreEqual K.eq K.is_clone }
+    ensures fixed { OnOk result ((a b : K) → IsTrue (is_member K.eq keys_to_fix.now a) →
+        HasEdge K.eq V.edges nodes.new a b ↔ Reaches (HasEdge K.eq V.edges nodes.old) a b) }
+    ensures others { OnOk result ((a b : K) → is_member K.eq keys_to_fix.now a ≡ false →
+        HasEdge K.eq V.edges nodes.new a b ↔ HasEdge K.eq V.edges nodes.old a b) }
+    ensures edges { OnOk result (IsClosedBeside K.eq keys_to_fix.now (HasEdge K.eq V.edges nodes.old) →
+        (a b : K) → HasEdge K.eq V.edges nodes.new a b ↔ Reaches (HasEdge K.eq V.edges nodes.old) a b) }
+    ensures acyclic { OnOk result (IsTrue enforce_dag →
+        (a : K) → IsTrue (is_member K.eq keys_to_fix.now a) → ¬ (Reaches (HasEdge K.eq V.edges nodes.old) a a)) }
+    ensures refused { IfErr result (IsTcRefusal enforce_dag
+        (λ k. IsTrue (is_member K.eq keys_to_fix.now k) × Reaches (HasEdge K.eq V.edges nodes.old) k k)) }
+    ensures same { SameNodes K.eq V.is_same nodes.old nodes.new }
+{
+    let all = reached_from_each(alloc, nodes, keys_to_fix)?;
+    if enforce_dag {
+        if let Some(on_cycle) = find_cycle(&all) {
+            return Err(TcError::HasCycle(HasCycle {
+                vertex_with_loop: on_cycle.clone()?,
+            }));
+        }
+    }
+    add_all(nodes, all)?;
+    Ok(())
+}

@@ -1,0 +1,73 @@
+// The closure of the direct edges.
+ghost use Rattle.std.specs.Prelude.{◌≡◌, ◌↔◌, false, OnOk, IfErr, IsTrue, is_some};
+ghost use Rattle.std.specs.Set.{is_member, ClonesAreEqual};
+ghost use Rattle.std.specs.HashMap.{get};
+ghost use Rattle.cedar_closure.specs.Graph.{edges_at, HasEdge, SameKeys, SameNodes};
+ghost use Rattle.cedar_language.specs.Facts.{Reaches};
+ghost use Rattle.cedar_closure.specs.Refused.{IsTcRefusal};
+
+use crate::closing::{compute_tc, keys_of};
+use crate::errors::TcError;
+use crate::nodes::TCNode;
+use std::alloc::{AllocError, Global};
+use std::collections::HashMap;
+use std::hash::Hash;
+
+// Leaves one node its direct edges alone.
+fn reset_node<K: Eq + Hash, V: TCNode<K>>(
+    nodes: &mut HashMap<K, V>,
+    at: &K,
+) -> Result<(), AllocError>
+    ensures reset { OnOk result ((a : K) → IsTrue (K.eq at.now a) →
+        SameKeys K.eq (edges_at K.eq V.direct nodes.old a) (edges_at K.eq V.edges nodes.new a)) }
+    ensures others { (a : K) → K.eq at.now a ≡ false →
+        edges_at K.eq V.edges nodes.new a ≡ edges_at K.eq V.edges nodes.old a }
+    ensures same { SameNodes K.eq V.is_same nodes.old nodes.new }
+{
+    if let Some(node) = nodes.get_mut(at) {
+        node.reset_edges()?;
+    }
+    Ok(())
+}
+
+// Leaves each node its direct edges alone.
+fn reset_all<K: Eq + Hash, V: TCNode<K>>(
+    nodes: &mut HashMap<K, V>,
+    listed: &[K],
+) -> Result<(), AllocError>
+    requires { (q : K) → is_member K.eq listed.now q ≡ is_some (get K.eq nodes.old q) }
+    ensures reset { OnOk result ((a : K) →
+        SameKeys K.eq (edges_at K.eq V.direct nodes.old a) (edges_at K.eq V.edges nodes.new a)) }
+    ensures same { SameNodes K.eq V.is_same nodes.old nodes.new }
+{
+    for at in listed {
+        reset_node(nodes, at)?;
+    }
+    Ok(())
+}
+
+/// Gives each node an edge to each key that one or more direct edges lead to from it, cycles included, and no other edge.
+/// Where `enforce_dag`, direct edges with a cycle are refused.
+///
+/// `HasCycle` names a node of a cycle; refused otherwise only where memory runs out.
+/// A refused call leaves the nodes, with edges that may differ.
+pub fn rebuild_tc<K: Eq + Hash + Clone + Drop, V: TCNode<K>>(
+    alloc: Global,
+    nodes: &mut HashMap<K, V>,
+    enforce_dag: bool,
+) -> Result<(), TcError<K>>
+    requires { ClonesAreEqual K.eq K.is_clone }
+    ensures edges { OnOk result ((a b : K) →
+        HasEdge K.eq V.edges nodes.new a b ↔ Reaches (HasEdge K.eq V.direct nodes.old) a b) }
+    ensures acyclic { OnOk result (IsTrue enforce_dag →
+        (a : K) → ¬ (Reaches (HasEdge K.eq V.direct nodes.old) a a)) }
+    ensures refused { IfErr result (IsTcRefusal enforce_dag (λ k. Reaches (HasEdge K.eq V.direct nodes.old) k k)) }
+    ensures same { SameNodes K.eq V.is_same nodes.old nodes.new }
+{
+    let listed = keys_of(alloc, nodes)?;
+    reset_all(nodes, &listed)?;
+    match compute_tc(alloc, nodes, enforce_dag) {
+        Ok(()) => Ok(()),
+        Err(refusal) => Err(refusal),
+    }
+}
