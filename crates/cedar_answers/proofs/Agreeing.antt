@@ -1,12 +1,12 @@
 -- What is settled of a tree is what the tree means, wherever that is said of its leaves.
 use Rattle.std.proofs.Common.{◌≡◌, true, false, Option, refl}
-use Rattle.cedar_language.specs.Uid.{Text, Name}
+use Rattle.cedar_language.specs.Uid.{Text}
 use Rattle.cedar_language.specs.Tree.{Boolean, Variable, Context, SlotId, Operator, GetAttr, HasAttr, Tree, Lit, Var, Slot, Unknown, If, And, Or, Apply, Trees, no_trees, a_tree, ValueType}
 use Rattle.cedar_language.specs.Value.{Plain, no_values, a_value, Kind, TypeError, Outcome, Gives, Fails}
 use Rattle.cedar_language.specs.Facts.{Facts}
 use Rattle.cedar_language.specs.Operators.{applied}
 use Rattle.cedar_language.specs.Meaning.{Request, Outcomes, GivesAll, OneFails, slot_outcome, boolean_of, and_of, or_of, if_of, more_of, apply_of, meaning, meanings}
-use Rattle.cedar_early.specs.Settling.{Settling, Open, Errs, Is, Settlings, SomeOpen, SomeErrs, AllAre, kindless, boolean, and_settled, or_settled, if_settled, and_more, apply_settled, Around, or_entry, settled_in, all_settled_in}
+use Rattle.cedar_early.specs.Settling.{Settling, Open, Errs, Is, Settlings, SomeOpen, SomeErrs, AllAre, kindless, boolean, and_settled, or_settled, if_settled, and_more, apply_settled, LeafSettlings, or_entry, settled_in, all_settled_in}
 
 -- where something is settled it is the result, kinds of errors aside
 abbrev pub Agrees : Settling → Outcome → Type 0
@@ -69,14 +69,14 @@ apply_agrees facts op SomeErrs os (k, e) = rw e (k, refl)
 apply_agrees facts op (AllAre vs) os h = rw h (agrees (applied facts op vs))
 
 -- what is known of the leaves is what they mean, and so are the entries of an open context
-pub record LeavesAgree (facts : Facts) (around : Around) (request : Request) : Type 0 where
+pub record LeavesAgree (facts : Facts) (around : LeafSettlings) (request : Request) : Type 0 where
   pub variable : (v : Variable) → Agrees (around.variable v) (Gives (request.variable v))
   pub unknown : (n : Text) (ty : Option ValueType) → Agrees (around.unknown n ty) (request.unknown n ty)
   pub slot : (s : SlotId) → Agrees (around.slot s) (slot_outcome (request.slots s))
   pub in_context : (a : Text) → Agrees (around.in_context a) (applied facts (GetAttr a) (a_value (request.variable Context) no_values))
   pub has_in_context : (a : Text) → Agrees (around.has_in_context a) (applied facts (HasAttr a) (a_value (request.variable Context) no_values))
 
-module _ (facts : Facts) (around : Around) (request : Request) (leaves : LeavesAgree facts around request) where
+module _ (facts : Facts) (around : LeafSettlings) (request : Request) (leaves : LeavesAgree facts around request) where
   entry_agrees : (op : Operator) (ts : Trees) (x : Settling) → Agrees x (meaning facts request (Apply op ts)) → Agrees (or_entry around op ts x) (meaning facts request (Apply op ts))
   entry_agrees (GetAttr a) (a_tree (Var Context) no_trees) Open h = leaves.in_context a
   entry_agrees (HasAttr a) (a_tree (Var Context) no_trees) Open h = leaves.has_in_context a

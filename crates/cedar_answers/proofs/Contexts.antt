@@ -1,5 +1,7 @@
 -- What is settled of a context when a question is asked is what the context means once it is filled.
 use Rattle.std.proofs.Common.{◌≡◌, Bool, true, false, cond, Option, Some, None, List, [], ◌∷◌, refl, sym, ◌∙◌, ap, subst}
+use Rattle.std.specs.FinMap as map
+use Rattle.cedar_early.specs.Filling.{names_told, FillsContext}
 use Rattle.cedar_language.specs.Uid.{Text, Name}
 use Rattle.cedar_language.specs.Tree.{Context, MakeSet, MakeRecord, Call, GetAttr, HasAttr, Tree, Lit, Var, Unknown, Apply, Trees, no_trees, a_tree}
 use Rattle.cedar_language.specs.Value.{Value, RecordOf, Values, no_values, a_value, RecordAttrDoesNotExist, Outcome, Gives, Fails}
@@ -7,14 +9,13 @@ use Rattle.cedar_language.specs.Order.{same_text}
 use Rattle.cedar_language.specs.Facts.{Facts}
 use Rattle.cedar_language.specs.Operators.{found, applied, or_fails, is_there}
 use Rattle.cedar_language.specs.Meaning.{Outcomes, GivesAll, OneFails, more_of, apply_of, meanings}
-use Rattle.cedar_early.specs.Settling.{Settling, Open, Errs, Is, Settlings, SomeOpen, SomeErrs, AllAre, and_more, apply_settled, Around, or_entry, settled_in, all_settled_in}
+use Rattle.cedar_early.specs.Settling.{Settling, Open, Errs, Is, Settlings, SomeOpen, SomeErrs, AllAre, and_more, apply_settled, LeafSettlings, or_entry, settled_in, all_settled_in}
 use Rattle.cedar_early.specs.Partial.{found_tree}
 use Rattle.cedar_early.specs.Question.{settled_names, only_value, entry_settled, has_settled, are_simple, context_settled, in_context, has_in_context, settled_of}
 use Rattle.cedar_world.specs.Asking.{Entries, NoContext, WithEntries, Question, Told}
 use Rattle.cedar_world.specs.Bodies.{is_restricted, are_restricted}
 use Rattle.cedar_world.specs.Functions.{Functions}
-use Rattle.cedar_world.specs.Setting.{Setting, names_told, functions_alone, value_of}
-use Rattle.cedar_world.specs.Fillings.{given_value, context_filled}
+use Rattle.cedar_world.specs.Setting.{Setting, functions_alone, value_of}
 use Rattle.cedar_answers.specs.First.{IsData}
 use Rattle.cedar_answers.proofs.Lists.{and_left, and_right}
 use Rattle.cedar_answers.proofs.Agreeing.{Agrees, LeavesAgree, tree_agrees}
@@ -22,7 +23,7 @@ use Rattle.cedar_answers.proofs.Errors.{context_entry}
 
 -- ---- trees of data read functions alone
 
-module _ (facts others : Facts) (told : Text → Option Value) (same : (name : Name) → facts.function name ≡ others.function name) where
+module _ (facts others : Facts) (told : Told) (same : (name : Name) → facts.function name ≡ others.function name) where
   call_same : (f : Name) (xs : Settlings) → apply_settled facts (Call f) xs ≡ apply_settled others (Call f) xs
   call_same f SomeOpen = refl
   call_same f SomeErrs = refl
@@ -63,10 +64,6 @@ record_values : (facts : Facts) (ks : List Text) (os : Outcomes) (w : Value) →
 record_values facts ks (GivesAll vs) w h = (vs, refl, cc)
 record_values facts ks (OneFails k) w h = cc
 
-given : (o : Outcome) (w : Value) → given_value o ≡ Some w → o ≡ Gives w
-given (Gives v) w h = cc
-given (Fails k) w h = cc
-
 -- so many values stand there as trees
 abbrev AsMany : Trees → Values → Type 0
 AsMany no_trees no_values = Unit {0}
@@ -94,7 +91,7 @@ next_settled Open (AllAre ws) vs h = cc
 next_settled (Is v) SomeOpen vs h = cc
 next_settled (Is v) (AllAre ws) vs h = (v, ws, refl, cc)
 
-settled_as_many : (facts : Facts) (around : Around) (ts : Trees) (vs : Values) → all_settled_in facts around ts ≡ AllAre vs → AsMany ts vs
+settled_as_many : (facts : Facts) (around : LeafSettlings) (ts : Trees) (vs : Values) → all_settled_in facts around ts ≡ AllAre vs → AsMany ts vs
 settled_as_many facts around no_trees no_values h = tt
 settled_as_many facts around no_trees (a_value v vs) h = cc
 settled_as_many facts around (a_tree t ts) vs h =
@@ -144,32 +141,32 @@ value_errs Open t e = cc
 value_errs Errs t e = cc
 value_errs (Is v) t e = cc
 
-missing_entry : (facts : Facts) (told : Text → Option Value) (simple : Bool) (o : Option Tree) → entry_settled facts told simple o ≡ Errs → o ≡ None
+missing_entry : (facts : Facts) (told : Told) (simple : Bool) (o : Option Tree) → entry_settled facts told simple o ≡ Errs → o ≡ None
 missing_entry facts told simple None e = refl
 missing_entry facts told false (Some t) e = cc
 missing_entry facts told true (Some t) e = value_errs (settled_in facts (settled_names told) t) t e
 
-record_errs : (facts : Facts) (q : Question) (told : Text → Option Value) (ks : List Text) (ts : Trees) (a : Text) (xs : Settlings) →
+record_errs : (facts : Facts) (q : Question) (told : Told) (ks : List Text) (ts : Trees) (a : Text) (xs : Settlings) →
     all_settled_in facts (settled_names told) ts ≡ xs → found_tree ks ts a ≡ None → in_context facts told q.context a ≡ Errs →
     or_entry (settled_of facts q (λ s. None) told) (GetAttr a) (a_tree (Var Context) no_trees) (apply_settled facts (GetAttr a) (and_more (apply_settled facts (MakeRecord ks) xs) (AllAre no_values))) ≡ Errs
 record_errs facts q told ks ts a SomeOpen h none e = e
 record_errs facts q told ks ts a SomeErrs h none e = refl
 record_errs facts q told ks ts a (AllAre vs) h none e = rw (no_value ks ts vs a (settled_as_many facts (settled_names told) ts vs h) none) refl
 
-context_errs : (facts : Facts) (q : Question) (told : Text → Option Value) (a : Text) (c : Entries) → q.context ≡ c → in_context facts told c a ≡ Errs →
+context_errs : (facts : Facts) (q : Question) (told : Told) (a : Text) (c : Entries) → q.context ≡ c → in_context facts told c a ≡ Errs →
     or_entry (settled_of facts q (λ s. None) told) (GetAttr a) (a_tree (Var Context) no_trees) (apply_settled facts (GetAttr a) (and_more (context_settled facts told c) (AllAre no_values))) ≡ Errs
 context_errs facts q told a NoContext is e = cc
 context_errs facts q told a (WithEntries ks ts) is e =
     record_errs facts q told ks ts a (all_settled_in facts (settled_names told) ts) refl (missing_entry facts told (are_simple facts told ts) (found_tree ks ts a) e) (rw is e)
 
 -- an entry that isn't written is an error, also where the context is open
-pub missing_settles : (facts : Facts) (q : Question) (told : Text → Option Value) (a : Text) → in_context facts told q.context a ≡ Errs → settled_in facts (settled_of facts q (λ s. None) told) (context_entry a) ≡ Errs
+pub missing_settles : (facts : Facts) (q : Question) (told : Told) (a : Text) → in_context facts told q.context a ≡ Errs → settled_in facts (settled_of facts q (λ s. None) told) (context_entry a) ≡ Errs
 missing_settles facts q told a e = context_errs facts q told a q.context refl e
 
 -- ---- where nothing was told
 
 module _ (by : Setting) (facts : Facts) (same : (name : Name) → facts.function name ≡ (functions_alone by.functions).function name)
-    (told : Text → Option Value) (untold : (n : Text) → told n ≡ None) (filling : Told) where
+    (told : Told) (untold : (n : Text) → map.get told n ≡ None) (filling : Told) where
   names_agree : LeavesAgree (functions_alone by.functions) (settled_names told) (names_told filling)
   names_agree = record {
     variable = λ v. tt;
@@ -184,10 +181,10 @@ module _ (by : Setting) (facts : Facts) (same : (name : Name) → facts.function
       subst (λ x. Agrees x (value_of by.functions filling t)) (sym (data_same facts (functions_alone by.functions) told same t d))
       (tree_agrees (functions_alone by.functions) (settled_names told) (names_told filling) names_agree t)
 
-  pub context_agrees : (c : Entries) (w : Value) → IsData c → context_filled by c filling ≡ Some w → Agrees (context_settled facts told c) (Gives w)
+  pub context_agrees : (c : Entries) (w : Value) → IsData c → FillsContext (functions_alone by.functions) c filling w → Agrees (context_settled facts told c) (Gives w)
   context_agrees NoContext w d h = rw (untold _) tt
   context_agrees (WithEntries ks ts) w d h =
-      let means : value_of by.functions filling (Apply (MakeRecord ks) ts) ≡ Gives w = given _ w h in
+      let means : value_of by.functions filling (Apply (MakeRecord ks) ts) ≡ Gives w = h.2 in
       subst (Agrees (settled_in facts (settled_names told) (Apply (MakeRecord ks) ts))) means (data_agrees (Apply (MakeRecord ks) ts) d)
 
   entry_agrees : (x : Settling) (o : Outcome) (v : Value) → Agrees x o → o ≡ Gives v → Agrees (only_value x) (Gives v)
@@ -210,10 +207,10 @@ module _ (by : Setting) (facts : Facts) (same : (name : Name) → facts.function
   keys_agree ks ts vs a d h true (Some t) e = let entry = entry_value by.functions filling ks ts vs a t d h e in rw (entry.found_is) refl
   keys_agree ks ts vs a d h false o e = tt
 
-  filled_values : (ks : List Text) (ts : Trees) (w : Value) → context_filled by (WithEntries ks ts) filling ≡ Some w → (vs : Values) × (Values-of by.functions filling ts ≡ GivesAll vs) × (w ≡ RecordOf ks vs)
-  filled_values ks ts w h = record_values (functions_alone by.functions) ks (Values-of by.functions filling ts) w (given _ w h)
+  filled_values : (ks : List Text) (ts : Trees) (w : Value) → FillsContext (functions_alone by.functions) (WithEntries ks ts) filling w → (vs : Values) × (Values-of by.functions filling ts ≡ GivesAll vs) × (w ≡ RecordOf ks vs)
+  filled_values ks ts w h = record_values (functions_alone by.functions) ks (Values-of by.functions filling ts) w h.2
 
-  pub in_context_agrees : (c : Entries) (w : Value) (a : Text) → IsData c → context_filled by c filling ≡ Some w →
+  pub in_context_agrees : (c : Entries) (w : Value) (a : Text) → IsData c → FillsContext (functions_alone by.functions) c filling w →
       Agrees (in_context facts told c a) (applied facts (GetAttr a) (a_value w no_values))
   in_context_agrees NoContext w a d h = tt
   in_context_agrees (WithEntries ks ts) w a d h =
@@ -221,7 +218,7 @@ module _ (by : Setting) (facts : Facts) (same : (name : Name) → facts.function
       subst (λ x. Agrees (in_context facts told (WithEntries ks ts) a) (applied facts (GetAttr a) (a_value x no_values))) (sym is)
       (entries_agree ks ts vs a d means (are_simple facts told ts) (found_tree ks ts a) refl)
 
-  pub has_in_context_agrees : (c : Entries) (w : Value) (a : Text) → IsData c → context_filled by c filling ≡ Some w →
+  pub has_in_context_agrees : (c : Entries) (w : Value) (a : Text) → IsData c → FillsContext (functions_alone by.functions) c filling w →
       Agrees (has_in_context facts told c a) (applied facts (HasAttr a) (a_value w no_values))
   has_in_context_agrees NoContext w a d h = tt
   has_in_context_agrees (WithEntries ks ts) w a d h =
@@ -229,7 +226,7 @@ module _ (by : Setting) (facts : Facts) (same : (name : Name) → facts.function
       subst (λ x. Agrees (has_in_context facts told (WithEntries ks ts) a) (applied facts (HasAttr a) (a_value x no_values))) (sym is)
       (keys_agree ks ts vs a d means (are_simple facts told ts) (found_tree ks ts a) refl)
 
-  pub missing_means : (c : Entries) (w : Value) (a : Text) → context_filled by c filling ≡ Some w → in_context facts told c a ≡ Errs →
+  pub missing_means : (c : Entries) (w : Value) (a : Text) → FillsContext (functions_alone by.functions) c filling w → in_context facts told c a ≡ Errs →
       applied facts (GetAttr a) (a_value w no_values) ≡ Fails RecordAttrDoesNotExist
   missing_means NoContext w a h e = cc
   missing_means (WithEntries ks ts) w a h e =

@@ -6,7 +6,7 @@ use Rattle.cedar_language.specs.Value.{Value, Plain, Values, Kind, TypeError, Re
 use Rattle.cedar_language.specs.Facts.{Facts}
 use Rattle.cedar_language.specs.Means.{IsNotBoolean}
 use Rattle.cedar_language.specs.Meaning.{Request, GivesAll, OneFails, slot_outcome, boolean_of, and_of, or_of, if_of, meaning, meanings}
-use Rattle.cedar_early.specs.Settling.{Settling, Open, Errs, Is, Settlings, SomeErrs, AllAre, boolean, and_settled, or_settled, if_settled, and_more, Around, or_entry, settled_in, all_settled_in}
+use Rattle.cedar_early.specs.Settling.{Settling, Open, Errs, Is, Settlings, SomeErrs, AllAre, boolean, and_settled, or_settled, if_settled, and_more, LeafSettlings, or_entry, settled_in, all_settled_in}
 use Rattle.cedar_early.specs.Prompt.{ErrsAs, unbound, and_left, and_right, and_left_type, and_right_type, or_left, or_right, or_left_type, or_right_type, if_test, if_type, if_then, if_else, operands, operator, no_entry, FirstErrsAs, here, behind_value, behind_open, behind_erring}
 use Rattle.cedar_early.specs.Mentions.{mentions_only, all_mention_only}
 use Rattle.cedar_answers.proofs.Lists as lists
@@ -34,7 +34,7 @@ errs_more : (xs : Settlings) → and_more Errs xs ≡ SomeErrs
 errs_more SomeErrs = refl
 errs_more _ = refl
 
-entry_errs : (around : Around) (op : Operator) (ts : Trees) → or_entry around op ts Errs ≡ Errs
+entry_errs : (around : LeafSettlings) (op : Operator) (ts : Trees) → or_entry around op ts Errs ≡ Errs
 entry_errs around (GetAttr a) (a_tree (Var Context) no_trees) = refl
 entry_errs around (HasAttr a) (a_tree (Var Context) no_trees) = refl
 entry_errs around op ts = refl
@@ -44,7 +44,7 @@ context_entry a = Apply (GetAttr a) (a_tree (Var Context) no_trees)
 
 -- ---- it is settled
 
-module _ (facts : Facts) (around : Around) (everywhere : Tree → Type 0)
+module _ (facts : Facts) (around : LeafSettlings) (everywhere : Tree → Type 0)
     (missing : (a : Text) → around.in_context a ≡ Errs → settled_in facts around (context_entry a) ≡ Errs) where
   mutual
     pub errs : {t : Tree} {k : Kind} → ErrsAs facts around everywhere t k → settled_in facts around t ≡ Errs
@@ -89,7 +89,7 @@ boolean_fails : (v : Value) → IsNotBoolean v → boolean_of (Gives v) ≡ Fail
 boolean_fails (Plain (Boolean x)) h = absurd h
 boolean_fails _ h = refl
 
-module _ (facts : Facts) (around : Around) (request : Request) (everywhere : Tree → Type 0) (known : Variable → Bool) (leaves : LeavesAgree facts around request)
+module _ (facts : Facts) (around : LeafSettlings) (request : Request) (everywhere : Tree → Type 0) (known : Variable → Bool) (leaves : LeavesAgree facts around request)
     (unbound_is : (s : SlotId) → around.slot s ≡ Errs → slot_outcome (request.slots s) ≡ Fails UnlinkedSlot)
     (missing : (a : Text) → around.in_context a ≡ Errs → meaning facts request (context_entry a) ≡ Fails RecordAttrDoesNotExist)
     (settles : (t : Tree) → mentions_only known true t ≡ true → settled_in facts around t ≢ Open) where

@@ -7,11 +7,11 @@ use Rattle.cedar_language.specs.Value.{Kind}
 use Rattle.cedar_language.specs.Answering as rules
 use Rattle.cedar_language.specs.Answering.{Judged, is_reason, in_must, in_may}
 use Rattle.cedar_language.specs.Authorization.{Known}
+use Rattle.cedar_early.specs.Filling as early
 use Rattle.cedar_world.specs.Answer.{Answer}
 use Rattle.cedar_world.specs.World.{World}
 use Rattle.cedar_world.specs.Asking.{Question, Told}
-use Rattle.cedar_world.specs.Setting.{Setting}
-use Rattle.cedar_world.specs.Fillings.{filled}
+use Rattle.cedar_world.specs.Setting.{Setting, functions_alone}
 use Rattle.cedar_world.specs.Answers.{known_answer, HoldsOf, IsFair}
 use Rattle.cedar_answers.specs.Standing.{Judges, Says}
 use Rattle.cedar_answers.specs.WorldFacts.{AreFactsOf}
@@ -23,7 +23,7 @@ use Rattle.cedar_answers.proofs.Filled.{beside, known_as, all_known, judged_know
 
 module _ (by : Setting) (world : World) (facts : Facts) (are : AreFactsOf by world facts) (q : Question) (of_data : IsData q.context) (js : List Judged)
     (judges : Judges world facts q finite.empty js) (answer : Answer) (says : Says js answer) where
-  module _ (filling : Told) (request : Known) (fills : filled by q filling ≡ Some request) where
+  module _ (filling : Told) (request : Known) (fills : early.IsFilling (functions_alone by.functions) q filling request) where
     -- this module's names of what the policies come to
     abbrev known : Judged → Judged
     known = known_as by world facts q js judges request
@@ -85,4 +85,4 @@ module _ (by : Setting) (world : World) (facts : Facts) (are : AreFactsOf by wor
   first_is_fair filling request whole agrees known =
       let same : known.facts ≡ facts = facts_are_one by world known.facts facts known.facts_are are in
       let is : whole ≡ known_answer by world facts request = known.is ∙ ap (λ f. known_answer by world f request) same in
-      subst (HoldsOf answer) (sym is) (holds filling request agrees.filling_is.request_is)
+      subst (HoldsOf answer) (sym is) (holds filling request agrees.filling_is.fills)

@@ -4,14 +4,14 @@ use Rattle.std.specs.FinMap as finite
 use Rattle.std.proofs.lemmas.List.Elements.{All-contains}
 use Rattle.cedar_language.specs.Uid.{Text, Name}
 use Rattle.cedar_language.specs.Facts.{Facts}
-use Rattle.cedar_language.specs.Answering.{Standing, Unsatisfied, is_residual, Judged, ComesTo, Fills, Filled, nothing, a_policy, At, at_first, at_later, satisfied_forbid, satisfied_permit, known_decision, is_reason, IsFair}
+use Rattle.cedar_language.specs.Answering.{Standing, Unsatisfied, is_residual, Judged, ComesTo, StillErrs, Fills, Filled, nothing, a_policy, At, at_first, at_later, satisfied_forbid, satisfied_permit, known_decision, is_reason, IsFair}
 use Rattle.cedar_language.specs.Authorization.{Known, standing_of}
 use Rattle.cedar_language.proofs.Answering.{rules_are_fair}
+use Rattle.cedar_early.specs.Filling as early
 use Rattle.cedar_world.specs.Syntax.{PolicySyntax, condition}
 use Rattle.cedar_world.specs.World.{World, in_force, in_force_at}
 use Rattle.cedar_world.specs.Asking.{Question, Told}
 use Rattle.cedar_world.specs.Setting.{Setting, functions_alone, means}
-use Rattle.cedar_world.specs.Fillings.{filled}
 use Rattle.cedar_world.specs.Answers.{judge}
 use Rattle.cedar_answers.specs.Standing.{IsJudged, Judges}
 use Rattle.cedar_answers.specs.First.{IsData}
@@ -95,14 +95,15 @@ module _ (by : Setting) (world : World) (facts : Facts) (q : Question) (js : Lis
     pub same_reason : (x : Judged) → is_reason all_known x ≡ is_reason judged_known x
     same_reason x = rw (some_alike all_known judged_known known_alike satisfied_forbid) refl
 
-    module _ (same : (name : Name) → facts.function name ≡ (functions_alone by.functions).function name) (of_data : IsData q.context) (filling : Told) (fills : filled by q filling ≡ Some request) where
+    module _ (same : (name : Name) → facts.function name ≡ (functions_alone by.functions).function name) (of_data : IsData q.context) (filling : Told) (fills : early.IsFilling (functions_alone by.functions) q filling request) where
       fills_one : (j : Judged) → IsAmong j js → Fills j (known_as j)
       fills_one j a =
           let h = judged j a in
           record {
             id = refl;
             effect = refl;
-            standing = subst (λ o. ComesTo j.standing (standing_at o)) (sym h.in_force) (standing_comes by facts same q of_data filling request fills h.syntax j.standing h.standing);
+            standing = subst (λ o. ComesTo j.standing (standing_at o)) (sym h.in_force) (standing_comes by facts same q of_data filling request fills h.syntax j.standing h.standing).0;
+            erring = subst (λ o. StillErrs j.standing (standing_at o)) (sym h.in_force) (standing_comes by facts same q of_data filling request fills h.syntax j.standing h.standing).1;
             known = known_at (in_force_at world.policies j.id);
           }
 

@@ -7,12 +7,12 @@ use Rattle.cedar_language.specs.Facts.{Facts}
 use Rattle.cedar_language.specs.Answering.{Erring, is_permit, is_residual, Judged, satisfied_forbid, satisfied_permit, residual_forbid, residual_permit, some, Allow, Deny, known_decision, is_reason, decision_by, decision, in_must, in_may}
 use Rattle.cedar_language.specs.Authorization.{Known}
 use Rattle.cedar_early.specs.Mentions.{is_known, KnownTreesSettle}
+use Rattle.cedar_early.specs.Filling as early
 use Rattle.cedar_world.specs.Syntax.{PolicySyntax}
 use Rattle.cedar_world.specs.Answer.{Answer}
 use Rattle.cedar_world.specs.World.{World, in_force, in_force_at}
 use Rattle.cedar_world.specs.Asking.{Question}
-use Rattle.cedar_world.specs.Setting.{Setting}
-use Rattle.cedar_world.specs.Fillings.{filled}
+use Rattle.cedar_world.specs.Setting.{Setting, functions_alone}
 use Rattle.cedar_world.specs.Answers.{judge, known_answer}
 use Rattle.cedar_answers.specs.Standing.{Judges, Says}
 use Rattle.cedar_answers.specs.WorldFacts.{AreFactsOf}
@@ -60,7 +60,7 @@ module _ (js : List Judged) (settled : (j : Judged) → IsAmong j js → is_resi
 -- ---- the answer
 
 module _ (by : Setting) (world : World) (facts : Facts) (are : AreFactsOf by world facts) (q : Question) (of_data : IsData q.context) (js : List Judged)
-    (judges : Judges world facts q finite.empty js) (answer : Answer) (says : Says js answer) (closed : NamesNoUnknown world) (request : Known) (fills : filled by q finite.empty ≡ Some request)
+    (judges : Judges world facts q finite.empty js) (answer : Answer) (says : Says js answer) (closed : NamesNoUnknown world) (request : Known) (fills : early.IsFilling (functions_alone by.functions) q finite.empty request)
     (settle : KnownTreesSettle) (known : (v : _) → is_known q v ≡ true) where
   abbrev whole : List Judged
   whole = judged_known by world facts q js judges request

@@ -1,5 +1,6 @@
 -- What is settled of a question when it is asked is what each known question says that fills it.
-use Rattle.std.proofs.Common.{◌≡◌, ◌≢◌, Bool, true, false, ◌&&◌, ◌||◌, Option, Some, None, refl, sym, ◌∙◌, ap, codes, true≢false}
+use Rattle.std.proofs.Common.{◌≡◌, ◌≢◌, Bool, true, false, ◌&&◌, ◌||◌, Option, None, refl, sym, ◌∙◌, ap, codes, true≢false}
+use Rattle.cedar_early.specs.Filling.{FillsPart}
 use Rattle.std.specs.FinMap as map
 use Rattle.cedar_language.specs.Uid.{Text, Name, Uid}
 use Rattle.cedar_language.specs.Tree.{Entity, Variable, Principal, Action, Resource, Context, MakeSet, MakeRecord, Call, Tree, Lit, Unknown, Apply, Trees, no_trees, a_tree}
@@ -10,12 +11,12 @@ use Rattle.cedar_early.specs.Settling.{Open, settled_in}
 use Rattle.cedar_early.specs.Prompt.{ErrsAs}
 use Rattle.cedar_early.specs.Question.{part_settled, variable_settled, settled_of}
 use Rattle.cedar_early.specs.Mentions.{mentions_only, all_mention_only, is_given, is_known_context, is_known, KnownTreesSettle}
+use Rattle.cedar_early.specs.Filling as early
 use Rattle.cedar_world.specs.Orders.{text_eq}
 use Rattle.cedar_world.specs.Asking.{Part, Given, Missing, Entries, NoContext, WithEntries, Question, Told}
 use Rattle.cedar_world.specs.Question.{is_missing, has_name, IsKnown}
 use Rattle.cedar_world.specs.Bodies.{is_restricted, are_restricted, some_name, some_name_of}
 use Rattle.cedar_world.specs.Setting.{Setting, functions_alone, means}
-use Rattle.cedar_world.specs.Fillings.{part_filled, request_with, context_filled, filled}
 use Rattle.cedar_answers.specs.First.{IsData}
 use Rattle.cedar_answers.proofs.Lists.{and_left, and_right, and_both}
 use Rattle.cedar_answers.proofs.InForce.{text_itself}
@@ -23,43 +24,25 @@ use Rattle.cedar_answers.proofs.Agreeing.{Agrees, LeavesAgree, tree_agrees}
 use Rattle.cedar_answers.proofs.Errors.{fails}
 use Rattle.cedar_answers.proofs.Contexts.{context_agrees, in_context_agrees, has_in_context_agrees, missing_means}
 
--- ---- the parts of a filled question
-
-record AreParts (a b c : Option Uid) (d : Option Value) (request : Known) : Type 0 where
-  principal : a ≡ Some request.principal
-  action : b ≡ Some request.action
-  resource : c ≡ Some request.resource
-  context : d ≡ Some request.context
-
-parts : (a b c : Option Uid) (d : Option Value) (request : Known) → request_with a b c d ≡ Some request → AreParts a b c d request
-parts (Some a) (Some b) (Some c) (Some d) request h = record { principal = cc; action = cc; resource = cc; context = cc }
-parts None b c d request h = cc
-parts (Some a) None c d request h = cc
-parts (Some a) (Some b) None d request h = cc
-parts (Some a) (Some b) (Some c) None request h = cc
-
-part_agrees : (p : Part) (o told : Option Value) (u : Uid) → told ≡ None → part_filled p o ≡ Some u → Agrees (part_settled p told) (Gives (Plain (Entity u)))
-part_agrees (Given v) o told u e h = let is : v ≡ u = cc in rw is refl
+part_agrees : (p : Part) (o told : Option Value) (u : Uid) → told ≡ None → FillsPart p o u → Agrees (part_settled p told) (Gives (Plain (Entity u)))
+part_agrees (Given v) o told u e h = rw h refl
 part_agrees (Missing ty) o told u e h = rw e tt
 
-module _ (by : Setting) (facts : Facts) (same : (name : Name) → facts.function name ≡ (functions_alone by.functions).function name) (q : Question) (told : Text → Option Value)
-    (untold : (n : Text) → told n ≡ None) (of_data : IsData q.context) (filling : Told) (request : Known) (fills : filled by q filling ≡ Some request) where
-  abbrev filled_parts : AreParts (part_filled q.principal (map.get filling (codes "principal"))) (part_filled q.action (map.get filling (codes "action"))) (part_filled q.resource (map.get filling (codes "resource"))) (context_filled by q.context filling) request
-  filled_parts = parts _ _ _ _ request fills
-
+module _ (by : Setting) (facts : Facts) (same : (name : Name) → facts.function name ≡ (functions_alone by.functions).function name) (q : Question) (told : Told)
+    (untold : (n : Text) → map.get told n ≡ None) (of_data : IsData q.context) (filling : Told) (request : Known) (fills : early.IsFilling (functions_alone by.functions) q filling request) where
   variable_agrees : (v : Variable) → Agrees (variable_settled facts q told v) (Gives ((request_at request (λ s. None)).variable v))
-  variable_agrees Principal = part_agrees q.principal _ _ request.principal (untold _) filled_parts.principal
-  variable_agrees Action = part_agrees q.action _ _ request.action (untold _) filled_parts.action
-  variable_agrees Resource = part_agrees q.resource _ _ request.resource (untold _) filled_parts.resource
-  variable_agrees Context = context_agrees by facts same told untold filling q.context request.context of_data filled_parts.context
+  variable_agrees Principal = part_agrees q.principal _ _ request.principal (untold _) fills.principal
+  variable_agrees Action = part_agrees q.action _ _ request.action (untold _) fills.action
+  variable_agrees Resource = part_agrees q.resource _ _ request.resource (untold _) fills.resource
+  variable_agrees Context = context_agrees by facts same told untold filling q.context request.context of_data fills.context
 
   leaves_agree : LeavesAgree facts (settled_of facts q (λ s. None) told) (request_at request (λ s. None))
   leaves_agree = record {
     variable = variable_agrees;
     unknown = λ n ty. rw (untold n) tt;
     slot = λ s. (UnlinkedSlot, refl);
-    in_context = λ a. in_context_agrees by facts same told untold filling q.context request.context a of_data filled_parts.context;
-    has_in_context = λ a. has_in_context_agrees by facts same told untold filling q.context request.context a of_data filled_parts.context;
+    in_context = λ a. in_context_agrees by facts same told untold filling q.context request.context a of_data fills.context;
+    has_in_context = λ a. has_in_context_agrees by facts same told untold filling q.context request.context a of_data fills.context;
   }
 
   -- what is settled is what is meant once the question is filled
@@ -78,7 +61,7 @@ module _ (by : Setting) (facts : Facts) (same : (name : Name) → facts.function
     pub known_fails : (everywhere : Tree → Type 0) (t : Tree) (k : _) → mentions_only (λ v. true) true t ≡ true → ErrsAs facts (settled_of facts q (λ s. None) told) everywhere t k → means facts request t ≡ Fails k
     known_fails everywhere t k h e =
         fails facts (settled_of facts q (λ s. None) told) (request_at request (λ s. None)) everywhere (λ v. true) leaves_agree (λ s e. refl)
-        (λ a e. missing_means by facts same told untold filling q.context request.context a filled_parts.context e) known_settles e h
+        (λ a e. missing_means by facts same told untold filling q.context request.context a fills.context e) known_settles e h
 
 -- ---- nothing is missing, and no name is unknown
 

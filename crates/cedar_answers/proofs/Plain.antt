@@ -1,10 +1,13 @@
 -- Where scopes alone decide.
-use Rattle.std.proofs.Common.{◌≡◌, Bool, inl, inr, true, false, Option, Some, None, List, [], map, refl, sym, ap, ◌∙◌, subst}
+use Rattle.std.proofs.Common.{◌≡◌, Bool, inl, inr, true, false, Option, Some, None, List, [], map, refl, sym, ap, ◌∙◌, subst, is_some, true≢false}
+use Rattle.cedar_world.specs.Question.{IsKnown}
+use Rattle.cedar_world.specs.Orders.{text_cmp}
+use Rattle.cedar_world.specs.Fillings.{IsFilling}
 use Rattle.std.specs.FinMap as finite
 use Rattle.std.proofs.lemmas.List.Elements.{All-map}
 use Rattle.cedar_language.specs.Uid.{Text, Uid}
 use Rattle.cedar_language.specs.Tree.{Principal, Action, Resource, Context, no_trees}
-use Rattle.cedar_language.specs.Value.{RecordOf, no_values, Kind}
+use Rattle.cedar_language.specs.Value.{RecordOf, no_values, Kind, Value}
 use Rattle.cedar_language.specs.Order.{same_uid}
 use Rattle.cedar_language.specs.Facts.{Facts}
 use Rattle.cedar_language.specs.Operators.{is_within}
@@ -15,7 +18,6 @@ use Rattle.cedar_world.specs.Syntax.{PolicySyntax}
 use Rattle.cedar_world.specs.World.{World, in_force_at}
 use Rattle.cedar_world.specs.Asking.{Part, Given, Missing, Entries, WithEntries, Question}
 use Rattle.cedar_world.specs.Setting.{Setting}
-use Rattle.cedar_world.specs.Fillings.{filled}
 use Rattle.cedar_answers.specs.Standing.{StandsSoFar, IsJudged, Judges, ErrOnce}
 use Rattle.cedar_answers.specs.WorldFacts.{AreFactsOf, facts_of}
 use Rattle.cedar_answers.specs.First.{IsData, HasRequest, NamesNoUnknown}
@@ -37,9 +39,21 @@ given : (p : Part) → is_given p ≡ true → (u : Uid) × (p ≡ Given u)
 given (Given u) h = (u, refl)
 given (Missing type) h = cc
 
-fills : (by : Setting) (q : Question) (request : Known) → q.principal ≡ Given request.principal → q.action ≡ Given request.action → q.resource ≡ Given request.resource →
-    q.context ≡ WithEntries [] no_trees → request.context ≡ RecordOf [] no_values → filled by q finite.empty ≡ Some request
-fills by q request p a r c is = rw (p, a, r, c) (λ i. Some (record request { context = sym is i }))
+not_told : (n : Text) (v : Value) → finite.get {R = text_cmp} finite.empty n ≡ Some v → ⊥
+not_told n v h = true≢false (sym (ap is_some h) ∙ ap is_some (finite.get-empty text_cmp n))
+
+fills : (by : Setting) (q : Question) (request : Known) → IsKnown q → q.principal ≡ Given request.principal → q.action ≡ Given request.action → q.resource ≡ Given request.resource →
+    q.context ≡ WithEntries [] no_trees → request.context ≡ RecordOf [] no_values → IsFilling by q finite.empty request
+fills by q request known p a r c is = record {
+  names = λ n. ap is_some (finite.get-empty text_cmp n) ∙ sym (known n);
+  fills = record {
+    principal = rw p refl;
+    action = rw a refl;
+    resource = rw r refl;
+    context = rw (c, is) (refl, tt, refl);
+    values = λ n v h. absurd (not_told n v h);
+  };
+}
 
 has_request : (by : Setting) (q : Question) → HasNoEntries q.context → HasRequest by q
 has_request by q (inl e) known =
@@ -51,7 +65,7 @@ has_request by q (inr e) known =
     let (action, a) = given q.action (all Action) in
     let (resource, r) = given q.resource (all Resource) in
     let request : Known = record { principal = principal; action = action; resource = resource; context = RecordOf [] no_values } in
-    (request, fills by q request p a r e refl)
+    (request, fills by q request known p a r e refl)
 
 module _ (by : Setting) (world : World) (facts : Facts) (are : AreFactsOf by world facts) (alone : HasScopesAlone world) (q : Question) where
   stands : (id : Text) (s : PolicySyntax) → in_force_at world.policies id ≡ Some s → StandsSoFar facts q finite.empty s (standing_met (scope_met (is_within facts) s q))

@@ -4,7 +4,7 @@ use Rattle.std.specs.FinMap as finite
 use Rattle.cedar_language.specs.Uid.{Text}
 use Rattle.cedar_language.specs.Value.{Kind}
 use Rattle.cedar_language.specs.Facts.{Facts}
-use Rattle.cedar_language.specs.Answering.{Effect, Permit, Forbid, Standing, Satisfied, Unsatisfied, Erring, Residual, is_permit, is_satisfied, is_residual, Judged, ComesTo, satisfied_forbid, satisfied_permit, residual_forbid, residual_permit, some, Allow, Deny, decision_by, in_must, in_may}
+use Rattle.cedar_language.specs.Answering.{Effect, Permit, Forbid, Standing, Satisfied, Unsatisfied, Erring, Residual, is_permit, is_satisfied, is_residual, Judged, CountsForNothing, ComesTo, StillErrs, satisfied_forbid, satisfied_permit, residual_forbid, residual_permit, some, Allow, Deny, decision_by, in_must, in_may}
 use Rattle.cedar_world.specs.Syntax.{PolicySyntax}
 use Rattle.cedar_world.specs.Answer.{Answer}
 use Rattle.cedar_world.specs.World.{World, in_force_at}
@@ -37,10 +37,16 @@ record IsFalse (s : Standing) : Type 0 where
   unsatisfied : is_satisfied s ≡ false
   closed : is_residual s ≡ false
 
+counts_false : (s : Standing) → CountsForNothing s → IsFalse s
+counts_false Satisfied h = absurd h
+counts_false Unsatisfied h = record { unsatisfied = refl; closed = refl }
+counts_false (Erring k) h = record { unsatisfied = refl; closed = refl }
+counts_false Residual h = absurd h
+
 false_as : (r s : Standing) → r ≢ Satisfied → is_residual r ≡ false → ComesTo r s → IsFalse s
 false_as Satisfied s n c h = absurd (n refl)
-false_as Unsatisfied s n c h = record { unsatisfied = rw (← h) refl; closed = rw (← h) refl }
-false_as (Erring k) s n c (l, is) = record { unsatisfied = rw is refl; closed = rw is refl }
+false_as Unsatisfied s n c h = counts_false s h
+false_as (Erring k) s n c h = counts_false s h
 false_as Residual s n c h = cc
 
 with_effect : (wanted given : Effect) (f : Bool → Bool) → wanted ≡ given → f (is_permit wanted) ≡ f (is_permit given)
@@ -57,6 +63,7 @@ module _ (world : World) (by : Setting) (facts : Facts) (q : Question) (js : Lis
   record IsSo (j : Judged) (effect : Effect) (standing : Standing) : Type 0 where
     effect_is : j.effect ≡ effect
     comes : ComesTo standing j.standing
+    errs : StillErrs standing j.standing
     closed : is_residual standing ≡ false
 
   so : (j : Judged) → IsAmong j js → (id : Text) → j.id ≡ id → (effect : Effect) (standing : Standing) → Decided id effect standing → IsSo j effect standing
@@ -67,7 +74,8 @@ module _ (world : World) (by : Setting) (facts : Facts) (q : Question) (js : Lis
       let stands : StandsSoFar facts q finite.empty d.syntax j.standing = subst (λ s. StandsSoFar facts q finite.empty s j.standing) syntax h.standing in
       record {
         effect_is = sym h.effect ∙ ap (λ (s : PolicySyntax). s.effect) syntax ∙ d.effect_is;
-        comes = subst (λ s. ComesTo s j.standing) d.standing_is (one_standing facts q finite.empty d.syntax d.result d.settles j.standing stands);
+        comes = subst (λ s. ComesTo s j.standing) d.standing_is (one_standing facts q finite.empty d.syntax d.result d.settles j.standing stands).0;
+        errs = subst (λ s. StillErrs s j.standing) d.standing_is (one_standing facts q finite.empty d.syntax d.result d.settles j.standing stands).1;
         closed = ap is_residual (sym d.standing_is) ∙ not_residual d.result;
       }
 
@@ -188,7 +196,7 @@ module _ (world : World) (by : Setting) (facts : Facts) (q : Question) (js : Lis
     errs_told id effect k d =
         let (j, a, is) = member id effect (Erring k) d in
         let s = so j a id is effect (Erring k) d in
-        let (l, errs) = s.comes in
+        let (l, errs) = s.errs in
         let h = judged by world facts q js judges j a in
         let told : finite.get answer.erring id ≡ Some l = (says.erring id l).1 (has_failed js id l (record { policy = j; among = a; id_is = is; errs = errs })) in
         (l, told, decided_as id effect l h.syntax (ap (in_force_at world.policies) (sym is) ∙ h.in_force) (h.effect ∙ s.effect_is) (Erring l) refl (subst (StandsSoFar facts q finite.empty h.syntax) errs h.standing))

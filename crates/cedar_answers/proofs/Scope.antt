@@ -13,7 +13,7 @@ use Rattle.cedar_language.specs.Order.{same, same_text, same_name, same_uid, val
 use Rattle.cedar_language.specs.OrderLaws.{value_cmp_same, same_is, is_same}
 use Rattle.cedar_language.specs.Facts.{Facts}
 use Rattle.cedar_language.specs.Operators.{and_uid, uids_in, is_within, is_within_some}
-use Rattle.cedar_early.specs.Settling.{Settling, Open, Is, AllAre, and_settled, Around, settled_in, all_settled_in}
+use Rattle.cedar_early.specs.Settling.{Settling, Open, Is, AllAre, and_settled, LeafSettlings, settled_in, all_settled_in}
 use Rattle.cedar_early.specs.Mentions.{mentions_only, all_mention_only}
 use Rattle.cedar_early.specs.Question.{part_settled, settled_of}
 use Rattle.cedar_grammar.specs.Build.{trees, conjunction}
@@ -47,7 +47,7 @@ entity_equal a b =
 
 -- ---- conjunctions
 
-folded : (facts : Facts) (around : Around) (l r : Tree) → settled_in facts around (conjunction l r) ≡ and_settled (settled_in facts around l) (settled_in facts around r)
+folded : (facts : Facts) (around : LeafSettlings) (l r : Tree) → settled_in facts around (conjunction l r) ≡ and_settled (settled_in facts around l) (settled_in facts around r)
 folded facts around (Lit (Boolean true)) (Lit (Boolean b)) = refl
 folded facts around (Lit (Boolean false)) (Lit (Boolean b)) = refl
 folded facts around _ _ = refl
@@ -65,7 +65,7 @@ abbrev entities : List Uid → Values
 entities [] = no_values
 entities (u ∷ us) = a_value (Plain (Entity u)) (entities us)
 
-all_literals : (facts : Facts) (around : Around) (us : List Uid) → all_settled_in facts around (trees (map (λ u. Lit (Entity u)) us)) ≡ AllAre (entities us)
+all_literals : (facts : Facts) (around : LeafSettlings) (us : List Uid) → all_settled_in facts around (trees (map (λ u. Lit (Entity u)) us)) ≡ AllAre (entities us)
 all_literals facts around [] = refl
 all_literals facts around (u ∷ us) = rw (all_literals facts around us) refl
 
@@ -141,7 +141,7 @@ and_both_known : (a b : Bool) → and_settled (known (Some a)) (known (Some b)) 
 and_both_known true b = refl
 and_both_known false b = refl
 
-module _ (facts : Facts) (around : Around) (v : Variable) where
+module _ (facts : Facts) (around : LeafSettlings) (v : Variable) where
   constraint_given : (slot : SlotId) (c : Constraint) (u : Uid) → constraint_slots slot c ≡ [] → around.variable v ≡ Is (Plain (Entity u)) → settled_in facts around (constraint_tree v slot c) ≡ known (Some (meets (is_within facts) c u))
   constraint_given slot anything u h e = refl
   constraint_given slot (equals (the_entity x)) u h e = rw e (ap (λ b. Is (Plain (Boolean b))) (entity_equal u x))
@@ -165,7 +165,7 @@ module _ (facts : Facts) (around : Around) (v : Variable) where
   constraint_settled slot (equals the_slot) (Missing type) h e = cc
   constraint_settled slot (within the_slot) (Missing type) h e = cc
 
-action_settled : (facts : Facts) (around : Around) (c : ActionConstraint) (part : Part) → around.variable Action ≡ part_settled part None → settled_in facts around (action_tree c) ≡ known (action_met (is_within facts) c part)
+action_settled : (facts : Facts) (around : LeafSettlings) (c : ActionConstraint) (part : Part) → around.variable Action ≡ part_settled part None → settled_in facts around (action_tree c) ≡ known (action_met (is_within facts) c part)
 action_settled facts around any_action part e = refl
 action_settled facts around (action_equals x) (Given u) e = rw e (ap (λ b. Is (Plain (Boolean b))) (entity_equal u x))
 action_settled facts around (action_equals x) (Missing type) e = rw e refl
@@ -186,8 +186,8 @@ later_none [] (y ∷ ys) h = cc
 later_none (x ∷ xs) ys h = cc
 
 module _ (facts : Facts) (q : Question) (s : PolicySyntax) (static : is_template s ≡ false) where
-  abbrev around : Around
-  around = settled_of facts q (λ s. None) (finite.get {R = text_cmp} finite.empty)
+  abbrev around : LeafSettlings
+  around = settled_of facts q (λ s. None) finite.empty
 
   part_untold : (p : Part) (n : Text) → part_settled p (finite.get {R = text_cmp} finite.empty n) ≡ part_settled p None
   part_untold p n = ap (part_settled p) (finite.get-empty text_cmp n)

@@ -13,7 +13,7 @@ use Rattle.cedar_world.specs.Asking.{Entries, NoContext, WithEntries, Question}
 use Rattle.cedar_world.specs.Question.{IsKnown}
 use Rattle.cedar_world.specs.Bodies.{are_restricted}
 use Rattle.cedar_world.specs.Setting.{Setting}
-use Rattle.cedar_world.specs.Fillings.{filled}
+use Rattle.cedar_world.specs.Fillings.{IsFilling}
 use Rattle.cedar_world.specs.Step.{IsFirstAnswer}
 use Rattle.cedar_answers.specs.Standing.{Judges, Says}
 use Rattle.cedar_answers.specs.WorldFacts.{AreFactsOf}
@@ -25,7 +25,7 @@ IsData (WithEntries ks ts) = are_restricted ts ≡ true
 
 -- where nothing is unknown, the context means a value
 abbrev pub HasRequest : Setting → Question → Type 0
-HasRequest by q = IsKnown q → (request : Known) × (filled by q map.empty ≡ Some request)
+HasRequest by q = IsKnown q → (request : Known) × IsFilling by q map.empty request
 
 -- no condition in force names an unknown
 abbrev pub NamesNoUnknown : World → Type 0

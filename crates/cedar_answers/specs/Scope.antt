@@ -9,7 +9,7 @@ use Rattle.cedar_language.specs.Order.{same_name, same_uid}
 use Rattle.cedar_language.specs.Facts.{Facts}
 use Rattle.cedar_language.specs.Operators.{is_within}
 use Rattle.cedar_language.specs.Answering.{Standing, Satisfied, Unsatisfied, Residual}
-use Rattle.cedar_early.specs.Settling.{and_settled, Around, settled_in}
+use Rattle.cedar_early.specs.Settling.{and_settled, LeafSettlings, settled_in}
 use Rattle.cedar_early.specs.Mentions.{mentions_only}
 use Rattle.cedar_grammar.specs.Build.{conjunction}
 use Rattle.cedar_grammar.specs.Policy.{the_entity, Constraint, anything, equals, within, of_type, of_type_within, ActionConstraint, any_action, action_equals, action_within_any}
@@ -61,7 +61,7 @@ pub record ScopesSettle : Type 0 where
   -- a policy without slots and clauses stands as its scope says when a question is asked
   pub stands : (facts : Facts) (q : Question) (s : PolicySyntax) → is_template s ≡ false → s.body ≡ None → StandsSoFar facts q map.empty s (standing_met (scope_met (is_within facts) s q))
   -- a condition settles as its parts do, from the left, though literals are folded in it
-  pub folded : (facts : Facts) (around : Around) (l r : Tree) → settled_in facts around (conjunction l r) ≡ and_settled (settled_in facts around l) (settled_in facts around r)
+  pub folded : (facts : Facts) (around : LeafSettlings) (l r : Tree) → settled_in facts around (conjunction l r) ≡ and_settled (settled_in facts around l) (settled_in facts around r)
   -- it names no unknown
   pub names_nothing : (s : PolicySyntax) → s.body ≡ None → mentions_only (λ v. true) true (condition s) ≡ true
   -- where there are no ancestors, `in` is equality

@@ -18,7 +18,7 @@ use Rattle.cedar_world.specs.Answers.{ids_with, errors_of}
 
 -- what is settled of a tree without slots once these values are told, kinds of errors aside
 abbrev pub settled_so_far : Facts → Question → Told → Tree → Settling
-settled_so_far facts q told t = settled_in facts (settled_of facts q (λ s. None) (map.get told)) t
+settled_so_far facts q told t = settled_in facts (settled_of facts q (λ s. None) told) t
 
 -- how a policy stands: it is still open, or as a result says to which its condition settles
 pub data StandsSoFar (facts : Facts) (q : Question) (told : Told) (syntax : PolicySyntax) : Standing → Type 0 where

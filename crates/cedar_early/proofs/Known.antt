@@ -1,18 +1,19 @@
 -- Where everything is known: what is settled, what is answered, and what is meant.
 use Rattle.std.proofs.Common.{◌≡◌, ◌≢◌, true, false, Option, Some, None, refl, sym, ◌∙◌, ap}
-use Rattle.cedar_language.specs.Uid.{Uid}
-use Rattle.cedar_language.specs.Tree.{Boolean, Context, Operator, GetAttr, HasAttr, Tree, Lit, Var, Slot, Unknown, If, And, Or, Apply, Trees, no_trees, a_tree}
+use Rattle.cedar_early.specs.Unknowns.{EachUnknown, EachUnknownOf}
+use Rattle.cedar_language.specs.Uid.{Uid, Text}
+use Rattle.cedar_language.specs.Tree.{Boolean, Context, Operator, GetAttr, HasAttr, Tree, Lit, Var, Slot, Unknown, If, And, Or, Apply, Trees, no_trees, a_tree, ValueType, Variable, SlotId}
 use Rattle.cedar_language.specs.Value.{Value, Plain, Values, Kind, TypeError, UnlinkedSlot, Outcome, Gives, Fails}
 use Rattle.cedar_language.specs.Facts.{Facts}
 use Rattle.cedar_language.specs.Meaning.{Request, Outcomes, GivesAll, OneFails, slot_outcome, boolean_of, and_of, or_of, if_of, more_of, apply_of, meaning, meanings}
-use Rattle.cedar_early.specs.Settling.{Settling, Open, Errs, Is, Settlings, SomeErrs, AllAre, kindless, boolean, and_settled, or_settled, if_settled, and_more, apply_settled, or_entry, settled_in, all_settled_in, around_of, MeaningIsSettled}
-use Rattle.cedar_early.specs.Partial.{Answers, AllKnown, SomeRefused, answer_of, last_answer, and_answer, or_answer, if_answer, and_next, apply_answer, partial_in, all_partial_in, holds_of, KnownIsMeaning}
+use Rattle.cedar_early.specs.Settling.{Settling, Open, Errs, Is, Settlings, SomeErrs, AllAre, kindless, boolean, and_settled, or_settled, if_settled, and_more, apply_settled, or_entry, settled_in, all_settled_in, leaf_settlings_of, MeaningIsSettled, LeafSettlings}
+use Rattle.cedar_early.specs.Partial.{Answers, AllEvaluated, SomeFailed, answer_of, last_answer, and_answer, or_answer, if_answer, and_next, apply_answer, partial_in, all_partial_in, leaf_answers_of, KnownIsMeaning, Evaluated, LeafAnswers}
 use Rattle.cedar_language.specs.Means.{IsNotBoolean}
-use Rattle.cedar_early.specs.Prompt.{ErrsAs, unbound, and_left, and_right, and_left_type, and_right_type, or_left, or_right, or_left_type, or_right_type, if_test, if_type, if_then, if_else, operands, operator, no_entry, FirstErrsAs, here, behind_value, behind_open, behind_erring, ErrsEverywhere, KindsAreMeant}
+use Rattle.cedar_early.specs.Prompt.{ErrsAs, unbound, and_left, and_right, and_left_type, and_right_type, or_left, or_right, or_left_type, or_right_type, if_test, if_type, if_then, if_else, operands, operator, no_entry, FirstErrsAs, here, behind_value, behind_open, behind_erring, KindsAreMeant, IsRefused}
 
 -- ---- what is settled
 
-abbrev kindless_all : Outcomes → Settlings
+abbrev pub kindless_all : Outcomes → Settlings
 kindless_all (GivesAll vs) = AllAre vs
 kindless_all (OneFails k) = SomeErrs
 
@@ -39,38 +40,71 @@ if_is (Gives (Plain (Boolean false))) b c = refl
 if_is (Gives _) b c = refl
 if_is (Fails k) b c = refl
 
-more_is : (a : Outcome) (os : Outcomes) → and_more (kindless a) (kindless_all os) ≡ kindless_all (more_of a os)
+pub more_is : (a : Outcome) (os : Outcomes) → and_more (kindless a) (kindless_all os) ≡ kindless_all (more_of a os)
 more_is (Gives v) (GivesAll vs) = refl
 more_is (Gives v) (OneFails k) = refl
 more_is (Fails k) (GivesAll vs) = refl
 more_is (Fails k) (OneFails l) = refl
 
-apply_is : (facts : Facts) (op : Operator) (os : Outcomes) → apply_settled facts op (kindless_all os) ≡ kindless (apply_of facts op os)
+pub apply_is : (facts : Facts) (op : Operator) (os : Outcomes) → apply_settled facts op (kindless_all os) ≡ kindless (apply_of facts op os)
 apply_is facts op (GivesAll vs) = refl
 apply_is facts op (OneFails k) = refl
 
-module _ (facts : Facts) (request : Request) where
-  entry_is : (op : Operator) (ts : Trees) (x : Settling) → or_entry (around_of request) op ts x ≡ x
-  entry_is (GetAttr a) (a_tree (Var Context) no_trees) Open = refl
-  entry_is (HasAttr a) (a_tree (Var Context) no_trees) Open = refl
+-- where the leaves are what they mean, and the unknowns of the tree are
+module _ (facts : Facts) (request : Request) (around : LeafSettlings) (Passes : Text → Option ValueType → Type 0)
+    (variable : (v : Variable) → around.variable v ≡ Is (request.variable v))
+    (unknown : (n : Text) (ty : Option ValueType) → Passes n ty → around.unknown n ty ≡ kindless (request.unknown n ty))
+    (slot : (s : SlotId) → around.slot s ≡ kindless (slot_outcome (request.slots s)))
+    (in_context : (a : Text) → around.in_context a ≡ Open) (has_in_context : (a : Text) → around.has_in_context a ≡ Open) where
+  entry_is : (op : Operator) (ts : Trees) (x : Settling) → or_entry around op ts x ≡ x
+  entry_is (GetAttr a) (a_tree (Var Context) no_trees) Open = in_context a
+  entry_is (HasAttr a) (a_tree (Var Context) no_trees) Open = has_in_context a
   entry_is op ts x = refl
 
   mutual
-    settled_is : (t : Tree) → settled_in facts (around_of request) t ≡ kindless (meaning facts request t)
-    settled_is (Lit l) = refl
-    settled_is (Var v) = refl
-    settled_is (Slot s) = refl
-    settled_is (Unknown n ty) = refl
-    settled_is (If t y n) = rw (settled_is t, settled_is y, settled_is n) (if_is (meaning facts request t) (meaning facts request y) (meaning facts request n))
-    settled_is (And l r) = rw (settled_is l, settled_is r) (and_is (meaning facts request l) (meaning facts request r))
-    settled_is (Or l r) = rw (settled_is l, settled_is r) (or_is (meaning facts request l) (meaning facts request r))
-    settled_is (Apply op ts) =
-        entry_is op ts (apply_settled facts op (all_settled_in facts (around_of request) ts)) ∙
-        ap (apply_settled facts op) (all_settled_is ts) ∙ apply_is facts op (meanings facts request ts)
+    pub settled_at : (t : Tree) → EachUnknown Passes t → settled_in facts around t ≡ kindless (meaning facts request t)
+    settled_at (Lit l) h = refl
+    settled_at (Var v) h = variable v
+    settled_at (Slot s) h = slot s
+    settled_at (Unknown n ty) h = unknown n ty h
+    settled_at (If t y n) (h, i, j) = rw (settled_at t h, settled_at y i, settled_at n j) (if_is (meaning facts request t) (meaning facts request y) (meaning facts request n))
+    settled_at (And l r) (h, i) = rw (settled_at l h, settled_at r i) (and_is (meaning facts request l) (meaning facts request r))
+    settled_at (Or l r) (h, i) = rw (settled_at l h, settled_at r i) (or_is (meaning facts request l) (meaning facts request r))
+    settled_at (Apply op ts) h =
+        entry_is op ts (apply_settled facts op (all_settled_in facts around ts)) ∙
+        ap (apply_settled facts op) (all_settled_at ts h) ∙ apply_is facts op (meanings facts request ts)
 
-    all_settled_is : (ts : Trees) → all_settled_in facts (around_of request) ts ≡ kindless_all (meanings facts request ts)
-    all_settled_is no_trees = refl
-    all_settled_is (a_tree t ts) = rw (settled_is t, all_settled_is ts) (more_is (meaning facts request t) (meanings facts request ts))
+    all_settled_at : (ts : Trees) → EachUnknownOf Passes ts → all_settled_in facts around ts ≡ kindless_all (meanings facts request ts)
+    all_settled_at no_trees h = refl
+    all_settled_at (a_tree t ts) (h, i) = rw (settled_at t h, all_settled_at ts i) (more_is (meaning facts request t) (meanings facts request ts))
+
+-- a test that each unknown passes
+module _ (Passes : Text → Option ValueType → Type 0) (passes : (n : Text) (ty : Option ValueType) → Passes n ty) where
+  mutual
+    pub each_passes : (t : Tree) → EachUnknown Passes t
+    each_passes (Lit l) = tt
+    each_passes (Var v) = tt
+    each_passes (Slot s) = tt
+    each_passes (Unknown n ty) = passes n ty
+    each_passes (If t y n) = (each_passes t, each_passes y, each_passes n)
+    each_passes (And l r) = (each_passes l, each_passes r)
+    each_passes (Or l r) = (each_passes l, each_passes r)
+    each_passes (Apply op ts) = all_pass ts
+
+    all_pass : (ts : Trees) → EachUnknownOf Passes ts
+    all_pass no_trees = tt
+    all_pass (a_tree t ts) = (each_passes t, all_pass ts)
+
+abbrev Any : Text → Option ValueType → Type 0
+Any n ty = Unit {0}
+
+settled_is : (facts : Facts) (request : Request) (t : Tree) → settled_in facts (leaf_settlings_of request) t ≡ kindless (meaning facts request t)
+settled_is facts request t =
+    settled_at facts request (leaf_settlings_of request) Any (λ v. refl) (λ n ty h. refl) (λ s. refl) (λ a. refl) (λ a. refl) t (each_passes Any (λ n ty. tt) t)
+
+all_settled_is : (facts : Facts) (request : Request) (ts : Trees) → all_settled_in facts (leaf_settlings_of request) ts ≡ kindless_all (meanings facts request ts)
+all_settled_is facts request ts =
+    all_settled_at facts request (leaf_settlings_of request) Any (λ v. refl) (λ n ty h. refl) (λ s. refl) (λ a. refl) (λ a. refl) ts (all_pass Any (λ n ty. tt) ts)
 
 pub meaning_is_settled : MeaningIsSettled
 meaning_is_settled facts request t = settled_is facts request t
@@ -78,15 +112,18 @@ meaning_is_settled facts request t = settled_is facts request t
 -- ---- what is answered
 
 abbrev answers_of : Outcomes → Answers
-answers_of (GivesAll vs) = AllKnown vs
-answers_of (OneFails k) = SomeRefused k
+answers_of (GivesAll vs) = AllEvaluated vs
+answers_of (OneFails k) = SomeFailed k
 
 last_answered : (f : Tree → Tree) (o : Outcome) → last_answer f (answer_of o) ≡ answer_of (boolean_of o)
 last_answered f (Gives (Plain (Boolean b))) = refl
 last_answered f (Gives _) = refl
 last_answered f (Fails k) = refl
 
-module _ (facts : Facts) (request : Request) where
+module _ (facts : Facts) (request : Request) (holds : LeafAnswers) (Passes : Text → Option ValueType → Type 0)
+    (variable : (v : Variable) → holds.variable v ≡ Evaluated (request.variable v))
+    (unknown : (n : Text) (ty : Option ValueType) → Passes n ty → holds.unknown n ty ≡ answer_of (request.unknown n ty))
+    (slot : (s : SlotId) → holds.slot s ≡ answer_of (slot_outcome (request.slots s))) where
   and_answered : (a b : Outcome) (r : Tree) → and_answer facts (answer_of a) (answer_of b) r ≡ answer_of (and_of a b)
   and_answered (Gives (Plain (Boolean true))) b r = last_answered (And (Lit (Boolean true))) b
   and_answered (Gives (Plain (Boolean false))) b r = refl
@@ -94,8 +131,8 @@ module _ (facts : Facts) (request : Request) where
   and_answered (Fails k) b r = refl
 
   or_answered : (a b : Outcome) (r : Tree) → or_answer facts (answer_of a) (answer_of b) r ≡ answer_of (or_of a b)
-  or_answered (Gives (Plain (Boolean false))) b r = last_answered (Or (Lit (Boolean false))) b
   or_answered (Gives (Plain (Boolean true))) b r = refl
+  or_answered (Gives (Plain (Boolean false))) b r = last_answered (Or (Lit (Boolean false))) b
   or_answered (Gives _) b r = refl
   or_answered (Fails k) b r = refl
 
@@ -110,27 +147,27 @@ module _ (facts : Facts) (request : Request) where
   more_answered (Gives v) (OneFails k) = refl
   more_answered (Fails k) os = refl
 
-  apply_answered : (op : Operator) (os : Outcomes) → apply_answer facts (holds_of request) op (answers_of os) ≡ answer_of (apply_of facts op os)
+  apply_answered : (op : Operator) (os : Outcomes) → apply_answer facts holds op (answers_of os) ≡ answer_of (apply_of facts op os)
   apply_answered op (GivesAll vs) = refl
   apply_answered op (OneFails k) = refl
 
   mutual
-    answered : (t : Tree) → partial_in facts (holds_of request) t ≡ answer_of (meaning facts request t)
-    answered (Lit l) = refl
-    answered (Var v) = refl
-    answered (Slot s) = refl
-    answered (Unknown n ty) = refl
-    answered (If t y n) = rw (answered t, answered y, answered n) (if_answered (meaning facts request t) (meaning facts request y) (meaning facts request n) y n)
-    answered (And l r) = rw (answered l, answered r) (and_answered (meaning facts request l) (meaning facts request r) r)
-    answered (Or l r) = rw (answered l, answered r) (or_answered (meaning facts request l) (meaning facts request r) r)
-    answered (Apply op ts) = ap (apply_answer facts (holds_of request) op) (all_answered ts) ∙ apply_answered op (meanings facts request ts)
+    pub answered_at : (t : Tree) → EachUnknown Passes t → partial_in facts holds t ≡ answer_of (meaning facts request t)
+    answered_at (Lit l) h = refl
+    answered_at (Var v) h = variable v
+    answered_at (Slot s) h = slot s
+    answered_at (Unknown n ty) h = unknown n ty h
+    answered_at (If t y n) (h, i, j) = rw (answered_at t h, answered_at y i, answered_at n j) (if_answered (meaning facts request t) (meaning facts request y) (meaning facts request n) y n)
+    answered_at (And l r) (h, i) = rw (answered_at l h, answered_at r i) (and_answered (meaning facts request l) (meaning facts request r) r)
+    answered_at (Or l r) (h, i) = rw (answered_at l h, answered_at r i) (or_answered (meaning facts request l) (meaning facts request r) r)
+    answered_at (Apply op ts) h = ap (apply_answer facts holds op) (all_answered_at ts h) ∙ apply_answered op (meanings facts request ts)
 
-    all_answered : (ts : Trees) → all_partial_in facts (holds_of request) ts ≡ answers_of (meanings facts request ts)
-    all_answered no_trees = refl
-    all_answered (a_tree t ts) = rw (answered t, all_answered ts) (more_answered (meaning facts request t) (meanings facts request ts))
+    all_answered_at : (ts : Trees) → EachUnknownOf Passes ts → all_partial_in facts holds ts ≡ answers_of (meanings facts request ts)
+    all_answered_at no_trees h = refl
+    all_answered_at (a_tree t ts) (h, i) = rw (answered_at t h, all_answered_at ts i) (more_answered (meaning facts request t) (meanings facts request ts))
 
 pub known_is_meaning : KnownIsMeaning
-known_is_meaning facts request t = answered facts request t
+known_is_meaning facts request t = answered_at facts request (leaf_answers_of request) Any (λ v. refl) (λ n ty h. refl) (λ s. refl) t (each_passes Any (λ n ty. tt) t)
 
 -- ---- kinds
 
@@ -142,7 +179,7 @@ are_values : (os : Outcomes) (vs : Values) → kindless_all os ≡ AllAre vs →
 are_values (GivesAll ws) vs h = cc
 are_values (OneFails k) vs h = cc
 
-never_open : (o : Outcome) → kindless o ≢ Open
+pub never_open : (o : Outcome) → kindless o ≢ Open
 never_open (Gives w) h = cc
 never_open (Fails k) h = cc
 
@@ -166,20 +203,20 @@ boolean_not : (v : Value) → IsNotBoolean v → boolean_of (Gives v) ≡ Fails 
 boolean_not (Plain (Boolean x)) h = absurd h
 boolean_not _ h = refl
 
-module _ (facts : Facts) (request : Request) where
+module _ (facts : Facts) (request : Request) (Everywhere : Tree → Type 0) where
   abbrev Settles : Tree → Kind → Type 0
-  Settles t k = ErrsAs facts (around_of request) (ErrsEverywhere facts (holds_of request)) t k
+  Settles t k = ErrsAs facts (leaf_settlings_of request) Everywhere t k
 
   abbrev FirstSettles : Trees → Kind → Type 0
-  FirstSettles ts k = FirstErrsAs facts (around_of request) (ErrsEverywhere facts (holds_of request)) ts k
+  FirstSettles ts k = FirstErrsAs facts (leaf_settlings_of request) Everywhere ts k
 
-  value_at : (t : Tree) (v : Value) → settled_in facts (around_of request) t ≡ Is v → meaning facts request t ≡ Gives v
+  value_at : (t : Tree) (v : Value) → settled_in facts (leaf_settlings_of request) t ≡ Is v → meaning facts request t ≡ Gives v
   value_at t v h = is_value (meaning facts request t) v (sym (settled_is facts request t) ∙ h)
 
-  values_at : (ts : Trees) (vs : Values) → all_settled_in facts (around_of request) ts ≡ AllAre vs → meanings facts request ts ≡ GivesAll vs
+  values_at : (ts : Trees) (vs : Values) → all_settled_in facts (leaf_settlings_of request) ts ≡ AllAre vs → meanings facts request ts ≡ GivesAll vs
   values_at ts vs h = are_values (meanings facts request ts) vs (sym (all_settled_is facts request ts) ∙ h)
 
-  not_open : (t : Tree) → settled_in facts (around_of request) t ≢ Open
+  not_open : (t : Tree) → settled_in facts (leaf_settlings_of request) t ≢ Open
   not_open t h = never_open (meaning facts request t) (sym (settled_is facts request t) ∙ h)
 
   mutual
@@ -208,4 +245,4 @@ module _ (facts : Facts) (request : Request) where
     kinds_at (behind_erring {t = t} e f h) = absurd (not_open t e)
 
 pub kinds_are_meant : KindsAreMeant
-kinds_are_meant facts request t k h = kind_at facts request h
+kinds_are_meant facts request t k h = kind_at facts request (IsRefused facts (leaf_answers_of request)) h

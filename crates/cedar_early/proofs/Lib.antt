@@ -4,6 +4,7 @@ mod Sound
 mod Prompt
 mod Seam
 mod Question
+mod Filling
 mod Telling
 mod Early
 mod EarlyRows
@@ -12,3 +13,4 @@ mod Mentions
 mod Linking
 mod Unbound
 mod UnboundSeam
+mod Reauthorizing

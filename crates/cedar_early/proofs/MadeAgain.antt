@@ -8,7 +8,7 @@ use Rattle.cedar_language.specs.Order.{same_text, rising, put, placed, value_cmp
 use Rattle.cedar_language.specs.Facts.{Held, Function, Facts}
 use Rattle.cedar_language.specs.Operators.{found, applied, truth, or_fails}
 use Rattle.cedar_early.specs.MadeAgain.{IsMadeAgain, AreMadeAgain, HoldsMade}
-use Rattle.cedar_early.specs.Partial.{Answer, Known, Left, Refused, Answers, AllKnown, SomeLeft, SomeRefused, answer_of, last_answer, and_answer, or_answer, if_answer, and_next, are_plain, Holds, built_answer, plain_in, all_plain_in, found_tree, entry_answer, attribute_answer, has_entry_answer, has_answer, is_answer, stated_type, types_differ, equal_answer, left_answer, apply_answer, partial_in, all_partial_in}
+use Rattle.cedar_early.specs.Partial.{Answer, Evaluated, ResidualTree, Failed, Answers, AllEvaluated, SomeResiduals, SomeFailed, answer_of, last_answer, and_answer, or_answer, if_answer, and_next, are_projectable, LeafAnswers, built_answer, projected_in, all_projected_in, found_tree, entry_answer, attribute_answer, has_entry_answer, has_answer, is_answer, stated_type, types_differ, equal_answer, residual_answer, apply_answer, partial_in, all_partial_in}
 use Rattle.cedar_early.specs.Fair.{IsMadeAnswer, AreMadeLeaves}
 use Rattle.std.proofs.Common.{Ordering, ℤ, ◌+ℤ◌, ◌-ℤ◌, ◌*ℤ◌, neg_ℤ}
 use Rattle.cedar_language.specs.Operators as op
@@ -162,10 +162,10 @@ module _ (facts : Facts) where
     tag_made (a_value (Plain (Entity u)) (a_value (Plain (String a)) no_values)) = tag_held_made u a (facts.entity u) refl
     tag_made _ = tt
 
-    called_made : (n : Name) (o : Option Function) (vs : Values) → facts.function n ≡ o → IsMadeOutcome (op.called o vs)
-    called_made n None vs e = tt
-    called_made n (Some f) vs e =
-        cond_made (op.takes f.takes (op.count vs)) _ _ (or_fails_made _ (f.answer vs) (option_made (f.answer vs) (λ v i. good.answer n f vs v e i))) tt
+    called_made : (n : Name) (o : Option Function) (vs : Values) → AreMadeAgain facts vs → facts.function n ≡ o → IsMadeOutcome (op.called o vs)
+    called_made n None vs h e = tt
+    called_made n (Some f) vs h e =
+        cond_made (op.takes f.takes (op.count vs)) _ _ (or_fails_made _ (f.answer vs) (option_made (f.answer vs) (λ v i. good.answer n f vs v e h i))) tt
 
     applied_made : (o : Operator) (vs : Values) → AreMadeAgain facts vs → IsMadeOutcome (applied facts o vs)
     applied_made Not vs h = not_made vs
@@ -190,12 +190,12 @@ module _ (facts : Facts) where
     applied_made (tree.Is ty) vs h = is_made ty vs
     applied_made MakeSet vs h = (rising_rises vs, rising_made vs h)
     applied_made (MakeRecord ks) vs h = h
-    applied_made (Call n) vs h = called_made n (facts.function n) vs refl
+    applied_made (Call n) vs h = called_made n (facts.function n) vs h refl
 
     -- ---- answers
 
     abbrev pub AreMadeAnswers : Answers → Type 0
-    AreMadeAnswers (AllKnown vs) = AreMadeAgain facts vs
+    AreMadeAnswers (AllEvaluated vs) = AreMadeAgain facts vs
     AreMadeAnswers ps = Unit {0}
 
     answer_made : (o : Outcome) → IsMadeOutcome o → IsMadeAnswer facts (answer_of o)
@@ -203,58 +203,58 @@ module _ (facts : Facts) where
     answer_made (Fails k) h = tt
 
     last_made : (f : Tree → Tree) (p : Answer) → IsMadeAnswer facts (last_answer f p)
-    last_made f (Known (Plain (Boolean b))) = tt
-    last_made f (Known _) = tt
-    last_made f (Left r) = tt
-    last_made f (Refused k) = tt
+    last_made f (Evaluated (Plain (Boolean b))) = tt
+    last_made f (Evaluated _) = tt
+    last_made f (ResidualTree r) = tt
+    last_made f (Failed k) = tt
 
     and_made : (p q : Answer) (r : Tree) → IsMadeAnswer facts (and_answer facts p q r)
-    and_made (Left s) q r = tt
-    and_made (Known (Plain (Boolean true))) q r = last_made (And (Lit (Boolean true))) q
-    and_made (Known (Plain (Boolean false))) q r = tt
-    and_made (Known _) q r = tt
-    and_made (Refused k) q r = tt
+    and_made (ResidualTree s) q r = tt
+    and_made (Evaluated (Plain (Boolean true))) q r = last_made (And (Lit (Boolean true))) q
+    and_made (Evaluated (Plain (Boolean false))) q r = tt
+    and_made (Evaluated _) q r = tt
+    and_made (Failed k) q r = tt
 
     or_made : (p q : Answer) (r : Tree) → IsMadeAnswer facts (or_answer facts p q r)
-    or_made (Left s) q r = tt
-    or_made (Known (Plain (Boolean false))) q r = last_made (Or (Lit (Boolean false))) q
-    or_made (Known (Plain (Boolean true))) q r = tt
-    or_made (Known _) q r = tt
-    or_made (Refused k) q r = tt
+    or_made (ResidualTree s) q r = tt
+    or_made (Evaluated (Plain (Boolean false))) q r = last_made (Or (Lit (Boolean false))) q
+    or_made (Evaluated (Plain (Boolean true))) q r = tt
+    or_made (Evaluated _) q r = tt
+    or_made (Failed k) q r = tt
 
     if_made : (p q s : Answer) (y n : Tree) → IsMadeAnswer facts q → IsMadeAnswer facts s → IsMadeAnswer facts (if_answer facts p q s y n)
-    if_made (Left r) q s y n h k = tt
-    if_made (Known (Plain (Boolean true))) q s y n h k = h
-    if_made (Known (Plain (Boolean false))) q s y n h k = k
-    if_made (Known _) q s y n h k = tt
-    if_made (Refused e) q s y n h k = tt
+    if_made (ResidualTree r) q s y n h k = tt
+    if_made (Evaluated (Plain (Boolean true))) q s y n h k = h
+    if_made (Evaluated (Plain (Boolean false))) q s y n h k = k
+    if_made (Evaluated _) q s y n h k = tt
+    if_made (Failed e) q s y n h k = tt
 
     next_made : (p : Answer) (ps : Answers) → IsMadeAnswer facts p → AreMadeAnswers ps → AreMadeAnswers (and_next facts p ps)
-    next_made (Refused k) ps h i = tt
-    next_made (Known v) (AllKnown vs) h i = (h, i)
-    next_made (Known v) (SomeLeft rs) h i = tt
-    next_made (Known v) (SomeRefused k) h i = tt
-    next_made (Left r) (AllKnown vs) h i = tt
-    next_made (Left r) (SomeLeft rs) h i = tt
-    next_made (Left r) (SomeRefused k) h i = tt
+    next_made (Failed k) ps h i = tt
+    next_made (Evaluated v) (AllEvaluated vs) h i = (h, i)
+    next_made (Evaluated v) (SomeResiduals rs) h i = tt
+    next_made (Evaluated v) (SomeFailed k) h i = tt
+    next_made (ResidualTree r) (AllEvaluated vs) h i = tt
+    next_made (ResidualTree r) (SomeResiduals rs) h i = tt
+    next_made (ResidualTree r) (SomeFailed k) h i = tt
 
-    module _ (holds : Holds) (leaves : AreMadeLeaves facts holds) where
+    module _ (holds : LeafAnswers) (leaves : AreMadeLeaves facts holds) where
       built_made : (o : Operator) (ps : Answers) → AreMadeAnswers ps → IsMadeAnswer facts (built_answer facts o ps)
-      built_made o (AllKnown vs) h = answer_made (applied facts o vs) (applied_made o vs h)
-      built_made o (SomeLeft rs) h = tt
-      built_made o (SomeRefused k) h = tt
+      built_made o (AllEvaluated vs) h = answer_made (applied facts o vs) (applied_made o vs h)
+      built_made o (SomeResiduals rs) h = tt
+      built_made o (SomeFailed k) h = tt
 
       mutual
-        pub plain_made : (t : Tree) → IsMadeAnswer facts (plain_in facts holds t)
+        pub plain_made : (t : Tree) → IsMadeAnswer facts (projected_in facts holds t)
         plain_made (Lit l) = tt
         plain_made (Var v) = leaves.variable v
         plain_made (Unknown n ty) = leaves.unknown n ty
-        plain_made (Apply o ts) = built_made o (all_plain_in facts holds ts) (all_plain_made ts)
+        plain_made (Apply o ts) = built_made o (all_projected_in facts holds ts) (all_plain_made ts)
         plain_made _ = tt
 
-        pub all_plain_made : (ts : Trees) → AreMadeAnswers (all_plain_in facts holds ts)
+        pub all_plain_made : (ts : Trees) → AreMadeAnswers (all_projected_in facts holds ts)
         all_plain_made no_trees = tt
-        all_plain_made (a_tree t ts) = next_made (plain_in facts holds t) (all_plain_in facts holds ts) (plain_made t) (all_plain_made ts)
+        all_plain_made (a_tree t ts) = next_made (projected_in facts holds t) (all_projected_in facts holds ts) (plain_made t) (all_plain_made ts)
 
       entry_made : (a : Text) (r : Tree) (b : Bool) (o : Option Tree) → IsMadeAnswer facts (entry_answer facts holds a r b o)
       entry_made a r b None = tt
@@ -262,7 +262,7 @@ module _ (facts : Facts) where
       entry_made a r false (Some t) = tt
 
       attribute_left_made : (a : Text) (r : Tree) → IsMadeAnswer facts (attribute_answer facts holds a r)
-      attribute_left_made a (Apply (MakeRecord ks) rs) = entry_made a (Apply (MakeRecord ks) rs) (are_plain rs) (found_tree ks rs a)
+      attribute_left_made a (Apply (MakeRecord ks) rs) = entry_made a (Apply (MakeRecord ks) rs) (are_projectable rs) (found_tree ks rs a)
       attribute_left_made a _ = tt
 
       has_entry_made : (a : Text) (r : Tree) (b : Bool) (o : Option Tree) → IsMadeAnswer facts (has_entry_answer a r b o)
@@ -271,7 +271,7 @@ module _ (facts : Facts) where
       has_entry_made a r false o = tt
 
       has_left_made : (a : Text) (r : Tree) → IsMadeAnswer facts (has_answer a r)
-      has_left_made a (Apply (MakeRecord ks) rs) = has_entry_made a (Apply (MakeRecord ks) rs) (are_plain rs) (found_tree ks rs a)
+      has_left_made a (Apply (MakeRecord ks) rs) = has_entry_made a (Apply (MakeRecord ks) rs) (are_projectable rs) (found_tree ks rs a)
       has_left_made a _ = tt
 
       is_left_made : (ty : Name) (r : Tree) → IsMadeAnswer facts (is_answer ty r)
@@ -282,7 +282,7 @@ module _ (facts : Facts) where
       equal_left_made true r s = tt
       equal_left_made false r s = tt
 
-      left_made : (o : Operator) (rs : Trees) → IsMadeAnswer facts (left_answer facts holds o rs)
+      left_made : (o : Operator) (rs : Trees) → IsMadeAnswer facts (residual_answer facts holds o rs)
       left_made (GetAttr a) (a_tree r no_trees) = attribute_left_made a r
       left_made (HasAttr a) (a_tree r no_trees) = has_left_made a r
       left_made (tree.Is ty) (a_tree r no_trees) = is_left_made ty r
@@ -290,9 +290,9 @@ module _ (facts : Facts) where
       left_made _ _ = tt
 
       apply_made : (o : Operator) (ps : Answers) → AreMadeAnswers ps → IsMadeAnswer facts (apply_answer facts holds o ps)
-      apply_made o (AllKnown vs) h = answer_made (applied facts o vs) (applied_made o vs h)
-      apply_made o (SomeLeft rs) h = left_made o rs
-      apply_made o (SomeRefused k) h = tt
+      apply_made o (AllEvaluated vs) h = answer_made (applied facts o vs) (applied_made o vs h)
+      apply_made o (SomeResiduals rs) h = left_made o rs
+      apply_made o (SomeFailed k) h = tt
 
       mutual
         pub made : (t : Tree) → IsMadeAnswer facts (partial_in facts holds t)

@@ -1,5 +1,6 @@
 -- Trees that mention nothing unknown settle.
 use Rattle.std.proofs.Common.{◌≡◌, ap, ◌≢◌, Bool, true, false, ◌&&◌, Option, Some, None, refl}
+use Rattle.cedar_early.specs.Filling.{GivesEach, GivesEachOf}
 use Rattle.cedar_language.specs.Meaning.{Request, apply_of, meaning, meanings}
 use Rattle.cedar_language.specs.Value.{Outcome}
 use Rattle.cedar_language.specs.Uid.{Text, Uid}
@@ -7,17 +8,17 @@ use Rattle.cedar_language.specs.Tree.{Variable, Principal, Action, Resource, Con
 use Rattle.cedar_language.specs.Value.{Value}
 use Rattle.cedar_language.specs.Facts.{Facts}
 use Rattle.cedar_language.specs.Meaning.{slot_outcome}
-use Rattle.cedar_early.specs.Settling.{Settling, Open, Errs, Is, kindless, Around, or_entry, settled_in, all_settled_in}
+use Rattle.cedar_early.specs.Settling.{Settling, Open, Errs, Is, kindless, LeafSettlings, or_entry, settled_in, all_settled_in}
 use Rattle.cedar_early.specs.Question.{Part, Given, Missing, Entries, NoContext, WithEntries, Question, Told, settled_names, part_settled, context_settled, variable_settled, settled_of}
-use Rattle.cedar_early.specs.Mentions.{mentions_only, all_mention_only, is_given, is_known_context, is_known, KnownTreesSettle, with_names, NamesDontMatter}
+use Rattle.cedar_early.specs.Mentions.{WithoutUnknowns, mentions_only, all_mention_only, is_given, is_known_context, is_known, KnownTreesSettle, with_names, NamesDontMatter}
 use Rattle.cedar_early.proofs.Sound.{and_true, is_closed, are_closed, and_closed, or_closed, if_closed, more_closed, apply_closed}
 
-entry_closed : (around : Around) (op : Operator) (ts : Trees) (x : Settling) → is_closed x ≡ true → is_closed (or_entry around op ts x) ≡ true
+entry_closed : (around : LeafSettlings) (op : Operator) (ts : Trees) (x : Settling) → is_closed x ≡ true → is_closed (or_entry around op ts x) ≡ true
 entry_closed around (GetAttr a) (a_tree (Var Context) no_trees) Open h = cc
 entry_closed around (HasAttr a) (a_tree (Var Context) no_trees) Open h = cc
 entry_closed around op ts x h = h
 
-module _ (facts : Facts) (around : Around) (f : Variable → Bool) (slots : Bool) (variable : (v : Variable) → f v ≡ true → is_closed (around.variable v) ≡ true)
+module _ (facts : Facts) (around : LeafSettlings) (f : Variable → Bool) (slots : Bool) (variable : (v : Variable) → f v ≡ true → is_closed (around.variable v) ≡ true)
     (slot : (s : SlotId) → slots ≡ true → is_closed (around.slot s) ≡ true) where
   mutual
     closed_at : (t : Tree) → mentions_only f slots t ≡ true → is_closed (settled_in facts around t) ≡ true
@@ -98,3 +99,25 @@ module _ (facts : Facts) (request : Request) (names : Text → Option ValueType 
 
 pub names_dont_matter : NamesDontMatter
 names_dont_matter facts request names t h = same_meaning facts request names t h
+
+module _ (told : Told) (f : Variable → Bool) (slots : Bool) where
+  mutual
+    gives : (t : Tree) → mentions_only f slots t ≡ true → GivesEach told t
+    gives (Lit l) h = tt
+    gives (Var v) h = tt
+    gives (Slot s) h = tt
+    gives (Unknown n ty) h = cc
+    gives (If t y n) h =
+        let (ht, rest) = and_true (mentions_only f slots t) (mentions_only f slots y && mentions_only f slots n) h in
+        let (hy, hn) = and_true (mentions_only f slots y) (mentions_only f slots n) rest in
+        (gives t ht, gives y hy, gives n hn)
+    gives (And l r) h = let (hl, hr) = and_true (mentions_only f slots l) (mentions_only f slots r) h in (gives l hl, gives r hr)
+    gives (Or l r) h = let (hl, hr) = and_true (mentions_only f slots l) (mentions_only f slots r) h in (gives l hl, gives r hr)
+    gives (Apply op ts) h = all_give ts h
+
+    all_give : (ts : Trees) → all_mention_only f slots ts ≡ true → GivesEachOf told ts
+    all_give no_trees h = tt
+    all_give (a_tree t ts) h = let (ht, hts) = and_true (mentions_only f slots t) (all_mention_only f slots ts) h in (gives t ht, all_give ts hts)
+
+pub without_unknowns : WithoutUnknowns
+without_unknowns told f slots t h = gives told f slots t h

@@ -1,41 +1,37 @@
 -- Every answer is a result to which its tree settles, where there is one.
-use Rattle.std.proofs.Common.{◌≡◌, ◌≢◌, true, false, refl, ◌∙◌}
+use Rattle.std.proofs.Common.{◌≡◌, ◌≢◌, true, false, refl}
 use Rattle.cedar_language.specs.Uid.{Text}
 use Rattle.cedar_language.specs.Tree.{Boolean, Context, SlotId, Operator, GetAttr, HasAttr, Tree, Lit, Var, Slot, Unknown, If, And, Or, Apply, Trees, no_trees, a_tree}
 use Rattle.cedar_language.specs.Value.{Plain, Values, no_values, Kind, TypeError, RecordAttrDoesNotExist, UnlinkedSlot, Outcome, Gives, Fails}
 use Rattle.cedar_language.specs.Facts.{Facts}
 use Rattle.cedar_language.specs.Operators.{applied}
-use Rattle.cedar_early.specs.Settling.{Settling, Open, Errs, Is, Settlings, SomeOpen, SomeErrs, AllAre, kindless, Below, boolean, and_settled, or_settled, if_settled, and_more, apply_settled, Around, or_entry, settled_in, all_settled_in}
+use Rattle.cedar_early.specs.Settling.{Settling, Open, Errs, Is, Settlings, SomeOpen, SomeErrs, AllAre, kindless, Below, boolean, and_settled, or_settled, if_settled, and_more, apply_settled, LeafSettlings, or_entry, settled_in, all_settled_in}
 use Rattle.cedar_early.specs.MadeAgain.{HoldsMade}
-use Rattle.cedar_early.specs.Partial.{Answer, Known, Left, Refused, Answers, AllKnown, SomeRefused, answer_of, last_answer, and_answer, or_answer, if_answer, and_next, Holds, apply_answer, partial_in, all_partial_in}
+use Rattle.cedar_early.specs.Partial.{Answer, Evaluated, ResidualTree, Failed, Answers, AllEvaluated, SomeFailed, answer_of, last_answer, and_answer, or_answer, if_answer, and_next, LeafAnswers, apply_answer, partial_in, all_partial_in}
 use Rattle.cedar_early.specs.Fair.{AreMadeLeaves}
-use Rattle.cedar_early.specs.Prompt.{ErrsAs, unbound, and_left, and_right, and_left_type, and_right_type, or_left, or_right, or_left_type, or_right_type, if_test, if_type, if_then, if_else, operands, operator, no_entry, FirstErrsAs, here, behind_value, behind_open, behind_erring, seen, Meets, Shows, ErrsEverywhere, IsPrompt}
-use Rattle.cedar_early.proofs.Sound.{is_sound}
+use Rattle.cedar_early.specs.Prompt.{ErrsAs, unbound, and_left, and_right, and_left_type, and_right_type, or_left, or_right, or_left_type, or_right_type, if_test, if_type, if_then, if_else, operands, operator, no_entry, FirstErrsAs, here, behind_value, behind_open, behind_erring, without_kind, Meets, Shows, IsPrompt, IsRefused}
 
 -- a list of operands met by a list of answers
 abbrev pub MeetsAll : (Kind → Type 0) → Settlings → Answers → Type 0
 MeetsAll errs_as SomeOpen ps = Unit {0}
-MeetsAll errs_as SomeErrs ps = (k : Kind) × (ps ≡ SomeRefused k) × errs_as k
-MeetsAll errs_as (AllAre vs) ps = ps ≡ AllKnown vs
+MeetsAll errs_as SomeErrs ps = (k : Kind) × (ps ≡ SomeFailed k) × errs_as k
+MeetsAll errs_as (AllAre vs) ps = ps ≡ AllEvaluated vs
 
 -- what a leaf shows, it meets, since it never errs
-leaf_meets : (errs_as : Kind → Type 0) (x : Settling) (p : Answer) → Below x (seen p) → x ≢ Errs → Meets errs_as x p
+leaf_meets : (errs_as : Kind → Type 0) (x : Settling) (p : Answer) → Below x (without_kind p) → x ≢ Errs → Meets errs_as x p
 leaf_meets errs_as Open p h n = tt
 leaf_meets errs_as Errs p h n = absurd (n refl)
-leaf_meets errs_as (Is v) (Known w) h n = let e : v ≡ w = cc in rw e refl
-leaf_meets errs_as (Is v) (Left r) h n = cc
-leaf_meets errs_as (Is v) (Refused k) h n = cc
+leaf_meets errs_as (Is v) (Evaluated w) h n = let e : v ≡ w = cc in rw e refl
+leaf_meets errs_as (Is v) (ResidualTree r) h n = cc
+leaf_meets errs_as (Is v) (Failed k) h n = cc
 
-module _ (facts : Facts) (good : HoldsMade facts) (around : Around) (holds : Holds) (shows : Shows facts around holds) (leaves : AreMadeLeaves facts holds) where
+module _ (facts : Facts) (good : HoldsMade facts) (around : LeafSettlings) (holds : LeafAnswers) (shows : Shows facts around holds) (leaves : AreMadeLeaves facts holds)
+    (Everywhere : Tree → Type 0) (everywhere : (t : Tree) (k : Kind) → partial_in facts holds t ≡ Failed k → Everywhere t) where
   abbrev Kinds : Tree → Kind → Type 0
-  Kinds t k = ErrsAs facts around (ErrsEverywhere facts holds) t k
+  Kinds t k = ErrsAs facts around Everywhere t k
 
   abbrev FirstKinds : Trees → Kind → Type 0
-  FirstKinds ts k = FirstErrsAs facts around (ErrsEverywhere facts holds) ts k
-
-  -- an operand that is refused errs in every filling
-  everywhere : (t : Tree) (k : Kind) → partial_in facts holds t ≡ Refused k → ErrsEverywhere facts holds t
-  everywhere t k e filled full tells = is_sound facts good filled holds full tells leaves t ∙ rw e refl
+  FirstKinds ts k = FirstErrsAs facts around Everywhere ts k
 
   slot_meets : (s : SlotId) (x : Settling) (p : Answer) → around.slot s ≡ x → Meets (λ k. k ≡ UnlinkedSlot) x p → Meets (Kinds (Slot s)) x p
   slot_meets s Open p h m = tt
@@ -89,9 +85,9 @@ module _ (facts : Facts) (good : HoldsMade facts) (around : Around) (holds : Hol
   more_meets : (t : Tree) (ts : Trees) (x : Settling) (xs : Settlings) (p : Answer) (ps : Answers) →
       settled_in facts around t ≡ x → partial_in facts holds t ≡ p →
       Meets (Kinds t) x p → MeetsAll (FirstKinds ts) xs ps → MeetsAll (FirstKinds (a_tree t ts)) (and_more x xs) (and_next facts p ps)
-  more_meets t ts Open SomeErrs (Known v) ps h g m (k, e, first) = (k, rw e refl, behind_open h first)
-  more_meets t ts Open SomeErrs (Left r) ps h g m (k, e, first) = (k, rw e refl, behind_open h first)
-  more_meets t ts Open SomeErrs (Refused l) ps h g m (k, e, first) = (l, refl, behind_erring h (everywhere t l g) first)
+  more_meets t ts Open SomeErrs (Evaluated v) ps h g m (k, e, first) = (k, rw e refl, behind_open h first)
+  more_meets t ts Open SomeErrs (ResidualTree r) ps h g m (k, e, first) = (k, rw e refl, behind_open h first)
+  more_meets t ts Open SomeErrs (Failed l) ps h g m (k, e, first) = (l, refl, behind_erring h (everywhere t l g) first)
   more_meets t ts Errs SomeErrs p ps h g (k, e, errs) n = (k, rw e refl, here errs)
   more_meets t ts (Is v) SomeErrs p ps h g m (k, e, first) = (k, rw (m, e) refl, behind_value h first)
   more_meets t ts Errs SomeOpen p ps h g (k, e, errs) n = (k, rw e refl, here errs)
@@ -116,10 +112,10 @@ module _ (facts : Facts) (good : HoldsMade facts) (around : Around) (holds : Hol
   entry_meets : (op : Operator) (ts : Trees) (x : Settling) → Meets (Kinds (Apply op ts)) x (apply_answer facts holds op (all_partial_in facts holds ts)) →
       Meets (Kinds (Apply op ts)) (or_entry around op ts x) (apply_answer facts holds op (all_partial_in facts holds ts))
   entry_meets (GetAttr a) (a_tree (Var Context) no_trees) Open m =
-      in_context_meets a (around.in_context a) (apply_answer facts holds (GetAttr a) (and_next facts (holds.variable Context) (AllKnown no_values))) refl (shows.in_context a)
+      in_context_meets a (around.in_context a) (apply_answer facts holds (GetAttr a) (and_next facts (holds.variable Context) (AllEvaluated no_values))) refl (shows.in_context a)
   entry_meets (HasAttr a) (a_tree (Var Context) no_trees) Open m =
       leaf_meets (Kinds (Apply (HasAttr a) (a_tree (Var Context) no_trees))) (around.has_in_context a)
-      (apply_answer facts holds (HasAttr a) (and_next facts (holds.variable Context) (AllKnown no_values)))
+      (apply_answer facts holds (HasAttr a) (and_next facts (holds.variable Context) (AllEvaluated no_values)))
       (shows.has_in_context a).1 (shows.has_in_context a).0
   entry_meets op ts x m = m
 
@@ -130,7 +126,7 @@ module _ (facts : Facts) (good : HoldsMade facts) (around : Around) (holds : Hol
   apply_meets op ts (AllAre vs) ps h m = rw m (operator_meets op ts vs (applied facts op vs) h refl)
 
   mutual
-    prompt : (t : Tree) → Meets (ErrsAs facts around (ErrsEverywhere facts holds) t) (settled_in facts around t) (partial_in facts holds t)
+    pub prompt : (t : Tree) → Meets (ErrsAs facts around Everywhere t) (settled_in facts around t) (partial_in facts holds t)
     prompt (Lit l) = refl
     prompt (Unknown n ty) = leaf_meets (Kinds (Unknown n ty)) (around.unknown n ty) (holds.unknown n ty) (shows.unknown n ty) (shows.name_never_errs n ty)
     prompt (Slot s) = slot_meets s (around.slot s) (holds.slot s) refl (shows.slot s)
@@ -148,11 +144,11 @@ module _ (facts : Facts) (good : HoldsMade facts) (around : Around) (holds : Hol
         entry_meets op ts (apply_settled facts op (all_settled_in facts around ts))
         (apply_meets op ts (all_settled_in facts around ts) (all_partial_in facts holds ts) refl (all_prompt ts))
 
-    all_prompt : (ts : Trees) → MeetsAll (FirstErrsAs facts around (ErrsEverywhere facts holds) ts) (all_settled_in facts around ts) (all_partial_in facts holds ts)
+    all_prompt : (ts : Trees) → MeetsAll (FirstErrsAs facts around Everywhere ts) (all_settled_in facts around ts) (all_partial_in facts holds ts)
     all_prompt no_trees = refl
     all_prompt (a_tree t ts) =
         more_meets t ts (settled_in facts around t) (all_settled_in facts around ts) (partial_in facts holds t) (all_partial_in facts holds ts)
         refl refl (prompt t) (all_prompt ts)
 
 pub is_prompt : IsPrompt
-is_prompt facts good around holds shows leaves t = prompt facts good around holds shows leaves t
+is_prompt facts good around holds shows leaves t = prompt facts good around holds shows leaves (IsRefused facts holds) (λ t k e. (k, e)) t

@@ -7,9 +7,9 @@ use Rattle.cedar_language.specs.Value.{Value, Plain, no_values}
 use Rattle.cedar_language.specs.Order.{same_text, same_name}
 use Rattle.cedar_language.specs.Facts.{Facts}
 use Rattle.cedar_language.specs.Operators.{applied}
-use Rattle.cedar_early.specs.Settling.{Settling, Open, Errs, Is, Settlings, SomeOpen, SomeErrs, AllAre, kindless, Below, boolean, and_settled, or_settled, if_settled, and_more, apply_settled, Around, or_entry, settled_in, all_settled_in}
+use Rattle.cedar_early.specs.Settling.{Settling, Open, Errs, Is, Settlings, SomeOpen, SomeErrs, AllAre, kindless, Below, boolean, and_settled, or_settled, if_settled, and_more, apply_settled, LeafSettlings, or_entry, settled_in, all_settled_in}
 use Rattle.cedar_early.specs.MadeAgain.{HoldsMade}
-use Rattle.cedar_early.specs.Partial.{Answer, Known, Left, Refused, Answers, AllKnown, SomeLeft, SomeRefused, best_effort, last_answer, and_answer, or_answer, if_answer, and_next, is_plain, are_plain, Holds, built_answer, plain_in, all_plain_in, found_tree, entry_answer, attribute_answer, has_entry_answer, has_answer, is_answer, stated_type, types_differ, equal_answer, left_answer, apply_answer, partial_in, all_partial_in}
+use Rattle.cedar_early.specs.Partial.{Answer, Evaluated, ResidualTree, Failed, Answers, AllEvaluated, SomeResiduals, SomeFailed, best_effort, last_answer, and_answer, or_answer, if_answer, and_next, is_projectable, are_projectable, LeafAnswers, built_answer, projected_in, all_projected_in, found_tree, entry_answer, attribute_answer, has_entry_answer, has_answer, is_answer, stated_type, types_differ, equal_answer, residual_answer, apply_answer, partial_in, all_partial_in}
 use Rattle.cedar_early.specs.Fair.{IsOfType, read, read_all, IsMadeAnswer, AreMadeLeaves}
 use Rattle.cedar_early.specs.Seam.{Carries, ResidualsSettle}
 use Rattle.cedar_early.proofs.MadeAgain.{AreMadeAnswers, made, all_made, plain_made, all_plain_made}
@@ -86,18 +86,18 @@ apply_mono facts op SomeErrs zs h = rw (← h) refl
 apply_mono facts op (AllAre vs) zs h = rw (← h) (below_refl (kindless (applied facts op vs)))
 
 -- an entry of a plain record is plain
-pub entry_step : (b : Bool) (s t : Tree) (o : Option Tree) → is_plain s ≡ true → (o ≡ Some t → is_plain t ≡ true) → cond b (Some s) o ≡ Some t → is_plain t ≡ true
+pub entry_step : (b : Bool) (s t : Tree) (o : Option Tree) → is_projectable s ≡ true → (o ≡ Some t → is_projectable t ≡ true) → cond b (Some s) o ≡ Some t → is_projectable t ≡ true
 entry_step true s t o h f e = let q : s ≡ t = cc in rw q at h
 entry_step false s t o h f e = f e
 
-pub plain_entry : (ks : List Text) (ts : Trees) (a : Text) (t : Tree) → are_plain ts ≡ true → found_tree ks ts a ≡ Some t → is_plain t ≡ true
+pub plain_entry : (ks : List Text) (ts : Trees) (a : Text) (t : Tree) → are_projectable ts ≡ true → found_tree ks ts a ≡ Some t → is_projectable t ≡ true
 plain_entry [] ts a t h e = cc
 plain_entry (k ∷ ks) no_trees a t h e = cc
 plain_entry (k ∷ ks) (a_tree s ts) a t h e =
-    let (hs, hts) = and_true (is_plain s) (are_plain ts) h in
+    let (hs, hts) = and_true (is_projectable s) (are_projectable ts) h in
     entry_step (same_text k a) s t (found_tree ks ts a) hs (plain_entry ks ts a t hts) e
 
-module _ (facts : Facts) (good : HoldsMade facts) (later : Around) (holds : Holds) (carries : Carries facts later holds) (leaves : AreMadeLeaves facts holds) where
+module _ (facts : Facts) (good : HoldsMade facts) (later : LeafSettlings) (holds : LeafAnswers) (carries : Carries facts later holds) (leaves : AreMadeLeaves facts holds) where
   raised : (op : Operator) (ts : Trees) (x : Settling) → Below x (or_entry later op ts x)
   raised (GetAttr a) (a_tree (Var Context) no_trees) Open = tt
   raised (HasAttr a) (a_tree (Var Context) no_trees) Open = tt
@@ -108,56 +108,56 @@ module _ (facts : Facts) (good : HoldsMade facts) (later : Around) (holds : Hold
 
   best_effort_carries : (q : Answer) (t : Tree) → IsMadeAnswer facts q → Below (settled_in facts later t) (read facts later q) →
       Below (settled_in facts later t) (settled_in facts later (best_effort facts q t))
-  best_effort_carries (Known v) t m h = rw (tree_of_is facts later v m) h
-  best_effort_carries (Left r) t m h = h
-  best_effort_carries (Refused k) t m h = below_refl (settled_in facts later t)
+  best_effort_carries (Evaluated v) t m h = rw (tree_of_is facts later v m) h
+  best_effort_carries (ResidualTree r) t m h = h
+  best_effort_carries (Failed k) t m h = below_refl (settled_in facts later t)
 
   last_carries : (f : Tree → Tree) (y : Settling) (q : Answer) →
       ((t : Tree) → settled_in facts later (f t) ≡ boolean (settled_in facts later t)) →
       Below y (read facts later q) → Below (boolean y) (read facts later (last_answer f q))
-  last_carries f y (Known (Plain (Boolean b))) e h = boolean_mono y (Is (Plain (Boolean b))) h
-  last_carries f y (Known v) e h = boolean_mono y (Is v) h
-  last_carries f y (Left l) e h = rw (e l) (boolean_mono y (settled_in facts later l) h)
-  last_carries f y (Refused k) e h = boolean_mono y Errs h
+  last_carries f y (Evaluated (Plain (Boolean b))) e h = boolean_mono y (Is (Plain (Boolean b))) h
+  last_carries f y (Evaluated v) e h = boolean_mono y (Is v) h
+  last_carries f y (ResidualTree l) e h = rw (e l) (boolean_mono y (settled_in facts later l) h)
+  last_carries f y (Failed k) e h = boolean_mono y Errs h
 
   and_carries : (p q : Answer) (l r : Tree) → IsMadeAnswer facts q → Below (settled_in facts later l) (read facts later p) → Below (settled_in facts later r) (read facts later q) →
       Below (settled_in facts later (And l r)) (read facts later (and_answer facts p q r))
-  and_carries (Left s) q l r m h k = and_mono _ _ _ _ h (best_effort_carries q r m k)
-  and_carries (Known (Plain (Boolean true))) q l r m h k =
+  and_carries (ResidualTree s) q l r m h k = and_mono _ _ _ _ h (best_effort_carries q r m k)
+  and_carries (Evaluated (Plain (Boolean true))) q l r m h k =
       below_trans _ (boolean (settled_in facts later r)) _ (and_mono _ _ (Is (Plain (Boolean true))) _ h (below_refl (settled_in facts later r)))
       (last_carries (And (Lit (Boolean true))) (settled_in facts later r) q (λ t. refl) k)
-  and_carries (Known (Plain (Boolean false))) q l r m h k = and_mono _ _ (Is (Plain (Boolean false))) _ h k
-  and_carries (Known v) q l r m h k = and_mono _ _ (Is v) _ h k
-  and_carries (Refused e) q l r m h k = and_mono _ _ Errs _ h k
+  and_carries (Evaluated (Plain (Boolean false))) q l r m h k = and_mono _ _ (Is (Plain (Boolean false))) _ h k
+  and_carries (Evaluated v) q l r m h k = and_mono _ _ (Is v) _ h k
+  and_carries (Failed e) q l r m h k = and_mono _ _ Errs _ h k
 
   or_carries : (p q : Answer) (l r : Tree) → IsMadeAnswer facts q → Below (settled_in facts later l) (read facts later p) → Below (settled_in facts later r) (read facts later q) →
       Below (settled_in facts later (Or l r)) (read facts later (or_answer facts p q r))
-  or_carries (Left s) q l r m h k = or_mono _ _ _ _ h (best_effort_carries q r m k)
-  or_carries (Known (Plain (Boolean false))) q l r m h k =
+  or_carries (ResidualTree s) q l r m h k = or_mono _ _ _ _ h (best_effort_carries q r m k)
+  or_carries (Evaluated (Plain (Boolean false))) q l r m h k =
       below_trans _ (boolean (settled_in facts later r)) _ (or_mono _ _ (Is (Plain (Boolean false))) _ h (below_refl (settled_in facts later r)))
       (last_carries (Or (Lit (Boolean false))) (settled_in facts later r) q (λ t. refl) k)
-  or_carries (Known (Plain (Boolean true))) q l r m h k = or_mono _ _ (Is (Plain (Boolean true))) _ h k
-  or_carries (Known v) q l r m h k = or_mono _ _ (Is v) _ h k
-  or_carries (Refused e) q l r m h k = or_mono _ _ Errs _ h k
+  or_carries (Evaluated (Plain (Boolean true))) q l r m h k = or_mono _ _ (Is (Plain (Boolean true))) _ h k
+  or_carries (Evaluated v) q l r m h k = or_mono _ _ (Is v) _ h k
+  or_carries (Failed e) q l r m h k = or_mono _ _ Errs _ h k
 
   if_carries : (p q s : Answer) (t y n : Tree) → IsMadeAnswer facts q → IsMadeAnswer facts s → Below (settled_in facts later t) (read facts later p) → Below (settled_in facts later y) (read facts later q) →
       Below (settled_in facts later n) (read facts later s) → Below (settled_in facts later (If t y n)) (read facts later (if_answer facts p q s y n))
-  if_carries (Left r) q s t y n m o h k l = if_mono _ _ _ _ _ _ h (best_effort_carries q y m k) (best_effort_carries s n o l)
-  if_carries (Known (Plain (Boolean true))) q s t y n m o h k l = if_mono _ _ _ (Is (Plain (Boolean true))) _ _ h k l
-  if_carries (Known (Plain (Boolean false))) q s t y n m o h k l = if_mono _ _ _ (Is (Plain (Boolean false))) _ _ h k l
-  if_carries (Known v) q s t y n m o h k l = if_mono _ _ _ (Is v) _ _ h k l
-  if_carries (Refused e) q s t y n m o h k l = if_mono _ _ _ Errs _ _ h k l
+  if_carries (ResidualTree r) q s t y n m o h k l = if_mono _ _ _ _ _ _ h (best_effort_carries q y m k) (best_effort_carries s n o l)
+  if_carries (Evaluated (Plain (Boolean true))) q s t y n m o h k l = if_mono _ _ _ (Is (Plain (Boolean true))) _ _ h k l
+  if_carries (Evaluated (Plain (Boolean false))) q s t y n m o h k l = if_mono _ _ _ (Is (Plain (Boolean false))) _ _ h k l
+  if_carries (Evaluated v) q s t y n m o h k l = if_mono _ _ _ (Is v) _ _ h k l
+  if_carries (Failed e) q s t y n m o h k l = if_mono _ _ _ Errs _ _ h k l
 
   more_carries : (p : Answer) (ps : Answers) (t : Tree) (ts : Trees) → IsMadeAnswer facts p → AreMadeAnswers facts good ps → Below (settled_in facts later t) (read facts later p) →
       BelowAll (all_settled_in facts later ts) (read_all facts later ps) →
       BelowAll (all_settled_in facts later (a_tree t ts)) (read_all facts later (and_next facts p ps))
-  more_carries (Known v) (AllKnown vs) t ts m n h k = more_mono _ _ _ _ h k
-  more_carries (Known v) (SomeLeft rs) t ts m n h k = rw (tree_of_is facts later v m) (more_mono _ _ _ _ h k)
-  more_carries (Known v) (SomeRefused e) t ts m n h k = more_mono _ (Is v) _ _ h k
-  more_carries (Left r) (AllKnown vs) t ts m n h k = rw (trees_of_are facts later vs n) (more_mono _ _ _ _ h k)
-  more_carries (Left r) (SomeLeft rs) t ts m n h k = more_mono _ _ _ _ h k
-  more_carries (Left r) (SomeRefused e) t ts m n h k = more_mono _ (settled_in facts later r) _ _ h k
-  more_carries (Refused e) ps t ts m n h k = refused_more _ _ h
+  more_carries (Evaluated v) (AllEvaluated vs) t ts m n h k = more_mono _ _ _ _ h k
+  more_carries (Evaluated v) (SomeResiduals rs) t ts m n h k = rw (tree_of_is facts later v m) (more_mono _ _ _ _ h k)
+  more_carries (Evaluated v) (SomeFailed e) t ts m n h k = more_mono _ (Is v) _ _ h k
+  more_carries (ResidualTree r) (AllEvaluated vs) t ts m n h k = rw (trees_of_are facts later vs n) (more_mono _ _ _ _ h k)
+  more_carries (ResidualTree r) (SomeResiduals rs) t ts m n h k = more_mono _ _ _ _ h k
+  more_carries (ResidualTree r) (SomeFailed e) t ts m n h k = more_mono _ (settled_in facts later r) _ _ h k
+  more_carries (Failed e) ps t ts m n h k = refused_more _ _ h
 
   -- a plain tree never errs
   leaf_not : (x : Settling) → x ≢ Errs → (x ≡ Errs → ⊥)
@@ -195,7 +195,7 @@ module _ (facts : Facts) (good : HoldsMade facts) (later : Around) (holds : Hold
   record_doesnt ks (AllAre vs) h = tt
 
   mutual
-    plain_doesnt : (t : Tree) → is_plain t ≡ true → DoesntErr (settled_in facts later t)
+    plain_doesnt : (t : Tree) → is_projectable t ≡ true → DoesntErr (settled_in facts later t)
     plain_doesnt (Lit l) h = tt
     plain_doesnt (Unknown n ty) h = doesnt_err (later.unknown n ty) (carries.name_never_errs n ty)
     plain_doesnt (Var v) h = doesnt_err (later.variable v) (carries.never_errs v)
@@ -203,34 +203,34 @@ module _ (facts : Facts) (good : HoldsMade facts) (later : Around) (holds : Hold
     plain_doesnt (Apply (MakeRecord ks) ts) h = record_doesnt ks (all_settled_in facts later ts) (all_plain_dont ts h)
     plain_doesnt _ h = cc
 
-    all_plain_dont : (ts : Trees) → are_plain ts ≡ true → DontErr (all_settled_in facts later ts)
+    all_plain_dont : (ts : Trees) → are_projectable ts ≡ true → DontErr (all_settled_in facts later ts)
     all_plain_dont no_trees h = tt
     all_plain_dont (a_tree t ts) h =
-        let (ht, hts) = and_true (is_plain t) (are_plain ts) h in
+        let (ht, hts) = and_true (is_projectable t) (are_projectable ts) h in
         more_dont (settled_in facts later t) (all_settled_in facts later ts) (plain_doesnt t ht) (all_plain_dont ts hts)
 
   built_carries : (op : Operator) (xs : Settlings) (ps : Answers) → BelowAll xs (read_all facts later ps) →
       Below (apply_settled facts op xs) (read facts later (built_answer facts op ps))
-  built_carries op xs (AllKnown vs) h = below_trans _ _ _ (apply_mono facts op xs (AllAre vs) h) (below_is _ _ (kindless_answer facts later (applied facts op vs)))
-  built_carries op xs (SomeLeft rs) h = raised_to op rs _ _ (apply_mono facts op xs (all_settled_in facts later rs) h)
-  built_carries op xs (SomeRefused k) h = apply_mono facts op xs SomeErrs h
+  built_carries op xs (AllEvaluated vs) h = below_trans _ _ _ (apply_mono facts op xs (AllAre vs) h) (below_is _ _ (kindless_answer facts later (applied facts op vs)))
+  built_carries op xs (SomeResiduals rs) h = raised_to op rs _ _ (apply_mono facts op xs (all_settled_in facts later rs) h)
+  built_carries op xs (SomeFailed k) h = apply_mono facts op xs SomeErrs h
 
   -- for plain trees alone the context's entries play no part
   mutual
-    pub plain_carried : (t : Tree) → is_plain t ≡ true → Below (settled_in facts later t) (read facts later (plain_in facts holds t))
+    pub plain_carried : (t : Tree) → is_projectable t ≡ true → Below (settled_in facts later t) (read facts later (projected_in facts holds t))
     plain_carried (Lit l) h = refl
     plain_carried (Unknown n ty) h = carries.unknown n ty
     plain_carried (Var v) h = carries.variable v
-    plain_carried (Apply MakeSet ts) h = built_carries MakeSet (all_settled_in facts later ts) (all_plain_in facts holds ts) (all_plain_carried ts h)
+    plain_carried (Apply MakeSet ts) h = built_carries MakeSet (all_settled_in facts later ts) (all_projected_in facts holds ts) (all_plain_carried ts h)
     plain_carried (Apply (MakeRecord ks) ts) h =
-        built_carries (MakeRecord ks) (all_settled_in facts later ts) (all_plain_in facts holds ts) (all_plain_carried ts h)
+        built_carries (MakeRecord ks) (all_settled_in facts later ts) (all_projected_in facts holds ts) (all_plain_carried ts h)
     plain_carried _ h = cc
 
-    all_plain_carried : (ts : Trees) → are_plain ts ≡ true → BelowAll (all_settled_in facts later ts) (read_all facts later (all_plain_in facts holds ts))
+    all_plain_carried : (ts : Trees) → are_projectable ts ≡ true → BelowAll (all_settled_in facts later ts) (read_all facts later (all_projected_in facts holds ts))
     all_plain_carried no_trees h = refl
     all_plain_carried (a_tree t ts) h =
-        let (ht, hts) = and_true (is_plain t) (are_plain ts) h in
-        more_carries (plain_in facts holds t) (all_plain_in facts holds ts) t ts (plain_made facts good holds leaves t) (all_plain_made facts good holds leaves ts) (plain_carried t ht) (all_plain_carried ts hts)
+        let (ht, hts) = and_true (is_projectable t) (are_projectable ts) h in
+        more_carries (projected_in facts holds t) (all_projected_in facts holds ts) t ts (plain_made facts good holds leaves t) (all_plain_made facts good holds leaves ts) (plain_carried t ht) (all_plain_carried ts hts)
 
   absent_carries : (a : Text) (ks : List Text) (rs : Trees) → found_tree ks rs a ≡ None → (xs : Settlings) → all_settled_in facts later rs ≡ xs →
       Below (apply_settled facts (GetAttr a) (and_more (apply_settled facts (MakeRecord ks) xs) (AllAre no_values))) Errs
@@ -244,7 +244,7 @@ module _ (facts : Facts) (good : HoldsMade facts) (later : Around) (holds : Hold
   projected a ks rs t e SomeErrs h d = absurd d
   projected a ks rs t e (AllAre vs) h d = let (v, f, is) = found_is_at facts later ks rs vs a t h e in rw (f, is) refl
 
-  entry_carries : (a : Text) (ks : List Text) (rs : Trees) (plain : Bool) (o : Option Tree) → are_plain rs ≡ plain → found_tree ks rs a ≡ o →
+  entry_carries : (a : Text) (ks : List Text) (rs : Trees) (plain : Bool) (o : Option Tree) → are_projectable rs ≡ plain → found_tree ks rs a ≡ o →
       Below (apply_settled facts (GetAttr a) (and_more (settled_in facts later (Apply (MakeRecord ks) rs)) (AllAre no_values)))
       (read facts later (entry_answer facts holds a (Apply (MakeRecord ks) rs) plain o))
   entry_carries a ks rs plain None h e = absent_carries a ks rs e (all_settled_in facts later rs) refl
@@ -255,7 +255,7 @@ module _ (facts : Facts) (good : HoldsMade facts) (later : Around) (holds : Hold
 
   attribute_carries : (a : Text) (r : Tree) →
       Below (apply_settled facts (GetAttr a) (and_more (settled_in facts later r) (AllAre no_values))) (read facts later (attribute_answer facts holds a r))
-  attribute_carries a (Apply (MakeRecord ks) rs) = entry_carries a ks rs (are_plain rs) (found_tree ks rs a) refl refl
+  attribute_carries a (Apply (MakeRecord ks) rs) = entry_carries a ks rs (are_projectable rs) (found_tree ks rs a) refl refl
   attribute_carries a r = raised (GetAttr a) (a_tree r no_trees) _
 
   present_has : (a : Text) (ks : List Text) (rs : Trees) (t : Tree) → found_tree ks rs a ≡ Some t → (xs : Settlings) → all_settled_in facts later rs ≡ xs → DontErr xs →
@@ -270,7 +270,7 @@ module _ (facts : Facts) (good : HoldsMade facts) (later : Around) (holds : Hold
   absent_has a ks rs e SomeErrs h d = absurd d
   absent_has a ks rs e (AllAre vs) h d = rw (not_found_is_at facts later ks rs vs a h e) refl
 
-  has_entry_carries : (a : Text) (ks : List Text) (rs : Trees) (plain : Bool) (o : Option Tree) → are_plain rs ≡ plain → found_tree ks rs a ≡ o →
+  has_entry_carries : (a : Text) (ks : List Text) (rs : Trees) (plain : Bool) (o : Option Tree) → are_projectable rs ≡ plain → found_tree ks rs a ≡ o →
       Below (apply_settled facts (HasAttr a) (and_more (settled_in facts later (Apply (MakeRecord ks) rs)) (AllAre no_values)))
       (read facts later (has_entry_answer a (Apply (MakeRecord ks) rs) plain o))
   has_entry_carries a ks rs true None h e = absent_has a ks rs e (all_settled_in facts later rs) refl (all_plain_dont rs h)
@@ -279,7 +279,7 @@ module _ (facts : Facts) (good : HoldsMade facts) (later : Around) (holds : Hold
 
   has_carries : (a : Text) (r : Tree) →
       Below (apply_settled facts (HasAttr a) (and_more (settled_in facts later r) (AllAre no_values))) (read facts later (has_answer a r))
-  has_carries a (Apply (MakeRecord ks) rs) = has_entry_carries a ks rs (are_plain rs) (found_tree ks rs a) refl refl
+  has_carries a (Apply (MakeRecord ks) rs) = has_entry_carries a ks rs (are_projectable rs) (found_tree ks rs a) refl refl
   has_carries a r = raised (HasAttr a) (a_tree r no_trees) _
 
   -- an unknown with a stated type is open, or an entity of that type
@@ -335,7 +335,7 @@ module _ (facts : Facts) (good : HoldsMade facts) (later : Around) (holds : Hold
   equal_carries r s false h = raised Equal (a_tree r (a_tree s no_trees)) _
 
   pub left_carries : (op : Operator) (rs : Trees) →
-      Below (apply_settled facts op (all_settled_in facts later rs)) (read facts later (left_answer facts holds op rs))
+      Below (apply_settled facts op (all_settled_in facts later rs)) (read facts later (residual_answer facts holds op rs))
   left_carries (GetAttr a) (a_tree r no_trees) = attribute_carries a r
   left_carries (HasAttr a) (a_tree r no_trees) = has_carries a r
   left_carries (tree.Is ty) (a_tree r no_trees) = type_carries ty r
@@ -344,9 +344,9 @@ module _ (facts : Facts) (good : HoldsMade facts) (later : Around) (holds : Hold
 
   apply_carries : (op : Operator) (xs : Settlings) (ps : Answers) → BelowAll xs (read_all facts later ps) →
       Below (apply_settled facts op xs) (read facts later (apply_answer facts holds op ps))
-  apply_carries op xs (AllKnown vs) h = below_trans _ _ _ (apply_mono facts op xs (AllAre vs) h) (below_is _ _ (kindless_answer facts later (applied facts op vs)))
-  apply_carries op xs (SomeLeft rs) h = below_trans _ _ _ (apply_mono facts op xs (all_settled_in facts later rs) h) (left_carries op rs)
-  apply_carries op xs (SomeRefused k) h = apply_mono facts op xs SomeErrs h
+  apply_carries op xs (AllEvaluated vs) h = below_trans _ _ _ (apply_mono facts op xs (AllAre vs) h) (below_is _ _ (kindless_answer facts later (applied facts op vs)))
+  apply_carries op xs (SomeResiduals rs) h = below_trans _ _ _ (apply_mono facts op xs (all_settled_in facts later rs) h) (left_carries op rs)
+  apply_carries op xs (SomeFailed k) h = apply_mono facts op xs SomeErrs h
 
   entry_carried : (op : Operator) (ts : Trees) (x : Settling) → Below x (read facts later (apply_answer facts holds op (all_partial_in facts holds ts))) →
       Below (or_entry later op ts x) (read facts later (apply_answer facts holds op (all_partial_in facts holds ts)))

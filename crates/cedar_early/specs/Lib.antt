@@ -1,3 +1,4 @@
+pub mod Unknowns
 pub mod Settling
 pub mod MadeAgain
 pub mod Partial
@@ -5,6 +6,7 @@ pub mod Fair
 pub mod Prompt
 pub mod Seam
 pub mod Question
+pub mod Filling
 pub mod Telling
 pub mod Early
 pub mod Like
@@ -12,3 +14,4 @@ pub mod Mentions
 pub mod Linking
 pub mod Unbound
 pub mod UnboundSeam
+pub mod Reauthorizing

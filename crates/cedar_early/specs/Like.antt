@@ -3,14 +3,14 @@ use Rattle.std.specs.Prelude.{◌≡◌, true}
 use Rattle.cedar_language.specs.Tree.{Operator, Tree, If, And, Or, Apply, Trees, no_trees, a_tree}
 use Rattle.cedar_language.specs.Value.{Extension, ExtensionOf}
 use Rattle.cedar_language.specs.Facts.{Written, Facts}
-use Rattle.cedar_early.specs.Settling.{Around, Is, settled_in}
+use Rattle.cedar_early.specs.Settling.{LeafSettlings, Is, settled_in}
 use Rattle.cedar_early.specs.MadeAgain.{call_of, HoldsMade}
-use Rattle.cedar_early.specs.Partial.{Holds, Known, is_plain, partial_in}
+use Rattle.cedar_early.specs.Partial.{LeafAnswers, Evaluated, is_projectable, partial_in}
 use Rattle.cedar_early.specs.Fair.{AreMadeLeaves}
 
 -- the call has the extension value, whatever stands around
 abbrev pub Writes : Facts → Written → Extension → Type 0
-Writes facts w e = (around : Around) → settled_in facts around (call_of w) ≡ Is (ExtensionOf e)
+Writes facts w e = (around : LeafSettlings) → settled_in facts around (call_of w) ≡ Is (ExtensionOf e)
 
 mutual
   pub data IsLike (facts : Facts) : Tree → Tree → Type 0 where
@@ -27,10 +27,10 @@ mutual
 
 pub record LikeTreesAgree (facts : Facts) : Type 0 where
   -- they settle alike
-  pub settle : (around : Around) (s t : Tree) → IsLike facts s t → settled_in facts around s ≡ settled_in facts around t
-  -- they are plain alike, and where they are plain they are one
-  pub plain : (s t : Tree) → IsLike facts s t → is_plain s ≡ is_plain t
-  pub one : (s t : Tree) → IsLike facts s t → is_plain s ≡ true → s ≡ t
+  pub settle : (around : LeafSettlings) (s t : Tree) → IsLike facts s t → settled_in facts around s ≡ settled_in facts around t
+  -- they are projectable alike, and where they are projectable they are one
+  pub projectable : (s t : Tree) → IsLike facts s t → is_projectable s ≡ is_projectable t
+  pub one : (s t : Tree) → IsLike facts s t → is_projectable s ≡ true → s ≡ t
 
 abbrev pub LikeTreesAgreeAlways : Type 0
 LikeTreesAgreeAlways = (facts : Facts) → LikeTreesAgree facts
@@ -38,5 +38,5 @@ LikeTreesAgreeAlways = (facts : Facts) → LikeTreesAgree facts
 -- what writes an extension value is answered by it
 abbrev pub WrittenIsAnswered : Type 0
 WrittenIsAnswered =
-    (facts : Facts) → HoldsMade facts → (holds : Holds) → AreMadeLeaves facts holds → (w : Written) (e : Extension) → Writes facts w e →
-    partial_in facts holds (call_of w) ≡ Known (ExtensionOf e)
+    (facts : Facts) → HoldsMade facts → (holds : LeafAnswers) → AreMadeLeaves facts holds → (w : Written) (e : Extension) → Writes facts w e →
+    partial_in facts holds (call_of w) ≡ Evaluated (ExtensionOf e)

@@ -5,7 +5,7 @@ use Rattle.cedar_language.specs.Tree.{MakeSet, MakeRecord, Call, Tree, Lit, Appl
 use Rattle.cedar_language.specs.Value.{Value, Plain, SetOf, RecordOf, ExtensionOf, Values, no_values, a_value}
 use Rattle.cedar_language.specs.Order.{IsRising}
 use Rattle.cedar_language.specs.Facts.{Held, Function, Written, Facts}
-use Rattle.cedar_early.specs.Settling.{Around, Is, settled_in}
+use Rattle.cedar_early.specs.Settling.{LeafSettlings, Is, settled_in}
 
 abbrev pub call_of : Written → Tree
 call_of w = Apply (Call w.function) w.arguments
@@ -28,14 +28,14 @@ abbrev mutual
   IsMadeAgain facts (Plain l) = Unit {0}
   IsMadeAgain facts (SetOf vs) = IsRising vs × AreMadeAgain facts vs
   IsMadeAgain facts (RecordOf ks vs) = AreMadeAgain facts vs
-  IsMadeAgain facts (ExtensionOf e) = (around : Around) → settled_in facts around (call_of (facts.written e)) ≡ Is (ExtensionOf e)
+  IsMadeAgain facts (ExtensionOf e) = (around : LeafSettlings) → settled_in facts around (call_of (facts.written e)) ≡ Is (ExtensionOf e)
 
   pub AreMadeAgain : Facts → Values → Type 0
   AreMadeAgain facts no_values = Unit {0}
   AreMadeAgain facts (a_value v vs) = IsMadeAgain facts v × AreMadeAgain facts vs
 
--- all that entities hold and functions answer is made again
+-- all that entities hold is made again, and what functions answer where their arguments are
 pub record HoldsMade (facts : Facts) : Type 0 where
   pub attribute : (u : Uid) (h : Held) (a : Text) (v : Value) → facts.entity u ≡ Some h → h.attribute a ≡ Some v → IsMadeAgain facts v
   pub tag : (u : Uid) (h : Held) (a : Text) (v : Value) → facts.entity u ≡ Some h → h.tag a ≡ Some v → IsMadeAgain facts v
-  pub answer : (n : Name) (f : Function) (vs : Values) (v : Value) → facts.function n ≡ Some f → f.answer vs ≡ Some v → IsMadeAgain facts v
+  pub answer : (n : Name) (f : Function) (vs : Values) (v : Value) → facts.function n ≡ Some f → AreMadeAgain facts vs → f.answer vs ≡ Some v → IsMadeAgain facts v

@@ -1,5 +1,6 @@
 -- A tree that mentions nothing unknown settles, whatever stands for what is missing.
 use Rattle.std.specs.Prelude.{Option, ◌≡◌, ◌≢◌, Bool, true, false, ◌&&◌}
+use Rattle.cedar_early.specs.Filling.{GivesEach}
 use Rattle.cedar_language.specs.Uid.{Text}
 use Rattle.cedar_language.specs.Tree.{Variable, Principal, Action, Resource, Context, Tree, Lit, Var, Slot, Unknown, If, And, Or, Apply, Trees, no_trees, a_tree, ValueType}
 use Rattle.cedar_language.specs.Facts.{Facts}
@@ -51,3 +52,7 @@ abbrev pub NamesDontMatter : Type 0
 NamesDontMatter =
     (facts : Facts) (request : Request) (names : Text → Option ValueType → Outcome) (t : Tree) → mentions_only (λ v. true) true t ≡ true →
     meaning facts request t ≡ meaning facts (with_names names request) t
+
+-- where no unknown stands in a tree, any values give each of its unknowns one
+abbrev pub WithoutUnknowns : Type 0
+WithoutUnknowns = (told : Told) (f : Variable → Bool) (slots : Bool) (t : Tree) → mentions_only f slots t ≡ true → GivesEach told t

@@ -7,10 +7,10 @@ use Rattle.cedar_language.specs.Facts.{Facts}
 use Rattle.cedar_language.specs.Operators.{applied}
 use Rattle.cedar_language.specs.Means.{IsNotBoolean}
 use Rattle.cedar_language.specs.Meaning.{Request, meaning}
-use Rattle.cedar_early.specs.Settling.{Settling, Open, Errs, Is, AllAre, Around, Below, settled_in, all_settled_in, around_of}
+use Rattle.cedar_early.specs.Settling.{Settling, Open, Errs, Is, AllAre, LeafSettlings, Below, settled_in, all_settled_in, leaf_settlings_of}
 use Rattle.cedar_early.specs.MadeAgain.{HoldsMade}
-use Rattle.cedar_early.specs.Partial.{Answer, Known, Left, Refused, AllKnown, Holds, and_next, apply_answer, partial_in, holds_of}
-use Rattle.cedar_early.specs.Fair.{IsFull, Tells, AreMadeLeaves}
+use Rattle.cedar_early.specs.Partial.{Answer, Evaluated, ResidualTree, Failed, AllEvaluated, LeafAnswers, and_next, apply_answer, partial_in, leaf_answers_of}
+use Rattle.cedar_early.specs.Fair.{AreMadeLeaves}
 
 abbrev pub true_value : Value
 true_value = Plain (Boolean true)
@@ -20,7 +20,7 @@ false_value = Plain (Boolean false)
 
 -- `ErrsAs .. t k`: the tree settles to the error k; `everywhere t`: t errs in every filling
 mutual
-  pub data ErrsAs (facts : Facts) (around : Around) (everywhere : Tree → Type 0) : Tree → Kind → Type 0 where
+  pub data ErrsAs (facts : Facts) (around : LeafSettlings) (everywhere : Tree → Type 0) : Tree → Kind → Type 0 where
     unbound : {s : SlotId} → around.slot s ≡ Errs → ErrsAs facts around everywhere (Slot s) UnlinkedSlot
     and_left : {l r : Tree} {k : Kind} → ErrsAs facts around everywhere l k → ErrsAs facts around everywhere (And l r) k
     and_right : {l r : Tree} {k : Kind} → settled_in facts around l ≡ Is true_value → ErrsAs facts around everywhere r k → ErrsAs facts around everywhere (And l r) k
@@ -39,45 +39,44 @@ mutual
     no_entry : {a : Text} → around.in_context a ≡ Errs → ErrsAs facts around everywhere (Apply (GetAttr a) (a_tree (Var Context) no_trees)) RecordAttrDoesNotExist
 
   -- the first operand that settles to an error, open ones passed over; behind one that errs everywhere any kind
-  pub data FirstErrsAs (facts : Facts) (around : Around) (everywhere : Tree → Type 0) : Trees → Kind → Type 0 where
+  pub data FirstErrsAs (facts : Facts) (around : LeafSettlings) (everywhere : Tree → Type 0) : Trees → Kind → Type 0 where
     here : {t : Tree} {ts : Trees} {k : Kind} → ErrsAs facts around everywhere t k → FirstErrsAs facts around everywhere (a_tree t ts) k
     behind_value : {t : Tree} {ts : Trees} {v : Value} {k : Kind} → settled_in facts around t ≡ Is v → FirstErrsAs facts around everywhere ts k → FirstErrsAs facts around everywhere (a_tree t ts) k
     behind_open : {t : Tree} {ts : Trees} {k : Kind} → settled_in facts around t ≡ Open → FirstErrsAs facts around everywhere ts k → FirstErrsAs facts around everywhere (a_tree t ts) k
     behind_erring : {t : Tree} {ts : Trees} {k l : Kind} → settled_in facts around t ≡ Open → everywhere t → FirstErrsAs facts around everywhere ts k → FirstErrsAs facts around everywhere (a_tree t ts) l
 
-abbrev pub seen : Answer → Settling
-seen (Known v) = Is v
-seen (Left r) = Open
-seen (Refused k) = Errs
+abbrev pub without_kind : Answer → Settling
+without_kind (Evaluated v) = Is v
+without_kind (ResidualTree r) = Open
+without_kind (Failed k) = Errs
 
 -- an answer that is a result to which the tree settles, where there is one
 abbrev pub Meets : (Kind → Type 0) → Settling → Answer → Type 0
 Meets errs_as Open p = Unit {0}
-Meets errs_as Errs p = (k : Kind) × (p ≡ Refused k) × errs_as k
-Meets errs_as (Is v) p = p ≡ Known v
+Meets errs_as Errs p = (k : Kind) × (p ≡ Failed k) × errs_as k
+Meets errs_as (Is v) p = p ≡ Evaluated v
 
 -- what is settled of a leaf is held for it
-pub record Shows (facts : Facts) (around : Around) (holds : Holds) : Type 0 where
-  pub variable : (v : Variable) → Below (around.variable v) (seen (holds.variable v))
+pub record Shows (facts : Facts) (around : LeafSettlings) (holds : LeafAnswers) : Type 0 where
+  pub variable : (v : Variable) → Below (around.variable v) (without_kind (holds.variable v))
   pub never_errs : (v : Variable) → around.variable v ≢ Errs
-  pub unknown : (n : Text) (ty : Option ValueType) → Below (around.unknown n ty) (seen (holds.unknown n ty))
+  pub unknown : (n : Text) (ty : Option ValueType) → Below (around.unknown n ty) (without_kind (holds.unknown n ty))
   pub name_never_errs : (n : Text) (ty : Option ValueType) → around.unknown n ty ≢ Errs
   pub slot : (s : SlotId) → Meets (λ k. k ≡ UnlinkedSlot) (around.slot s) (holds.slot s)
-  pub in_context : (a : Text) → Meets (λ k. k ≡ RecordAttrDoesNotExist) (around.in_context a) (apply_answer facts holds (GetAttr a) (and_next facts (holds.variable Context) (AllKnown no_values)))
-  pub has_in_context : (a : Text) → (around.has_in_context a ≢ Errs) × Below (around.has_in_context a) (seen (apply_answer facts holds (HasAttr a) (and_next facts (holds.variable Context) (AllKnown no_values))))
+  pub in_context : (a : Text) → Meets (λ k. k ≡ RecordAttrDoesNotExist) (around.in_context a) (apply_answer facts holds (GetAttr a) (and_next facts (holds.variable Context) (AllEvaluated no_values)))
+  pub has_in_context : (a : Text) → (around.has_in_context a ≢ Errs) × Below (around.has_in_context a) (without_kind (apply_answer facts holds (HasAttr a) (and_next facts (holds.variable Context) (AllEvaluated no_values))))
 
--- t errs in every filling of what is held
-abbrev pub ErrsEverywhere : Facts → Holds → Tree → Type 0
-ErrsEverywhere facts holds t = (filled : Around) → IsFull filled → Tells facts filled holds → settled_in facts filled t ≡ Errs
+-- what is held suffices for the tree to be refused
+abbrev pub IsRefused : Facts → LeafAnswers → Tree → Type 0
+IsRefused facts holds t = (k : Kind) × (partial_in facts holds t ≡ Failed k)
 
 -- every answer is a result to which its tree settles, where there is one
 abbrev pub IsPrompt : Type 0
 IsPrompt =
-    (facts : Facts) → HoldsMade facts → (around : Around) (holds : Holds) → Shows facts around holds → AreMadeLeaves facts holds → (t : Tree) →
-    Meets (ErrsAs facts around (ErrsEverywhere facts holds) t) (settled_in facts around t) (partial_in facts holds t)
+    (facts : Facts) → HoldsMade facts → (around : LeafSettlings) (holds : LeafAnswers) → Shows facts around holds → AreMadeLeaves facts holds → (t : Tree) →
+    Meets (ErrsAs facts around (IsRefused facts holds) t) (settled_in facts around t) (partial_in facts holds t)
 
 -- where everything is known, the kind to which a tree settles is the kind that it means
 abbrev pub KindsAreMeant : Type 0
 KindsAreMeant =
-    (facts : Facts) (request : Request) (t : Tree) (k : Kind) →
-    ErrsAs facts (around_of request) (ErrsEverywhere facts (holds_of request)) t k → meaning facts request t ≡ Fails k
+    (facts : Facts) (request : Request) (t : Tree) (k : Kind) → ErrsAs facts (leaf_settlings_of request) (IsRefused facts (leaf_answers_of request)) t k → meaning facts request t ≡ Fails k

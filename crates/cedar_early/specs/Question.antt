@@ -1,17 +1,19 @@
 -- A question with missing parts and unknown names, and what is settled and held of its leaves once values are told.
-use Rattle.std.specs.Prelude.{◌≡◌, ◌≢◌, Bool, true, false, ◌&&◌, Option, Some, None, List, [], codes}
+use Rattle.std.specs.Prelude.{◌≡◌, ◌≢◌, Bool, true, false, ◌&&◌, Option, Some, None, List, codes}
+pub use Rattle.cedar_language.specs.Restricted.{is_restricted, are_restricted}
+use Rattle.cedar_language.specs.Order.{text_cmp}
+use Rattle.std.specs.FinMap.{FinMap}
+use Rattle.std.specs.FinMap as finite
 use Rattle.cedar_language.specs.Uid.{Text, Name, Uid}
-use Rattle.cedar_language.specs.Tree.{Boolean, Entity, MakeSet, MakeRecord, Variable, Principal, Action, Resource, Context, Tree, Lit, Var, Slot, Unknown, Apply, Trees, no_trees, a_tree, ValueType, BooleanType, LongType, StringType, SetType, RecordType, EntityType, ExtensionType, Long, String}
-use Rattle.cedar_language.specs.Value.{Value, Plain, Kind, TypeError, SetOf, RecordOf, ExtensionOf}
-use Rattle.cedar_language.specs.Order.{same_name}
+use Rattle.cedar_language.specs.Tree.{Boolean, Entity, MakeSet, MakeRecord, Variable, Principal, Action, Resource, Context, Tree, Lit, Var, Slot, Unknown, Apply, Trees, no_trees, a_tree, ValueType, EntityType}
+use Rattle.cedar_language.specs.Value.{Value, Plain, Kind, TypeError}
 use Rattle.cedar_language.specs.Facts.{Facts}
 use Rattle.cedar_language.specs.Meaning.{Slots, slot_outcome}
-use Rattle.cedar_early.specs.Settling.{Settling, Open, Errs, Is, kindless, Around, settled_in}
+use Rattle.cedar_early.specs.Settling.{Settling, Open, Errs, Is, kindless, LeafSettlings, settled_in}
 use Rattle.cedar_early.specs.MadeAgain.{tree_of, IsMadeAgain, HoldsMade}
-use Rattle.cedar_early.specs.Partial.{Answer, Known, Left, Refused, Holds, answer_of, is_plain, found_tree, partial_in}
-use Rattle.cedar_early.specs.Fair.{read}
+use Rattle.cedar_early.specs.Partial.{Answer, Evaluated, ResidualTree, Failed, LeafAnswers, answer_of, is_projectable, found_tree, partial_in}
 use Rattle.cedar_early.specs.Seam.{Carries}
-use Rattle.cedar_early.specs.Prompt.{Meets, ErrsAs, ErrsEverywhere}
+use Rattle.cedar_early.specs.Unknowns.{fits}
 
 -- a principal, an action or a resource: given, or missing, perhaps with its type stated
 pub data Part : Type 0 where
@@ -36,55 +38,52 @@ entity_type None = None
 
 -- values of unknown names; what is missing is an unknown named as its variable
 abbrev pub Told : Type 0
-Told = Text → Option Value
+Told = FinMap text_cmp Value
 
-abbrev pub variable_name : Variable → Text
-variable_name Principal = codes "principal"
-variable_name Action = codes "action"
-variable_name Resource = codes "resource"
-variable_name Context = codes "context"
+-- a value of the stated type settles its name, and another one settles nothing
+abbrev pub value_settled : Bool → Value → Settling
+value_settled true v = Is v
+value_settled false v = Open
 
--- a value in the place of an unknown with a stated type of entities: an entity of this type stays as it is,
--- and for any other value stands some entity of the type
-abbrev pub of_type : Option ValueType → Value → Value
-of_type (Some (EntityType ty)) (Plain (Entity u)) = Plain (Entity (record { type_name = ty; id = u.id }))
-of_type (Some (EntityType ty)) _ = Plain (Entity (record { type_name = ty; id = [] }))
-of_type _ v = v
+-- a told value of another type than the one stated is a TypeError
+abbrev pub value_held : Bool → Value → Answer
+value_held true v = Evaluated v
+value_held false v = Failed TypeError
 
 abbrev pub name_settled : Option Value → Option ValueType → Settling
-name_settled (Some v) ty = Is (of_type ty v)
+name_settled (Some v) ty = value_settled (fits ty v) v
 name_settled None ty = Open
 
 abbrev pub name_held : Option Value → Text → Option ValueType → Answer
-name_held (Some v) n ty = Known (of_type ty v)
-name_held None n ty = Left (Unknown n ty)
+name_held (Some v) n ty = value_held (fits ty v) v
+name_held None n ty = ResidualTree (Unknown n ty)
 
 -- without variables and slots: for the written context
-abbrev pub settled_names : Told → Around
+abbrev pub settled_names : Told → LeafSettlings
 settled_names told = record {
   variable = λ v. Open;
-  unknown = λ n ty. name_settled (told n) ty;
+  unknown = λ n ty. name_settled (finite.get told n) ty;
   slot = λ s. Open;
   in_context = λ a. Open;
   has_in_context = λ a. Open;
 }
 
-abbrev pub held_names : Told → Holds
+abbrev pub held_names : Told → LeafAnswers
 held_names told = record {
-  variable = λ v. Left (Var v);
-  unknown = λ n ty. name_held (told n) n ty;
-  slot = λ s. Left (Slot s);
+  variable = λ v. ResidualTree (Var v);
+  unknown = λ n ty. name_held (finite.get told n) n ty;
+  slot = λ s. ResidualTree (Slot s);
 }
 
 abbrev pub is_simple_name : Facts → Option Value → Option ValueType → Bool
 is_simple_name facts None ty = true
-is_simple_name facts (Some v) ty = is_plain (tree_of facts (of_type ty v))
+is_simple_name facts (Some v) ty = fits ty v && is_projectable (tree_of facts v)
 
 -- literals, names and told values of these, sets and records alone
 abbrev mutual
   pub is_simple : Facts → Told → Tree → Bool
   is_simple facts told (Lit l) = true
-  is_simple facts told (Unknown n ty) = is_simple_name facts (told n) ty
+  is_simple facts told (Unknown n ty) = is_simple_name facts (finite.get told n) ty
   is_simple facts told (Apply MakeSet ts) = are_simple facts told ts
   is_simple facts told (Apply (MakeRecord ks) ts) = are_simple facts told ts
   is_simple facts told _ = false
@@ -121,59 +120,59 @@ part_settled (Given u) o = Is (Plain (Entity u))
 part_settled (Missing ty) o = name_settled o (entity_type ty)
 
 abbrev pub context_settled : Facts → Told → Entries → Settling
-context_settled facts told NoContext = name_settled (told (codes "context")) None
+context_settled facts told NoContext = name_settled (finite.get told (codes "context")) None
 context_settled facts told (WithEntries ks ts) = settled_in facts (settled_names told) (Apply (MakeRecord ks) ts)
 
 abbrev pub variable_settled : Facts → Question → Told → Variable → Settling
-variable_settled facts q told Principal = part_settled q.principal (told (codes "principal"))
-variable_settled facts q told Action = part_settled q.action (told (codes "action"))
-variable_settled facts q told Resource = part_settled q.resource (told (codes "resource"))
+variable_settled facts q told Principal = part_settled q.principal (finite.get told (codes "principal"))
+variable_settled facts q told Action = part_settled q.action (finite.get told (codes "action"))
+variable_settled facts q told Resource = part_settled q.resource (finite.get told (codes "resource"))
 variable_settled facts q told Context = context_settled facts told q.context
 
 -- what is settled of the question's leaves once these values are told
-abbrev pub settled_of : Facts → Question → Slots → Told → Around
+abbrev pub settled_of : Facts → Question → Slots → Told → LeafSettlings
 settled_of facts q slots told = record {
   variable = variable_settled facts q told;
-  unknown = λ n ty. name_settled (told n) ty;
+  unknown = λ n ty. name_settled (finite.get told n) ty;
   slot = λ s. kindless (slot_outcome (slots s));
   in_context = in_context facts told q.context;
   has_in_context = has_in_context facts told q.context;
 }
 
 abbrev pub part_held : Part → Option Value → Text → Answer
-part_held (Given u) o n = Known (Plain (Entity u))
+part_held (Given u) o n = Evaluated (Plain (Entity u))
 part_held (Missing ty) o n = name_held o n (entity_type ty)
 
 abbrev pub context_held : Facts → Told → Entries → Answer
-context_held facts told NoContext = name_held (told (codes "context")) (codes "context") None
+context_held facts told NoContext = name_held (finite.get told (codes "context")) (codes "context") None
 context_held facts told (WithEntries ks ts) = partial_in facts (held_names told) (Apply (MakeRecord ks) ts)
 
 abbrev pub variable_held : Facts → Question → Told → Variable → Answer
-variable_held facts q told Principal = part_held q.principal (told (codes "principal")) (codes "principal")
-variable_held facts q told Action = part_held q.action (told (codes "action")) (codes "action")
-variable_held facts q told Resource = part_held q.resource (told (codes "resource")) (codes "resource")
+variable_held facts q told Principal = part_held q.principal (finite.get told (codes "principal")) (codes "principal")
+variable_held facts q told Action = part_held q.action (finite.get told (codes "action")) (codes "action")
+variable_held facts q told Resource = part_held q.resource (finite.get told (codes "resource")) (codes "resource")
 variable_held facts q told Context = context_held facts told q.context
 
 -- what is held of the question once these values are told
-abbrev pub held_of : Facts → Question → Slots → Told → Holds
+abbrev pub held_of : Facts → Question → Slots → Told → LeafAnswers
 held_of facts q slots told = record {
   variable = variable_held facts q told;
-  unknown = λ n ty. name_held (told n) n ty;
+  unknown = λ n ty. name_held (finite.get told n) n ty;
   slot = λ s. answer_of (slot_outcome (slots s));
 }
 
 -- the later values have the earlier ones among them
 abbrev pub Extends : Told → Told → Type 0
-Extends told later = (n : Text) (v : Value) → told n ≡ Some v → later n ≡ Some v
+Extends told later = (n : Text) (v : Value) → finite.get told n ≡ Some v → finite.get later n ≡ Some v
 
 -- what is told is made again by trees for it
 abbrev pub AreMadeTold : Facts → Told → Type 0
-AreMadeTold facts told = (n : Text) (v : Value) → told n ≡ Some v → IsMadeAgain facts v
+AreMadeTold facts told = (n : Text) (v : Value) → finite.get told n ≡ Some v → IsMadeAgain facts v
 
 -- the context as written, for which an evaluation was taken up: none of its parts errs
 pub record IsAccepted (facts : Facts) (told : Told) (context : Entries) : Type 0 where
   pub settled : context_settled facts told context ≢ Errs
-  pub held : (k : Kind) → context_held facts told context ≢ Refused k
+  pub held : (k : Kind) → context_held facts told context ≢ Failed k
 
 -- telling more carries on what is settled
 abbrev pub TellingCarries : Type 0
@@ -181,66 +180,3 @@ TellingCarries =
     (facts : Facts) → HoldsMade facts → (q : Question) (slots : Slots) (told later : Told) → Extends told later → AreMadeTold facts told →
     IsAccepted facts told q.context → IsAccepted facts later q.context →
     Carries facts (settled_of facts q slots later) (held_of facts q slots told)
-
--- everything is known: f gives a value for each name, missing variables among them
-abbrev pub all_told : (Text → Value) → Told
-all_told f n = Some (f n)
-
-abbrev pub filled : Facts → Question → Slots → (Text → Value) → Around
-filled facts q slots f = record {
-  variable = variable_settled facts q (all_told f);
-  unknown = λ n ty. Is (of_type ty (f n));
-  slot = λ s. kindless (slot_outcome (slots s));
-  in_context = λ a. Open;
-  has_in_context = λ a. Open;
-}
-
--- f keeps the values told, and the filled context means a value
-pub record IsFilling (facts : Facts) (q : Question) (told : Told) (f : Text → Value) : Type 0 where
-  pub agrees : (n : Text) (v : Value) → told n ≡ Some v → f n ≡ v
-  pub context : (w : Value) × (context_settled facts (all_told f) q.context ≡ Is w)
-
--- every answer means under each filling what its tree means, kinds of errors aside
-abbrev pub AnswersAreFair : Type 0
-AnswersAreFair =
-    (facts : Facts) → HoldsMade facts → (q : Question) (slots : Slots) (told : Told) (f : Text → Value) → AreMadeTold facts told → IsFilling facts q told f → (t : Tree) →
-    settled_in facts (filled facts q slots f) t ≡ read facts (filled facts q slots f) (partial_in facts (held_of facts q slots told) t)
-
--- every answer of a question is a result to which its tree settles, where there is one
-abbrev pub AnswersArePrompt : Type 0
-AnswersArePrompt =
-    (facts : Facts) → HoldsMade facts → (q : Question) (slots : Slots) (told : Told) → AreMadeTold facts told → IsAccepted facts told q.context → (t : Tree) →
-    Meets (ErrsAs facts (settled_of facts q slots told) (ErrsEverywhere facts (held_of facts q slots told)) t)
-    (settled_in facts (settled_of facts q slots told) t) (partial_in facts (held_of facts q slots told) t)
-
--- ---- what the evaluator reads: a told value of another type than the one stated is a TypeError
-
-abbrev pub is_of_type : ValueType → Value → Bool
-is_of_type BooleanType (Plain (Boolean b)) = true
-is_of_type LongType (Plain (Long n)) = true
-is_of_type StringType (Plain (String s)) = true
-is_of_type SetType (SetOf vs) = true
-is_of_type RecordType (RecordOf ks vs) = true
-is_of_type (EntityType ty) (Plain (Entity u)) = same_name u.type_name ty
-is_of_type (ExtensionType ty) (ExtensionOf e) = same_name e.type_name ty
-is_of_type _ _ = false
-
-abbrev pub fits : Option ValueType → Value → Bool
-fits None v = true
-fits (Some ty) v = is_of_type ty v
-
-abbrev pub told_answer : Bool → Value → Answer
-told_answer true v = Known v
-told_answer false v = Refused TypeError
-
-abbrev pub name_read : Option Value → Text → Option ValueType → Answer
-name_read (Some v) n ty = told_answer (fits ty v) v
-name_read None n ty = Left (Unknown n ty)
-
-abbrev pub part_read : Part → Option Value → Text → Answer
-part_read (Given u) o n = Known (Plain (Entity u))
-part_read (Missing ty) o n = name_read o n (entity_type ty)
-
--- where a value fits, it is read as it is held
-abbrev pub FittingAreHeld : Type 0
-FittingAreHeld = (v : Value) (n : Text) (ty : Option ValueType) → fits ty v ≡ true → name_read (Some v) n ty ≡ name_held (Some v) n ty

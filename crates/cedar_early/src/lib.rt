@@ -1,19 +1,20 @@
 // What is answered while parts of a question are unknown: settling, partial evaluation and telling, in definitions and their laws.
 #![tactic(auto)]
 
-ghost use Rattle.cedar_early.specs.Fair.{IsSound};
 ghost use Rattle.cedar_early.specs.Like.{LikeTreesAgreeAlways, WrittenIsAnswered};
-ghost use Rattle.cedar_early.specs.Mentions.{KnownTreesSettle, NamesDontMatter};
+ghost use Rattle.cedar_early.specs.Mentions.{KnownTreesSettle, NamesDontMatter, WithoutUnknowns};
 ghost use Rattle.cedar_early.specs.Linking.{LinkingIsWriting};
 ghost use Rattle.cedar_early.specs.Partial.{KnownIsMeaning};
 ghost use Rattle.cedar_early.specs.Prompt.{IsPrompt, KindsAreMeant};
-ghost use Rattle.cedar_early.specs.Question.{TellingCarries, AnswersAreFair, AnswersArePrompt, FittingAreHeld};
+ghost use Rattle.cedar_early.specs.Filling.{FilledIsMeant, AnswersAreFair, AnswersArePrompt};
+ghost use Rattle.cedar_early.specs.Question.{TellingCarries};
 ghost use Rattle.cedar_early.specs.Seam.{ResidualsSettle};
-ghost use Rattle.cedar_early.specs.Telling.{SettledIsMeant, LaterAnswersAreFair, LaterAnswersArePrompt, ContextsStay};
-ghost use Rattle.cedar_early.specs.Early.{EarlyAnswersAreFair, EarlyAnswersArePrompt, EarlyKindsAreSettled, AllToldIsKnown, LastAnswersAreExact};
+ghost use Rattle.cedar_early.specs.Telling.{ToldAreRead, SettledIsMeant, LaterAnswersAreFair, LaterAnswersArePrompt, ContextsStay};
+ghost use Rattle.cedar_early.specs.Early.{EarlyAnswersAreFair, EarlyAnswersArePrompt, EarlyKindsAreSettled, AllToldIsKnown, LastAnswersAreExact, FilledIsKnown};
+ghost use Rattle.cedar_early.specs.Reauthorizing.{ReauthorizingIsFair, ReauthorizingIsSharp, ErrorsAreNamed, ReauthorizingIsExact};
 ghost use Rattle.cedar_early.specs.Settling.{MeaningIsSettled};
 ghost use Rattle.cedar_early.specs.UnboundSeam.{UnboundResidualsSettle, UnboundAnswersArePrompt};
-ghost use Rattle.cedar_early.specs.Unbound.{UnboundAnswersAreSound, UnboundAnswersAreFair};
+ghost use Rattle.cedar_early.specs.Unbound.{UnboundAnswersAreFair};
 
 /// Where everything is known, what is settled of a tree is what it means.
 pub fn meaning_is_settled()
@@ -28,11 +29,6 @@ pub fn kinds_are_meant()
 /// Where everything is known, the answer is what the tree means, the kind of an error included.
 pub fn known_is_meaning()
     ensures { KnownIsMeaning }
-{}
-
-/// Each answer means what its tree means, kinds of errors aside, wherever all is known.
-pub fn answers_are_sound()
-    ensures { IsSound }
 {}
 
 /// Each answer is a result to which its tree settles, where there is one.
@@ -60,9 +56,14 @@ pub fn question_answers_are_prompt()
     ensures { AnswersArePrompt }
 {}
 
-/// A told value of the stated type is read as it is held.
-pub fn fitting_are_held()
-    ensures { FittingAreHeld }
+/// What is settled under a filling is what the known question means that it makes.
+pub fn filled_is_meant()
+    ensures { FilledIsMeant }
+{}
+
+/// A told value of the stated type is the unknown's value, and another one is a `TypeError`.
+pub fn told_are_read()
+    ensures { ToldAreRead }
 {}
 
 /// What is settled of a tree is what it means under each filling.
@@ -125,14 +126,14 @@ pub fn all_told_is_known()
     ensures { AllToldIsKnown }
 {}
 
+/// A policy without unknowns stands under a filling as it stands to the known question.
+pub fn filled_is_known()
+    ensures { FilledIsKnown }
+{}
+
 /// Once all is told, a residual's answer is what its tree means.
 pub fn last_answers_are_exact()
     ensures { LastAnswersAreExact }
-{}
-
-/// An answer means without slots what its tree means with them.
-pub fn unbound_answers_are_sound()
-    ensures { UnboundAnswersAreSound }
 {}
 
 /// A residual evaluated again without slots means what its tree means with them.
@@ -153,4 +154,29 @@ pub fn unbound_answers_are_prompt()
 /// What stands for unknown names has nothing to do with a tree in which none stands.
 pub fn names_dont_matter()
     ensures { NamesDontMatter }
+{}
+
+/// The answer to policies that are taken up again, once more values are told, holds under each filling.
+pub fn reauthorizing_is_fair()
+    ensures { ReauthorizingIsFair }
+{}
+
+/// The answer to policies that are taken up again is as sharp as the one by what is settled of the policies.
+pub fn reauthorizing_is_sharp()
+    ensures { ReauthorizingIsSharp }
+{}
+
+/// A policy that settles to an error once more values are told erred at first, or errs when it is taken up again.
+pub fn errors_are_named()
+    ensures { ErrorsAreNamed }
+{}
+
+/// Once all is told, the answer to policies that are taken up again has the decision and the reasons of the known question.
+pub fn reauthorizing_is_exact()
+    ensures { ReauthorizingIsExact }
+{}
+
+/// Where no unknown stands in a tree, any values give each of its unknowns one.
+pub fn without_unknowns()
+    ensures { WithoutUnknowns }
 {}

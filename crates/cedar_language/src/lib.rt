@@ -3,7 +3,7 @@
 
 ghost use Rattle.std.specs.Cmp.{IsTotalOrder};
 ghost use Rattle.std.specs.FinMap.{IsAntisymmetric};
-ghost use Rattle.cedar_language.specs.Answering.{RulesAreFair, RulesAreSharp, SessionsKeep};
+ghost use Rattle.cedar_language.specs.Answering.{RulesAreFair, RulesAreSharp, RulesAreExact, SessionsKeep};
 ghost use Rattle.cedar_language.specs.Authorization.{StandingsAreMeant};
 ghost use Rattle.cedar_language.specs.Means.{MeaningIsMeant};
 ghost use Rattle.cedar_language.specs.Order.{value_cmp};
@@ -49,4 +49,9 @@ pub fn sets_are_finite()
 /// Fewer open policies give an answer that is as sharp.
 pub fn rules_are_sharp()
     ensures { RulesAreSharp }
+{}
+
+/// Where no policy is open, decision and reasons are those under the filling.
+pub fn rules_are_exact()
+    ensures { RulesAreExact }
 {}

@@ -1,16 +1,16 @@
 -- How texts are read and what trees mean, for the world's definitions.
-use Rattle.std.specs.Prelude.{◌≡◌, ◌⊎◌, ℕ, ◌≤◌, true, false, Option, Some, None, List, []}
-use Rattle.std.specs.FinMap as map
+use Rattle.std.specs.Prelude.{◌≡◌, ◌⊎◌, ℕ, ◌≤◌, true, false, None, List}
 use Rattle.cedar_language.specs.Uid.{Text}
 use Rattle.cedar_language.specs.Tree.{Tree}
-use Rattle.cedar_language.specs.Value.{Value, RecordOf, no_values, NonValue, Outcome, Gives, Fails}
+use Rattle.cedar_language.specs.Value.{Outcome, Gives, Fails}
 use Rattle.cedar_language.specs.Facts.{Facts}
-use Rattle.cedar_language.specs.Meaning.{Request, meaning}
+use Rattle.cedar_language.specs.Meaning.{meaning}
 use Rattle.cedar_language.specs.Authorization.{Known, request_at}
 use Rattle.cedar_language.specs.Height.{height}
 use Rattle.cedar_early.specs.Settling.{Is, settled_in}
-use Rattle.cedar_early.specs.Prompt.{ErrsAs, ErrsEverywhere}
-use Rattle.cedar_early.specs.Question.{settled_of, held_of}
+use Rattle.cedar_early.specs.Prompt.{ErrsAs}
+use Rattle.cedar_early.specs.Question.{settled_of}
+use Rattle.cedar_early.specs.Filling.{names_told, ErrsEverywhere}
 use Rattle.cedar_grammar.specs.Policies.{Reads, ReadsExpr}
 use Rattle.cedar_grammar.specs.Nesting.{loose_nesting}
 use Rattle.cedar_world.specs.Syntax.{PolicySyntax}
@@ -67,17 +67,6 @@ means facts q t = meaning facts (request_at q (λ s. None)) t
 
 -- ---- without a question
 
-abbrev pub told_outcome : Option Value → Outcome
-told_outcome (Some v) = Gives v
-told_outcome None = Fails NonValue
-
-abbrev pub names_told : Told → Request
-names_told told = record {
-  variable = λ v. RecordOf [] no_values;
-  unknown = λ n type. told_outcome (map.get told n);
-  slots = λ s. None;
-}
-
 -- no entity is held
 abbrev pub functions_alone : Functions → Facts
 functions_alone functions = record {
@@ -95,6 +84,6 @@ value_of functions told t = meaning (functions_alone functions) (names_told told
 
 -- to what a tree without slots settles once these values are told
 abbrev pub Settles : Facts → Question → Told → Tree → Outcome → Type 0
-Settles facts q told t (Gives v) = settled_in facts (settled_of facts q (λ s. None) (map.get told)) t ≡ Is v
+Settles facts q told t (Gives v) = settled_in facts (settled_of facts q (λ s. None) told) t ≡ Is v
 Settles facts q told t (Fails k) =
-    ErrsAs facts (settled_of facts q (λ s. None) (map.get told)) (ErrsEverywhere facts (held_of facts q (λ s. None) (map.get told))) t k
+    ErrsAs facts (settled_of facts q (λ s. None) told) (ErrsEverywhere facts q (λ s. None) told) t k

@@ -1,0 +1,5 @@
+use Rattle.cedar_language.proofs.Answering.{rules_are_exact as law}
+use Rattle.cedar_language.proofs.rules_are_exact.Goals as goal
+
+pub returns : goal.returns
+returns c = law
