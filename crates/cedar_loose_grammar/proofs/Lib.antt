@@ -1,0 +1,13 @@
+pub mod Basics
+pub mod Loops
+pub mod Equations
+pub mod Lone
+pub mod Rests
+pub mod Complete
+pub mod Sound
+pub mod PolicyRests
+mod PoliciesComplete
+mod PoliciesSound
+mod Stays
+mod Deep
+mod Laws

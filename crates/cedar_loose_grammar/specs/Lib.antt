@@ -1,0 +1,4 @@
+pub mod Loose
+pub mod LooseReading
+pub mod Converting
+pub mod Laws

@@ -1,0 +1,3 @@
+pub mod Bares
+pub mod Folding
+pub mod Records

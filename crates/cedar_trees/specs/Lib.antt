@@ -1,0 +1,5 @@
+pub mod Unknowns
+pub mod Bare
+pub mod Shapes
+pub mod Records
+pub mod RecordLaws

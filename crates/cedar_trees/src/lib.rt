@@ -1,0 +1,10 @@
+//! Expressions of Cedar: trees that share their parts, their readers, and what makes them.
+#![tactic(auto)]
+
+pub mod constructors;
+pub mod errors;
+pub mod expr;
+pub mod kinds;
+#[cfg(test)]
+mod tests;
+pub mod unknowns;

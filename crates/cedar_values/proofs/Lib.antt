@@ -1,0 +1,4 @@
+pub mod Records
+pub mod Sameness
+pub mod Sets
+pub mod Uids

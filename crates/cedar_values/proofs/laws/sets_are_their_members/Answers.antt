@@ -1,0 +1,5 @@
+use Rattle.cedar_values.proofs.Sameness.{by_members}
+use Rattle.cedar_values.proofs.laws.sets_are_their_members.Goals as goal
+
+pub returns : goal.returns
+returns c = by_members c.sets_are_finite.ensures

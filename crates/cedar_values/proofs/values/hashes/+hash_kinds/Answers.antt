@@ -1,0 +1,15 @@
+use Rattle.std.proofs.Common.{◌≡◌, ap, arith}
+use Rattle.std.specs.BTreeMap.{values}
+use denote.Param.Weighed.{most}
+use Rattle.cedar_values.specs.Falls.{record_falls}
+use Rattle.cedar_values.specs.declared.values.Set.TheDeep.{size-Value, size-ValueKind}
+use Rattle.cedar_values.specs.declared.values.ValueKind.TheVariants as kind
+use Rattle.cedar_values.proofs.values.hashes.+hash_kinds.Goals as goal
+
+pub hash_kind-hash_fields-requires : goal.hash_kind-hash_fields-requires
+hash_kind-hash_fields-requires g t c =
+    let below = record_falls c.in-Record.fields in
+    let same : most size-Value (values c.deref-in-Record.result.now) ≡ most size-Value (values c.in-Record.fields.value) =
+    ap (λ m. most size-Value (values m)) c.deref-in-Record.ensures in
+    let whole : size-ValueKind c.args.kind.now ≡ size-ValueKind (kind.Record c.in-Record.fields) = ap size-ValueKind c.in-Record.is in
+    λ κs h. (omega (arith, below, same, whole, c.decreases), h)

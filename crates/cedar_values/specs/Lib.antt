@@ -1,0 +1,12 @@
+pub mod Extensions
+pub mod Falls
+pub mod Hashes
+pub mod Kinds
+pub mod Laws
+pub mod Occurring
+pub mod Orders
+pub mod Records
+pub mod Representations
+pub mod Sizes
+pub mod Texts
+pub mod Types

@@ -1,0 +1,10 @@
+//! Values of Cedar: literals, sets, records and extension values.
+#![tactic(auto)]
+
+pub mod bounded_display;
+pub mod extension_values;
+pub mod laws;
+#[cfg(test)]
+mod tests;
+mod texts;
+pub mod values;

@@ -1,0 +1,126 @@
+// Values and sets: their types, and what contracts see of them.
+ghost use Rattle.std.specs.Prelude.{◌≡◌};
+ghost use Rattle.cedar_values.specs.Kinds.{value_of};
+
+use crate::extension_values::RepresentableExtensionValue;
+use cedar_literals::literals::Literal;
+use cedar_names::places::Loc;
+use std::collections::BTreeMap;
+use std::marker::Model;
+use std::rc::{Rc, RcStr};
+
+mod constructors;
+mod displays;
+mod hashes;
+mod orders;
+mod sets;
+mod types;
+mod uids;
+
+/// A value, and where it was written, if that is known. Contracts see the value, as the language has
+/// it, and no place; so do `==`, order and hash. (Cedar language reference, "Data types".)
+#[cycle(value)]
+#[derive(Debug, Drop)]
+pub struct Value {
+    value: ValueKind,
+    loc: Option<Loc>,
+}
+
+/// What a value is. Contracts see it through `value_of`.
+#[cycle(value)]
+#[derive(Debug, Drop)]
+pub enum ValueKind {
+    /// A Boolean, a long, a text or an entity.
+    Lit(Literal),
+    /// A set.
+    Set(Set),
+    /// A record, by its attributes.
+    Record(Rc<BTreeMap<RcStr, Value>>),
+    /// A value of an extension type.
+    ExtensionValue(Rc<RepresentableExtensionValue>),
+}
+
+/// A finite set of values. Contracts see its members, each below the next in the order of values: so
+/// two sets are one exactly where they have the same members.
+#[cycle(value)]
+#[derive(Debug, Drop)]
+pub struct Set {
+    authoritative: Rc<Vec<Value>>,
+}
+
+impl Model for Value {
+    ghost use Rattle.cedar_language.specs.Value as language;
+    ghost use Rattle.cedar_language.specs.OrderLaws.{value_code};
+    ghost use Rattle.cedar_values.specs.Sizes.{weigh};
+
+    ghost Value = { language.Value };
+
+    ghost coded = { value_code };
+
+    ghost use Rattle.cedar_values.specs.Kinds.{value_of};
+
+    ghost view = { λ a. value_of a.value };
+
+    ghost size = { weigh };
+
+    ghost use Rattle.std.proofs.Common.{arith};
+    ghost use Rattle.cedar_values.specs.Falls.{kind_falls};
+
+    ghost size_decreases = { λ a h. Prim.omega (arith, kind_falls a.value) };
+}
+
+impl Model for Set {
+    ghost use Rattle.std.specs.Prelude.{List};
+    ghost use Rattle.std.specs.List.Sorted.{IsStrictlySortedBy};
+    ghost use Rattle.std.specs.Coded.{coded_list};
+    ghost use Rattle.cedar_language.specs.Value as language;
+    ghost use Rattle.cedar_language.specs.Order.{value_cmp, all_of};
+    ghost use Rattle.cedar_language.specs.OrderLaws.{value_code};
+    ghost use Rattle.cedar_values.specs.Sizes.{weigh_all};
+
+    ghost Value = { List language.Value };
+
+    ghost coded = { coded_list value_code };
+
+    ghost view = { λ a. a.authoritative.value.items };
+
+    ghost invariant = { λ a. IsStrictlySortedBy value_cmp a.authoritative.value.items };
+
+    ghost size = { λ vs. weigh_all (all_of vs) };
+
+    ghost use Rattle.std.proofs.Common.{arith};
+    ghost use Rattle.cedar_values.specs.Falls.{items_fall};
+
+    ghost size_decreases = { λ a h. Prim.omega (arith, items_fall a.authoritative.value.items) };
+}
+
+impl Value {
+    /// The value of this kind, written at `loc`.
+    pub fn new(kind: ValueKind, loc: Option<Loc>) -> Value
+        ensures { result ≡ value_of kind }
+    {
+        Value { value: kind, loc }
+    }
+
+    /// The same value, written at `loc`.
+    pub fn with_maybe_source_loc(self, loc: Option<Loc>) -> Value
+        ensures { result ≡ self }
+    {
+        Value {
+            value: self.value,
+            loc,
+        }
+    }
+
+    /// What it is.
+    pub fn value_kind(&self) -> &ValueKind
+        ensures { value_of result.now ≡ self.now }
+    {
+        &self.value
+    }
+
+    /// Where it was written, if that is known.
+    pub fn source_loc(&self) -> Option<&Loc> {
+        self.loc.as_ref()
+    }
+}

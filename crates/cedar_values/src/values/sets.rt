@@ -1,0 +1,135 @@
+// Sets of values.
+ghost use Rattle.std.specs.Prelude.{◌≡◌, ◌↔◌, [], length, map, not, IsTrue, IfOk};
+ghost use Rattle.std.specs.List.{Contains, list_all, list_any};
+ghost use Rattle.std.specs.List.Sorted.{IsStrictlySortedBy};
+ghost use Rattle.std.specs.Slice.Iter.{iter_rest};
+ghost use Rattle.cedar_language.specs.Operators.{has_member, has_all, has_some};
+ghost use Rattle.cedar_language.specs.Order.{value_cmp, all_of, rising};
+ghost use Rattle.cedar_language.specs.Value as language;
+ghost use Rattle.cedar_values.specs.Kinds.{plain_of};
+
+use crate::values::{Set, Value, ValueKind};
+use cedar_literals::literals::Literal;
+use std::alloc::{AllocError, Global};
+use std::rc::Rc;
+use std::slice::Iter;
+
+impl Set {
+    /// The set without members; refused for memory alone.
+    pub fn empty(alloc: Global) -> Result<Set, AllocError>
+        ensures { IfOk result (λ set. set ≡ []) }
+    {
+        Ok(Set {
+            authoritative: Rc::new(alloc, Vec::new(alloc))?,
+        })
+    }
+
+    /// The set of these values, each once; refused for memory alone.
+    pub fn new(alloc: Global, values: Vec<Value>) -> Result<Set, AllocError>
+        ensures members { IfOk result (λ set. (v : language.Value) → Contains set v ↔ Contains values.items v) }
+        ensures language { IfOk result (λ set. all_of set ≡ rising (all_of values.items)) }
+    {
+        cedar_language::sets_are_finite();
+        let mut members = values;
+        members.sort()?;
+        members.dedup();
+        Ok(Set {
+            authoritative: Rc::new(alloc, members)?,
+        })
+    }
+
+    /// The set of these literals, each once; refused for memory alone.
+    pub fn from_lits(alloc: Global, literals: Vec<Literal>) -> Result<Set, AllocError>
+        ensures members { IfOk result (λ set. (v : language.Value) → Contains set v ↔ Contains (map plain_of literals.items) v) }
+        ensures language { IfOk result (λ set. all_of set ≡ rising (all_of (map plain_of literals.items))) }
+    {
+        let mut values = Vec::with_capacity(alloc, literals.len())?;
+        for literal in literals {
+            values.push(Value::new(ValueKind::Lit(literal), None))?;
+        }
+        Set::new(alloc, values)
+    }
+
+    /// How many members it has.
+    pub fn len(&self) -> usize
+        ensures { result ≡ length self.now }
+    {
+        self.authoritative.len()
+    }
+
+    /// Whether it has no member.
+    pub fn is_empty(&self) -> bool
+        ensures { IsTrue result ↔ (self.now ≡ []) }
+    {
+        self.authoritative.is_empty()
+    }
+
+    /// Its members, each below the next.
+    pub fn authoritative(&self) -> &[Value]
+        ensures members { result.now ≡ self.now }
+        ensures rising { IsStrictlySortedBy value_cmp self.now }
+    {
+        self.authoritative.as_slice()
+    }
+
+    /// Its members, each below the next.
+    pub fn iter(&self) -> Iter<'_, Value>
+        ensures { iter_rest result ≡ self.now }
+    {
+        self.authoritative.iter()
+    }
+
+    /// Whether `value` is a member. It compares `value` with about as many members as `len` has binary
+    /// digits.
+    pub fn contains(&self, value: &Value) -> bool
+        ensures members { IsTrue result ↔ Contains self.now value.now }
+        ensures language { result ≡ has_member (all_of self.now) value.now }
+    {
+        self.authoritative.binary_search(value).is_ok()
+    }
+
+    /// Whether each member is one of `other` too.
+    pub fn is_subset(&self, other: &Set) -> bool
+        ensures members { IsTrue result ↔ ((v : language.Value) → Contains self.now v → Contains other.now v) }
+        ensures language { result ≡ has_all (all_of other.now) (all_of self.now) }
+    {
+        are_members(self.authoritative(), other)
+    }
+
+    /// Whether no member is one of `other`.
+    pub fn is_disjoint(&self, other: &Set) -> bool
+        ensures members { IsTrue result ↔ ((v : language.Value) → Contains self.now v → Contains other.now v → ⊥) }
+        ensures language { result ≡ not (has_some (all_of other.now) (all_of self.now)) }
+    {
+        !is_any_member(self.authoritative(), other)
+    }
+
+    /// A copy that shares the members; refused for memory alone.
+    pub fn clone(&self, _alloc: Global) -> Result<Set, AllocError>
+        ensures { IfOk result (λ copy. copy ≡ self.now) }
+    {
+        Clone::clone(self)
+    }
+}
+
+fn are_members(values: &[Value], set: &Set) -> bool
+    ensures { result ≡ list_all (has_member (all_of set.now)) values.now }
+{
+    values.iter().all(|value| set.contains(value))
+}
+
+fn is_any_member(values: &[Value], set: &Set) -> bool
+    ensures { result ≡ list_any (has_member (all_of set.now)) values.now }
+{
+    values.iter().any(|value| set.contains(value))
+}
+
+impl Clone for Set {
+    ghost is_clone = { λ set copy. copy ≡ set };
+
+    fn clone(&self) -> Result<Set, AllocError> {
+        Ok(Set {
+            authoritative: self.authoritative.clone()?,
+        })
+    }
+}
