@@ -15,7 +15,7 @@ mod words;
 pub use error::{TokenError, UnescapeError};
 pub use escapes::Part;
 pub use nesting::loose_nesting;
-pub use strings::{unescape, unescape_parts};
+pub use strings::{to_unescaped_string, unescape_parts};
 pub use tokenizer::tokenize;
 pub use tokens::{Mark, Span, Token, TokenKind, Word};
 

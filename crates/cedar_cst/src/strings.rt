@@ -1,5 +1,6 @@
 // The strings of Cedar.
-ghost use Rattle.std.specs.Prelude.{◌≡◌, MatchOption, map, IfOk, IfErr, string_bytes};
+ghost use Rattle.std.specs.Prelude.{◌≡◌, MatchOption, map, IfOk, IfErr};
+ghost use Rattle.std.specs.Rc.{rc_str_bytes};
 ghost use Rattle.std.specs.Str.{chars};
 ghost use Rattle.cedar_grammar.specs.Escape.{string_of, parts_of};
 ghost use Rattle.cedar_grammar.specs.Tokens.{inside_of};
@@ -11,6 +12,7 @@ use crate::characters::next_char;
 use crate::error::UnescapeError;
 use crate::escapes::{Part, split_part};
 use std::alloc::Global;
+use std::rc::RcStr;
 
 /// What stands before the closing quote, and what follows it; none where no quote closes the string,
 /// or a backslash stands before a line feed.
@@ -41,8 +43,8 @@ pub fn split_inside(text: &str) -> Option<(&str, &str)>
 ///
 /// `Invalid` comes exactly where the string stands for no text: for any other escape, `\*` too, and for
 /// a bare carriage return. `Memory` comes for want of memory alone.
-pub fn unescape(alloc: Global, raw: &str) -> Result<String, UnescapeError>
-    ensures text { IfOk result (λ text. string_of (chars raw.now) ≡ Some (string_bytes text)) }
+pub fn to_unescaped_string(alloc: Global, raw: &str) -> Result<RcStr, UnescapeError>
+    ensures text { IfOk result (λ text. string_of (chars raw.now) ≡ Some (rc_str_bytes text)) }
     ensures refused { IfErr result (RefusesString raw.now) }
 {
     let mut text = String::new(alloc);
@@ -58,11 +60,11 @@ pub fn unescape(alloc: Global, raw: &str) -> Result<String, UnescapeError>
         }
         rest = after;
     }
-    Ok(text)
+    Ok(RcStr::from_string(text)?)
 }
 
 /// The parts of a string, by what is written between its quotes: characters, escapes as in
-/// [`unescape`], and `\*`. In a pattern a raw `*` is a wildcard, and every escape a character (Cedar
+/// [`to_unescaped_string`], and `\*`. In a pattern a raw `*` is a wildcard, and every escape a character (Cedar
 /// language reference, "Operators": like).
 ///
 /// `Invalid` comes exactly where the string has no parts: for any other escape, and for a bare carriage

@@ -102,7 +102,7 @@ fn unescapes(rt: HostRuntime) -> Result<(), Fail> {
         ("\\u{0}\\u{0000e9}\\u{10FFFF}", "\0\u{e9}\u{10ffff}"),
     ];
     for (raw, want) in table {
-        let found = unescape(rt.alloc(), raw)?;
+        let found = to_unescaped_string(rt.alloc(), raw)?;
         assert_eq!(rt; found.as_str(), want, "{raw}");
     }
     Ok(())
@@ -123,7 +123,7 @@ fn refuses_escapes(rt: HostRuntime) {
         ("ab\\q", 2),
     ];
     for (raw, place) in table {
-        let found = unescape(rt.alloc(), raw);
+        let found = to_unescaped_string(rt.alloc(), raw);
         assert!(rt;
             matches!(&found, Err(UnescapeError::Invalid { place: at }) if *at == place),
             "{raw}"

@@ -10,8 +10,8 @@ ghost use Rattle.cedar_scopes.specs.Scopes.{action_of};
 use crate::cursor::{Cursor, Keyword};
 use crate::error::ReadError;
 use cedar_cst::Mark;
-use cedar_uids::uids::EntityUID;
 use cedar_scopes::ActionConstraint;
+use cedar_uids::uids::EntityUID;
 use std::alloc::Global;
 
 impl<'t> Cursor<'t> {

@@ -6,8 +6,8 @@ ghost use Rattle.cedar_scopes.specs.Scopes.{constraint_of};
 use crate::cursor::{Cursor, Keyword};
 use crate::error::ReadError;
 use cedar_cst::Mark;
-use cedar_uids::uids::{EntityType, EntityUID};
 use cedar_scopes::EntityConstraint;
+use cedar_uids::uids::{EntityType, EntityUID};
 use std::alloc::Global;
 
 impl<'t> Cursor<'t> {

@@ -10,7 +10,7 @@ ghost use Rattle.cedar_plain.specs.Gives.{Begins, Gives, keyword_view};
 ghost use Rattle.cedar_plain.specs.Reading.{begins, begins_text, begins_word, without_first, word_number, need, need_word, found, first_id, first_key, first_text, next_id};
 
 use crate::error::ReadError;
-use cedar_cst::{Mark, Token, TokenKind, Word, unescape};
+use cedar_cst::{Mark, Token, TokenKind, Word, to_unescaped_string};
 use cedar_names::identifiers::Id;
 use std::alloc::Global;
 use std::marker::Model;
@@ -230,7 +230,7 @@ impl<'t> Cursor<'t> {
         let Some(TokenKind::Text(raw)) = self.kind() else {
             return Err(ReadError::Text);
         };
-        let text = RcStr::from_string(unescape(alloc, raw)?)?;
+        let text = to_unescaped_string(alloc, raw)?;
         self.skip();
         Ok(text)
     }

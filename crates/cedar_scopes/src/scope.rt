@@ -3,8 +3,8 @@ ghost use Rattle.std.specs.Prelude.{◌≡◌, ◌↔◌, IsTrue};
 ghost use Rattle.cedar_scopes.specs.Scopes.{constraint_of, action_of, policy_of};
 ghost use Rattle.cedar_scopes.specs.Same.{same_constraint, same_action, same_policy};
 
-use cedar_uids::uids::{EntityType, EntityUID};
 use cedar_policies::Effect;
+use cedar_uids::uids::{EntityType, EntityUID};
 
 /// What a scope asks of the principal, or of the resource. (Cedar language reference, "Policy scope".)
 pub enum EntityConstraint {

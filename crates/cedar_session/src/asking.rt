@@ -10,10 +10,10 @@ ghost use Rattle.cedar_world.specs.SoFar.{question_keys};
 ghost use Rattle.cedar_session.specs.Fields.{field as field_of};
 ghost use Rattle.cedar_session.specs.Reading.{Gives, entity_at, context_at, given_context, seen};
 
-use cedar_uids::uids::EntityUID;
 use cedar_plain::Body;
 use cedar_replies::Refusal;
 use cedar_scopes::Question;
+use cedar_uids::uids::EntityUID;
 use std::alloc::Global;
 use std::rc::RcStr;
 

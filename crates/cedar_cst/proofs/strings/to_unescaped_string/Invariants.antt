@@ -6,7 +6,7 @@ use Rattle.std.specs.Str.{chars}
 use Rattle.cedar_grammar.specs.Escape.{between, parts_from, string_of}
 use Rattle.cedar_cst.specs.Rest.{IsRest}
 use Rattle.cedar_cst.proofs.Unescaping.{written, after_text}
-use Rattle.cedar_cst.proofs.strings.unescape.Given as goal
+use Rattle.cedar_cst.proofs.strings.to_unescaped_string.Given as goal
 
 abbrev pub invariant-parts : goal.invariant-parts
 invariant-parts l = record {
