@@ -10,4 +10,5 @@ mod PoliciesComplete
 mod PoliciesSound
 mod Stays
 mod Deep
+mod Openers
 mod Laws

@@ -1,12 +1,14 @@
 -- What is proved of the loose grammar.
-use Rattle.std.specs.Prelude.{◌≡◌, ◌↔◌, ℕ, ◌≤◌, List, [], Some, Err}
-use Rattle.cedar_language.specs.Uid.{Name, Uid}
+use Rattle.std.specs.Prelude.{◌≡◌, ◌↔◌, ℕ, ◌<◌, ◌≤◌, List, [], Some, Err}
+use Rattle.cedar_language.specs.Uid.{Text, Name, Uid}
 use Rattle.cedar_language.specs.Tree.{Tree, Literal, Lit}
 use Rattle.cedar_grammar.specs.Token.{Token}
+use Rattle.cedar_grammar.specs.Tokens.{IsTokens}
 use Rattle.cedar_grammar.specs.Names.{Names}
 use Rattle.cedar_grammar.specs.Grammar.{Path, IsExpr, IsEntity, IsLiteral}
 use Rattle.cedar_grammar.specs.Policy.{Policy}
 use Rattle.cedar_grammar.specs.Policies.{PolicyWithin, ArePolicies}
+use Rattle.cedar_grammar.specs.Nesting.{loose_nesting}
 use Rattle.cedar_loose_grammar.specs.LooseReading.{depth, read_expr, read_ref, read_name, read_primary, read_policy, read_policies, openers}
 use Rattle.cedar_loose_grammar.specs.Converting.{converted, expr_tree, ref_entity, name_path, primary_tree, policy_syntax, policies_syntax}
 
@@ -73,3 +75,7 @@ PolicyNests = (n : ℕ) (ts : List Token) → read_policy n ts ≡ Err depth →
 
 abbrev pub PoliciesNest : Type 0
 PoliciesNest = (n : ℕ) (ts : List Token) → read_policies n ts ≡ Err depth → n ≤ openers ts
+
+-- a text has places where constructs open for all that its tokens open
+abbrev pub OpenersHavePlaces : Type 0
+OpenersHavePlaces = (bytes : Text) (ts : List Token) → IsTokens bytes ts → openers ts < loose_nesting bytes

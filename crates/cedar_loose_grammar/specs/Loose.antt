@@ -212,7 +212,7 @@ pub data Annotation : Type 0 where
   missing_annotation : Annotation
   annotation : Ident → Option Str → Annotation
 
--- The variable, a name after `:`, what stands after `is`, and a comparison. The second is never taken.
+-- The variable, a name after `:` (which never converts), what stands after `is`, and a comparison.
 pub data VariableDef : Type 0 where
   missing_variable_def : VariableDef
   variable_def : Ident → Option Name → Option Add → Option (RelOp × Expr) → VariableDef

@@ -1,7 +1,7 @@
 // The loose grammar of Cedar, which a parser reads before the conversion names its faults: definitions and their laws.
 #![tactic(auto)]
 
-ghost use Rattle.cedar_loose_grammar.specs.Laws.{ExprsConvert, EntitiesConvert, NamesConvert, LiteralsConvert, PolicyConverts, PoliciesConvert, ExprsStay, PrimariesStay, PolicyStays, PoliciesStay, ExprsStand, LiteralsStand, PolicyStands, PoliciesStand, ExprsNest, PrimariesNest, PolicyNests, PoliciesNest};
+ghost use Rattle.cedar_loose_grammar.specs.Laws.{ExprsConvert, EntitiesConvert, NamesConvert, LiteralsConvert, PolicyConverts, PoliciesConvert, ExprsStay, PrimariesStay, PolicyStays, PoliciesStay, ExprsStand, LiteralsStand, PolicyStands, PoliciesStand, ExprsNest, PrimariesNest, PolicyNests, PoliciesNest, OpenersHavePlaces};
 
 /// Tokens are of the strict grammar exactly where what the loose grammar reads of them converts, and then they mean
 /// what it converts to.
@@ -27,10 +27,12 @@ pub fn wider_limits_change_nothing()
     ensures policies_stand { PoliciesStand }
 {}
 
-/// Reading stops for a limit of nesting only where the tokens open at least as many constructs.
+/// Reading stops for a limit of nesting only where the tokens open at least as many constructs, so that the text has
+/// more places where constructs open than the limit allows.
 pub fn limits_are_met_where_constructs_open()
     ensures expressions { ExprsNest }
     ensures primaries { PrimariesNest }
     ensures policy { PolicyNests }
     ensures policies { PoliciesNest }
+    ensures texts { OpenersHavePlaces }
 {}

@@ -15,11 +15,3 @@ chosen false false = refl
 -- what an insert of w makes of whether u is there
 pub put_uid : (w u : Uid) (b : Bool) → cond (eq_by_cmp uid_cmp w u) true b ≡ (b || same_uid w u)
 put_uid w u b = rw (uid_cmp_ties w u) (chosen (eq_by_cmp uid_cmp w u) b)
-
-pub or_rest : (a b c : Bool) → ((a || b) || c) ≡ (a || (b || c))
-or_rest true b c = refl
-or_rest false b c = refl
-
-pub or_none : (a : Bool) → (a || false) ≡ a
-or_none true = refl
-or_none false = refl
