@@ -4,6 +4,7 @@ use Rattle.cedar_language.specs.Uid.{Text, Name}
 use Rattle.cedar_language.specs.Tree.{Boolean, Entity, Variable, SlotId, Operator, Equal, Is, GetAttr, HasAttr, MakeSet, MakeRecord, Tree, Lit, Var, Slot, Unknown, If, And, Or, Apply, Trees, no_trees, a_tree, ValueType, EntityType}
 use Rattle.cedar_language.specs.Value.{Value, Plain, Values, no_values, a_value, Kind, TypeError, RecordAttrDoesNotExist, Outcome, Gives, Fails}
 use Rattle.cedar_language.specs.Order.{same_text, same_name}
+pub use Rattle.cedar_language.specs.Restricted.{is_projectable, are_projectable}
 use Rattle.cedar_language.specs.Facts.{Facts}
 use Rattle.cedar_language.specs.Operators.{applied}
 use Rattle.cedar_language.specs.Meaning.{slot_outcome, Request, meaning}
@@ -66,20 +67,6 @@ and_next facts (Evaluated v) (SomeResiduals rs) = SomeResiduals (a_tree (tree_of
 and_next facts (ResidualTree r) (AllEvaluated vs) = SomeResiduals (a_tree r (trees_of facts vs))
 and_next facts (ResidualTree r) (SomeResiduals rs) = SomeResiduals (a_tree r rs)
 and_next facts x (SomeFailed k) = SomeFailed k
-
--- literals, unknowns, variables, sets and records alone: a record of these is projected
-abbrev mutual
-  pub is_projectable : Tree → Bool
-  is_projectable (Lit l) = true
-  is_projectable (Unknown n ty) = true
-  is_projectable (Var v) = true
-  is_projectable (Apply MakeSet ts) = are_projectable ts
-  is_projectable (Apply (MakeRecord ks) ts) = are_projectable ts
-  is_projectable _ = false
-
-  pub are_projectable : Trees → Bool
-  are_projectable no_trees = true
-  are_projectable (a_tree t ts) = is_projectable t && are_projectable ts
 
 -- what the evaluator holds for the leaves
 pub record LeafAnswers : Type 0 where

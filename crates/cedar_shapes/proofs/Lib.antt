@@ -1,0 +1,6 @@
+pub mod Listing
+pub mod MarkOrder
+pub mod Steps
+pub mod Pairing
+pub mod Walking
+pub mod Projecting

@@ -1,0 +1,6 @@
+use Rattle.std.proofs.Common.{rules}
+use Rattle.cedar_shapes.proofs.MarkOrder.{texts_cmp}
+use Rattle.cedar_shapes.proofs.marks.cmp_paths.Goals as goal
+
+pub returns : goal.returns
+returns c = search (rules, texts_cmp)

@@ -1,0 +1,14 @@
+pub mod Parts
+pub mod PartsLeft
+pub mod ShapeOrder
+pub mod ShapeLaws
+pub mod ShapeHash
+pub mod Lists
+pub mod PairsLeft
+pub mod HeldNodes
+pub mod ShapesOnly
+pub mod Positions
+pub mod Stack
+pub mod Leaves
+pub mod PositionsLeft
+pub mod StaticTypes
