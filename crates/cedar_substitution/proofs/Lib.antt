@@ -1,0 +1,3 @@
+mod Giving
+mod Chaining
+mod Nodes

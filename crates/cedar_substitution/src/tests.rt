@@ -1,0 +1,214 @@
+// What is built again where there is memory, by a builder of the tests' own.
+ghost use Rattle.std.specs.Prelude.{Ok, None, Bool, false};
+ghost use Rattle.cedar_builders.specs.Operations.{Gives};
+
+use crate::into_expr::IntoExpr;
+use crate::partial_values::PartialValue;
+use crate::substitution::SubstituteExprs;
+use cedar_builders::expr_builder;
+use cedar_literals::literals::Literal;
+use cedar_literals::operators::{BinaryOp, UnaryOp};
+use cedar_literals::patterns::Pattern;
+use cedar_literals::variables::Var;
+use cedar_names::names::Name;
+use cedar_names::places::Loc;
+use cedar_trees::expr::Expr;
+use cedar_trees::unknowns::{NonEmpty, Unknown};
+use cedar_uids::slots::SlotId;
+use cedar_uids::uids::EntityType;
+use cedar_values::values::Value;
+use std::alloc::{AllocError, Global};
+use std::collections::HashMap;
+use std::rc::RcStr;
+use std::test::Fail;
+
+// A builder that tells whether a variable stands where `if`, `&&` and `||` alone stand above it.
+#[derive(Clone, Copy, Debug)]
+struct Mentions {
+    data: (),
+}
+
+impl expr_builder::ExprBuilder for Mentions {
+    ghost use Rattle.std.specs.Prelude.{Bool, true, false, ◌||◌, Ok, None, refl};
+    ghost use Rattle.cedar_builders.specs.Operations.{Operations, IsLawful};
+
+    type Expr = bool;
+
+    type Data = ();
+
+    type BuildError = AllocError;
+
+    ghost Meaning = { Bool };
+
+    ghost Refusal = { Bool };
+
+    ghost operations = { record {
+      val = λ l. false;
+      var = λ v. true;
+      slot = λ s. false;
+      unknown = λ n ty. false;
+      ite = λ x y z. x || y || z;
+      and = λ x y. x || y;
+      or = λ x y. x || y;
+      apply = λ op xs. false;
+      call = λ f xs. Ok false;
+      record_of = λ es. Ok false;
+    } };
+
+    ghost meaning = { λ x. x };
+
+    ghost refusal = { λ e. None };
+
+    ghost lawful = { record {
+      and_of_literals = λ a b. refl;
+      or_of_literals = λ a b. refl;
+      one_attribute = λ a x. refl;
+      distinct_keys = λ es h. (false, refl);
+    } };
+
+    ghost memory = { λ a e is. refl };
+
+    fn new(_alloc: Global) -> Mentions {
+        Mentions { data: () }
+    }
+
+    fn with_data(_alloc: Global, data: ()) -> Mentions {
+        Mentions { data }
+    }
+
+    fn with_maybe_source_loc(self, _source_loc: Option<Loc>) -> Mentions {
+        self
+    }
+
+    fn loc(&self) -> Option<&Loc> {
+        None
+    }
+
+    fn data(&self) -> &() {
+        &self.data
+    }
+
+    fn val(self, _literal: Literal) -> Result<bool, AllocError> {
+        Ok(false)
+    }
+
+    fn unknown(self, _unknown: Unknown) -> Result<bool, AllocError> {
+        Ok(false)
+    }
+
+    fn var(self, _var: Var) -> Result<bool, AllocError> {
+        Ok(true)
+    }
+
+    fn slot(self, _slot: SlotId) -> Result<bool, AllocError> {
+        Ok(false)
+    }
+
+    fn ite(self, test_expr: bool, then_expr: bool, else_expr: bool) -> Result<bool, AllocError> {
+        Ok(test_expr || then_expr || else_expr)
+    }
+
+    fn and(self, left: bool, right: bool) -> Result<bool, AllocError> {
+        Ok(left || right)
+    }
+
+    fn or(self, left: bool, right: bool) -> Result<bool, AllocError> {
+        Ok(left || right)
+    }
+
+    fn set(self, _items: Vec<bool>) -> Result<bool, AllocError>
+        ensures { Gives {R = Bool} (λ x. x) (λ e. None) result (Ok false) }
+    {
+        Ok(false)
+    }
+
+    fn record(self, _pairs: Vec<(RcStr, bool)>) -> Result<bool, AllocError>
+        ensures { Gives {R = Bool} (λ x. x) (λ e. None) result (Ok false) }
+    {
+        Ok(false)
+    }
+
+    fn call_extension_fn(self, _fn_name: Name, _args: Vec<bool>) -> Result<bool, AllocError>
+        ensures { Gives {R = Bool} (λ x. x) (λ e. None) result (Ok false) }
+    {
+        Ok(false)
+    }
+
+    fn unary_app(self, _op: UnaryOp, _arg: bool) -> Result<bool, AllocError> {
+        Ok(false)
+    }
+
+    fn binary_app(self, _op: BinaryOp, _arg1: bool, _arg2: bool) -> Result<bool, AllocError> {
+        Ok(false)
+    }
+
+    fn get_attr(self, _expr: bool, _attr: RcStr) -> Result<bool, AllocError> {
+        Ok(false)
+    }
+
+    fn has_attr(self, _expr: bool, _attr: RcStr) -> Result<bool, AllocError> {
+        Ok(false)
+    }
+
+    fn extended_has_attr(self, _expr: bool, _attrs: NonEmpty<RcStr>) -> Result<bool, AllocError> {
+        Ok(false)
+    }
+
+    fn like(self, _expr: bool, _pattern: Pattern) -> Result<bool, AllocError> {
+        Ok(false)
+    }
+
+    fn is_entity_type(self, _expr: bool, _entity_type: EntityType) -> Result<bool, AllocError> {
+        Ok(false)
+    }
+}
+
+fn name(alloc: Global, text: &str) -> Result<RcStr, AllocError> {
+    RcStr::from_str(alloc, text)
+}
+
+// The unknown of this name, or a slot.
+fn unknown_or_slot(alloc: Global, text: &str) -> Result<Expr, AllocError> {
+    let unknown = Expr::unknown(Unknown::new_untyped(name(alloc, text)?));
+    Expr::or(alloc, unknown, Expr::slot(SlotId::principal()))
+}
+
+#[test]
+fn unknowns_are_told(rt: HostRuntime) -> Result<(), Fail> {
+    let alloc = rt.alloc();
+    let mut told = HashMap::new(alloc);
+    told.insert(name(alloc, "x")?, Expr::var(Var::Context))?;
+    let either = unknown_or_slot(alloc, "x")?;
+    assert!(rt; !either.try_into_expr::<Mentions>(alloc)?);
+    assert!(rt; !either.into_expr::<Mentions>(alloc)?);
+    assert!(rt; either.substitute_exprs_into_expr::<Mentions>(alloc, &told)?);
+    let other = unknown_or_slot(alloc, "y")?;
+    assert!(rt; !other.substitute_exprs_into_expr::<Mentions>(alloc, &told)?);
+    Ok(())
+}
+
+#[test]
+fn chains_take_no_stack(rt: HostRuntime) -> Result<(), Fail> {
+    let alloc = rt.alloc();
+    let mut told = HashMap::new(alloc);
+    told.insert(name(alloc, "x")?, Expr::var(Var::Context))?;
+    let mut chain = unknown_or_slot(alloc, "x")?;
+    for _ in 0..500_000 {
+        chain = Expr::or(alloc, chain, Expr::slot(SlotId::resource()))?;
+    }
+    assert!(rt; !chain.into_expr::<Mentions>(alloc)?);
+    assert!(rt; chain.substitute_exprs_into_expr::<Mentions>(alloc, &told)?);
+    Ok(())
+}
+
+#[test]
+fn values_are_no_residuals(rt: HostRuntime) -> Result<(), Fail> {
+    let alloc = rt.alloc();
+    let value = PartialValue::from(Value::from(Literal::Long(2)));
+    assert!(rt; Value::try_from(value.with_maybe_source_loc(None)).is_ok());
+    let unknown = PartialValue::unknown(Unknown::new_untyped(name(alloc, "x")?));
+    assert!(rt; Value::try_from(unknown).is_err());
+    let residual = PartialValue::from(Expr::val(Literal::Long(2)));
+    assert!(rt; Value::try_from(residual).is_err());
+    Ok(())
+}
