@@ -11,7 +11,7 @@ use Rattle.cedar_shapes.specs.declared.iteration.Unknowns.{Unknowns}
 
 -- the trees at the positions that are still to come
 abbrev pub positions_left : {T : Type 0} → ExprIterator T → List Tree
-positions_left it = waiting (stack_of it.todo.items)
+positions_left it = waiting (stack_of it.ahead.items)
 
 abbrev pub slots_left : {T : Type 0} → Slots T → List SlotId
 slots_left it = slots_among (positions_left it.positions)

@@ -15,13 +15,13 @@ use cedar_uids::slots::{Slot, SlotId};
 use std::alloc::{AllocError, Global};
 
 // Puts the parts onto a stack that has room for them, the first one lowest.
-fn push_parts<'a, T>(todo: &mut Vec<&'a Expr<T>>, expr: &'a Expr<T>)
-    requires room { vec_len todo.old + length (parts (bare expr.now)) ≤ vec_capacity todo.old }
-    ensures items { stack_of todo.new.items ≡ stack_of todo.old.items ++ parts (bare expr.now) }
-    ensures capacity { vec_capacity todo.new ≡ vec_capacity todo.old }
+fn push_parts<'a, T>(ahead: &mut Vec<&'a Expr<T>>, expr: &'a Expr<T>)
+    requires room { vec_len ahead.old + length (parts (bare expr.now)) ≤ vec_capacity ahead.old }
+    ensures items { stack_of ahead.new.items ≡ stack_of ahead.old.items ++ parts (bare expr.now) }
+    ensures capacity { vec_capacity ahead.new ≡ vec_capacity ahead.old }
 {
     for part in Parts::of(expr) {
-        todo.push_reserved(part);
+        ahead.push_reserved(part);
     }
 }
 
@@ -29,8 +29,8 @@ fn push_parts<'a, T>(todo: &mut Vec<&'a Expr<T>>, expr: &'a Expr<T>)
 /// in it, its last part before its first. It ends, and takes no memory after `new`.
 #[derive(Drop)]
 pub struct ExprIterator<'a, T = ()> {
-    todo: Vec<&'a Expr<T>>,
-    pub ghost fits: { need_all (stack_of todo.items) ≤ vec_capacity todo },
+    ahead: Vec<&'a Expr<T>>,
+    pub ghost fits: { need_all (stack_of ahead.items) ≤ vec_capacity ahead },
 }
 
 impl<'a, T> ExprIterator<'a, T> {
@@ -41,15 +41,15 @@ impl<'a, T> ExprIterator<'a, T> {
     pub fn new(alloc: Global, expr: &'a Expr<T>) -> Result<ExprIterator<'a, T>, AllocError>
         ensures { IfOk result (λ it. positions_left it ≡ positions (bare expr.now)) }
     {
-        let mut todo = Vec::with_capacity(alloc, 1)?;
-        todo.push_reserved(expr);
-        while let Some(next) = todo.pop() {
-            todo.reserve(Parts::of(next).len())?;
-            push_parts(&mut todo, next);
+        let mut ahead = Vec::with_capacity(alloc, 1)?;
+        ahead.push_reserved(expr);
+        while let Some(next) = ahead.pop() {
+            ahead.reserve(Parts::of(next).len())?;
+            push_parts(&mut ahead, next);
         }
-        todo.reserve(1)?;
-        todo.push_reserved(expr);
-        Ok(ExprIterator { todo })
+        ahead.reserve(1)?;
+        ahead.push_reserved(expr);
+        Ok(ExprIterator { ahead })
     }
 }
 
@@ -65,8 +65,8 @@ impl<'a, T> Iterator for ExprIterator<'a, T> {
     ghost remaining = { item_count positions_left };
 
     fn next(&mut self) -> Option<&'a Expr<T>> {
-        let next = self.todo.pop()?;
-        push_parts(&mut self.todo, next);
+        let next = self.ahead.pop()?;
+        push_parts(&mut self.ahead, next);
         Some(next)
     }
 }

@@ -8,6 +8,6 @@ use Rattle.cedar_shapes.proofs.iteration.push_parts.Given as goal
 
 abbrev pub invariant-loop-part : goal.invariant-loop-part
 invariant-loop-part g l =
-    (vec_len l.todo + length (parts_left l.part-iterator) ≡ vec_len l.initial.todo + length (parts (bare l.expr))) ×
-    (vec_capacity l.todo ≡ vec_capacity l.initial.todo) ×
-    (stack_of l.todo.items ++ parts_left l.part-iterator ≡ stack_of l.initial.todo.items ++ parts (bare l.expr))
+    (vec_len l.ahead + length (parts_left l.part-iterator) ≡ vec_len l.initial.ahead + length (parts (bare l.expr))) ×
+    (vec_capacity l.ahead ≡ vec_capacity l.initial.ahead) ×
+    (stack_of l.ahead.items ++ parts_left l.part-iterator ≡ stack_of l.initial.ahead.items ++ parts (bare l.expr))
