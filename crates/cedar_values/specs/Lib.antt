@@ -1,4 +1,3 @@
-pub mod Extensions
 pub mod Falls
 pub mod Hashes
 pub mod Kinds
@@ -6,7 +5,6 @@ pub mod Laws
 pub mod Occurring
 pub mod Orders
 pub mod Records
-pub mod Representations
 pub mod Sizes
 pub mod Texts
 pub mod Types

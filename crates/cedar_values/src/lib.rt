@@ -2,7 +2,6 @@
 #![tactic(auto)]
 
 pub mod bounded_display;
-pub mod extension_values;
 pub mod laws;
 #[cfg(test)]
 mod tests;

@@ -1,7 +1,9 @@
 // That calls succeed where there is memory, the order across kinds, texts, and what equality looks past.
 use crate::bounded_display::BoundedToString;
-use crate::extension_values::{Argument, ExtensionValue, RepresentableExtensionValue};
 use crate::values::{Set, Value, ValueKind};
+use cedar_extension_values::extension_values::{
+    Argument, ExtensionValue, RepresentableExtensionValue,
+};
 use cedar_literals::literals::Literal;
 use cedar_literals::types::StaticallyTyped;
 use cedar_names::conversions::FromIn;

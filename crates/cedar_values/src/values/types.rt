@@ -1,21 +1,8 @@
 // The types of values.
 
-use crate::extension_values::RepresentableExtensionValue;
 use crate::values::{Value, ValueKind};
 use cedar_literals::types::{StaticallyTyped, Type};
 use std::alloc::{AllocError, Global};
-
-impl StaticallyTyped for RepresentableExtensionValue {
-    ghost use Rattle.cedar_language.specs.Tree.{ExtensionType};
-    ghost use Rattle.cedar_values.specs.Representations.{extension_of};
-
-    ghost static_type = { λ value. ExtensionType (extension_of value).type_name };
-
-    fn type_of(&self, alloc: Global) -> Result<Type, AllocError> {
-        let name = self.typename().clone(alloc)?;
-        Ok(Type::Extension { name })
-    }
-}
 
 impl StaticallyTyped for ValueKind {
     ghost use Rattle.cedar_values.specs.Kinds.{value_of};

@@ -10,9 +10,9 @@ use Rattle.cedar_language.specs.Uid.{Name}
 use Rattle.cedar_language.specs.Tree.{Tree, Lit, Apply, Trees, no_trees, a_tree, MakeSet, MakeRecord, Call}
 use Rattle.cedar_language.specs.Value.{Extension}
 use Rattle.cedar_literals.specs.Literals.{literal_of}
-use Rattle.cedar_values.specs.Extensions.{extension_cmp, extension_cmp_total, extension_hash, extension_hash_alike}
-use Rattle.cedar_values.specs.declared.extension_values.Argument.{Argument, Argument-F, fold-Argument}
-use Rattle.cedar_values.specs.declared.extension_values.RepresentableExtensionValue.{RepresentableExtensionValue, RepresentableExtensionValue-F, fold-RepresentableExtensionValue}
+use Rattle.cedar_extension_values.specs.Extensions.{extension_cmp, extension_cmp_total, extension_hash, extension_hash_alike}
+use Rattle.cedar_extension_values.specs.declared.extension_values.Argument.{Argument, Argument-F, fold-Argument}
+use Rattle.cedar_extension_values.specs.declared.extension_values.RepresentableExtensionValue.{RepresentableExtensionValue, RepresentableExtensionValue-F, fold-RepresentableExtensionValue}
 
 -- the value
 abbrev pub extension_of : RepresentableExtensionValue → Extension

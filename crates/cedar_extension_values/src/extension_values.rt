@@ -1,10 +1,12 @@
 // Extension values.
 ghost use Rattle.std.specs.Prelude.{◌≡◌};
 ghost use Rattle.cedar_language.specs.Tree.{Apply, Call};
-ghost use Rattle.cedar_values.specs.Representations.{extension_of, function_of, written_call, written_all};
+ghost use Rattle.cedar_extension_values.specs.Representations.{extension_of, function_of, written_call, written_all};
 
 use cedar_literals::literals::Literal;
+use cedar_literals::types::{StaticallyTyped, Type};
 use cedar_names::names::Name;
+use std::alloc::{AllocError, Global};
 use std::cmp::Ordering;
 use std::collections::BTreeMap;
 use std::hash::{Hash, Hasher};
@@ -133,8 +135,20 @@ impl RepresentableExtensionValue {
     }
 }
 
+impl StaticallyTyped for RepresentableExtensionValue {
+    ghost use Rattle.cedar_language.specs.Tree.{ExtensionType};
+    ghost use Rattle.cedar_extension_values.specs.Representations.{extension_of};
+
+    ghost static_type = { λ value. ExtensionType (extension_of value).type_name };
+
+    fn type_of(&self, alloc: Global) -> Result<Type, AllocError> {
+        let name = self.typename().clone(alloc)?;
+        Ok(Type::Extension { name })
+    }
+}
+
 impl PartialEq for ExtensionValue {
-    ghost use Rattle.cedar_values.specs.Extensions.{same_extension, same_extension_partial};
+    ghost use Rattle.cedar_extension_values.specs.Extensions.{same_extension, same_extension_partial};
 
     ghost eq = { same_extension };
 
@@ -146,14 +160,14 @@ impl PartialEq for ExtensionValue {
 }
 
 impl Eq for ExtensionValue {
-    ghost use Rattle.cedar_values.specs.Extensions.{same_extension_equiv};
+    ghost use Rattle.cedar_extension_values.specs.Extensions.{same_extension_equiv};
 
     ghost laws = { same_extension_equiv };
 }
 
 impl PartialOrd for ExtensionValue {
     ghost use Rattle.std.specs.Ordering.{as_partial_cmp};
-    ghost use Rattle.cedar_values.specs.Extensions.{extension_cmp, extension_cmp_partial};
+    ghost use Rattle.cedar_extension_values.specs.Extensions.{extension_cmp, extension_cmp_partial};
 
     ghost partial_cmp = { as_partial_cmp extension_cmp };
 
@@ -166,7 +180,7 @@ impl PartialOrd for ExtensionValue {
 
 impl Ord for ExtensionValue {
     ghost use Rattle.std.specs.Prelude.{refl};
-    ghost use Rattle.cedar_values.specs.Extensions.{extension_cmp, extension_cmp_total};
+    ghost use Rattle.cedar_extension_values.specs.Extensions.{extension_cmp, extension_cmp_total};
 
     ghost cmp = { extension_cmp };
 
@@ -185,7 +199,7 @@ impl Ord for ExtensionValue {
 }
 
 impl Hash for ExtensionValue {
-    ghost use Rattle.cedar_values.specs.Extensions.{extension_hash, extension_hash_alike};
+    ghost use Rattle.cedar_extension_values.specs.Extensions.{extension_hash, extension_hash_alike};
 
     ghost hash_input = { extension_hash };
 
@@ -199,7 +213,7 @@ impl Hash for ExtensionValue {
 }
 
 impl PartialEq for RepresentableExtensionValue {
-    ghost use Rattle.cedar_values.specs.Representations.{same_represented, same_represented_partial};
+    ghost use Rattle.cedar_extension_values.specs.Representations.{same_represented, same_represented_partial};
 
     ghost eq = { same_represented };
 
@@ -211,14 +225,14 @@ impl PartialEq for RepresentableExtensionValue {
 }
 
 impl Eq for RepresentableExtensionValue {
-    ghost use Rattle.cedar_values.specs.Representations.{same_represented_equiv};
+    ghost use Rattle.cedar_extension_values.specs.Representations.{same_represented_equiv};
 
     ghost laws = { same_represented_equiv };
 }
 
 impl PartialOrd for RepresentableExtensionValue {
     ghost use Rattle.std.specs.Ordering.{as_partial_cmp};
-    ghost use Rattle.cedar_values.specs.Representations.{represented_cmp, represented_cmp_partial};
+    ghost use Rattle.cedar_extension_values.specs.Representations.{represented_cmp, represented_cmp_partial};
 
     ghost partial_cmp = { as_partial_cmp represented_cmp };
 
@@ -231,7 +245,7 @@ impl PartialOrd for RepresentableExtensionValue {
 
 impl Ord for RepresentableExtensionValue {
     ghost use Rattle.std.specs.Prelude.{refl};
-    ghost use Rattle.cedar_values.specs.Representations.{represented_cmp, represented_cmp_total};
+    ghost use Rattle.cedar_extension_values.specs.Representations.{represented_cmp, represented_cmp_total};
 
     ghost cmp = { represented_cmp };
 
@@ -247,7 +261,7 @@ impl Ord for RepresentableExtensionValue {
 }
 
 impl Hash for RepresentableExtensionValue {
-    ghost use Rattle.cedar_values.specs.Representations.{represented_hash, represented_hash_alike};
+    ghost use Rattle.cedar_extension_values.specs.Representations.{represented_hash, represented_hash_alike};
 
     ghost hash_input = { represented_hash };
 
