@@ -99,15 +99,15 @@ impl<T: Clone + Drop> Clone for ExprBuilder<T> {
     }
 }
 
-impl<T: Default + Clone + Drop> expr_builder::ExprBuilder for ExprBuilder<T> {
+impl expr_builder::ExprBuilder for ExprBuilder {
     ghost use Rattle.std.proofs.Common.{ap};
     ghost use Rattle.cedar_language.specs.Uid.{Text};
     ghost use Rattle.cedar_language.specs.Tree.{Tree};
     ghost use Rattle.cedar_builders.specs.Own.{own_operations, own_lawful};
 
-    type Expr = Expr<T>;
+    type Expr = Expr;
 
-    type Data = T;
+    type Data = ();
 
     type BuildError = ExpressionConstructionError;
 
@@ -125,15 +125,15 @@ impl<T: Default + Clone + Drop> expr_builder::ExprBuilder for ExprBuilder<T> {
 
     ghost memory = { λ a e is. ap refused_key is };
 
-    fn new(alloc: Global) -> ExprBuilder<T> {
+    fn new(alloc: Global) -> ExprBuilder {
         ExprBuilder {
             alloc,
             source_loc: None,
-            data: T::default(),
+            data: (),
         }
     }
 
-    fn with_data(alloc: Global, data: T) -> ExprBuilder<T> {
+    fn with_data(alloc: Global, data: ()) -> ExprBuilder {
         ExprBuilder {
             alloc,
             source_loc: None,
@@ -141,7 +141,7 @@ impl<T: Default + Clone + Drop> expr_builder::ExprBuilder for ExprBuilder<T> {
         }
     }
 
-    fn with_maybe_source_loc(self, source_loc: Option<Loc>) -> ExprBuilder<T> {
+    fn with_maybe_source_loc(self, source_loc: Option<Loc>) -> ExprBuilder {
         ExprBuilder {
             alloc: self.alloc,
             source_loc,
@@ -153,47 +153,47 @@ impl<T: Default + Clone + Drop> expr_builder::ExprBuilder for ExprBuilder<T> {
         self.source_loc.as_ref()
     }
 
-    fn data(&self) -> &T {
+    fn data(&self) -> &() {
         &self.data
     }
 
-    fn val(self, literal: Literal) -> Result<Expr<T>, ExpressionConstructionError> {
+    fn val(self, literal: Literal) -> Result<Expr, ExpressionConstructionError> {
         Ok(self.with_expr_kind(ExprKind::Lit(literal)))
     }
 
-    fn unknown(self, unknown: Unknown) -> Result<Expr<T>, ExpressionConstructionError> {
+    fn unknown(self, unknown: Unknown) -> Result<Expr, ExpressionConstructionError> {
         Ok(self.with_expr_kind(ExprKind::Unknown(unknown)))
     }
 
-    fn var(self, var: Var) -> Result<Expr<T>, ExpressionConstructionError> {
+    fn var(self, var: Var) -> Result<Expr, ExpressionConstructionError> {
         Ok(self.with_expr_kind(ExprKind::Var(var)))
     }
 
-    fn slot(self, slot: SlotId) -> Result<Expr<T>, ExpressionConstructionError> {
+    fn slot(self, slot: SlotId) -> Result<Expr, ExpressionConstructionError> {
         Ok(self.with_expr_kind(ExprKind::Slot(slot)))
     }
 
     fn ite(
         self,
-        test_expr: Expr<T>,
-        then_expr: Expr<T>,
-        else_expr: Expr<T>,
-    ) -> Result<Expr<T>, ExpressionConstructionError> {
+        test_expr: Expr,
+        then_expr: Expr,
+        else_expr: Expr,
+    ) -> Result<Expr, ExpressionConstructionError> {
         let kind = kinds::ite(self.alloc, test_expr, then_expr, else_expr)?;
         Ok(self.with_expr_kind(kind))
     }
 
-    fn and(self, left: Expr<T>, right: Expr<T>) -> Result<Expr<T>, ExpressionConstructionError> {
+    fn and(self, left: Expr, right: Expr) -> Result<Expr, ExpressionConstructionError> {
         let kind = kinds::and(self.alloc, left, right)?;
         Ok(self.with_expr_kind(kind))
     }
 
-    fn or(self, left: Expr<T>, right: Expr<T>) -> Result<Expr<T>, ExpressionConstructionError> {
+    fn or(self, left: Expr, right: Expr) -> Result<Expr, ExpressionConstructionError> {
         let kind = kinds::or(self.alloc, left, right)?;
         Ok(self.with_expr_kind(kind))
     }
 
-    fn set(self, items: Vec<Expr<T>>) -> Result<Expr<T>, ExpressionConstructionError>
+    fn set(self, items: Vec<Expr>) -> Result<Expr, ExpressionConstructionError>
         ensures { Builds bare refused_key result
             (tree.Apply tree.MakeSet (trees (map bare items.items))) }
     {
@@ -201,7 +201,7 @@ impl<T: Default + Clone + Drop> expr_builder::ExprBuilder for ExprBuilder<T> {
         Ok(self.with_expr_kind(kind))
     }
 
-    fn record(self, pairs: Vec<(RcStr, Expr<T>)>) -> Result<Expr<T>, ExpressionConstructionError>
+    fn record(self, pairs: Vec<(RcStr, Expr)>) -> Result<Expr, ExpressionConstructionError>
         ensures { Gives bare refused_key result (record_made (bare_entries pairs.items)) }
     {
         let kind = kinds::record(self.alloc, pairs)?;
@@ -211,8 +211,8 @@ impl<T: Default + Clone + Drop> expr_builder::ExprBuilder for ExprBuilder<T> {
     fn call_extension_fn(
         self,
         fn_name: Name,
-        args: Vec<Expr<T>>,
-    ) -> Result<Expr<T>, ExpressionConstructionError>
+        args: Vec<Expr>,
+    ) -> Result<Expr, ExpressionConstructionError>
         ensures { Builds bare refused_key result
             (tree.Apply (tree.Call fn_name) (trees (map bare args.items))) }
     {
@@ -220,7 +220,7 @@ impl<T: Default + Clone + Drop> expr_builder::ExprBuilder for ExprBuilder<T> {
         Ok(self.with_expr_kind(kind))
     }
 
-    fn unary_app(self, op: UnaryOp, arg: Expr<T>) -> Result<Expr<T>, ExpressionConstructionError> {
+    fn unary_app(self, op: UnaryOp, arg: Expr) -> Result<Expr, ExpressionConstructionError> {
         let kind = kinds::unary_app(self.alloc, op, arg)?;
         Ok(self.with_expr_kind(kind))
     }
@@ -228,42 +228,42 @@ impl<T: Default + Clone + Drop> expr_builder::ExprBuilder for ExprBuilder<T> {
     fn binary_app(
         self,
         op: BinaryOp,
-        arg1: Expr<T>,
-        arg2: Expr<T>,
-    ) -> Result<Expr<T>, ExpressionConstructionError> {
+        arg1: Expr,
+        arg2: Expr,
+    ) -> Result<Expr, ExpressionConstructionError> {
         let kind = kinds::binary_app(self.alloc, op, arg1, arg2)?;
         Ok(self.with_expr_kind(kind))
     }
 
-    fn get_attr(self, expr: Expr<T>, attr: RcStr) -> Result<Expr<T>, ExpressionConstructionError> {
+    fn get_attr(self, expr: Expr, attr: RcStr) -> Result<Expr, ExpressionConstructionError> {
         let kind = kinds::get_attr(self.alloc, expr, attr)?;
         Ok(self.with_expr_kind(kind))
     }
 
-    fn has_attr(self, expr: Expr<T>, attr: RcStr) -> Result<Expr<T>, ExpressionConstructionError> {
+    fn has_attr(self, expr: Expr, attr: RcStr) -> Result<Expr, ExpressionConstructionError> {
         let kind = kinds::has_attr(self.alloc, expr, attr)?;
         Ok(self.with_expr_kind(kind))
     }
 
     fn extended_has_attr(
         self,
-        expr: Expr<T>,
+        expr: Expr,
         attrs: NonEmpty<RcStr>,
-    ) -> Result<Expr<T>, ExpressionConstructionError> {
+    ) -> Result<Expr, ExpressionConstructionError> {
         let kind = kinds::extended_has_attr(self.alloc, expr, attrs)?;
         Ok(self.with_expr_kind(kind))
     }
 
-    fn like(self, expr: Expr<T>, pattern: Pattern) -> Result<Expr<T>, ExpressionConstructionError> {
+    fn like(self, expr: Expr, pattern: Pattern) -> Result<Expr, ExpressionConstructionError> {
         let kind = kinds::like(self.alloc, expr, pattern)?;
         Ok(self.with_expr_kind(kind))
     }
 
     fn is_entity_type(
         self,
-        expr: Expr<T>,
+        expr: Expr,
         entity_type: EntityType,
-    ) -> Result<Expr<T>, ExpressionConstructionError> {
+    ) -> Result<Expr, ExpressionConstructionError> {
         let kind = kinds::is_entity_type(self.alloc, expr, entity_type)?;
         Ok(self.with_expr_kind(kind))
     }

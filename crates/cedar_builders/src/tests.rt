@@ -1,4 +1,5 @@
 // What the own builder makes where there is memory, and where it puts places and data.
+use crate::expr_builder;
 use crate::expr_builder::ExprBuilder as _;
 use crate::own_builder::ExprBuilder;
 use cedar_literals::literals::Literal;
@@ -18,56 +19,63 @@ use std::collections::BTreeMap;
 use std::rc::{Rc, RcStr};
 use std::test::Fail;
 
-type Made = Result<Expr<u8>, ExpressionConstructionError>;
-
-fn builder(alloc: Global) -> ExprBuilder<u8> {
-    ExprBuilder::with_data(alloc, 7)
+fn one<B: expr_builder::ExprBuilder>(alloc: Global) -> Result<B::Expr, B::BuildError> {
+    B::new(alloc).val(Literal::Long(1))
 }
 
-fn leaf(literal: Literal) -> Expr<u8> {
+#[test]
+fn builders_are_handed_in(rt: HostRuntime) -> Result<(), Fail> {
+    let alloc = rt.alloc();
+    let made = one::<ExprBuilder>(alloc)?;
+    assert!(rt; made.source_loc().is_none());
+    Ok(())
+}
+
+type Made = Result<Expr, ExpressionConstructionError>;
+
+fn builder(alloc: Global) -> ExprBuilder {
+    ExprBuilder::new(alloc)
+}
+
+fn leaf(literal: Literal) -> Expr {
     Expr {
         expr_kind: ExprKind::Lit(literal),
         source_loc: None,
-        data: 0,
+        data: (),
     }
 }
 
-fn long(number: i64) -> Expr<u8> {
+fn long(number: i64) -> Expr {
     leaf(Literal::Long(number))
 }
 
-fn boolean(value: bool) -> Expr<u8> {
+fn boolean(value: bool) -> Expr {
     leaf(Literal::Bool(value))
 }
 
-fn number_of(expr: &Expr<u8>) -> Option<i64> {
+fn number_of(expr: &Expr) -> Option<i64> {
     match &expr.expr_kind {
         ExprKind::Lit(Literal::Long(number)) => Some(*number),
         _ => None,
     }
 }
 
-// Whether it is the operator on the literal 1, with the builder's data.
+// Whether it is the operator on the literal 1.
 fn is_unary(made: Made, wanted: UnaryOp) -> bool {
     match made {
         Ok(expr) => match &expr.expr_kind {
-            ExprKind::UnaryApp { op, arg } => expr.data == 7
-                && *op == wanted
-                && number_of(arg) == Some(1),
+            ExprKind::UnaryApp { op, arg } => *op == wanted && number_of(arg) == Some(1),
             _ => false,
         },
         Err(_) => false,
     }
 }
 
-// Whether it is the operator on the literals 1 and 2, with the builder's data.
-fn applies(expr: &Expr<u8>, wanted: BinaryOp) -> bool {
+// Whether it is the operator on the literals 1 and 2.
+fn applies(expr: &Expr, wanted: BinaryOp) -> bool {
     match &expr.expr_kind {
         ExprKind::BinaryApp { op, arg1, arg2 } => {
-            expr.data == 7
-                && *op == wanted
-                && number_of(arg1) == Some(1)
-                && number_of(arg2) == Some(2)
+            *op == wanted && number_of(arg1) == Some(1) && number_of(arg2) == Some(2)
         }
         _ => false,
     }
@@ -83,9 +91,7 @@ fn is_binary(made: Made, wanted: BinaryOp) -> bool {
 fn is_negated(made: Made, wanted: BinaryOp) -> bool {
     match made {
         Ok(expr) => match &expr.expr_kind {
-            ExprKind::UnaryApp { op, arg } => expr.data == 7
-                && *op == UnaryOp::Not
-                && applies(arg, wanted),
+            ExprKind::UnaryApp { op, arg } => *op == UnaryOp::Not && applies(arg, wanted),
             _ => false,
         },
         Err(_) => false,
@@ -142,21 +148,15 @@ fn operators_are_built(rt: HostRuntime) {
     );
 }
 
-// The name of the construct, where it has the builder's data.
+// The name of the construct.
 fn kind_of(made: Made) -> &'static str {
     match made {
-        Ok(expr) => {
-            if expr.data == 7 {
-                name_of(&expr)
-            } else {
-                "none"
-            }
-        }
+        Ok(expr) => name_of(&expr),
         Err(_) => "none",
     }
 }
 
-fn name_of(expr: &Expr<u8>) -> &'static str {
+fn name_of(expr: &Expr) -> &'static str {
     match &expr.expr_kind {
         ExprKind::Lit(Literal::Bool(true)) => "true",
         ExprKind::Lit(_) => "Lit",
@@ -276,6 +276,19 @@ fn records_are_built(rt: HostRuntime) {
     assert!(rt; is_refused(record(alloc, ["a", "a"]), "a"));
 }
 
+#[test]
+fn data_is_kept(rt: HostRuntime) {
+    let numbered = ExprBuilder {
+        alloc: rt.alloc(),
+        source_loc: None,
+        data: 7u8,
+    };
+    assert_eq!(rt;
+        *numbered.with_expr_kind(ExprKind::Var(Var::Context)).data(),
+        7
+    );
+}
+
 fn start_of(loc: Option<&Loc>) -> Option<usize> {
     Some(loc?.start())
 }
@@ -292,7 +305,7 @@ fn places_are_kept(rt: HostRuntime) -> Result<(), Fail> {
         ExprKind::UnaryApp { arg, .. } => assert_eq!(rt; start_of(arg.source_loc()), Some(3)),
         _ => assert!(rt; false, "no `!`"),
     }
-    let same = ExprBuilder::<()>::new(alloc).with_same_source_loc(&differ)?;
+    let same = builder(alloc).with_same_source_loc(&differ)?;
     assert_eq!(rt; start_of(same.loc()), Some(3));
     let still = same.with_same_source_loc(&long(1))?;
     assert_eq!(rt; start_of(still.loc()), Some(3));
@@ -300,6 +313,5 @@ fn places_are_kept(rt: HostRuntime) -> Result<(), Fail> {
         .with_maybe_source_loc(None)
         .with_expr_kind(ExprKind::Var(Var::Context));
     assert!(rt; bare.source_loc().is_none());
-    assert_eq!(rt; *ExprBuilder::<u8>::new(alloc).data(), 0);
     Ok(())
 }

@@ -35,11 +35,11 @@ in-rest : (k : ℕ) (rest ts : List Token) → Rest rest ts → k ≤ openers re
 in-rest k rest ts d le = let more = rest-openers rest ts d in omega arith
 
 -- by cases on which step is out of the limit
-bind-deep : {A B : Type 0} {P : Type 0} (p : Result A Fault) (f : A → Result B Fault) → (p ≡ Err depth → P) → ((x : A) → p ≡ Ok x → f x ≡ Err depth → P) → (p >> f) ≡ Err depth → P
+pub bind-deep : {A B : Type 0} {P : Type 0} (p : Result A Fault) (f : A → Result B Fault) → (p ≡ Err depth → P) → ((x : A) → p ≡ Ok x → f x ≡ Err depth → P) → (p >> f) ≡ Err depth → P
 bind-deep (Ok x) f g h e = h x refl e
 bind-deep (Err x) f g h e = let same : x ≡ depth = cc e in g (ap (λ y. Err y) same)
 
-needed-deep : {A B : Type 0} {P : Type 0} (o : Option A) (f : A → Result B Fault) → ((x : A) → needed o ≡ Ok x → f x ≡ Err depth → P) → (needed o >> f) ≡ Err depth → P
+pub needed-deep : {A B : Type 0} {P : Type 0} (o : Option A) (f : A → Result B Fault) → ((x : A) → needed o ≡ Ok x → f x ≡ Err depth → P) → (needed o >> f) ≡ Err depth → P
 needed-deep None f h e = absurd (cc e)
 needed-deep (Some x) f h e = h x refl e
 
@@ -109,7 +109,7 @@ module _ {Op A : Type 0} (k : ℕ) (op : Token → Option Op) (r : Reader A) (l 
 
 -- ---- names and literals
 
-abbrev Never : {A : Type 0} → Reader A → Type 0
+abbrev pub Never : {A : Type 0} → Reader A → Type 0
 Never r = (ts : List Token) → r ts ≡ Err depth → ⊥
 
 mapped-never : {A B : Type 0} (f : A → B) (r : Reader A) → Never r → Never (λ ts. mapped f (r ts))
@@ -124,7 +124,7 @@ unfolding name_at
 name_at-never zero ts e = cc e
 name_at-never (suc n) ts e = needed-deep (word_read ts) (λ w. name_next (name_at n) w.0 w.1 (next_word w.1)) (λ w e g. name_next-never (name_at n) (name_at-never n) w.0 w.1 (next_word w.1) g) e
 
-name-never : Never name_of
+pub name-never : Never name_of
 unfolding name_of
 name-never ts e = name_at-never (suc (length ts)) ts e
 
@@ -153,7 +153,7 @@ items-never close r l h ts e = let more = items-deep (suc (openers ts)) r l (λ 
 each-never : {A : Type 0} (begins : List Token → Bool) (r : Reader A) → Leaves r → Never r → Never (each_of begins r)
 each-never begins r l h ts e = let more = each-deep (suc (openers ts)) r l (λ us f. absurd (h us f)) begins ts e in absurd (omega arith)
 
-ref_rest-never : (n : loose.Name) → Never (ref_rest n)
+pub ref_rest-never : (n : loose.Name) → Never (ref_rest n)
 unfolding ref_rest
 ref_rest-never n [] e = cc e
 ref_rest-never n (text raw ∷ ts) e = cc e

@@ -9,6 +9,6 @@ pub mod PolicyRests
 mod PoliciesComplete
 mod PoliciesSound
 mod Stays
-mod Deep
+pub mod Deep
 mod Openers
 mod Laws

@@ -16,7 +16,7 @@ eat_is-is ts us e = absurd (cc e)
 
 -- ---- annotations
 
-annotated-leaves : (w : Word) (ts : List Token) (o : Option (List Token)) (x : loose.Annotation) (rest : List Token) → eat token.LeftParen ts ≡ o → annotated w ts o ≡ Ok (x, rest) → Rest rest ts
+pub annotated-leaves : (w : Word) (ts : List Token) (o : Option (List Token)) (x : loose.Annotation) (rest : List Token) → eat token.LeftParen ts ≡ o → annotated w ts o ≡ Ok (x, rest) → Rest rest ts
 annotated-leaves w ts None x rest e f = rest-is ts rest ts (ok_pair f).1 all
 annotated-leaves w ts (Some us) x rest e f =
     let one = bind_ok (needed (text_read us)) (λ raw. needed (eat token.RightParen raw.1) >> λ vs. Ok (loose.annotation (loose.ident w) (Some (loose.string raw.0)), vs)) f in
@@ -98,7 +98,7 @@ variable_def-eats n ts d rest e =
 
 -- ---- clauses
 
-braced-leaves : (rd : Reader loose.Expr) → Leaves rd → (w : Word) (ts : List Token) (o : Option (List Token)) → eat token.RightBrace ts ≡ o → (x : loose.Cond) (rest : List Token) → braced rd w ts o ≡ Ok (x, rest) → Rest rest ts
+pub braced-leaves : (rd : Reader loose.Expr) → Leaves rd → (w : Word) (ts : List Token) (o : Option (List Token)) → eat token.RightBrace ts ≡ o → (x : loose.Cond) (rest : List Token) → braced rd w ts o ≡ Ok (x, rest) → Rest rest ts
 braced-leaves rd l w ts (Some us) f x rest e = rest-is us rest ts (ok_pair e).1 (rest-at us ts us (mark token.RightBrace) (eat-is token.RightBrace ts us f) all)
 braced-leaves rd l w ts None f x rest e =
     let one = bind_ok (rd ts) (λ a. needed (eat token.RightBrace a.1) >> λ us. Ok (loose.cond (loose.ident w) (Some a.0), us)) e in

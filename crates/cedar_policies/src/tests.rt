@@ -1,5 +1,5 @@
-// Ids with ample memory.
-use crate::PolicyID;
+// Ids and effects with ample memory.
+use crate::{Effect, PolicyID};
 use std::cmp::Ordering;
 
 #[test]
@@ -18,4 +18,15 @@ fn ids_keep_their_texts(rt: HostRuntime) {
     };
     assert!(rt; copy == ten);
     assert!(rt; PolicyID::from_smolstr(copy.into_smolstr()) == ten);
+}
+
+#[test]
+fn effects_are_printed(rt: HostRuntime) {
+    let (Ok(permit), Ok(forbid)) = (
+        Effect::Permit.to_string(rt.alloc()),
+        Effect::Forbid.to_string(rt.alloc()),
+    ) else {
+        panic!(rt; "no memory");
+    };
+    assert!(rt; permit.as_str() == "permit" && forbid.as_str() == "forbid");
 }

@@ -106,9 +106,9 @@ pub enum ExprKind<T = ()> {
     Record(Rc<BTreeMap<RcStr, Expr<T>>>),
 }
 
-/// Lets go of an expression. A text may hold a chain as `a && b && ..` of hundreds of thousands of
-/// links, each the first part of the next: a loop goes down the first parts, so that the chain takes
-/// no stack.
+/// Lets go of an expression. A text may hold a chain as `a && b && ..` or `a.f().f()..` of hundreds of
+/// thousands of links, each the first part of the next: a loop goes down the first parts, so that the
+/// chain takes no stack.
 impl<T: Drop> Drop for Expr<T> {
     fn drop(mut self) {
         loop {
@@ -143,8 +143,17 @@ impl<T: Drop> Drop for Expr<T> {
                 } => arg1,
                 ExprKind::ExtensionFunctionApp {
                     fn_name: _fn_name,
-                    args: _args,
-                } => return,
+                    args,
+                } => match Rc::try_unwrap(args) {
+                    Ok(mut items) => {
+                        if items.is_empty() {
+                            return;
+                        }
+                        self = items.remove(0);
+                        continue;
+                    }
+                    Err(_shared) => return,
+                },
                 ExprKind::GetAttr { expr, attr: _attr } => expr,
                 ExprKind::HasAttr { expr, attr: _attr } => expr,
                 ExprKind::ExtHasAttr {

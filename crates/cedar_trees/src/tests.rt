@@ -350,3 +350,55 @@ fn chains_take_no_stack(rt: HostRuntime) -> Result<(), Fail> {
     assert!(rt; !chain.is_ref());
     Ok(())
 }
+
+#[test]
+fn chains_of_calls_take_no_stack(rt: HostRuntime) -> Result<(), Fail> {
+    let alloc = rt.alloc();
+    let name = Name::from_normalized_str(alloc, "f")?;
+    let mut chain = Expr::var(Var::Context);
+    for _ in 0..500_000 {
+        let args = Vec::from_array(alloc, [chain, long(1)])?;
+        chain = Expr::call_extension_fn(alloc, name.clone(alloc)?, args)?;
+    }
+    assert!(rt; !chain.is_ref());
+    Ok(())
+}
+
+fn operators_printed(alloc: Global) -> Result<String, AllocError> {
+    let negated = Expr::neg(alloc, long(1))?;
+    let sum = Expr::add(alloc, negated, long(2))?;
+    let is_below = Expr::less(alloc, sum, long(3))?;
+    Expr::and(alloc, is_below, boolean(true))?.to_string(alloc)
+}
+
+fn attributes_printed(alloc: Global) -> Result<String, AllocError> {
+    let unknown = Expr::unknown(Unknown::new_untyped(text(alloc, "x")?));
+    let attr = Expr::get_attr(alloc, unknown, text(alloc, "a b")?)?;
+    let tagged = Expr::has_tag(alloc, attr, Expr::var(Var::Context))?;
+    Expr::has_attr(alloc, tagged, text(alloc, "c")?)?.to_string(alloc)
+}
+
+fn records_printed(alloc: Global) -> Result<String, ExpressionConstructionError> {
+    let numbers = Expr::set(alloc, Vec::from_array(alloc, [long(1), long(2)])?)?;
+    let entry = (text(alloc, "k")?, numbers);
+    let record = Expr::record(alloc, Vec::from_array(alloc, [entry])?)?;
+    Ok(Expr::is_empty(alloc, record)?.to_string(alloc)?)
+}
+
+#[test]
+fn expressions_are_printed(rt: HostRuntime) -> Result<(), Fail> {
+    let alloc = rt.alloc();
+    assert_eq!(rt;
+        operators_printed(alloc)?.as_str(),
+        "(((-(1)) + 2) < 3) && true"
+    );
+    assert_eq!(rt;
+        attributes_printed(alloc)?.as_str(),
+        "unknown(\"x\")[\"a b\"].hasTag(context) has \"c\""
+    );
+    assert_eq!(rt;
+        records_printed(alloc)?.as_str(),
+        "{\"k\": [1, 2]}.isEmpty()"
+    );
+    Ok(())
+}

@@ -7,9 +7,9 @@ use Rattle.cedar_builders.proofs.Paths.{path_has}
 use Rattle.cedar_builders.proofs.own_builder.ExprBuilderExprBuilder.extended_has_attr.Goals as goal
 
 pub returns : goal.returns
-returns g c =
+returns c =
     ap Ok
     (path_has (rc_str_bytes c.args.attrs.head) (map rc_str_bytes c.args.attrs.tail.items) (bare c.args.expr)
     ∙ sym c.in_ok-kind.ensures
     ∙ sym (ap (λ e. bare_kind e.expr_kind) c.with_expr_kind.ensures)
-    ∙ sym (bare_is g.row.T.Denot c.with_expr_kind.result))
+    ∙ sym (bare_is _ c.with_expr_kind.result))
