@@ -16,11 +16,11 @@ pub all_last : {X : Type 0} (P : X → Type 0) (xs : List X) (x : X) → All P (
 all_last P [] x h = h 0 x (omega arith)
 all_last P (y ∷ xs) x h = all_last P xs x (λ k d lt. h (suc k) d (omega (arith, lt)))
 
-some_of : {A : Type 0} (b : Bool) (x : Option A) (a : A) → cond b None x ≡ Some a → x ≡ Some a
+pub some_of : {A : Type 0} (b : Bool) (x : Option A) (a : A) → cond b None x ≡ Some a → x ≡ Some a
 some_of true x a h = cc
 some_of false x a h = h
 
-some_same : {A : Type 0} (x y : A) → Some x ≡ Some y → x ≡ y
+pub some_same : {A : Type 0} (x y : A) → Some x ≡ Some y → x ≡ y
 some_same x y h = cc
 
 module _ {M R : Type 0} (o : Operations M R) (u : Text → Option ValueType → Result M R) where

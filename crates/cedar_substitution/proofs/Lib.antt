@@ -1,3 +1,7 @@
+mod Again
+mod Telling
+mod Typing
+mod Regular
 mod Giving
 mod Chaining
 mod Nodes

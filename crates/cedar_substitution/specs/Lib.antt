@@ -1,3 +1,5 @@
 pub mod Chains
-pub mod PartialValues
+pub mod Laws
+pub mod Rising
 pub mod Told
+pub mod Typed

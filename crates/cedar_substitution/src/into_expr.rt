@@ -10,17 +10,20 @@ use std::alloc::Global;
 pub trait IntoExpr {
     ghost use Rattle.cedar_language.specs.Tree.{Tree};
     ghost use Rattle.cedar_builders.specs.Operations.{Gives, built};
+    ghost use Rattle.cedar_substitution.specs.Rising.{RecordsRise, BuildsRising};
 
     ghost tree: { Self → Tree };
 
     /// The expression, built again by `B`: each of its constructs at its place, with the default of
     /// `B`'s data. Refused where `B` refuses a construct, with that error, and for want of memory.
     fn try_into_expr<B: ExprBuilder>(&self, alloc: Global) -> Result<B::Expr, B::BuildError>
-        ensures { Gives B.meaning B.refusal result (built B.operations (tree self.now)) };
+        ensures built { Gives B.meaning B.refusal result (built B.operations (tree self.now)) }
+        ensures rising { BuildsRising B.operations B.refusal (RecordsRise (tree self.now)) result };
 
     /// The same, for a builder whose errors are want of memory alone, as well as for any other.
     fn into_expr<B: ExprBuilder>(&self, alloc: Global) -> Result<B::Expr, B::BuildError>
-        ensures { Gives B.meaning B.refusal result (built B.operations (tree self.now)) }
+        ensures built { Gives B.meaning B.refusal result (built B.operations (tree self.now)) }
+        ensures rising { BuildsRising B.operations B.refusal (RecordsRise (tree self.now)) result }
     {
         self.try_into_expr::<B>(alloc)
     }

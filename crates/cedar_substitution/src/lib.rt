@@ -1,9 +1,12 @@
-//! Expressions of Cedar built again, by any builder and with others for their unknowns; partial values.
+//! Expressions of Cedar built again, by any builder and with others for their unknowns.
 #![tactic(auto)]
 
+pub mod errors;
+pub mod functions;
 pub mod into_expr;
-pub mod partial_values;
+pub mod laws;
 mod rebuilding;
 pub mod substitution;
 #[cfg(test)]
 mod tests;
+pub mod told_values;

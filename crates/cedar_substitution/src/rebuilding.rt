@@ -2,6 +2,8 @@
 ghost use Rattle.std.specs.Prelude.{◌≡◌, ◌<◌, Option, Result, IfOk, Ok, None, map, true};
 ghost use Rattle.std.specs.Option.{option_map, is_some, IfSome};
 ghost use Rattle.std.specs.Rc.{rc_str_bytes};
+ghost use Rattle.std.specs.List.Sorted.{IsStrictlySortedBy};
+ghost use Rattle.cedar_language.specs.Order.{text_cmp};
 ghost use Rattle.cedar_language.specs.Uid.{Text};
 ghost use Rattle.cedar_language.specs.Tree.{Tree, ValueType};
 ghost use Rattle.cedar_grammar.specs.Build.{trees, keys};
@@ -10,6 +12,7 @@ ghost use Rattle.cedar_trees.specs.Unknowns.{unknown_name, unknown_type};
 ghost use Rattle.cedar_trees.specs.declared.expr.Expr.{size-Expr};
 ghost use Rattle.cedar_builders.specs.Operations.{Gives, built, made, made_all};
 ghost use Rattle.cedar_substitution.specs.Chains.{first_of, with_built, refilled as refilled_by};
+ghost use Rattle.cedar_substitution.specs.Rising.{RecordsRise, RecordsRiseWith, AllRiseWith, RestRisesWith, BuildsRising};
 
 use cedar_builders::expr_builder::ExprBuilder;
 use cedar_trees::expr::{Expr, ExprKind};
@@ -29,7 +32,8 @@ pub trait Replacement {
         unknown: &Unknown,
         builder: B,
     ) -> Result<B::Expr, B::BuildError>
-        ensures { Gives B.meaning B.refusal result (built B.operations (replaced self.now (unknown_name unknown.now) (unknown_type unknown.now))) };
+        ensures built { Gives B.meaning B.refusal result (built B.operations (replaced self.now (unknown_name unknown.now) (unknown_type unknown.now))) }
+        ensures rising { BuildsRising B.operations B.refusal (RecordsRise (replaced self.now (unknown_name unknown.now) (unknown_type unknown.now))) result };
 }
 
 /// The expression built again by `B`, with what `unknowns` makes of its unknowns. A loop goes down the
@@ -40,7 +44,8 @@ pub fn rebuilt<T, B: ExprBuilder, U: Replacement>(
     unknowns: &U,
     expr: &Expr<T>,
 ) -> Result<B::Expr, B::BuildError>
-    ensures { Gives B.meaning B.refusal result (made B.operations (with_built B.operations (U.replaced unknowns.now)) (bare expr.now)) }
+    ensures built { Gives B.meaning B.refusal result (made B.operations (with_built B.operations (U.replaced unknowns.now)) (bare expr.now)) }
+    ensures rising { BuildsRising B.operations B.refusal (RecordsRiseWith (U.replaced unknowns.now) (bare expr.now)) result }
 {
     let mut chain = Vec::new(alloc);
     let mut current = expr;
@@ -98,7 +103,8 @@ fn rebuilt_end<T, B: ExprBuilder, U: Replacement>(
     expr: &Expr<T>,
 ) -> Result<B::Expr, B::BuildError>
     requires { first_of (bare expr.now) ≡ None }
-    ensures { Gives B.meaning B.refusal result (made B.operations (with_built B.operations (U.replaced unknowns.now)) (bare expr.now)) }
+    ensures built { Gives B.meaning B.refusal result (made B.operations (with_built B.operations (U.replaced unknowns.now)) (bare expr.now)) }
+    ensures rising { BuildsRising B.operations B.refusal (RecordsRiseWith (U.replaced unknowns.now) (bare expr.now)) result }
 {
     let builder = builder_at::<T, B>(alloc, expr)?;
     match &expr.expr_kind {
@@ -140,7 +146,8 @@ fn refilled<T, B: ExprBuilder, U: Replacement>(
     first: B::Expr,
 ) -> Result<B::Expr, B::BuildError>
     requires { is_some (first_of (bare expr.now)) ≡ true }
-    ensures { Gives B.meaning B.refusal result (refilled_by B.operations (with_built B.operations (U.replaced unknowns.now)) (bare expr.now) (B.meaning first)) }
+    ensures built { Gives B.meaning B.refusal result (refilled_by B.operations (with_built B.operations (U.replaced unknowns.now)) (bare expr.now) (B.meaning first)) }
+    ensures rising { BuildsRising B.operations B.refusal (RestRisesWith (U.replaced unknowns.now) (bare expr.now)) result }
 {
     let builder = builder_at::<T, B>(alloc, expr)?;
     match &expr.expr_kind {
@@ -190,7 +197,8 @@ fn rebuilt_items<T, B: ExprBuilder, U: Replacement>(
     unknowns: &U,
     items: &[Expr<T>],
 ) -> Result<Vec<B::Expr>, B::BuildError>
-    ensures { Gives (λ v. map B.meaning v.items) B.refusal result (made_all B.operations (with_built B.operations (U.replaced unknowns.now)) (trees (map bare items.now))) }
+    ensures built { Gives (λ v. map B.meaning v.items) B.refusal result (made_all B.operations (with_built B.operations (U.replaced unknowns.now)) (trees (map bare items.now))) }
+    ensures rising { BuildsRising B.operations B.refusal (AllRiseWith (U.replaced unknowns.now) (trees (map bare items.now))) result }
 {
     let mut built = Vec::new(alloc);
     for item in items {
@@ -209,6 +217,8 @@ fn rebuilt_entries<T, B: ExprBuilder, U: Replacement>(
 ) -> Result<Vec<(RcStr, B::Expr)>, B::BuildError>
     ensures built { Gives (λ v. map (λ p. B.meaning p.1) v.items) B.refusal result (made_all B.operations (with_built B.operations (U.replaced unknowns.now)) (trees (map (λ e. e.1) (bare_entries entries.now.entries)))) }
     ensures keys { IfOk result (λ v. map (λ p. rc_str_bytes p.0) v.items ≡ keys (bare_entries entries.now.entries)) }
+    ensures in_order { IfOk result (λ v. IsStrictlySortedBy text_cmp (keys (bare_entries entries.now.entries))) }
+    ensures rising { BuildsRising B.operations B.refusal (AllRiseWith (U.replaced unknowns.now) (trees (map (λ e. e.1) (bare_entries entries.now.entries)))) result }
 {
     let mut built = Vec::new(alloc);
     for (key, item) in entries {

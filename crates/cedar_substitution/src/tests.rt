@@ -2,17 +2,20 @@
 ghost use Rattle.std.specs.Prelude.{Ok, None, Bool, false};
 ghost use Rattle.cedar_builders.specs.Operations.{Gives};
 
+use crate::functions::{SubstitutionFunction, TypedSubstitution, UntypedSubstitution};
 use crate::into_expr::IntoExpr;
-use crate::partial_values::PartialValue;
 use crate::substitution::SubstituteExprs;
+use crate::told_values::Substitute;
 use cedar_builders::expr_builder;
+use cedar_builders::own_builder::ExprBuilder;
 use cedar_literals::literals::Literal;
 use cedar_literals::operators::{BinaryOp, UnaryOp};
 use cedar_literals::patterns::Pattern;
+use cedar_literals::types::Type;
 use cedar_literals::variables::Var;
 use cedar_names::names::Name;
 use cedar_names::places::Loc;
-use cedar_trees::expr::Expr;
+use cedar_trees::expr::{Expr, ExprKind};
 use cedar_trees::unknowns::{NonEmpty, Unknown};
 use cedar_uids::slots::SlotId;
 use cedar_uids::uids::EntityType;
@@ -201,14 +204,82 @@ fn chains_take_no_stack(rt: HostRuntime) -> Result<(), Fail> {
     Ok(())
 }
 
+// The unknown `x` of this type, or of none, and 1.
+fn sum(alloc: Global, ty: Option<Type>) -> Result<Expr, AllocError> {
+    let unknown = Unknown {
+        name: name(alloc, "x")?,
+        type_annotation: ty,
+    };
+    Expr::add(alloc, Expr::unknown(unknown), Expr::val(Literal::Long(1)))
+}
+
+fn told_two(alloc: Global) -> Result<HashMap<RcStr, Value>, AllocError> {
+    let mut told = HashMap::new(alloc);
+    told.insert(name(alloc, "x")?, Value::from(Literal::Long(2)))?;
+    Ok(told)
+}
+
+fn number_of(expr: &Expr) -> Option<i64> {
+    match &expr.expr_kind {
+        ExprKind::Lit(Literal::Long(number)) => Some(*number),
+        _ => None,
+    }
+}
+
+// Whether it is `2 + 1`.
+fn is_sum(expr: &Expr) -> bool {
+    match &expr.expr_kind {
+        ExprKind::BinaryApp {
+            op: BinaryOp::Add,
+            arg1,
+            arg2,
+        } => number_of(arg1) == Some(2) && number_of(arg2) == Some(1),
+        _ => false,
+    }
+}
+
 #[test]
-fn values_are_no_residuals(rt: HostRuntime) -> Result<(), Fail> {
+fn values_are_told(rt: HostRuntime) -> Result<(), Fail> {
     let alloc = rt.alloc();
-    let value = PartialValue::from(Value::from(Literal::Long(2)));
-    assert!(rt; Value::try_from(value.with_maybe_source_loc(None)).is_ok());
-    let unknown = PartialValue::unknown(Unknown::new_untyped(name(alloc, "x")?));
-    assert!(rt; Value::try_from(unknown).is_err());
-    let residual = PartialValue::from(Expr::val(Literal::Long(2)));
-    assert!(rt; Value::try_from(residual).is_err());
+    let told = told_two(alloc)?;
+    let expr = sum(alloc, None)?;
+    assert!(rt; is_sum(&expr.substitute(alloc, &told)?));
+    assert!(rt; is_sum(&expr.substitute_typed(alloc, &told)?));
+    let built = expr.substitute_into_expr::<ExprBuilder>(alloc, &told)?;
+    assert!(rt; is_sum(&built));
+    assert!(rt; is_sum(&built.into_expr::<ExprBuilder>(alloc)?));
+    Ok(())
+}
+
+// The two types, where a substitution was refused for them.
+fn refusal(alloc: Global, ty: Type) -> Result<Option<String>, Fail> {
+    let told = told_two(alloc)?;
+    match sum(alloc, Some(ty))?.substitute_typed(alloc, &told) {
+        Ok(_) => Ok(None),
+        Err(error) => Ok(Some(format!(in alloc; "{error}")?)),
+    }
+}
+
+#[test]
+fn types_are_compared(rt: HostRuntime) -> Result<(), Fail> {
+    let alloc = rt.alloc();
+    assert!(rt; refusal(alloc, Type::Long)?.is_none());
+    let refused = refusal(alloc, Type::Bool)?;
+    assert!(rt;
+        refused.is_some_and(|text| text.as_str()
+            == "expected a value of type bool, got a value of type long")
+    );
+    Ok(())
+}
+
+#[test]
+fn one_unknown_is_told(rt: HostRuntime) -> Result<(), Fail> {
+    let alloc = rt.alloc();
+    let two = Value::from(Literal::Long(2));
+    let unknown = Unknown::new_with_type(name(alloc, "x")?, Type::Bool);
+    let written = UntypedSubstitution::substitute(alloc, &unknown, Some(&two))?;
+    assert_eq!(rt; number_of(&written), Some(2));
+    assert!(rt; TypedSubstitution::substitute(alloc, &unknown, Some(&two)).is_err());
+    assert!(rt; TypedSubstitution::substitute(alloc, &unknown, None).is_ok());
     Ok(())
 }

@@ -2,7 +2,7 @@
 ghost use Rattle.std.specs.Prelude.{◌≡◌};
 ghost use Rattle.cedar_language.specs.Tree as tree;
 ghost use Rattle.cedar_trees.specs.Unknowns.{unknown_name, unknown_type};
-ghost use Rattle.cedar_substitution.specs.PartialValues.{partial_of};
+ghost use Rattle.cedar_partial_values.specs.PartialValues.{partial_of};
 ghost use Rattle.either.specs.declared.Either.TheVariants.{Right};
 
 use cedar_names::places::Loc;
@@ -44,7 +44,7 @@ impl PartialValue {
 
 impl From<Value> for PartialValue {
     ghost use Rattle.std.specs.Prelude.{◌≡◌};
-    ghost use Rattle.cedar_substitution.specs.PartialValues.{partial_of};
+    ghost use Rattle.cedar_partial_values.specs.PartialValues.{partial_of};
     ghost use Rattle.either.specs.declared.Either.TheVariants.{Left};
 
     ghost from_gives = { λ value partial. partial_of partial ≡ Left value };
@@ -57,7 +57,7 @@ impl From<Value> for PartialValue {
 impl From<Expr> for PartialValue {
     ghost use Rattle.std.specs.Prelude.{◌≡◌};
     ghost use Rattle.cedar_trees.specs.Bare.{bare};
-    ghost use Rattle.cedar_substitution.specs.PartialValues.{partial_of};
+    ghost use Rattle.cedar_partial_values.specs.PartialValues.{partial_of};
     ghost use Rattle.either.specs.declared.Either.TheVariants.{Right};
 
     ghost from_gives = { λ expr partial. partial_of partial ≡ Right (bare expr) };
@@ -87,7 +87,7 @@ pub enum PartialValueToValueError {
 impl TryFrom<PartialValue> for Value {
     type Error = PartialValueToValueError;
 
-    ghost use Rattle.cedar_substitution.specs.PartialValues.{IsValueOf};
+    ghost use Rattle.cedar_partial_values.specs.PartialValues.{IsValueOf};
 
     ghost try_from_gives = { IsValueOf };
 

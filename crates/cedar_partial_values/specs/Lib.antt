@@ -1,0 +1,5 @@
+pub mod Expressing
+pub mod PartialValues
+pub mod Reading
+pub mod Splitting
+pub mod Laws
