@@ -1,0 +1,4 @@
+pub mod Residuals
+pub mod Causes
+pub mod Failures
+pub mod Giving

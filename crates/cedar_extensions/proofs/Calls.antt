@@ -1,0 +1,19 @@
+-- Calls of the built-in function with another number of arguments than one.
+use Rattle.std.proofs.Common.{◌≡◌, ◌≢◌, suc, List, [], ◌∷◌, length, refl, ap, sym, ◌∙◌}
+use Rattle.std.proofs.lemmas.Bool.{ne_eqb}
+use Rattle.std.specs.Prelude.{Some, cond}
+use Rattle.cedar_language.specs.Value.{Value, FailedExtensionFunctionExecution, WrongNumArguments, Outcome, Fails}
+use Rattle.cedar_language.specs.Order.{all_of}
+use Rattle.cedar_language.specs.Operators.{count, called, or_fails}
+use Rattle.cedar_world.specs.Functions.{one_string, unknown_function}
+
+count_all : (vs : List Value) → count (all_of vs) ≡ length vs
+count_all [] = refl
+count_all (v ∷ vs) = ap suc (count_all vs)
+
+-- they are refused
+pub called_others : (vs : List Value) → length vs ≢ 1 → called (Some unknown_function) (all_of vs) ≡ Fails WrongNumArguments
+called_others vs others =
+    ap
+    (λ b. cond b (or_fails FailedExtensionFunctionExecution (one_string (all_of vs))) (Fails WrongNumArguments))
+    (ne_eqb 1 (count (all_of vs)) (λ one. others (sym (count_all vs) ∙ sym one)))

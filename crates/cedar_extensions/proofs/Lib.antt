@@ -1,0 +1,4 @@
+pub mod Calls
+pub mod Defined
+pub mod Finding
+pub mod Gathered

@@ -1,0 +1,5 @@
+use Rattle.cedar_extensions.proofs.Calls.{called_others}
+use Rattle.cedar_extensions.proofs.functions.ExtensionFunction.call_unknown.Goals as goal
+
+pub returns-then-args-ne1-clause-meaning : goal.returns-then-args-ne1-clause-meaning
+returns-then-args-ne1-clause-meaning c = rw c.wrong_num_arguments.ensures.kind (called_others c.args.args.now c.if-args-ne1.true)

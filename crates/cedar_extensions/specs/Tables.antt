@@ -1,0 +1,43 @@
+-- What extensions and tables of them hold, and what walks over them still give.
+use Rattle.std.specs.Prelude.{List, ◌++◌, map, Bool, Option, option_map}
+use Rattle.std.specs.List.{list_any, filter_map, flat_map}
+use Rattle.std.specs.Slice.Iter.{iter_rest}
+use Rattle.cedar_language.specs.Uid.{Name}
+use Rattle.cedar_language.specs.Facts as facts
+use Rattle.cedar_extensions.specs.Functions.{is_unknown, meaning_of, extension_type_of}
+use Rattle.cedar_extensions.specs.Holding.{extension_name, extension_functions, ordered_types, found_in}
+use Rattle.cedar_extensions.specs.declared.functions.ExtensionFunction.{ExtensionFunction}
+use Rattle.cedar_extensions.specs.declared.extension.Extension.{Extension}
+use Rattle.cedar_extensions.specs.declared.extensions.Extensions.{Extensions}
+use Rattle.cedar_extensions.specs.declared.iteration.Funcs.{Funcs}
+use Rattle.cedar_extensions.specs.declared.iteration.ExtNames.{ExtNames}
+use Rattle.cedar_extensions.specs.declared.iteration.ExtTypes.{ExtTypes}
+use Rattle.cedar_extensions.specs.declared.iteration.OrderedTypes.{OrderedTypes}
+
+-- what walks still give
+abbrev pub functions_left : Funcs → List ExtensionFunction
+functions_left it = iter_rest it.functions ++ flat_map extension_functions (iter_rest it.extensions)
+
+abbrev pub names_left : ExtNames → List Name
+names_left it = map extension_name (iter_rest it.extensions)
+
+abbrev pub type_names_left : ExtTypes → List Name
+type_names_left it = filter_map extension_type_of (functions_left it.functions)
+
+abbrev pub ordered_left : OrderedTypes → List Name
+ordered_left it = iter_rest it.types ++ flat_map ordered_types (iter_rest it.extensions)
+
+abbrev pub extensions_in : Extensions → List Extension
+extensions_in table = table.extensions.items
+
+-- the functions of a table, one extension after the other
+abbrev pub functions_in : Extensions → List ExtensionFunction
+functions_in table = flat_map extension_functions (extensions_in table)
+
+-- whether the built-in function that names unknowns is among them
+abbrev pub holds_unknown : Extensions → Bool
+holds_unknown table = list_any is_unknown (functions_in table)
+
+-- what the name calls, as the definitions have functions
+abbrev pub function_called : Extensions → Name → Option facts.Function
+function_called table n = option_map meaning_of (found_in (functions_in table) n)

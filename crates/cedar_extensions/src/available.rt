@@ -1,0 +1,40 @@
+// The extensions of the library's own.
+ghost use Rattle.std.specs.Prelude.{◌≡◌, ◌∷◌, [], IfOk};
+ghost use Rattle.cedar_names.specs.Identifiers.{IsUnreservedId};
+ghost use Rattle.cedar_extensions.specs.Holding.{extension_functions};
+ghost use Rattle.cedar_extensions.specs.Lookups.{IsUnknownAlone};
+
+use crate::extension::Extension;
+use crate::functions::{CallStyle, ExtensionFunction, SchemaType};
+use cedar_names::errors::ParseNameError;
+use cedar_names::names::Name;
+use std::alloc::{AllocError, Global};
+
+/// The extension of the built-in `unknown`.
+pub(crate) fn partial_evaluation(alloc: Global) -> Result<Extension, AllocError>
+    ensures { IfOk result (λ extension. IsUnknownAlone (extension_functions extension)) }
+{
+    let unknown = ExtensionFunction::partial_eval_unknown(
+        alloc,
+        unqualified(alloc, "unknown")?,
+        CallStyle::FunctionStyle,
+        SchemaType::String,
+    )?;
+    Ok(Extension::new(
+        unqualified(alloc, "partial_evaluation")?,
+        vec![in alloc; unknown]?,
+        Vec::new(alloc),
+    ))
+}
+
+fn unqualified(alloc: Global, identifier: &str) -> Result<Name, AllocError>
+    requires { IsUnreservedId identifier.now }
+    ensures { IfOk result (λ name. name ≡ identifier.now ∷ []) }
+{
+    match Name::parse_unqualified_name(alloc, identifier) {
+        Ok(name) => Ok(name),
+        Err(ParseNameError::Memory(error)) => Err(error),
+        Err(ParseNameError::NotNormalized) => unreachable!(),
+        Err(ParseNameError::Reserved(_)) => unreachable!(),
+    }
+}

@@ -1,0 +1,127 @@
+// Tables of extensions.
+ghost use Rattle.std.specs.Prelude.{◌≡◌, true};
+ghost use Rattle.std.specs.List.{flat_map};
+ghost use Rattle.cedar_extensions.specs.Holding.{extension_functions, are_named};
+
+use crate::available::partial_evaluation;
+use crate::extension::{Extension, find_among};
+use crate::functions::ExtensionFunction;
+use crate::iteration::{ExtNames, ExtTypes, Funcs, OrderedTypes};
+use cedar_errors::lookups::{ExtensionFunctionLookupError, FuncDoesNotExistError};
+use cedar_names::names::Name;
+use std::alloc::{AllocError, Global};
+use std::marker::PhantomData;
+
+/// The extension functions that texts may call and that an evaluation knows: one table for both.
+/// A function of it is named `unknown` exactly where it is the built-in one.
+/// (Cedar language reference, "Extension functions".)
+#[derive(Debug, Drop)]
+pub struct Extensions<'a> {
+    extensions: Vec<Extension>,
+    lender: PhantomData<&'a ()>,
+    pub ghost named: { are_named (flat_map extension_functions extensions.items) ≡ true },
+}
+
+impl<'a> Extensions<'a> {
+    ghost use Rattle.std.specs.Prelude.{[], IfOk, map, false};
+    ghost use Rattle.std.specs.List.{filter_map};
+    ghost use Rattle.cedar_language.specs.Facts.{Written};
+    ghost use Rattle.cedar_language.specs.Uid as language;
+    ghost use Rattle.cedar_language.specs.Value.{Extension as Extended};
+    ghost use Rattle.cedar_world.specs.Functions.{function_of};
+    ghost use Rattle.cedar_extensions.specs.Defining.{defined};
+    ghost use Rattle.cedar_extensions.specs.Functions.{extension_type_of};
+    ghost use Rattle.cedar_extensions.specs.Holding.{extension_name, ordered_types, found_in};
+    ghost use Rattle.cedar_extensions.specs.Lookups.{Finds, IsUnknownAlone};
+    ghost use Rattle.cedar_extensions.specs.Tables.{extensions_in, functions_in, holds_unknown, function_called, functions_left, names_left, type_names_left, ordered_left};
+
+    /// Every extension there is: the one of the built-in `unknown` alone. Refused for memory alone.
+    pub fn all_available(alloc: Global) -> Result<Extensions<'a>, AllocError>
+        ensures unknown { IfOk result (λ table. holds_unknown table ≡ true) }
+        ensures alone { IfOk result (λ table. IsUnknownAlone (functions_in table)) }
+    {
+        Ok(Extensions {
+            extensions: vec![in alloc; partial_evaluation(alloc)?]?,
+            lender: PhantomData,
+        })
+    }
+
+    /// No extension.
+    pub fn none(alloc: Global) -> Extensions<'a>
+        ensures unknown { holds_unknown result ≡ false }
+        ensures functions { functions_in result ≡ [] }
+    {
+        Extensions {
+            extensions: Vec::new(alloc),
+            lender: PhantomData,
+        }
+    }
+
+    /// Whether the built-in `unknown` is among them.
+    pub fn holds_unknown(&self) -> bool
+        ensures { result ≡ holds_unknown self.now }
+    {
+        let mut functions = self.all_funcs();
+        while let Some(function) = functions.next() {
+            if function.is_unknown() {
+                return true;
+            }
+        }
+        false
+    }
+
+    /// The function of this name, the whole name counting. Refused `FuncDoesNotExist` where there is
+    /// none, and `Memory`.
+    pub fn func(
+        &self,
+        alloc: Global,
+        name: &Name,
+    ) -> Result<&ExtensionFunction, ExtensionFunctionLookupError>
+        ensures { Finds (found_in (functions_in self.now) name.now) name.now result }
+    {
+        if let Some(function) = find_among(&self.extensions, name) {
+            return Ok(function);
+        }
+        let source_loc = match name.loc() {
+            None => None,
+            Some(loc) => Some(loc.clone(alloc)?),
+        };
+        let error = FuncDoesNotExistError::new(name.clone(alloc)?, source_loc);
+        Err(ExtensionFunctionLookupError::from(error))
+    }
+
+    /// What a name calls is what the definitions say of these functions, however extension values are
+    /// written.
+    pub fn names_are_defined(&self)
+        ensures { (written : Extended → Written) (name : language.Name) →
+            function_of (defined written (functions_in self.now)) name ≡ function_called self.now name }
+    {}
+
+    /// All functions, in the order of the extensions.
+    pub fn all_funcs(&self) -> Funcs<'_>
+        ensures { functions_left result ≡ functions_in self.now }
+    {
+        Funcs::new(&self.extensions)
+    }
+
+    /// The names of the extensions.
+    pub fn ext_names(&self) -> ExtNames<'_>
+        ensures { names_left result ≡ map extension_name (extensions_in self.now) }
+    {
+        ExtNames::new(&self.extensions)
+    }
+
+    /// The extension types of which functions give values, one for each such function.
+    pub fn ext_types(&self) -> ExtTypes<'_>
+        ensures { type_names_left result ≡ filter_map extension_type_of (functions_in self.now) }
+    {
+        ExtTypes::new(&self.extensions)
+    }
+
+    /// The extension types whose values `<` and `<=` compare.
+    pub fn types_with_operator_overloading(&self) -> OrderedTypes<'_>
+        ensures { ordered_left result ≡ flat_map ordered_types (extensions_in self.now) }
+    {
+        OrderedTypes::new(&self.extensions)
+    }
+}

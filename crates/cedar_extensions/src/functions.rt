@@ -1,0 +1,221 @@
+// Extension functions.
+ghost use Rattle.std.specs.Prelude.{◌≡◌, [], ◌∷◌, IfOk, map, is_none, option_map, true};
+ghost use Rattle.std.specs.Option.{option_copied};
+ghost use Rattle.cedar_language.specs.Order.{all_of};
+ghost use Rattle.cedar_language.specs.Operators.{called, or_fails};
+ghost use Rattle.cedar_language.specs.Value as language;
+ghost use Rattle.cedar_language.specs.Value.{a_value, no_values, FailedExtensionFunctionExecution};
+ghost use Rattle.cedar_literals.specs.Types.{value_type_of};
+ghost use Rattle.cedar_world.specs.Functions.{one_string, unknown_function};
+ghost use Rattle.cedar_errors.specs.Giving.{Gives};
+ghost use Rattle.cedar_errors.specs.Failures.{OfKind, failure_of};
+ghost use Rattle.cedar_extensions.specs.Functions.{function_name, function_style, style_of, meaning_of, is_unknown, returned_type, argument_types, is_single_argument_constructor, extension_type_of, output_value, IsOutput, string_value};
+
+use cedar_errors::evaluation_error::EvaluationError;
+use cedar_literals::literals::Literal;
+use cedar_literals::types::Type;
+use cedar_names::names::Name;
+use cedar_trees::unknowns::Unknown;
+use cedar_values::values::{Value, ValueKind};
+use std::alloc::{AllocError, Global};
+use std::rc::RcStr;
+
+/// A type as extension functions state it.
+pub type SchemaType = Type;
+
+/// How a function is called. (Cedar language reference, "Operators and functions".)
+#[derive(Clone, Copy, Debug, PartialEq, Eq)]
+pub enum CallStyle {
+    /// By its name before all its arguments.
+    FunctionStyle,
+    /// By its name behind its first argument.
+    MethodStyle,
+}
+
+/// What a call gives.
+#[derive(Debug, Drop)]
+pub enum ExtensionOutputValue {
+    /// A value.
+    Known(Value),
+    /// A value that isn't known yet.
+    Unknown(Unknown),
+}
+
+impl From<Value> for ExtensionOutputValue {
+    ghost use Rattle.std.specs.Prelude.{◌≡◌};
+    ghost use Rattle.cedar_extensions.specs.declared.functions.ExtensionOutputValue.TheVariants.{Known};
+
+    ghost from_gives = { λ value made. made ≡ Known value };
+
+    fn from(value: Value) -> ExtensionOutputValue {
+        ExtensionOutputValue::Known(value)
+    }
+}
+
+/// What a function does.
+#[derive(Clone, Copy, Debug)]
+enum Function {
+    /// It names an unknown.
+    Unknown,
+}
+
+/// A function that expressions call by its name. Contracts see what it does as the definitions have
+/// functions, through `meaning_of`.
+#[derive(Debug, Drop)]
+pub struct ExtensionFunction {
+    name: Name,
+    style: CallStyle,
+    function: Function,
+    return_type: Option<SchemaType>,
+    arg_types: Vec<SchemaType>,
+}
+
+impl ExtensionFunction {
+    /// The built-in function, which names an unknown by the text that it is given. Refused for memory
+    /// alone.
+    pub fn partial_eval_unknown(
+        alloc: Global,
+        name: Name,
+        style: CallStyle,
+        arg_type: SchemaType,
+    ) -> Result<ExtensionFunction, AllocError>
+        ensures unknown { IfOk result (λ function. is_unknown function ≡ true) }
+        ensures name { IfOk result (λ function. function_name function ≡ name) }
+        ensures style { IfOk result (λ function. function_style function ≡ style_of style) }
+        ensures arguments { IfOk result (λ function. argument_types function ≡ value_type_of arg_type ∷ []) }
+    {
+        Ok(ExtensionFunction {
+            name,
+            style,
+            function: Function::Unknown,
+            return_type: None,
+            arg_types: vec![in alloc; arg_type]?,
+        })
+    }
+
+    /// Its name.
+    pub fn name(&self) -> &Name
+        ensures { result.now ≡ function_name self.now }
+    {
+        &self.name
+    }
+
+    /// How it is called.
+    pub fn style(&self) -> CallStyle
+        ensures { style_of result ≡ function_style self.now }
+    {
+        self.style
+    }
+
+    /// The type of its values, where it gives values of one type.
+    pub fn return_type(&self) -> Option<&SchemaType>
+        ensures { option_copied result ≡ returned_type self.now }
+    {
+        self.return_type.as_ref()
+    }
+
+    /// The types of its arguments, in order.
+    pub fn arg_types(&self) -> &[SchemaType]
+        ensures { map value_type_of result.now ≡ argument_types self.now }
+    {
+        self.arg_types.as_slice()
+    }
+
+    /// Whether it takes any number of arguments.
+    pub fn is_variadic(&self) -> bool
+        ensures { result ≡ is_none (meaning_of self.now).takes }
+    {
+        match self.function {
+            Function::Unknown => false,
+        }
+    }
+
+    /// Whether it makes values of an extension type from one text, and is no method.
+    pub fn is_single_arg_constructor(&self) -> bool
+        ensures { result ≡ is_single_argument_constructor self.now }
+    {
+        match (&self.return_type, self.style, self.arg_types.as_slice()) {
+            (Some(Type::Extension { .. }), CallStyle::FunctionStyle, [Type::String]) => true,
+            _ => false,
+        }
+    }
+
+    /// The extension type of which it gives values, if there is one.
+    pub fn ext_types(&self) -> Option<&Name>
+        ensures { option_copied result ≡ extension_type_of self.now }
+    {
+        match &self.return_type {
+            Some(Type::Extension { name }) => Some(name),
+            _ => None,
+        }
+    }
+
+    /// Whether it is the built-in function that names an unknown.
+    pub fn is_unknown(&self) -> bool
+        ensures { result ≡ is_unknown self.now }
+    {
+        match self.function {
+            Function::Unknown => true,
+        }
+    }
+
+    /// Calls it. The built-in function gives the unknown of the text that it is given; every other
+    /// function gives values alone.
+    ///
+    /// It is refused `WrongNumArguments` for another number of arguments than the function takes,
+    /// `FailedExtensionFunctionExecution` where the function has no answer, as the built-in one for
+    /// anything but a text, and `Memory`.
+    pub fn call(
+        &self,
+        alloc: Global,
+        args: &[Value],
+    ) -> Result<ExtensionOutputValue, EvaluationError>
+        ensures meaning { Gives output_value ⊥ result (called (Some (meaning_of self.now)) (all_of args.now)) }
+        ensures unknown { IfOk result (IsOutput (is_unknown self.now)) }
+    {
+        match self.function {
+            Function::Unknown => self.call_unknown(alloc, args),
+        }
+    }
+
+    fn call_unknown(
+        &self,
+        alloc: Global,
+        args: &[Value],
+    ) -> Result<ExtensionOutputValue, EvaluationError>
+        ensures meaning { Gives output_value ⊥ result (called (Some unknown_function) (all_of args.now)) }
+        ensures unknown { IfOk result (IsOutput true) }
+    {
+        if args.len() != 1 {
+            let name = self.name.clone(alloc)?;
+            let actual = args.len();
+            return Err(EvaluationError::wrong_num_arguments(name, 1, actual, None));
+        }
+        match text_of(&args[0]) {
+            Some(text) => Ok(ExtensionOutputValue::Unknown(Unknown::new_untyped(text.clone()?))),
+            None => Err(self.no_text(alloc)?),
+        }
+    }
+
+    // What it was given is no text.
+    fn no_text(&self, alloc: Global) -> Result<EvaluationError, AllocError>
+        ensures { IfOk result (λ error. failure_of error ≡ OfKind FailedExtensionFunctionExecution) }
+    {
+        let name = self.name.clone(alloc)?;
+        let msg = String::from_str(alloc, "the name of an unknown is a string")?;
+        Ok(EvaluationError::failed_extension_function_application(name, msg, None))
+    }
+}
+
+// The text that a value is.
+fn text_of(value: &Value) -> Option<&RcStr>
+    ensures { one_string (a_value value.now no_values) ≡ option_map string_value (option_copied result) }
+{
+    match value.value_kind() {
+        ValueKind::Lit(literal) => match literal {
+            Literal::String(text) => Some(text),
+            Literal::Bool(_) | Literal::Long(_) | Literal::EntityUID(_) => None,
+        },
+        ValueKind::Set(_) | ValueKind::Record(_) | ValueKind::ExtensionValue(_) => None,
+    }
+}

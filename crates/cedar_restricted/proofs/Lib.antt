@@ -1,0 +1,3 @@
+pub mod Offending
+pub mod Reading
+pub mod Making

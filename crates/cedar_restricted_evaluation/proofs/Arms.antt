@@ -1,0 +1,255 @@
+-- What is found of each kind of expression.
+use Rattle.std.proofs.Common.{◌≡◌, ◌∙◌, ℕ, ◌<◌, refl, ap, sym, subst, List, [], ◌∷◌, length, suc, map, true≢false, arith, Vec, BTreeMap, Global}
+use Rattle.std.proofs.lemmas.Bool.{ne_eqb}
+use Rattle.std.specs.FinMap.{get-empty}
+use Rattle.std.specs.List.{list_any}
+use Rattle.std.specs.Prelude.{Bool, true, false, cond, nat_eq, Option, Some, None, Result, Ok, Err}
+use Rattle.std.specs.declared.rc.Rc.{Rc}
+use Rattle.std.specs.declared.rc.RcStr.{RcStr}
+use Rattle.either.specs.declared.Either.{Either}
+use Rattle.either.specs.declared.Either.TheVariants.{Left, Right}
+use Rattle.cedar_language.specs.Uid.{Text, Name}
+use Rattle.cedar_language.specs.Tree as tree
+use Rattle.cedar_language.specs.Tree.{Literal, String, ValueType, Operator, MakeSet, MakeRecord, Call, Tree, Lit, Unknown, Apply, Trees, no_trees, a_tree}
+use Rattle.cedar_language.specs.Value.{Value, Plain, SetOf, RecordOf, Values, no_values, a_value, Kind, WrongNumArguments, FailedExtensionFunctionExecution, Outcome, Gives, Fails}
+use Rattle.cedar_language.specs.Facts.{Facts}
+use Rattle.cedar_language.specs.Height.{height, heights}
+use Rattle.cedar_language.specs.Operators.{applied, called, count, or_fails}
+use Rattle.cedar_language.specs.Order.{text_cmp, all_of, set_of}
+use Rattle.cedar_language.specs.Restricted.{is_restricted, are_restricted}
+use Rattle.cedar_early.specs.Partial.{Answer, Evaluated, ResidualTree, Failed, Answers, AllEvaluated, SomeResiduals, SomeFailed, answer_of, residual_answer, apply_answer, partial_in, all_partial_in}
+use Rattle.cedar_early.specs.Question.{name_held}
+use Rattle.cedar_grammar.specs.Build.{trees, keys}
+use Rattle.cedar_world.specs.Bodies.{named, all_named, named_call}
+use Rattle.cedar_world.specs.Functions.{is_the_unknown, one_string, unknown_function}
+use Rattle.cedar_trees.specs.Bare.{bare, bare_kind, bare_entries, record_tree}
+use Rattle.cedar_trees.specs.declared.expr.Expr.{Expr}
+use Rattle.cedar_trees.specs.declared.expr.ExprKind.TheVariants as kind
+use Rattle.cedar_trees.specs.Unknowns.{unknown_name, unknown_type}
+use Rattle.cedar_trees.specs.declared.unknowns.Unknown as code
+use Rattle.cedar_trees.proofs.Bares.{bare_is, bare-Unknown, bare-Set, bare-Record}
+use Rattle.cedar_errors.specs.Failures.{failure_of}
+use Rattle.cedar_errors.specs.Giving.{fails_on}
+use Rattle.cedar_errors.specs.declared.evaluation_error.EvaluationError.{EvaluationError}
+use Rattle.cedar_extensions.specs.Holding.{are_named}
+use Rattle.cedar_names.specs.declared.places.Loc.{Loc}
+use Rattle.cedar_extensions.specs.Tables.{functions_in, holds_unknown, function_called}
+use Rattle.cedar_extensions.specs.declared.extensions.Extensions.{Extensions}
+use Rattle.cedar_values.specs.Kinds.{keys_of, values_of}
+use Rattle.cedar_partial_values.proofs.Rising.{texts, keys_are}
+use Rattle.cedar_partial_values.specs.Expressing.{is_ground, are_ground}
+use Rattle.cedar_partial_values.specs.Laws.{holds_extension, hold_extension}
+use Rattle.cedar_partial_values.specs.PartialValues.{partial_of}
+use Rattle.cedar_partial_values.specs.Splitting.{ExpressEach, is_residual}
+use Rattle.cedar_partial_values.specs.declared.partial_values.PartialValue.{PartialValue}
+use Rattle.cedar_restricted_evaluation.specs.Evaluations.{HasFunctions, nothing_told, named_by, all_named_by, answer_in}
+use Rattle.cedar_restricted_evaluation.specs.Findings.{IsCalled, Calls, IsFound, Errs, Evaluates, answers_in, AreFound, SomeErrs}
+use Rattle.cedar_restricted_evaluation.proofs.Naming.{held_is_found, by_naming, names_unknown_so}
+use Rattle.cedar_restricted_evaluation.proofs.Gathering.{rising_plain, all_values, all_plain, one_text, some_residuals, all_restricted, some_waits}
+
+-- ---- leaves
+
+named_lit : (b : Bool) (l : Literal) → named_by b (Lit l) ≡ Lit l
+named_lit true l = refl
+named_lit false l = refl
+
+named_unknown : (b : Bool) (n : Text) (ty : Option ValueType) → named_by b (Unknown n ty) ≡ Unknown n ty
+named_unknown true n ty = refl
+named_unknown false n ty = refl
+
+still_unknown : (facts : Facts) (n : Text) (ty : Option ValueType) → partial_in facts nothing_told (Unknown n ty) ≡ ResidualTree (Unknown n ty)
+still_unknown facts n ty = ap (λ o. name_held o n ty) (get-empty text_cmp n)
+
+module _ (table : Extensions) where
+  pub literal_found : (l : Literal) → IsFound table (Lit l) (Left (Plain l))
+  literal_found l = record {
+    answer = λ facts has. ap (partial_in facts nothing_told) (named_lit (holds_unknown table) l);
+    plain = refl;
+    text = λ s e. cc;
+  }
+
+  pub unknown_found : (n : Text) (ty : Option ValueType) → IsFound table (Unknown n ty) (Right (Unknown n ty))
+  unknown_found n ty = record {
+    answer = λ facts has. ap (partial_in facts nothing_told) (named_unknown (holds_unknown table) n ty) ∙ still_unknown facts n ty;
+    restricted = refl;
+    waits = refl;
+  }
+
+-- ---- sets and records
+
+-- what is asked of an operator that builds a value of all that it is given
+pub record Builds (op : Operator) : Type 0 where
+  pub named : (b : Bool) (us : Trees) → named_by b (Apply op us) ≡ Apply op (all_named_by b us)
+  pub waits : (facts : Facts) (rs : Trees) → residual_answer facts nothing_told op rs ≡ ResidualTree (Apply op rs)
+  pub restricted : (rs : Trees) → is_restricted (Apply op rs) ≡ are_restricted rs
+  pub ground : (rs : Trees) → is_ground (Apply op rs) ≡ are_ground rs
+
+set_named : (b : Bool) (us : Trees) → named_by b (Apply MakeSet us) ≡ Apply MakeSet (all_named_by b us)
+set_named true us = refl
+set_named false us = refl
+
+pub set_builds : Builds MakeSet
+set_builds = record { named = set_named; waits = λ facts rs. refl; restricted = λ rs. refl; ground = λ rs. refl }
+
+record_named : (ks : List Text) (b : Bool) (us : Trees) → named_by b (Apply (MakeRecord ks) us) ≡ Apply (MakeRecord ks) (all_named_by b us)
+record_named ks true us = refl
+record_named ks false us = refl
+
+pub record_builds : (ks : List Text) → Builds (MakeRecord ks)
+record_builds ks = record { named = record_named ks; waits = λ facts rs. refl; restricted = λ rs. refl; ground = λ rs. refl }
+
+module _ (table : Extensions) (op : Operator) (builds : Builds op) (ts : List Tree) where
+  applied_answer : (facts : Facts) → answer_in table facts (Apply op (trees ts)) ≡ apply_answer facts nothing_told op (answers_in table facts (trees ts))
+  applied_answer facts = ap (partial_in facts nothing_told) (builds.named (holds_unknown table) (trees ts))
+
+  pub build_errs : (k : Kind) → SomeErrs table ts k → Errs table (Apply op (trees ts)) k
+  build_errs k e = λ facts has. applied_answer facts ∙ ap (apply_answer facts nothing_told op) (e facts has)
+
+  module _ (ps : List (Either Value Tree)) (found : AreFound table ts ps) where
+    pub build_waits : (us : List Tree) → (list_any is_residual ps ≡ true) × ExpressEach ps us → IsFound table (Apply op (trees ts)) (Right (Apply op (trees us)))
+    build_waits us split = record {
+      answer = λ facts has. applied_answer facts ∙ ap (apply_answer facts nothing_told op) (some_residuals table ts ps us found split facts has) ∙ builds.waits facts (trees us);
+      restricted = builds.restricted (trees us) ∙ all_restricted table ts ps us found split;
+      waits = builds.ground (trees us) ∙ some_waits table ts ps us found split;
+    }
+
+    built_answer : (vs : List Value) → ps ≡ map Left vs → (facts : Facts) → HasFunctions table facts → answer_in table facts (Apply op (trees ts)) ≡ answer_of (applied facts op (all_of vs))
+    built_answer vs is facts has = applied_answer facts ∙ ap (apply_answer facts nothing_told op) (all_values table ts ps vs found is facts has)
+
+pub set_found : (table : Extensions) (ts : List Tree) (ps : List (Either Value Tree)) → AreFound table ts ps → (vs : List Value) → ps ≡ map Left vs → IsFound table (Apply MakeSet (trees ts)) (Left (set_of (all_of vs)))
+set_found table ts ps found vs is = record {
+  answer = built_answer table MakeSet set_builds ts ps found vs is;
+  plain = rising_plain (all_of vs) (all_plain table ts ps vs found is);
+  text = λ s e. cc;
+}
+
+pub record_found : (table : Extensions) (ks : List Text) (ts : List Tree) (ps : List (Either Value Tree)) → AreFound table ts ps → (vs : List Value) → ps ≡ map Left vs → IsFound table (Apply (MakeRecord ks) (trees ts)) (Left (RecordOf ks (all_of vs)))
+record_found table ks ts ps found vs is = record {
+  answer = built_answer table (MakeRecord ks) (record_builds ks) ts ps found vs is;
+  plain = all_plain table ts ps vs found is;
+  text = λ s e. cc;
+}
+
+-- ---- calls
+
+others_refused : (b : Bool) (o : Outcome) (s : Text) → b ≡ false → cond b o (Fails WrongNumArguments) ≡ Gives (Plain (String s)) → ⊥
+others_refused true o s e h = cc
+others_refused false o s e h = cc
+
+two_arguments : (v w : Value) (ws : Values) (s : Text) → called (Some unknown_function) (a_value v (a_value w ws)) ≡ Gives (Plain (String s)) → ⊥
+two_arguments v w ws s h = others_refused (nat_eq 1 (suc (suc (count ws)))) (or_fails FailedExtensionFunctionExecution (one_string (a_value v (a_value w ws)))) s (ne_eqb 1 (suc (suc (count ws))) (λ e. absurd (omega (arith, e)))) h
+
+called_text : (vs : Values) (s : Text) → called (Some unknown_function) vs ≡ Gives (Plain (String s)) → vs ≡ a_value (Plain (String s)) no_values
+called_text no_values s h = cc
+called_text (a_value (Plain (String t)) no_values) s h = cc
+called_text (a_value v no_values) s h = cc
+called_text (a_value v (a_value w ws)) s h = absurd (two_arguments v w ws s h)
+
+one_literal : (facts : Facts) (us : Trees) (n : Text) → us ≡ a_tree (Lit (String n)) no_trees → all_partial_in facts nothing_told us ≡ AllEvaluated (a_value (Plain (String n)) no_values)
+one_literal facts us n e = ap (all_partial_in facts nothing_told) e
+
+module _ (table : Extensions) (f : Name) where
+  -- a call whose arguments have these answers, and name nothing where the function has no such answer
+  call_answer : (facts : Facts) (us : Trees) (b : Bool) (as_ : Answers) (a : Answer) → all_partial_in facts nothing_told (all_named_by b us) ≡ as_ → apply_answer facts nothing_told (Call f) as_ ≡ a
+      → ((n : Text) → b ≡ true → is_the_unknown f ≡ true → as_ ≡ AllEvaluated (a_value (Plain (String n)) no_values) → ⊥)
+      → partial_in facts nothing_told (named_by b (Apply (Call f) us)) ≡ a
+  call_answer facts us false as_ a is gives apart = ap (apply_answer facts nothing_told (Call f)) is ∙ gives
+  call_answer facts us true as_ a is gives apart =
+      by_naming (λ t. partial_in facts nothing_told t ≡ a) f (all_named us)
+      (λ n e named. absurd (apart n refl named (sym is ∙ one_literal facts (all_named us) n e)))
+      (ap (apply_answer facts nothing_told (Call f)) is ∙ gives)
+
+  pub call_errs : (ts : List Tree) (k : Kind) → SomeErrs table ts k → Errs table (Apply (Call f) (trees ts)) k
+  call_errs ts k e = λ facts has. call_answer facts (trees ts) (holds_unknown table) (SomeFailed k) (Failed k) (e facts has) refl (λ n b i is. cc)
+
+  module _ (ts : List Tree) (ps : List (Either Value Tree)) (found : AreFound table ts ps) where
+    pub call_waits : (us : List Tree) → (list_any is_residual ps ≡ true) × ExpressEach ps us → IsFound table (Apply (Call f) (trees ts)) (Right (Apply (Call f) (trees us)))
+    call_waits us split = record {
+      answer = λ facts has. call_answer facts (trees ts) (holds_unknown table) (SomeResiduals (trees us)) (ResidualTree (Apply (Call f) (trees us))) (some_residuals table ts ps us found split facts has) refl (λ n b i is. cc);
+      restricted = all_restricted table ts ps us found split;
+      waits = some_waits table ts ps us found split;
+    }
+
+    module _ (vs : List Value) (is : ps ≡ map Left vs) (held : is_the_unknown f ≡ true → holds_unknown table ≡ true → function_called table f ≡ Some unknown_function) where
+      function_answer : (facts : Facts) → HasFunctions table facts → apply_answer facts nothing_told (Call f) (AllEvaluated (all_of vs)) ≡ answer_of (called (function_called table f) (all_of vs))
+      function_answer facts has = ap (λ o. answer_of (called o (all_of vs))) (has f)
+
+      evaluated_inside : (us ws : Values) → AllEvaluated us ≡ AllEvaluated ws → us ≡ ws
+      evaluated_inside us ws e = cc
+
+      names_nothing : (k : Kind) → called (function_called table f) (all_of vs) ≡ Fails k → (n : Text) → holds_unknown table ≡ true → is_the_unknown f ≡ true → AllEvaluated (all_of vs) ≡ AllEvaluated (a_value (Plain (String n)) no_values) → ⊥
+      names_nothing k e n b i same =
+          let gives : called (function_called table f) (all_of vs) ≡ Gives (Plain (String n)) = ap (λ o. called o (all_of vs)) (held i b) ∙ ap (called (Some unknown_function)) (evaluated_inside (all_of vs) (a_value (Plain (String n)) no_values) same) in
+          cc
+
+      pub call_fails : (k : Kind) → called (function_called table f) (all_of vs) ≡ Fails k → Errs table (Apply (Call f) (trees ts)) k
+      call_fails k e = λ facts has. call_answer facts (trees ts) (holds_unknown table) (AllEvaluated (all_of vs)) (Failed k) (all_values table ts ps vs found is facts has) (function_answer facts has ∙ ap answer_of e) (names_nothing k e)
+
+      pub call_found : (p : Either Value Tree) → IsCalled table f (all_of vs) p → IsFound table (Apply (Call f) (trees ts)) p
+      call_found (Left v) h = record {
+        answer = λ facts has. call_answer facts (trees ts) (holds_unknown table) (AllEvaluated (all_of vs)) (Evaluated v) (all_values table ts ps vs found is facts has) (function_answer facts has ∙ ap answer_of h.gives) (λ n b i same. true≢false (sym i ∙ h.other));
+        plain = h.plain;
+        text = λ s e. absurd (h.no_text s e);
+      }
+      call_found (Right r) h =
+          let gives : called (Some unknown_function) (all_of vs) ≡ Gives (Plain (String h.name)) = ap (λ o. called o (all_of vs)) (sym (held h.built_in h.held)) ∙ h.gives in
+          let written : trees ts ≡ a_tree (Lit (String h.name)) no_trees = one_text table ts ps vs found is h.name (called_text (all_of vs) h.name gives) in
+          let named_so : named_by (holds_unknown table) (Apply (Call f) (trees ts)) ≡ Unknown h.name None = ap (λ b. named_by b (Apply (Call f) (trees ts))) h.held ∙ names_unknown_so f h.name (all_named (trees ts)) h.built_in (ap all_named written) in
+          record {
+            answer = λ facts has. ap (partial_in facts nothing_told) named_so ∙ still_unknown facts h.name None ∙ ap ResidualTree (sym h.unknown);
+            restricted = ap is_restricted h.unknown;
+            waits = ap is_ground h.unknown;
+          }
+
+-- ---- records by their maps
+
+bare_values : (es : List (RcStr Global × Expr (Unit {0}))) → map (λ e. e.1) (bare_entries es) ≡ map bare (map (λ e. e.1) es)
+bare_values [] = refl
+bare_values (e ∷ es) = ap (λ ts. bare e.1 ∷ ts) (bare_values es)
+
+pub entries_length : (es : List (RcStr Global × Expr (Unit {0}))) → length (map (λ e. e.1) (bare_entries es)) ≡ length es
+entries_length [] = refl
+entries_length (e ∷ es) = ap suc (entries_length es)
+
+module _ (entries : List (RcStr Global × Expr (Unit {0}))) where
+  pub expr_record : (made : List (RcStr Global × Expr (Unit {0}))) (items : List (Expr (Unit {0}))) → texts made ≡ texts entries → map (λ e. e.1) made ≡ items → record_tree (bare_entries made) ≡ Apply (MakeRecord (keys (bare_entries entries))) (trees (map bare items))
+  expr_record made items ks is =
+      ap (λ ks. Apply (MakeRecord ks) (trees (map (λ e. e.1) (bare_entries made)))) (keys_are made ∙ ks ∙ sym (keys_are entries))
+      ∙ ap (λ ts. Apply (MakeRecord (keys (bare_entries entries))) (trees ts)) (bare_values made ∙ ap (map bare) is)
+
+  pub value_record : (made : List (RcStr Global × Value)) (items : List Value) → texts made ≡ texts entries → map (λ e. e.1) made ≡ items → RecordOf (keys_of made) (values_of made) ≡ RecordOf (keys (bare_entries entries)) (all_of items)
+  value_record made items ks is = ap (λ ks. RecordOf ks (values_of made)) (ks ∙ sym (keys_are entries)) ∙ ap (λ vs. RecordOf (keys (bare_entries entries)) (all_of vs)) is
+
+-- ---- what is made of the parts
+
+module _ (table : Extensions) where
+  pub unknown_kept : (e : Expr (Unit {0})) (u v : code.Unknown) (p q : Either Value Tree) → e.expr_kind ≡ kind.Unknown u → unknown_name v ≡ unknown_name u → unknown_type v ≡ unknown_type u → q ≡ Right (Unknown (unknown_name v) (unknown_type v)) → p ≡ q → IsFound table (bare e) p
+  unknown_kept e u v p q is name ty made same =
+      let whole : bare e ≡ Unknown (unknown_name v) (unknown_type v) = bare_is (Unit {0}) e ∙ ap bare_kind is ∙ bare-Unknown (Unit {0}) u ∙ ap (λ n. Unknown n (unknown_type u)) (sym name) ∙ ap (Unknown (unknown_name v)) (sym ty) in
+      subst (λ t. IsFound table t p) (sym whole) (subst (λ r. IsFound table (Unknown (unknown_name v) (unknown_type v)) r) (sym (same ∙ made)) (unknown_found table (unknown_name v) (unknown_type v)))
+
+  -- what a function of the table answers is found of its call
+  pub call_made : (f : Name) (ts : List Tree) (ps : List (Either Value Tree)) → AreFound table ts ps → (vs : List Value) → ps ≡ map Left vs → are_named (functions_in table) ≡ true → (deep : Type 0) (r : Result PartialValue EvaluationError) → Calls table f (all_of vs) r → Evaluates table (Apply (Call f) (trees ts)) deep r
+  call_made f ts ps found vs is named deep (Ok p) h = call_found table f ts ps found vs is (λ i b. held_is_found f i (functions_in table) named b) (partial_of p) h
+  call_made f ts ps found vs is named deep (Err e) h = fails_on (failure_of e) (call_fails table f ts ps found vs is (λ i b. held_is_found f i (functions_in table) named b)) (λ d. absurd d) h
+
+  -- another way to write what is found
+  pub found_as : (t : Tree) (p q : Either Value Tree) → p ≡ q → IsFound table t q → IsFound table t p
+  found_as t p q is h = subst (IsFound table t) (sym is) h
+
+-- ---- from the parts of an expression to the expression
+
+pub kept_tree : (e f : Expr (Unit {0})) (place : Option Loc) → f ≡ record e { source_loc = place } → bare f ≡ bare e
+kept_tree e f place is = ap bare is ∙ bare_is (Unit {0}) (record e { source_loc = place }) ∙ sym (bare_is (Unit {0}) e)
+
+module _ (e : Expr (Unit {0})) where
+  pub tree-Set : (v : Rc (Vec (Expr (Unit {0})) Global) Global) (items : List (Expr (Unit {0}))) → e.expr_kind ≡ kind.Set v → items ≡ v.value.items → bare e ≡ Apply MakeSet (trees (map bare items))
+  tree-Set v items is same = bare_is (Unit {0}) e ∙ ap bare_kind is ∙ bare-Set (Unit {0}) v ∙ ap (λ es. Apply MakeSet (trees (map bare es))) (sym same)
+
+  pub tree-Record : (m : Rc (BTreeMap (RcStr Global) (Expr (Unit {0}))) Global) (entries : List (RcStr Global × Expr (Unit {0}))) → e.expr_kind ≡ kind.Record m → entries ≡ m.value.entries → bare e ≡ record_tree (bare_entries entries)
+  tree-Record m entries is same = bare_is (Unit {0}) e ∙ ap bare_kind is ∙ bare-Record (Unit {0}) m ∙ ap (λ es. record_tree (bare_entries es)) (sym same)
+
+module _ (table : Extensions) (t u : Tree) (deep : Type 0) (depth : ℕ) (is : t ≡ u) (below : deep → depth < height u) where
+  pub lifted : (r : Result PartialValue EvaluationError) → Evaluates table u deep r → Evaluates table t (depth < height t) r
+  lifted (Ok p) h = subst (λ x. IsFound table x (partial_of p)) (sym is) h
+  lifted (Err e) h = fails_on (failure_of e) (λ k f. subst (λ x. Errs table x k) (sym is) f) (λ d. subst (λ x. depth < height x) (sym is) (below d)) h

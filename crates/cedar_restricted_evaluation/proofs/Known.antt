@@ -1,0 +1,147 @@
+-- From what is found of an expression to what its evaluation gives.
+use Rattle.std.proofs.Common.{◌≡◌, ◌∙◌, ℕ, ◌<◌, refl, ap, sym, List, Bool, true, false}
+use Rattle.std.specs.Prelude.{◌&&◌, ◌||◌, Result, Ok, Err, IfOk}
+use Rattle.either.specs.declared.Either.{Either}
+use Rattle.either.specs.declared.Either.TheVariants.{Left, Right}
+use Rattle.cedar_language.specs.Uid.{Text, Name}
+use Rattle.cedar_language.specs.Tree.{MakeSet, MakeRecord, Call, Tree, Lit, Apply, Trees, no_trees, a_tree}
+use Rattle.cedar_language.specs.Value.{Value, Kind, Outcome, Gives, Fails}
+use Rattle.cedar_language.specs.Facts.{Facts}
+use Rattle.cedar_language.specs.Height.{height}
+use Rattle.cedar_language.specs.Meaning.{Request, meaning}
+use Rattle.cedar_early.specs.Like.{itself}
+use Rattle.cedar_early.specs.Partial.{Evaluated, ResidualTree, Failed, Answers, AllEvaluated, SomeResiduals, SomeFailed, LeafAnswers, KnownIsMeaning, answer_of, leaf_answers_of, and_next, apply_answer, partial_in, all_partial_in}
+use Rattle.cedar_world.specs.Bodies.{named, all_named, named_call, unknown_or, holds_call, hold_call}
+use Rattle.cedar_world.specs.Functions.{is_the_unknown}
+use Rattle.cedar_errors.specs.Failures.{failure_of}
+use Rattle.cedar_errors.specs.Giving.{fails_on}
+use Rattle.cedar_errors.specs.declared.evaluation_error.EvaluationError.{EvaluationError}
+use Rattle.cedar_extensions.specs.Tables.{holds_unknown}
+use Rattle.cedar_extensions.specs.declared.extensions.Extensions.{Extensions}
+use Rattle.cedar_partial_values.specs.Expressing.{is_ground, are_ground}
+use Rattle.cedar_partial_values.specs.PartialValues.{partial_of}
+use Rattle.cedar_partial_values.specs.declared.partial_values.PartialValue.{PartialValue}
+use Rattle.cedar_restricted_evaluation.specs.Evaluations as evaluation
+use Rattle.cedar_restricted_evaluation.specs.Evaluations.{HasFunctions, IsKnown, IsMeant, MeansKnown, nothing_told, named_by, answer_in, IsAnswer, IsLeft}
+use Rattle.cedar_restricted_evaluation.specs.Findings.{IsFound, Errs, Evaluates}
+
+and_left : (a b : Bool) → (a && b) ≡ true → a ≡ true
+and_left true b h = refl
+and_left false b h = h
+
+and_right : (a b : Bool) → (a && b) ≡ true → b ≡ true
+and_right true b h = h
+and_right false b h = cc
+
+or_left : (a b : Bool) → (a || b) ≡ false → a ≡ false
+or_left false b h = refl
+or_left true b h = h
+
+or_right : (a b : Bool) → (a || b) ≡ false → b ≡ false
+or_right false b h = h
+or_right true b h = cc
+
+-- ---- nothing is named where `unknown` isn't called
+
+stays_call : (f : Name) (ts : Trees) → is_the_unknown f ≡ false → named_call (Call f) ts ≡ Apply (Call f) ts
+stays_call f no_trees h = refl
+stays_call f (a_tree t ts) h = ap (λ b. unknown_or b f t ts) h
+
+mutual
+  unnamed : (t : Tree) → is_ground t ≡ true → holds_call t ≡ false → named t ≡ t
+  unnamed (Lit l) g h = refl
+  unnamed (Apply MakeSet ts) g h = ap (Apply MakeSet) (all_unnamed ts g h)
+  unnamed (Apply (MakeRecord ks) ts) g h = ap (Apply (MakeRecord ks)) (all_unnamed ts g h)
+  unnamed (Apply (Call f) ts) g h = ap (named_call (Call f)) (all_unnamed ts g (or_right _ _ h)) ∙ stays_call f ts (or_left _ _ h)
+  unnamed t g h = cc
+
+  all_unnamed : (ts : Trees) → are_ground ts ≡ true → hold_call ts ≡ false → all_named ts ≡ ts
+  all_unnamed no_trees g h = refl
+  all_unnamed (a_tree t ts) g h =
+      ap (λ u. a_tree u (all_named ts)) (unnamed t (and_left _ _ g) (or_left _ _ h))
+      ∙ ap (a_tree t) (all_unnamed ts (and_right _ _ g) (or_right _ _ h))
+
+names_nothing : (b : Bool) (t : Tree) → is_ground t ≡ true → (b && holds_call t) ≡ false → named_by b t ≡ t
+names_nothing true t g h = unnamed t g h
+names_nothing false t g h = refl
+
+-- ---- the leaves don't matter where none is unknown
+
+module _ (facts : Facts) (one other : LeafAnswers) where
+  alike_set : (as_ bs : Answers) → as_ ≡ bs → apply_answer facts one MakeSet as_ ≡ apply_answer facts other MakeSet bs
+  alike_set (AllEvaluated vs) bs e = ap (apply_answer facts other MakeSet) e
+  alike_set (SomeResiduals rs) bs e = ap (apply_answer facts other MakeSet) e
+  alike_set (SomeFailed k) bs e = ap (apply_answer facts other MakeSet) e
+
+  alike_record : (ks : List Text) (as_ bs : Answers) → as_ ≡ bs → apply_answer facts one (MakeRecord ks) as_ ≡ apply_answer facts other (MakeRecord ks) bs
+  alike_record ks (AllEvaluated vs) bs e = ap (apply_answer facts other (MakeRecord ks)) e
+  alike_record ks (SomeResiduals rs) bs e = ap (apply_answer facts other (MakeRecord ks)) e
+  alike_record ks (SomeFailed k) bs e = ap (apply_answer facts other (MakeRecord ks)) e
+
+  alike_call : (f : Name) (as_ bs : Answers) → as_ ≡ bs → apply_answer facts one (Call f) as_ ≡ apply_answer facts other (Call f) bs
+  alike_call f (AllEvaluated vs) bs e = ap (apply_answer facts other (Call f)) e
+  alike_call f (SomeResiduals rs) bs e = ap (apply_answer facts other (Call f)) e
+  alike_call f (SomeFailed k) bs e = ap (apply_answer facts other (Call f)) e
+
+  mutual
+    alike : (t : Tree) → is_ground t ≡ true → partial_in facts one t ≡ partial_in facts other t
+    alike (Lit l) g = refl
+    alike (Apply MakeSet ts) g = alike_set _ _ (all_alike ts g)
+    alike (Apply (MakeRecord ks) ts) g = alike_record ks _ _ (all_alike ts g)
+    alike (Apply (Call f) ts) g = alike_call f _ _ (all_alike ts g)
+    alike t g = cc
+
+    all_alike : (ts : Trees) → are_ground ts ≡ true → all_partial_in facts one ts ≡ all_partial_in facts other ts
+    all_alike no_trees g = refl
+    all_alike (a_tree t ts) g =
+        ap (λ a. and_next facts a (all_partial_in facts one ts)) (alike t (and_left _ _ g))
+        ∙ ap (and_next facts (partial_in facts other t)) (all_alike ts (and_right _ _ g))
+
+-- ---- outcomes
+
+gives_so : (o : Outcome) (v : Value) → answer_of o ≡ Evaluated v → o ≡ Gives v
+gives_so (Gives w) v e = cc
+gives_so (Fails k) v e = cc
+
+leaves_nothing : (o : Outcome) (r : Tree) → answer_of o ≡ ResidualTree r → ⊥
+leaves_nothing (Gives w) r e = cc
+leaves_nothing (Fails k) r e = cc
+
+fails_so : (o : Outcome) (k : Kind) → answer_of o ≡ Failed k → o ≡ Fails k
+fails_so (Gives w) k e = cc
+fails_so (Fails l) k e = cc
+
+module _ (table : Extensions) (t : Tree) where
+  known_answer : KnownIsMeaning → IsKnown table t → (facts : Facts) (request : Request) → answer_in table facts t ≡ answer_of (meaning facts request t)
+  known_answer law known facts request =
+      ap (partial_in facts nothing_told) (names_nothing (holds_unknown table) t known.0 known.1)
+      ∙ alike facts nothing_told (leaf_answers_of request) t known.0
+      ∙ law facts request t
+
+  module _ (law : KnownIsMeaning) (known : IsKnown table t) (facts : Facts) (has : HasFunctions table facts) (request : Request) where
+    meant : (p : Either Value Tree) → IsFound table t p → IsMeant (meaning facts request t) p
+    meant (Left v) h = gives_so (meaning facts request t) v (sym (known_answer law known facts request) ∙ h.answer facts has)
+    meant (Right r) h = leaves_nothing (meaning facts request t) r (sym (known_answer law known facts request) ∙ h.answer facts has)
+
+    meant_error : (k : Kind) → Errs table t k → meaning facts request t ≡ Fails k
+    meant_error k e = fails_so (meaning facts request t) k (sym (known_answer law known facts request) ∙ e facts has)
+
+  answered : (facts : Facts) → HasFunctions table facts → (p : Either Value Tree) → IsFound table t p → IsAnswer facts (answer_in table facts t) p
+  answered facts has (Left v) h = h.answer facts has
+  answered facts has (Right r) h = (r, h.answer facts has, itself)
+
+  what_is_left : (p : Either Value Tree) → IsFound table t p → IsLeft p
+  what_is_left (Left v) h = tt
+  what_is_left (Right r) h = (h.restricted, h.waits)
+
+  pub means : KnownIsMeaning → (depth : ℕ) (r : Result PartialValue EvaluationError) → Evaluates table t (depth < height t) r → MeansKnown table depth t r
+  means law depth (Ok p) h = λ known facts has request. meant law known facts has request (partial_of p) h
+  means law depth (Err e) h = λ known facts has request. fails_on (failure_of e) (meant_error law known facts has request) (λ d. d) h
+
+  pub answers : (depth : ℕ) (r : Result PartialValue EvaluationError) → Evaluates table t (depth < height t) r → evaluation.Answers table depth t r
+  answers depth (Ok p) h = λ facts has. answered facts has (partial_of p) h
+  answers depth (Err e) h = λ facts has. fails_on (failure_of e) (λ k f. f facts has) (λ d. d) h
+
+  pub left : (depth : ℕ) (r : Result PartialValue EvaluationError) → Evaluates table t (depth < height t) r → IfOk r (λ p. IsLeft (partial_of p))
+  left depth (Ok p) h = what_is_left (partial_of p) h
+  left depth (Err e) h = tt

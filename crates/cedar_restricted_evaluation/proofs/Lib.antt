@@ -1,0 +1,5 @@
+mod Naming
+mod Gathering
+mod Arms
+mod Known
+mod Keying

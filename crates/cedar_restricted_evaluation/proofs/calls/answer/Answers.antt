@@ -1,0 +1,9 @@
+use Rattle.cedar_language.specs.Order.{all_of}
+use Rattle.cedar_partial_values.specs.PartialValues.{partial_of}
+use Rattle.cedar_restricted_evaluation.proofs.Naming.{unknown_called}
+use Rattle.cedar_restricted_evaluation.proofs.calls.answer.Goals as goal
+
+pub returns-in-Unknown : goal.returns-in-Unknown
+returns-in-Unknown c =
+    unknown_called c.args.extensions.now c.args.name.now (all_of c.args.args.now) c.in_ok-function.function.now c.in_ok-value.field-0 c.in-Unknown.unknown (partial_of c.unknown.result)
+    c.args.extensions.now.named c.in_ok-function.ensures c.in_ok-value.ensures.meaning c.in_ok-value.ensures.unknown c.in-Unknown.is c.unknown.ensures

@@ -1,0 +1,43 @@
+// Calls of extension functions.
+ghost use Rattle.cedar_language.specs.Order.{all_of};
+ghost use Rattle.cedar_restricted_evaluation.specs.Findings.{Calls};
+
+use cedar_errors::evaluation_error::EvaluationError;
+use cedar_extensions::extensions::Extensions;
+use cedar_extensions::functions::ExtensionOutputValue;
+use cedar_names::names::Name;
+use cedar_names::places::Loc;
+use cedar_partial_values::partial_values::PartialValue;
+use cedar_values::values::Value;
+use std::alloc::Global;
+
+// What a function of the table answers, at the place of its call, or why it doesn't.
+pub fn call(
+    alloc: Global,
+    name: &Name,
+    args: &[Value],
+    place: Option<Loc>,
+    extensions: &Extensions<'_>,
+) -> Result<PartialValue, EvaluationError>
+    ensures { Calls extensions.now name.now (all_of args.now) result }
+{
+    match answer(alloc, name, args, extensions) {
+        Ok(answer) => Ok(answer.with_maybe_source_loc(place)),
+        Err(error) => Err(error.with_maybe_source_loc(place)),
+    }
+}
+
+fn answer(
+    alloc: Global,
+    name: &Name,
+    args: &[Value],
+    extensions: &Extensions<'_>,
+) -> Result<PartialValue, EvaluationError>
+    ensures { Calls extensions.now name.now (all_of args.now) result }
+{
+    let function = extensions.func(alloc, name)?;
+    match function.call(alloc, args)? {
+        ExtensionOutputValue::Known(value) => Ok(PartialValue::from(value)),
+        ExtensionOutputValue::Unknown(unknown) => Ok(PartialValue::unknown(unknown)),
+    }
+}

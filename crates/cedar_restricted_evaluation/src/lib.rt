@@ -1,0 +1,11 @@
+//! Restricted expressions of Cedar evaluated: to a value, or to what is left of them where some of
+//! their unknowns have no value.
+#![tactic(auto)]
+
+mod calls;
+mod interpreting;
+mod records;
+#[cfg(test)]
+mod tests;
+
+pub use interpreting::interpret_restricted;
