@@ -1,0 +1,2 @@
+pub mod Annotations
+pub mod Sameness

@@ -1,0 +1,7 @@
+//! Annotations of policies.
+#![tactic(auto)]
+
+pub mod annotations;
+pub mod laws;
+#[cfg(test)]
+mod tests;

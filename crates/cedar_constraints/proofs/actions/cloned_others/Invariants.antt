@@ -1,0 +1,9 @@
+use Rattle.std.proofs.Common.{◌≡◌, ◌++◌, length}
+use Rattle.cedar_constraints.specs.Actions.{held_uids, others}
+use Rattle.cedar_constraints.proofs.actions.cloned_others.Given as goal
+
+abbrev pub invariant-loop-first : goal.invariant-loop-first
+invariant-loop-first l = others (held_uids l.euids) ≡ held_uids l.copies.items ++ others (held_uids l.left)
+
+abbrev pub decreases-loop-first : goal.decreases-loop-first
+decreases-loop-first l = length (others (held_uids l.left))

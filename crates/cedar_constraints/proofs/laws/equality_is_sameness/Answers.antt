@@ -1,0 +1,10 @@
+use Rattle.cedar_constraints.specs.Sameness.{targets_decide, constraints_decide, actions_decide, bindings_decide}
+use Rattle.cedar_constraints.proofs.laws.equality_is_sameness.Goals as goal
+
+pub returns : goal.returns
+returns c = record {
+  references = targets_decide;
+  constraints = constraints_decide;
+  actions = actions_decide;
+  bindings = bindings_decide;
+}

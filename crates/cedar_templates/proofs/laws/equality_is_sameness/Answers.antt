@@ -1,0 +1,5 @@
+use Rattle.cedar_templates.specs.Same.{syntaxes_decide}
+use Rattle.cedar_templates.proofs.laws.equality_is_sameness.Goals as goal
+
+pub returns : goal.returns
+returns c = syntaxes_decide

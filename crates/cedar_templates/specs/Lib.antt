@@ -1,0 +1,9 @@
+pub mod Bodies
+pub mod Same
+pub mod Slots
+pub mod Templates
+pub mod StaticPolicies
+pub mod Policies
+pub mod SamePolicies
+pub mod Linking
+pub mod Validation
