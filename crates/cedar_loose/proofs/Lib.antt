@@ -1,0 +1,3 @@
+pub mod Limits
+pub mod Fewer
+pub mod Readings

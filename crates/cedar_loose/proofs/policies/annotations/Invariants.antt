@@ -1,0 +1,12 @@
+use Rattle.std.proofs.Common.{◌+◌, map, length}
+use Rattle.cedar_grammar.specs.ReadingPolicies.{begins_annotation, is_more}
+use Rattle.cedar_loose_grammar.specs.LooseReading.{each_of, begins_cond, annotation_of, cond_of, policy_of}
+use Rattle.cedar_syntax.specs.View.{shown_annotation, shown_cond, shown_policy}
+use Rattle.cedar_loose_expressions.proofs.Loops.{Each}
+use Rattle.cedar_loose.proofs.policies.annotations.Given as goal
+
+abbrev pub invariant-each : goal.invariant-each
+invariant-each l = Each begins_annotation annotation_of (map shown_annotation l.parts.items) l.cursor (each_of begins_annotation annotation_of l.initial.cursor)
+
+abbrev pub decreases-each : goal.decreases-each
+decreases-each l = length l.cursor

@@ -1,0 +1,49 @@
+-- What is said of a text: what it reads as within a nesting, and what keeps it from being read.
+use Rattle.std.specs.Prelude.{◌≡◌, ℕ, ◌<◌, ◌≤◌, List, [], ◌∷◌, Result, Ok, Err, ⊤}
+use Rattle.cedar_language.specs.Uid.{Text}
+use Rattle.cedar_grammar.specs.Token.{Token}
+use Rattle.cedar_grammar.specs.Tokens.{IsTokens}
+use Rattle.cedar_grammar.specs.Nesting.{loose_nesting}
+use Rattle.cedar_loose_grammar.specs.LooseReading.{Fault}
+use Rattle.cedar_loose_expressions.specs.declared.error.ReadError.{ReadError}
+use Rattle.cedar_loose_expressions.specs.declared.error.ReadError.TheVariants as stop
+use Rattle.cedar_loose_expressions.specs.Gives.{Fails}
+use Rattle.cedar_parse_errors.specs.Errors.{Cause, outside_the_grammar, nested_too_deep, out_of_memory, cause_of}
+use Rattle.cedar_parse_errors.specs.declared.errors.ParseErrors.{ParseErrors}
+
+-- the loose tree that the text's tokens read as, with a nesting of at most n
+abbrev pub IsRead : {A : Type 0} → (ℕ → List Token → Result A Fault) → ℕ → Text → A → Type 0
+IsRead read n bytes x = (ts : List Token) × IsTokens bytes ts × (read n ts ≡ Ok x)
+
+-- The text reads as nothing within any nesting; or as nothing within the limit, and it has places beyond it. Of memory nothing is said.
+abbrev pub IsRefused : {A : Type 0} → (ℕ → List Token → Result A Fault) → ℕ → Text → Cause → Type 0
+IsRefused {A} read limit bytes outside_the_grammar = (n : ℕ) (x : A) → IsRead read n bytes x → ⊥
+IsRefused {A} read limit bytes nested_too_deep = ((n : ℕ) (x : A) → n ≤ limit → IsRead read n bytes x → ⊥) × (limit < loose_nesting bytes)
+IsRefused read limit bytes out_of_memory = ⊤
+
+-- the text reads as nothing; of memory nothing is said
+abbrev pub IsOutside : {A : Type 0} → (ℕ → List Token → Result A Fault) → Text → Cause → Type 0
+IsOutside {A} read bytes outside_the_grammar = (n : ℕ) (x : A) → IsRead read n bytes x → ⊥
+IsOutside read bytes nested_too_deep = ⊥
+IsOutside read bytes out_of_memory = ⊤
+
+-- the first error says so
+abbrev pub Refuses : {A : Type 0} → (ℕ → List Token → Result A Fault) → ℕ → Text → ParseErrors → Type 0
+Refuses read limit bytes errors = IsRefused read limit bytes (cause_of errors.0.head)
+
+abbrev pub RefusesFlat : {A : Type 0} → (ℕ → List Token → Result A Fault) → Text → ParseErrors → Type 0
+RefusesFlat read bytes errors = IsOutside read bytes (cause_of errors.0.head)
+
+-- what nothing nests in is read alike within every nesting
+abbrev pub flat : {A : Type 0} → (List Token → Result A Fault) → ℕ → List Token → Result A Fault
+flat read n ts = read ts
+
+abbrev pub stop_cause : ReadError → Cause
+stop_cause (stop.Syntax at) = outside_the_grammar
+stop_cause stop.Depth = nested_too_deep
+stop_cause stop.Memory = out_of_memory
+
+-- what was made of all tokens is seen as what is read
+abbrev pub GivesAll : {X A : Type 0} → (X → A) → Result X ReadError → Result A Fault → Type 0
+GivesAll view (Ok x) read = read ≡ Ok (view x)
+GivesAll view (Err e) read = Fails e read

@@ -1,0 +1,29 @@
+// Errors of a text, from what stopped its reader.
+ghost use Rattle.std.specs.Prelude.{◌≡◌};
+ghost use Rattle.cedar_parse_errors.specs.Errors.{cause_of};
+ghost use Rattle.cedar_loose.specs.Texts.{stop_cause};
+
+use cedar_loose_expressions::{Met, ReadError};
+use cedar_names::places::Loc;
+use cedar_parse_errors::{ParseError, ParseErrors, ToCSTError};
+use std::alloc::Global;
+use std::rc::RcStr;
+
+/// The error that stopped the reader, with its place in the text `source`. It takes no memory.
+pub(crate) fn refusal(alloc: Global, error: ReadError, source: RcStr) -> ParseErrors
+    ensures { cause_of result.0.head ≡ stop_cause error }
+{
+    let error = match error {
+        ReadError::Syntax(unexpected) => {
+            let loc = Loc::new(unexpected.span, source);
+            ParseError::ToCST(match unexpected.met {
+                Met::Token => ToCSTError::unrecognized_token(loc),
+                Met::End => ToCSTError::unrecognized_eof(loc),
+                Met::NoToken => ToCSTError::invalid_token(loc),
+            })
+        }
+        ReadError::Depth => ParseError::Depth,
+        ReadError::Memory => ParseError::Memory,
+    };
+    ParseErrors::one(alloc, error)
+}

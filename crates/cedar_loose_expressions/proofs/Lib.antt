@@ -1,0 +1,4 @@
+pub mod Loops
+pub mod Cases
+pub mod Signs
+pub mod NameLoop

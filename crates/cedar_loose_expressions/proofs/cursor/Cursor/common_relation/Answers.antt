@@ -1,0 +1,9 @@
+use Rattle.std.proofs.Common.{◌∙◌, refl}
+use Rattle.std.proofs.lemmas.Result.{IfOk-weaker}
+use Rattle.cedar_loose_grammar.specs.Loose as loose
+use Rattle.cedar_syntax.specs.View.{view_relation}
+use Rattle.cedar_syntax.proofs.Views.{seen, view_relation_common}
+use Rattle.cedar_loose_expressions.proofs.cursor.Cursor.common_relation.Goals as goal
+
+pub returns : goal.returns
+returns c = IfOk-weaker c.node.result _ _ (λ n h. seen loose.missing_relation view_relation n _ h ∙ view_relation_common _ c.args.initial c.args.extended refl) c.node.ensures

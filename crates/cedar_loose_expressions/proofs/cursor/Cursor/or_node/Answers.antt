@@ -1,0 +1,9 @@
+use Rattle.std.proofs.Common.{◌∙◌}
+use Rattle.std.proofs.lemmas.Result.{IfOk-weaker}
+use Rattle.cedar_loose_grammar.specs.Loose as loose
+use Rattle.cedar_syntax.specs.View.{view_or}
+use Rattle.cedar_syntax.proofs.Views.{seen, view_or_roll}
+use Rattle.cedar_loose_expressions.proofs.cursor.Cursor.or_node.Goals as goal
+
+pub returns : goal.returns
+returns c = IfOk-weaker c.node.result _ _ (λ n h. seen loose.missing_or view_or n _ h ∙ view_or_roll c.args.initial c.args.extended) c.node.ensures

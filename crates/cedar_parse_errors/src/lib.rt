@@ -1,0 +1,8 @@
+//! The errors of Cedar's parser.
+#![tactic(auto)]
+
+mod errors;
+#[cfg(test)]
+mod tests;
+
+pub use errors::{ParseError, ParseErrors, ToCSTError};
