@@ -1,0 +1,119 @@
+-- The graph of a map of entities.
+use Rattle.std.proofs.Common.{◌≡◌, ◌↔◌, true, false, List, [], Option, None, Some, option_map, refl, sym, ap, subst, ◌∙◌, IsTrue, true≢false}
+use Rattle.std.specs.Option.{option_map_or, MatchOption, IsSomeAnd}
+use Rattle.std.specs.FinSet as set
+use Rattle.std.specs.HashMap.{HashMap, get}
+use Rattle.std.specs.Set.{is_member}
+use Rattle.cedar_language.specs.Uid.{Uid}
+use Rattle.cedar_language.specs.Facts.{Reaches, edge, further}
+use Rattle.cedar_language.specs.Order.{uid_cmp, same_uid}
+use Rattle.cedar_closure.specs.Graph.{HasEdge, SameNodes}
+use Rattle.cedar_closure.specs.Paths.{IsTransitive}
+use Rattle.cedar_closure.specs.Refused.{IsTcRefusal, IsTcViolation}
+use Rattle.cedar_closure.specs.declared.errors.TcError.{TcError}
+use Rattle.cedar_closure.specs.declared.errors.TcError.TheVariants as closure
+use Rattle.cedar_entity.specs.Data.{EntityData, IsSameBesideAncestors, ancestors_of}
+use Rattle.cedar_uids.specs.Laws.{same_uid_equiv}
+use Rattle.cedar_entity.proofs.Uids.{contains-items}
+use Rattle.cedar_entities.specs.Held.{held_of, parents_of, IsParent, IsAncestor}
+use Rattle.cedar_entities.specs.Kept.{Lookup, in_map, held_in, IsKept, KeepsAncestors, IsByUid}
+use Rattle.cedar_entities.specs.Refusals.{from_closure}
+use Rattle.cedar_entities.specs.Modes.{IsComputed, IsEnforced, IsClosureRefusal}
+use Rattle.cedar_entities.specs.declared.closing.TCComputation.TheVariants.{ComputeNow, EnforceAlreadyComputed}
+use Rattle.cedar_entities.proofs.Lookups.{reaches_along, ancestors_same}
+
+abbrev pub kept_edges : EntityData → List Uid
+kept_edges e = set.items (ancestors_of e)
+
+abbrev pub parent_edges : EntityData → List Uid
+parent_edges e = set.items e.parents
+
+kept_edge : (o : Option EntityData) (b : Uid) → is_member same_uid (option_map_or kept_edges o []) b ≡ set.contains (option_map_or ancestors_of o set.empty) b
+kept_edge None b = sym (set.contains-empty uid_cmp b)
+kept_edge (Some e) b = sym (contains-items (ancestors_of e) b)
+
+parent_edge : (o : Option EntityData) (b : Uid) → is_member same_uid (option_map_or parent_edges o []) b ≡ set.contains (parents_of (option_map held_of o)) b
+parent_edge None b = sym (set.contains-empty uid_cmp b)
+parent_edge (Some e) b = sym (contains-items e.parents b)
+
+same_held : (a b : Option EntityData) → MatchOption a (b ≡ None) (λ v. IsSomeAnd b (IsSameBesideAncestors v)) → option_map held_of b ≡ option_map held_of a
+same_held None b h = ap (option_map held_of) h
+same_held (Some e) None h = absurd h
+same_held (Some e) (Some f) h = λ i. Some (record { attributes = h.attributes i; tags = h.tags i; parents = h.parents i })
+
+module _ {S : Type 0} where
+  to_kept : (m : HashMap Uid EntityData S) (a b : Uid) → HasEdge same_uid kept_edges m a b → IsKept (in_map m) a b
+  to_kept m a b h = sym (kept_edge (get same_uid m a) b) ∙ h
+
+  from_kept : (m : HashMap Uid EntityData S) (a b : Uid) → IsKept (in_map m) a b → HasEdge same_uid kept_edges m a b
+  from_kept m a b h = kept_edge (get same_uid m a) b ∙ h
+
+  to_parent : (m : HashMap Uid EntityData S) (a b : Uid) → HasEdge same_uid parent_edges m a b → IsParent (held_in (in_map m)) a b
+  to_parent m a b h = sym (parent_edge (get same_uid m a) b) ∙ h
+
+  from_parent : (m : HashMap Uid EntityData S) (a b : Uid) → IsParent (held_in (in_map m)) a b → HasEdge same_uid parent_edges m a b
+  from_parent m a b h = parent_edge (get same_uid m a) b ∙ h
+
+  held_same : (m n : HashMap Uid EntityData S) → SameNodes same_uid IsSameBesideAncestors m n → (uid : Uid) → held_in (in_map n) uid ≡ held_in (in_map m) uid
+  held_same m n h uid = same_held (get same_uid m uid) (get same_uid n uid) (h uid)
+
+  -- what a rebuilt closure is
+  pub computed : (m n : HashMap Uid EntityData S) → SameNodes same_uid IsSameBesideAncestors m n
+      → ((a b : Uid) → HasEdge same_uid kept_edges n a b ↔ Reaches (HasEdge same_uid parent_edges m) a b)
+      → ((a : Uid) → ¬ (Reaches (HasEdge same_uid parent_edges m) a a)) → IsComputed (in_map m) (in_map n)
+  computed m n same edges acyclic =
+      let held = held_same m n same in
+      record {
+        held = held;
+        keeps = record {
+          ancestors = λ a b. (
+            λ h. ancestors_same (held_in (in_map m)) (held_in (in_map n)) (λ uid. sym (held uid)) (reaches_along (to_parent m) ((edges a b).0 (from_kept n a b h))),
+            λ r. to_kept n a b ((edges a b).1 (reaches_along (from_parent m) (ancestors_same (held_in (in_map n)) (held_in (in_map m)) held r))),
+          );
+          acyclic = λ a r. acyclic a (reaches_along (from_parent m) (ancestors_same (held_in (in_map n)) (held_in (in_map m)) held r));
+        };
+      }
+
+  by_uid_at : (m n : HashMap Uid EntityData S) (uid : Uid) (e : EntityData) → IsByUid (in_map m) → get same_uid n uid ≡ Some e → (o : Option EntityData) → get same_uid m uid ≡ o → MatchOption o (get same_uid n uid ≡ None) (λ v. IsSomeAnd (get same_uid n uid) (IsSameBesideAncestors v)) → IsTrue (same_uid e.uid uid)
+  by_uid_at m n uid e by is None p none = let never : None ≡ Some e = sym none ∙ is in cc
+  by_uid_at m n uid e by is (Some v) p k =
+      let q : IsSameBesideAncestors v e = subst (λ o. IsSomeAnd o (IsSameBesideAncestors v)) is k in
+      ap (λ u. same_uid u uid) q.uid ∙ by uid v p
+
+  pub by_uid_same : (m n : HashMap Uid EntityData S) → SameNodes same_uid IsSameBesideAncestors m n → IsByUid (in_map m) → IsByUid (in_map n)
+  by_uid_same m n same by uid e is = by_uid_at m n uid e by is (get same_uid m uid) refl (same uid)
+
+  pub enforced : (m : HashMap Uid EntityData S) → IsTransitive (HasEdge same_uid kept_edges m) → ((a : Uid) → ¬ (HasEdge same_uid kept_edges m a a)) → IsEnforced (in_map m) (in_map m)
+  enforced m closed acyclic = record {
+    stays = λ uid. refl;
+    transitive = λ a b c h k. to_kept m a c (closed a b c (from_kept m a b h) (from_kept m b c k));
+    acyclic = λ a h. acyclic a (from_kept m a a h);
+  }
+
+  pub computing_refused : (m : HashMap Uid EntityData S) (e : TcError Uid) → IsTcRefusal true (λ k. Reaches (HasEdge same_uid parent_edges m) k k) e → IsClosureRefusal ComputeNow (in_map m) (from_closure e)
+  computing_refused m (closure.MissingTcEdge e) h = h
+  computing_refused m (closure.HasCycle e) h = reaches_along (to_parent m) h.1
+  computing_refused m (closure.Memory e) h = h
+
+  pub enforcing_refused : (m : HashMap Uid EntityData S) (e : TcError Uid) → IsTcViolation (HasEdge same_uid kept_edges m) e → IsClosureRefusal EnforceAlreadyComputed (in_map m) (from_closure e)
+  enforcing_refused m (closure.MissingTcEdge e) h = (to_kept m e.child e.parent h.0, to_kept m e.parent e.grandparent h.1, λ k. h.2 (from_kept m e.child e.grandparent k))
+  enforcing_refused m (closure.HasCycle e) h = to_kept m e.vertex_with_loop e.vertex_with_loop h
+  enforcing_refused m (closure.Memory e) h = h
+
+pub clones_are_equal : (x y : Uid) → y ≡ x → IsTrue (same_uid x y)
+clones_are_equal x y e = ap (same_uid x) e ∙ same_uid_equiv.refl x
+
+-- ---- where nothing is held
+
+no_parent : (found : Lookup) → ((uid : Uid) → found uid ≡ None) → (a b : Uid) → ¬ (IsParent (held_in found) a b)
+no_parent found none a b h = absurd (true≢false (sym h ∙ ap (λ o. set.contains (parents_of (option_map held_of o)) b) (none a) ∙ set.contains-empty uid_cmp b))
+
+no_ancestor : (found : Lookup) → ((uid : Uid) → found uid ≡ None) → {a b : Uid} → ¬ (IsAncestor (held_in found) a b)
+no_ancestor found none (edge {a = a} {b = b} h) = no_parent found none a b h
+no_ancestor found none (further {a = a} {b = c} h r) = no_parent found none a c h
+
+pub nothing_keeps : (found : Lookup) → ((uid : Uid) → found uid ≡ None) → KeepsAncestors found
+nothing_keeps found none = record {
+  ancestors = λ a b. (λ h. absurd (true≢false (sym h ∙ ap (λ o. set.contains (option_map_or ancestors_of o set.empty) b) (none a) ∙ set.contains-empty uid_cmp b)), λ r. absurd (no_ancestor found none r));
+  acyclic = λ a r. no_ancestor found none r;
+}

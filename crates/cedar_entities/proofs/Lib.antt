@@ -1,0 +1,7 @@
+mod Lookups
+mod Closed
+mod Adding
+mod Removing
+mod ByUid
+mod Passing
+mod Edited

@@ -1,0 +1,8 @@
+use Rattle.std.proofs.Common.{ap}
+use Rattle.std.specs.Map.{lookup}
+use Rattle.cedar_language.specs.Order.{same_uid}
+use Rattle.cedar_entities.proofs.Closed.{nothing_keeps}
+use Rattle.cedar_entities.proofs.store.Entities.new.Goals as goal
+
+pub returns-clause-closed : goal.returns-clause-closed
+returns-clause-closed c = nothing_keeps _ (λ uid. ap (lookup (same_uid uid)) c.new.ensures.empty)

@@ -1,0 +1,60 @@
+-- Entities by their uids, with the ancestors that are kept of them.
+use Rattle.std.specs.Prelude.{◌≡◌, ◌↔◌, Option, None, Some, IsTrue, List, cond}
+use Rattle.std.specs.Option.{option_map, option_map_or, IsSomeAnd}
+use Rattle.std.specs.FinSet as set
+use Rattle.std.specs.HashMap.{HashMap, get}
+use Rattle.std.specs.List.{AllByRecursion}
+use Rattle.cedar_language.specs.Uid.{Uid}
+use Rattle.cedar_language.specs.Order.{same_uid}
+use Rattle.cedar_entity.specs.Data.{UidSet, EntityData, IsSameEntity, ancestors_of, without}
+use Rattle.cedar_entities.specs.Held.{Held, held_of, IsAncestor}
+use Rattle.cedar_entities.specs.Edits.{last_by, first_by, or_first, IsListed}
+
+-- what stands at a uid
+abbrev pub Lookup : Type 0
+Lookup = Uid → Option EntityData
+
+abbrev pub in_map : {S : Type 0} → HashMap Uid EntityData S → Lookup
+in_map m uid = get same_uid m uid
+
+-- what is held at a uid
+abbrev pub held_in : Lookup → Uid → Option Held
+held_in found uid = option_map held_of (found uid)
+
+-- b is kept as an ancestor of a
+abbrev pub IsKept : Lookup → Uid → Uid → Type 0
+IsKept found a b = IsTrue (set.contains (option_map_or ancestors_of (found a) set.empty) b)
+
+-- the ancestors that are kept are those that the parents held reach, and nothing reaches itself
+pub record KeepsAncestors (found : Lookup) : Type 0 where
+  pub ancestors : (a b : Uid) → IsKept found a b ↔ IsAncestor (held_in found) a b
+  pub acyclic : (a : Uid) → ¬ (IsAncestor (held_in found) a a)
+
+-- each entity stands under its own uid
+abbrev pub IsByUid : Lookup → Type 0
+IsByUid found = (uid : Uid) (e : EntityData) → found uid ≡ Some e → IsTrue (same_uid e.uid uid)
+
+-- ---- edits of what is kept
+
+abbrev pub same : EntityData → EntityData
+same e = e
+
+abbrev pub put_over : Lookup → List EntityData → Lookup
+put_over found es uid = last_by same es uid (found uid)
+
+abbrev pub added_to : Lookup → List EntityData → Lookup
+added_to found es uid = or_first (found uid) (first_by same es uid)
+
+abbrev pub removed_from : Lookup → UidSet → Lookup
+removed_from found uids uid = cond (set.contains uids uid) None (option_map (without uids) (found uid))
+
+-- a listed version is the one that stays: its uid, attributes, tags and ancestors are those
+abbrev pub IsVersion : Lookup → EntityData → Type 0
+IsVersion found e = IsSomeAnd (found e.uid) (λ kept. IsSameEntity kept e)
+
+abbrev pub AreVersions : Lookup → List EntityData → Type 0
+AreVersions found es = AllByRecursion (IsVersion found) es
+
+-- a listed version of this uid isn't
+abbrev pub IsOtherVersion : Lookup → List EntityData → Uid → Type 0
+IsOtherVersion found es uid = (e : EntityData) × IsListed es e × (e.uid ≡ uid) × ¬ (IsVersion found e)

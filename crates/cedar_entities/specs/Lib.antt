@@ -1,0 +1,6 @@
+pub mod Held
+pub mod Edits
+pub mod Kept
+pub mod Refusals
+pub mod Modes
+pub mod Store

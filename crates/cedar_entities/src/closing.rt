@@ -1,0 +1,65 @@
+// The ancestors that are kept.
+
+use crate::errors::EntitiesError;
+use cedar_closure::{enforce_tc_and_dag, rebuild_tc};
+use cedar_entity::entity::Entity;
+use cedar_uids::uids::EntityUID;
+use std::alloc::Global;
+use std::collections::HashMap;
+
+/// What is to become of the ancestors that are kept when a store is edited.
+#[derive(Debug, PartialEq, Eq, Clone, Copy)]
+pub enum TCComputation {
+    /// What was handed in is taken as it is: the caller knows that it is whole.
+    AssumeAlreadyComputed,
+    /// What was handed in is taken as it is, and refused if it isn't its own closure without a cycle.
+    EnforceAlreadyComputed,
+    /// The ancestors of each entity are computed from the parents; a cycle is refused.
+    ComputeNow,
+}
+
+impl TCComputation {
+    ghost use Rattle.std.specs.Prelude.{OnOk, IfErr};
+    ghost use Rattle.cedar_entities.specs.Kept.{in_map, IsByUid};
+    ghost use Rattle.cedar_entities.specs.Modes.{IsComputed, IsEnforced, IsClosedAs, IsClosureRefusal};
+    ghost use Rattle.cedar_entities.specs.declared.closing.TCComputation.TheVariants.{ComputeNow, EnforceAlreadyComputed};
+
+    // Keeps beside the parents what they reach.
+    fn compute(
+        alloc: Global,
+        entities: &mut HashMap<EntityUID, Entity>,
+    ) -> Result<(), EntitiesError>
+        ensures computed { OnOk result (IsComputed (in_map entities.old) (in_map entities.new)) }
+        ensures by_uid { IsByUid (in_map entities.old) → IsByUid (in_map entities.new) }
+        ensures refused { IfErr result (IsClosureRefusal ComputeNow (in_map entities.old)) }
+    {
+        rebuild_tc(alloc, entities, true)?;
+        Ok(())
+    }
+
+    // Refuses ancestors that aren't their own closure.
+    fn enforce(alloc: Global, entities: &HashMap<EntityUID, Entity>) -> Result<(), EntitiesError>
+        ensures enforced { OnOk result (IsEnforced (in_map entities.now) (in_map entities.now)) }
+        ensures refused { IfErr result (IsClosureRefusal EnforceAlreadyComputed (in_map entities.now)) }
+    {
+        enforce_tc_and_dag(alloc, entities)?;
+        Ok(())
+    }
+
+    /// Closes the ancestors of a map's entities, or sees that they are closed.
+    pub(crate) fn close(
+        self,
+        alloc: Global,
+        entities: &mut HashMap<EntityUID, Entity>,
+    ) -> Result<(), EntitiesError>
+        ensures closed { OnOk result (IsClosedAs self (in_map entities.old) (in_map entities.new)) }
+        ensures by_uid { IsByUid (in_map entities.old) → IsByUid (in_map entities.new) }
+        ensures refused { IfErr result (IsClosureRefusal self (in_map entities.old)) }
+    {
+        match self {
+            TCComputation::AssumeAlreadyComputed => Ok(()),
+            TCComputation::EnforceAlreadyComputed => TCComputation::enforce(alloc, entities),
+            TCComputation::ComputeNow => TCComputation::compute(alloc, entities),
+        }
+    }
+}

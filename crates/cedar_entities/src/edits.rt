@@ -1,0 +1,100 @@
+// Edits of a map of entities.
+ghost use Rattle.std.specs.Prelude.{◌≡◌, OnOk, IfErr, Some, None, cond};
+ghost use Rattle.std.specs.Option.{option_map, IsSomeAnd};
+ghost use Rattle.std.specs.FinSet as set;
+ghost use Rattle.cedar_language.specs.Uid.{Uid};
+ghost use Rattle.cedar_language.specs.Order.{same_uid, uid_cmp};
+ghost use Rattle.cedar_entity.specs.Data.{IsSameEntity, without};
+ghost use Rattle.cedar_entities.specs.Edits.{or_first};
+ghost use Rattle.cedar_entities.specs.Kept.{in_map, put_over, added_to, removed_from, AreVersions};
+ghost use Rattle.cedar_entities.specs.Refusals.{IsAddRefusal, IsOneRefusal};
+
+use crate::errors::{Duplicate, EntitiesError};
+use cedar_entity::entity::Entity;
+use cedar_uids::uids::EntityUID;
+use std::alloc::{AllocError, Global};
+use std::collections::{HashMap, HashSet};
+
+/// Puts the entities into the map in turn: the last version of a uid stays.
+pub(crate) fn put_all(
+    alloc: Global,
+    map: &mut HashMap<EntityUID, Entity>,
+    entities: Vec<Entity>,
+) -> Result<(), AllocError>
+    ensures { OnOk result ((uid : Uid) → in_map map.new uid ≡ put_over (in_map map.old) entities.items uid) }
+{
+    for entity in entities {
+        let key = entity.uid().clone(alloc)?;
+        map.insert(key, entity)?;
+    }
+    Ok(())
+}
+
+// Adds an entity, where none of its uid is there; one that is there has to be the same.
+fn add_one(
+    alloc: Global,
+    map: &mut HashMap<EntityUID, Entity>,
+    entity: Entity,
+) -> Result<(), EntitiesError>
+    ensures added { OnOk result ((uid : Uid) → in_map map.new uid ≡ or_first (in_map map.old uid) (cond (same_uid entity.uid uid) (Some entity) None)) }
+    ensures same { OnOk result (IsSomeAnd (or_first (in_map map.old entity.uid) (Some entity)) (λ kept. IsSameEntity kept entity)) }
+    ensures refused { IfErr result (IsOneRefusal entity.uid (¬ (IsSomeAnd (or_first (in_map map.old entity.uid) (Some entity)) (λ kept. IsSameEntity kept entity)))) }
+{
+    match map.get(entity.uid()) {
+        Some(kept) => {
+            if kept.deep_eq(&entity) {
+                Ok(())
+            } else {
+                Err(EntitiesError::Duplicate(Duplicate {
+                    euid: entity.uid().clone(alloc)?,
+                }))
+            }
+        }
+        None => {
+            let uid = entity.uid().clone(alloc)?;
+            map.insert(uid, entity)?;
+            Ok(())
+        }
+    }
+}
+
+/// Adds the entities in turn: what is there stays, and each further version has to be the same.
+pub(crate) fn add_all(
+    alloc: Global,
+    map: &mut HashMap<EntityUID, Entity>,
+    entities: Vec<Entity>,
+) -> Result<(), EntitiesError>
+    ensures added { OnOk result ((uid : Uid) → in_map map.new uid ≡ added_to (in_map map.old) entities.items uid) }
+    ensures versions { OnOk result (AreVersions (added_to (in_map map.old) entities.items) entities.items) }
+    ensures refused { IfErr result (IsAddRefusal (in_map map.old) entities.items) }
+{
+    for entity in entities {
+        add_one(alloc, map, entity)?;
+    }
+    Ok(())
+}
+
+// Takes the entities of these uids away.
+fn drop_all(map: &mut HashMap<EntityUID, Entity>, uids: &HashSet<EntityUID>)
+    ensures { (uid : Uid) → in_map map.new uid ≡ cond (set.contains (set.from_list {R = uid_cmp} uids.now.keys) uid) None (in_map map.old uid) }
+{
+    map.retain(|uid, _entity| !uids.contains(uid));
+}
+
+// Takes the uids away from the ancestors of each entity.
+fn cut_all(map: &mut HashMap<EntityUID, Entity>, uids: &HashSet<EntityUID>)
+    ensures { (uid : Uid) → in_map map.new uid ≡ option_map (without (set.from_list {R = uid_cmp} uids.now.keys)) (in_map map.old uid) }
+{
+    map.retain(|_uid, entity| {
+        entity.remove_ancestors(uids);
+        true
+    });
+}
+
+/// Takes the entities of these uids away, and the uids from the ancestors of those that stay.
+pub(crate) fn remove_all(map: &mut HashMap<EntityUID, Entity>, uids: &HashSet<EntityUID>)
+    ensures { (uid : Uid) → in_map map.new uid ≡ removed_from (in_map map.old) (set.from_list {R = uid_cmp} uids.now.keys) uid }
+{
+    cut_all(map, uids);
+    drop_all(map, uids);
+}

@@ -1,0 +1,9 @@
+//! The store of entities: by their uids, with the ancestors that their parents reach.
+#![tactic(auto)]
+
+pub mod closing;
+mod edits;
+pub mod errors;
+pub mod store;
+#[cfg(test)]
+mod tests;

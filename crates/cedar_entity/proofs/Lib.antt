@@ -1,0 +1,3 @@
+pub mod Uids
+mod Entries
+mod SameMaps

@@ -1,0 +1,5 @@
+pub mod Codes
+pub mod Attributes
+pub mod Data
+pub mod Sameness
+pub mod AncestorsLeft

@@ -1,0 +1,9 @@
+//! Entities of Cedar: their attributes, tags, parents and ancestors.
+#![tactic(auto)]
+
+pub mod ancestors;
+pub mod attributes;
+pub mod entity;
+mod nodes;
+#[cfg(test)]
+mod tests;

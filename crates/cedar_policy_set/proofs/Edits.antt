@@ -1,0 +1,80 @@
+-- What the edits of the map do to what contracts see of it.
+use Rattle.std.proofs.Common.{◌≡◌, Bool, true, false, List, [], ◌∷◌, ◌++◌, map, refl, sym, ap, subst, ◌∙◌, Option, None, Some, is_some}
+use Rattle.std.specs.List.{IsDistinct}
+use Rattle.std.specs.Option.{option_map}
+use Rattle.std.specs.Map.{lookup, keys_of, remove_entry}
+use Rattle.std.proofs.lemmas.List.{map-append}
+use Rattle.indexmap.specs.IndexMap.{insert_entry, insert_all}
+use Rattle.indexmap.proofs.MapLemmas.{absent_from_lookup, insert_entry-absent}
+use Rattle.cedar_language.specs.Uid.{Text}
+use Rattle.cedar_language.specs.Order.{same_text}
+use Rattle.cedar_grammar.specs.Policy.{Policy}
+use Rattle.cedar_policy_set.specs.Entries.{Entry, template, Entries, bound_at, without, HasItsTemplate, IsFull, IsWhole, has_links}
+use Rattle.cedar_policy_set.specs.declared.bounds.Bound.{Bound}
+use Rattle.cedar_policy_set.specs.Bounds.{entry_of, bound_id, entries_of, IsNamed, IsSound}
+use Rattle.cedar_policy_set.proofs.Appending.{insert_all_apart}
+use Rattle.cedar_policy_set.proofs.Views.{named_push, named_append, named_without, found_entry, keys_of_entries, entries_append, entries_without}
+use Rattle.cedar_policy_set.proofs.Wholes.{empty_is_whole, whole_push, whole_without}
+
+pub sound_empty : (es : List (Text × Bound)) → es ≡ [] → IsSound es
+sound_empty es e = subst IsSound (sym e) (record { named = refl; whole = empty_is_whole })
+
+unmapped : (o : Option Bound) → option_map entry_of o ≡ None → o ≡ None
+unmapped None h = refl
+unmapped (Some b) h = absurd (true_is_false (ap is_some h))
+  where
+    true_is_false : true ≡ false → ⊥
+    true_is_false e = cc
+
+module _ (es new : List (Text × Bound)) (seen : Entries) (view : entries_of es ≡ seen) (sound : IsSound es) where
+  -- a new id is bound
+  module _ (id : Text) (b : Bound) (free : bound_at seen id ≡ None) (is : new ≡ insert_entry same_text es id b) where
+    absent : lookup (same_text id) es ≡ None
+    absent = unmapped (lookup (same_text id) es) (sym (found_entry es id) ∙ ap (λ xs. bound_at xs id) view ∙ free)
+
+    pushed : new ≡ es ++ (id, b) ∷ []
+    pushed = is ∙ insert_entry-absent same_text id b es (absent_from_lookup (same_text id) es absent)
+
+    pub bind_is : entries_of new ≡ seen ++ (id, entry_of b) ∷ []
+    bind_is = ap entries_of pushed ∙ entries_append es ((id, b) ∷ []) ∙ ap (λ xs. xs ++ (id, entry_of b) ∷ []) view
+
+    pub sound_bind : bound_id b ≡ id → HasItsTemplate seen (entry_of b) → IsFull (entry_of b) → IsSound new
+    sound_bind named its full =
+        record {
+          named = subst IsNamed (sym pushed) (named_push es id b sound.named named);
+          whole = subst IsWhole (sym bind_is) (whole_push seen id (entry_of b) free (subst IsWhole view sound.whole) its full);
+        }
+
+  -- ids that are new are bound
+  module _ (more : List (Text × Bound)) (whole : IsWhole (seen ++ entries_of more)) (is : new ≡ insert_all same_text es more) where
+    appended_is : entries_of (es ++ more) ≡ seen ++ entries_of more
+    appended_is = entries_append es more ∙ ap (λ xs. xs ++ entries_of more) view
+
+    apart : IsDistinct same_text (keys_of (es ++ more))
+    apart = subst (IsDistinct same_text) (sym (ap keys_of appended_is) ∙ keys_of_entries (es ++ more)) whole.distinct
+
+    joined_is : new ≡ es ++ more
+    joined_is = is ∙ insert_all_apart more es apart
+
+    pub append_is : entries_of new ≡ seen ++ entries_of more
+    append_is = ap entries_of joined_is ∙ appended_is
+
+    pub sound_append : IsNamed more → IsSound new
+    sound_append named =
+        record {
+          named = subst IsNamed (sym joined_is) (named_append es more sound.named named);
+          whole = subst IsWhole (sym append_is) whole;
+        }
+
+  -- an id is taken away
+  module _ (id : Text) (is : new ≡ remove_entry (same_text id) es) where
+    pub without_is : entries_of new ≡ without id seen
+    without_is = ap entries_of is ∙ entries_without id es ∙ ap (without id) view
+
+    pub sound_without : IsDistinct same_text (keys_of new) → ((s : Policy) → bound_at seen id ≡ Some (template s) → has_links seen id ≡ false) → IsSound new
+    sound_without distinct unlinked =
+        record {
+          named = subst IsNamed (sym is) (named_without (same_text id) es sound.named);
+          whole = subst IsWhole (sym without_is)
+              (whole_without seen id (subst IsWhole view sound.whole) unlinked (subst (IsDistinct same_text) (sym (keys_of_entries new) ∙ ap keys_of without_is) distinct));
+        }

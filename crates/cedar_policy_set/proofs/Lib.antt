@@ -1,0 +1,9 @@
+pub mod Additions
+pub mod Appending
+pub mod Distinct
+pub mod Edits
+pub mod Finding
+pub mod Sameness
+pub mod Views
+pub mod Wholes
+pub mod WorldLaws

@@ -1,0 +1,12 @@
+use Rattle.std.proofs.Common.{ap, sym, ◌∙◌}
+use Rattle.std.specs.Option.{option_map}
+use Rattle.cedar_policy_set.specs.Bounds.{entry_of}
+use Rattle.cedar_policy_set.specs.Entries.{bound_at}
+use Rattle.cedar_policy_set.proofs.Views.{found_entry, found_named}
+use Rattle.cedar_policy_set.proofs.sets.PolicySet.bound.Goals as goal
+
+pub returns-clause-entry : goal.returns-clause-entry
+returns-clause-entry c = ap (option_map entry_of) c.get.ensures.value ∙ sym (found_entry c.self.inside.bound.entries c.args.id.now) ∙ ap (λ es. bound_at es c.args.id.now) c.self.view_is
+
+pub returns-clause-id : goal.returns-clause-id
+returns-clause-id c = found_named c.self.inside.bound.entries c.self.invariant.named c.args.id.now c.get.result c.get.ensures.value

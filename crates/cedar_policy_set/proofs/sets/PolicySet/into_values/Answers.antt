@@ -1,0 +1,7 @@
+use Rattle.std.proofs.Common.{ap, ◌∙◌}
+use Rattle.cedar_policy_set.specs.Bounds.{seen}
+use Rattle.cedar_policy_set.proofs.Views.{seen_values}
+use Rattle.cedar_policy_set.proofs.sets.PolicySet.into_values.Goals as goal
+
+pub returns : goal.returns
+returns c = ap seen c.into_values.ensures.rest ∙ seen_values _ c.self.invariant.named ∙ c.self.view_is

@@ -1,0 +1,11 @@
+use Rattle.cedar_policy_set.proofs.WorldLaws.{finds_as_worlds, binds_as_worlds, removes_as_worlds}
+use Rattle.cedar_policy_set.proofs.worlds.policy_sets_are_worlds.Goals as goal
+
+pub returns-clause-finds : goal.returns-clause-finds
+returns-clause-finds c = finds_as_worlds
+
+pub returns-clause-binds : goal.returns-clause-binds
+returns-clause-binds c = binds_as_worlds
+
+pub returns-clause-removes : goal.returns-clause-removes
+returns-clause-removes c = removes_as_worlds

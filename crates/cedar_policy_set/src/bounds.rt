@@ -1,0 +1,174 @@
+// What an id of a policy set is bound to.
+ghost use Rattle.std.specs.Prelude.{◌≡◌, ◌∷◌, ◌++◌, [], Some, None, OnOk, OnErr, IfOk, IfSome, option_map, if◌then◌else◌};
+ghost use Rattle.std.specs.Option.{option_copied};
+ghost use Rattle.std.specs.Map.{lookup};
+ghost use Rattle.cedar_language.specs.Order.{same_text};
+ghost use Rattle.cedar_templates.specs.Templates.{template_id, syntax_of};
+ghost use Rattle.cedar_policy_set.specs.Entries.{template as a_template, IsFull, is_link, is_link_to, is_of_template, is_static, own_template, slotted, named};
+ghost use Rattle.cedar_policy_set.specs.EntryNodes.{same_entry};
+ghost use Rattle.cedar_policy_set.specs.Bounds.{policy_entry, link_entry, policy_seen, template_seen};
+
+use cedar_policies::PolicyID;
+use cedar_templates::policies::Policy;
+use cedar_templates::templates::Template;
+use indexmap::IndexMap;
+use std::alloc::AllocError;
+use std::rc::Rc;
+
+/// What an id is bound to: a policy, which is a static one or a link, or a template. Contracts see the id
+/// through `bound_id` and the rest, without places, through `entry_of`.
+#[derive(Debug, Drop)]
+pub enum Bound {
+    /// A static policy or a link.
+    Policy(Policy),
+    /// A template, shared with its links.
+    Template(Rc<Template>),
+}
+
+impl Bound {
+    ghost use Rattle.cedar_policy_set.specs.Bounds.{bound_id, entry_of};
+
+    /// The id.
+    pub fn id(&self) -> &PolicyID
+        ensures { result.now ≡ bound_id self.now }
+    {
+        match self {
+            Bound::Policy(policy) => policy.id(),
+            Bound::Template(template) => template.id(),
+        }
+    }
+
+    /// Whether both are the same, places and ids aside: of one kind, and of one syntax; links name one
+    /// template, of one syntax, and bind its slots to the same entities.
+    pub fn is_same(&self, other: &Bound) -> bool
+        ensures { result ≡ same_entry (entry_of self.now) (entry_of other.now) }
+    {
+        match (self, other) {
+            (Bound::Policy(mine), Bound::Policy(theirs)) => is_same_policy(mine, theirs),
+            (Bound::Template(mine), Bound::Template(theirs)) => mine.has_same_syntax(theirs),
+            _ => false,
+        }
+    }
+
+    /// Puts it under its id, which isn't there yet, after what is there. Refused for memory alone.
+    pub fn insert_into(self, entries: &mut IndexMap<PolicyID, Bound>) -> Result<(), AllocError>
+        requires { lookup (same_text (bound_id self)) entries.old.entries ≡ None }
+        ensures inserted { OnOk result (entries.new.entries ≡ entries.old.entries ++ (bound_id self, self) ∷ []) }
+        ensures err { OnErr result (entries.new.entries ≡ entries.old.entries) }
+    {
+        let id = self.own_id()?;
+        match entries.insert(id, self) {
+            Ok(_) => Ok(()),
+            Err(_) => Err(AllocError),
+        }
+    }
+
+    // The id, to stand before it.
+    fn own_id(&self) -> Result<PolicyID, AllocError>
+        ensures { IfOk result (λ id. id ≡ bound_id self.now) }
+    {
+        Ok(self.id().clone()?)
+    }
+
+    /// Whether it is a link.
+    pub fn is_link(&self) -> bool
+        ensures { result ≡ is_link (entry_of self.now) }
+    {
+        match self {
+            Bound::Policy(policy) => is_link(policy),
+            Bound::Template(_) => false,
+        }
+    }
+
+    /// Whether it is a link of the template with this id.
+    pub fn is_link_to(&self, id: &PolicyID) -> bool
+        ensures { result ≡ is_link_to id.now (entry_of self.now) }
+    {
+        match self {
+            Bound::Policy(policy) => !policy.is_static() && policy.template().id() == id,
+            Bound::Template(_) => false,
+        }
+    }
+
+    /// Whether it is this static policy, or a link of this template.
+    pub fn is_of_template(&self, id: &PolicyID) -> bool
+        ensures { result ≡ is_of_template id.now (bound_id self.now) (entry_of self.now) }
+    {
+        match self {
+            Bound::Policy(policy) => policy.template().id() == id,
+            Bound::Template(_) => false,
+        }
+    }
+
+    // Whether it is the template of this syntax.
+    pub(crate) fn is_template(&self, template: &Template) -> bool
+        ensures { result ≡ same_entry (entry_of self.now) (a_template (syntax_of template.now)) }
+    {
+        match self {
+            Bound::Policy(_) => false,
+            Bound::Template(mine) => mine.has_same_syntax(template),
+        }
+    }
+
+    // The policy, where it is a static one.
+    pub(crate) fn as_static(&self) -> Option<&Policy>
+        ensures { option_map policy_seen (option_copied result) ≡ (if is_static (entry_of self.now) then Some (bound_id self.now, entry_of self.now) else None) }
+    {
+        match self {
+            Bound::Policy(policy) if policy.is_static() => Some(policy),
+            _ => None,
+        }
+    }
+
+    // The template, or that of a static policy, where it has slots.
+    pub(crate) fn slotted_template(&self) -> Option<&Rc<Template>>
+        ensures { option_map (λ t. template_seen t.value) (option_copied result) ≡ named (bound_id self.now) (slotted (own_template (entry_of self.now))) }
+    {
+        let template = self.own_template()?;
+        if template.is_static() {
+            None
+        } else {
+            Some(template)
+        }
+    }
+
+    /// The template, or that of a static policy.
+    pub fn own_template(&self) -> Option<&Rc<Template>>
+        ensures syntax { option_map (λ t. syntax_of t.value) (option_copied result) ≡ own_template (entry_of self.now) }
+        ensures id { IfSome result (λ template. template_id template.now.value ≡ bound_id self.now) }
+    {
+        match self {
+            Bound::Policy(policy) if policy.is_static() => Some(policy.template_arc()),
+            Bound::Policy(_) => None,
+            Bound::Template(template) => Some(template),
+        }
+    }
+}
+
+// Whether both are static policies of one syntax, or links of one template with the same entities.
+fn is_same_policy(mine: &Policy, theirs: &Policy) -> bool
+    ensures { result ≡ same_entry (policy_entry mine.now) (policy_entry theirs.now) }
+{
+    match (mine.is_static(), theirs.is_static()) {
+        (true, true) => mine.template().has_same_syntax(theirs.template()),
+        (false, false) => is_same_link(mine, theirs),
+        _ => false,
+    }
+}
+
+// Whether both have one template and bind its slots to the same entities.
+fn is_same_link(mine: &Policy, theirs: &Policy) -> bool
+    ensures { result ≡ same_entry (link_entry mine.now) (link_entry theirs.now) }
+{
+    mine.template().id() == theirs.template().id()
+        && (mine.template().has_same_syntax(theirs.template()) && mine.env() == theirs.env())
+}
+
+// Whether a policy is a link.
+pub(crate) fn is_link(policy: &Policy) -> bool
+    ensures link { result ≡ is_link (policy_entry policy.now) }
+    ensures full { IsFull (policy_entry policy.now) }
+{
+    let _values = policy.env();
+    !policy.is_static()
+}

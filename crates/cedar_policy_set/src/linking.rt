@@ -1,0 +1,39 @@
+// Linking templates.
+ghost use Rattle.std.specs.Prelude.{◌≡◌, IfOk, IfErr, OnOk, OnErr};
+ghost use Rattle.cedar_policy_set.specs.Refused.{IsLinked, IsLinkRefusal};
+
+use crate::bounds::Bound;
+use crate::sets::PolicySet;
+use cedar_constraints::bindings::SlotEnv;
+use cedar_policies::PolicyID;
+use cedar_templates::errors::LinkingError;
+use cedar_templates::templates::Template;
+use std::alloc::Global;
+
+impl PolicySet {
+    /// Binds a new id to the link of a template with these entities. Refused where no template has the id,
+    /// which a static policy isn't, where the entities aren't for exactly its slots, where the new id is
+    /// bound, or for memory; the first of these that stands is answered. A refused call changes nothing.
+    pub fn link(
+        &mut self,
+        alloc: Global,
+        template_id: PolicyID,
+        new_id: PolicyID,
+        values: SlotEnv,
+    ) -> Result<(), LinkingError>
+        ensures linked { OnOk result (IsLinked self.old template_id new_id values self.new) }
+        ensures refused { IfErr result (IsLinkRefusal self.old template_id new_id values) }
+        ensures err { OnErr result (self.new ≡ self.old) }
+    {
+        let template = match self.bound(&template_id) {
+            Some(Bound::Template(template)) => template.clone()?,
+            _ => return Err(LinkingError::NoSuchTemplate { id: template_id }),
+        };
+        let policy = Template::link(alloc, template, new_id.clone()?, values)?;
+        if self.is_bound(&new_id) {
+            return Err(LinkingError::PolicyIdConflict { id: new_id });
+        }
+        self.bind(new_id, Bound::Policy(policy))?;
+        Ok(())
+    }
+}

@@ -1,0 +1,138 @@
+// The policy set as one map from ids.
+ghost use Rattle.std.specs.Prelude.{◌≡◌, ◌↔◌, ◌^◌, ◌<◌, [], ◌∷◌, ◌++◌, IsTrue, IfSome, OnOk, OnErr, Some, None, true, false, length, option_map};
+ghost use Rattle.std.specs.Option.{option_copied};
+ghost use Rattle.cedar_language.specs.Uid.{Text};
+ghost use Rattle.cedar_grammar.specs.Policy.{Policy as PolicySyntax};
+
+use crate::bounds::Bound;
+use cedar_policies::PolicyID;
+use indexmap::IndexMap;
+use indexmap::map::{IntoValues, Values};
+use std::alloc::{AllocError, Global};
+use std::marker::Model;
+
+/// Static policies, templates and links by their ids, in the order in which they came: a new one last, and
+/// a removal closes up. Each link names a template of the set and gives exactly its slots. Contracts see
+/// the ids, each with what it is bound to. (Cedar language reference, "Policies" and "Policy templates".)
+#[derive(Drop)]
+pub struct PolicySet {
+    bound: IndexMap<PolicyID, Bound>,
+}
+
+impl Model for PolicySet {
+    ghost use Rattle.std.specs.Coded.{coded_list, coded×};
+    ghost use Rattle.cedar_language.specs.OrderLaws.{text_code};
+    ghost use Rattle.cedar_policy_set.specs.Entries.{Entries};
+    ghost use Rattle.cedar_policy_set.specs.EntryNodes.{entry_code};
+
+    ghost Value = { Entries };
+
+    ghost coded = { coded_list (coded× text_code entry_code) };
+
+    ghost use Rattle.cedar_policy_set.specs.Bounds.{entries_of, IsSound};
+
+    ghost view = { λ s. entries_of s.bound.entries };
+
+    ghost invariant = { λ s. IsSound s.bound.entries };
+}
+
+impl PolicySet {
+    ghost use Rattle.cedar_policy_set.specs.Entries.{bound_at, is_bound, without, HasItsTemplate, IsFull, IsWhole, template, has_links};
+    ghost use Rattle.cedar_policy_set.specs.Bounds.{entry_of, bound_id, entries_of, seen, IsNamed, IsSound};
+
+    /// The empty set; takes no memory.
+    pub fn new(alloc: Global) -> PolicySet
+        ensures { result ≡ [] }
+    {
+        PolicySet {
+            bound: IndexMap::new(alloc),
+        }
+    }
+
+    /// The set that binds just these; takes no memory.
+    pub fn from_raw_components(bound: IndexMap<PolicyID, Bound>) -> PolicySet
+        requires { IsSound bound.entries }
+        ensures { result ≡ entries_of bound.entries }
+    {
+        PolicySet { bound }
+    }
+
+    /// What an id is bound to.
+    pub fn bound(&self, id: &PolicyID) -> Option<&Bound>
+        ensures entry { option_map entry_of (option_copied result) ≡ bound_at self.now id.now }
+        ensures id { IfSome result (λ bound. bound_id bound.now ≡ id.now) }
+    {
+        self.bound.get(id)
+    }
+
+    /// Whether an id is bound.
+    pub fn is_bound(&self, id: &PolicyID) -> bool
+        ensures { result ≡ is_bound self.now id.now }
+    {
+        self.bound.contains_key(id)
+    }
+
+    /// How many ids are bound.
+    pub fn len(&self) -> usize
+        ensures len { result ≡ length self.now }
+        ensures small { result < 2 ^ 63 }
+        ensures whole { IsWhole self.now }
+    {
+        self.bound.len()
+    }
+
+    /// Whether no id is bound.
+    pub fn is_empty(&self) -> bool
+        ensures { IsTrue result ↔ (self.now ≡ []) }
+    {
+        self.bound.is_empty()
+    }
+
+    /// What the ids are bound to, in order.
+    pub fn values(&self) -> Values<'_, PolicyID, Bound>
+        ensures { seen result ≡ self.now }
+    {
+        self.bound.values()
+    }
+
+    /// What the ids are bound to, in order.
+    pub fn into_values(self) -> IntoValues<PolicyID, Bound>
+        ensures { seen result ≡ self }
+    {
+        self.bound.into_values()
+    }
+
+    // Binds an id that isn't bound.
+    pub(crate) fn bind(&mut self, id: PolicyID, bound: Bound) -> Result<(), AllocError>
+        requires free { bound_at self.old id ≡ None }
+        requires named { bound_id bound ≡ id }
+        requires template { HasItsTemplate self.old (entry_of bound) }
+        requires full { IsFull (entry_of bound) }
+        ensures bound { OnOk result (self.new ≡ self.old ++ (id, entry_of bound) ∷ []) }
+        ensures err { OnErr result (self.new ≡ self.old) }
+    {
+        self.bound.insert(id, bound)?;
+        Ok(())
+    }
+
+    /// Binds ids that aren't bound, after the others. Refused for memory alone.
+    pub fn append(&mut self, mut more: IndexMap<PolicyID, Bound>) -> Result<(), AllocError>
+        requires named { IsNamed more.entries }
+        requires whole { IsWhole (self.old ++ entries_of more.entries) }
+        ensures appended { OnOk result (self.new ≡ self.old ++ entries_of more.entries) }
+        ensures err { OnErr result (self.new ≡ self.old) }
+    {
+        self.bound.append(&mut more)?;
+        Ok(())
+    }
+
+    // Takes away an id that no link names as its template.
+    pub(crate) fn take_away(&mut self, id: &PolicyID) -> Option<Bound>
+        requires { (s : PolicySyntax) → bound_at self.old id.now ≡ Some (template s) → has_links self.old id.now ≡ false }
+        ensures removed { self.new ≡ without id.now self.old }
+        ensures entry { option_map entry_of result ≡ bound_at self.old id.now }
+        ensures id { IfSome result (λ bound. bound_id bound ≡ id.now) }
+    {
+        self.bound.shift_remove(id)
+    }
+}
