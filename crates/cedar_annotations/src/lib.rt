@@ -3,5 +3,3 @@
 
 pub mod annotations;
 pub mod laws;
-#[cfg(test)]
-mod tests;

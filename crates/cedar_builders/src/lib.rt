@@ -3,5 +3,3 @@
 
 pub mod expr_builder;
 pub mod own_builder;
-#[cfg(test)]
-mod tests;

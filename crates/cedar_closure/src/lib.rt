@@ -7,8 +7,6 @@ mod errors;
 mod nodes;
 mod reaching;
 mod rebuilding;
-#[cfg(test)]
-mod tests;
 
 pub use closing::{compute_tc, repair_tc};
 pub use enforcing::enforce_tc_and_dag;

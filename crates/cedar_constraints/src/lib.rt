@@ -10,5 +10,3 @@ pub mod laws;
 pub mod principals;
 pub mod references;
 pub mod resources;
-#[cfg(test)]
-mod tests;

@@ -18,6 +18,3 @@ pub use nesting::loose_nesting;
 pub use strings::{to_unescaped_string, unescape_parts};
 pub use tokenizer::tokenize;
 pub use tokens::{Mark, Span, Token, TokenKind, Word};
-
-#[cfg(test)]
-mod tests;

@@ -5,5 +5,3 @@ pub mod closing;
 mod edits;
 pub mod errors;
 pub mod store;
-#[cfg(test)]
-mod tests;

@@ -5,5 +5,3 @@ pub mod ancestors;
 pub mod attributes;
 pub mod entity;
 mod nodes;
-#[cfg(test)]
-mod tests;

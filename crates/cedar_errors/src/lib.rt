@@ -7,6 +7,4 @@ pub mod lookups;
 mod makers;
 pub mod missing;
 pub mod operands;
-#[cfg(test)]
-mod tests;
 pub mod unevaluated;

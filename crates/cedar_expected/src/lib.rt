@@ -3,8 +3,6 @@
 
 mod expected;
 mod kinds;
-#[cfg(test)]
-mod tests;
 
 pub use expected::{ExpectedTokenConfig, POLICY_TOKENS, expected_to_string};
 pub use kinds::Kinds;

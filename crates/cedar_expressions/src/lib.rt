@@ -4,6 +4,3 @@
 mod extensions;
 
 pub use extensions::Extensions;
-
-#[cfg(test)]
-mod tests;

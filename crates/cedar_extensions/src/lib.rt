@@ -8,5 +8,3 @@ pub mod extension;
 pub mod extensions;
 pub mod functions;
 pub mod iteration;
-#[cfg(test)]
-mod tests;

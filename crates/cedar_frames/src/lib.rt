@@ -12,8 +12,6 @@ mod head;
 mod laws;
 mod quoting;
 mod reading;
-#[cfg(test)]
-mod tests;
 mod verb;
 mod watched;
 mod writing;

@@ -6,7 +6,5 @@ pub mod literals;
 mod matching;
 pub mod operators;
 pub mod patterns;
-#[cfg(test)]
-mod tests;
 pub mod types;
 pub mod variables;

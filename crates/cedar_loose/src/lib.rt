@@ -4,8 +4,6 @@
 mod parse;
 mod policies;
 mod refusal;
-#[cfg(test)]
-mod tests;
 
 pub use parse::{
     parse_expr, parse_ident, parse_name, parse_policies, parse_policy, parse_primary, parse_ref,

@@ -8,6 +8,4 @@ pub mod laws;
 pub mod names;
 pub mod places;
 pub mod reading;
-#[cfg(test)]
-mod tests;
 pub mod texts;

@@ -6,5 +6,3 @@ pub mod display;
 pub mod errors;
 pub mod laws;
 pub mod node;
-#[cfg(test)]
-mod tests;

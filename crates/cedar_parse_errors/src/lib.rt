@@ -2,7 +2,5 @@
 #![tactic(auto)]
 
 mod errors;
-#[cfg(test)]
-mod tests;
 
 pub use errors::{ParseError, ParseErrors, ToCSTError};

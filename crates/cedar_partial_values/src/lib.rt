@@ -7,6 +7,4 @@ pub mod laws;
 pub mod partial_values;
 mod representations;
 pub mod split;
-#[cfg(test)]
-mod tests;
 pub mod to_expr;

@@ -47,6 +47,3 @@ pub fn deep_texts_have_places()
 pub fn bodies_are_low()
     ensures { LowBodies }
 {}
-
-#[cfg(test)]
-mod tests;

@@ -6,6 +6,3 @@ mod policy_id;
 
 pub use effect::Effect;
 pub use policy_id::PolicyID;
-
-#[cfg(test)]
-mod tests;

@@ -9,6 +9,4 @@ pub mod listing;
 mod reading;
 mod removing;
 pub mod sets;
-#[cfg(test)]
-mod tests;
 pub mod worlds;

@@ -2,5 +2,3 @@
 #![tactic(auto)]
 
 pub mod raw_names;
-#[cfg(test)]
-mod tests;

@@ -16,6 +16,3 @@ pub use error_kind::ErrorKind;
 pub use lines::put_line;
 pub use policy_ids::PolicyIds;
 pub use refusal::Refusal;
-
-#[cfg(test)]
-mod tests;

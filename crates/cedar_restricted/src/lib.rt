@@ -10,5 +10,3 @@ pub mod laws;
 mod offences;
 pub mod restricted;
 pub mod shapes;
-#[cfg(test)]
-mod tests;

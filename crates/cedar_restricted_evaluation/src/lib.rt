@@ -5,7 +5,5 @@
 mod calls;
 mod interpreting;
 mod records;
-#[cfg(test)]
-mod tests;
 
 pub use interpreting::interpret_restricted;

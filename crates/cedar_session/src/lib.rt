@@ -13,8 +13,3 @@ pub use command::Command;
 pub use entry::program;
 pub use running::{End, RunError, run};
 pub use session::Session;
-
-#[cfg(test)]
-mod rows;
-#[cfg(test)]
-mod tests;

@@ -10,6 +10,4 @@ mod pairs;
 pub mod parts;
 pub mod readers;
 pub mod shapes;
-#[cfg(test)]
-mod tests;
 pub mod types;

@@ -7,6 +7,4 @@ pub mod into_expr;
 pub mod laws;
 mod rebuilding;
 pub mod substitution;
-#[cfg(test)]
-mod tests;
 pub mod told_values;

@@ -9,6 +9,4 @@ mod linking;
 pub mod policies;
 pub mod static_policies;
 pub mod templates;
-#[cfg(test)]
-mod tests;
 mod validation;

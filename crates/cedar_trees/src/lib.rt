@@ -6,6 +6,4 @@ mod displays;
 pub mod errors;
 pub mod expr;
 pub mod kinds;
-#[cfg(test)]
-mod tests;
 pub mod unknowns;

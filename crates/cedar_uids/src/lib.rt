@@ -5,6 +5,4 @@
 pub mod escapes;
 pub mod laws;
 pub mod slots;
-#[cfg(test)]
-mod tests;
 pub mod uids;

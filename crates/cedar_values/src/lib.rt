@@ -3,7 +3,5 @@
 
 pub mod bounded_display;
 pub mod laws;
-#[cfg(test)]
-mod tests;
 mod texts;
 pub mod values;

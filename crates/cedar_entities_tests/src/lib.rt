@@ -1,0 +1,9 @@
+//! Tests of the transitive closure, of entities and of their store.
+#![tactic(auto)]
+
+#[cfg(test)]
+mod closure;
+#[cfg(test)]
+mod entities;
+#[cfg(test)]
+mod entity;

@@ -1,0 +1,11 @@
+//! Tests of annotations, constraints, templates and policy sets.
+#![tactic(auto)]
+
+#[cfg(test)]
+mod annotations;
+#[cfg(test)]
+mod constraints;
+#[cfg(test)]
+mod policy_set;
+#[cfg(test)]
+mod templates;

@@ -1,0 +1,125 @@
+// Printed texts, orders and places, and that calls succeed where there is memory.
+use cedar_names::errors::ParseNameError;
+use cedar_names::names::Name;
+use cedar_names::places::{Loc, Span};
+use cedar_names::reading::FromNormalizedStr;
+use cedar_uids::slots::{Slot, SlotId};
+use cedar_uids::uids::{Eid, EntityType, EntityUID};
+use std::alloc::Global;
+use std::hash::{DefaultHasher, Hash, Hasher};
+use std::rc::RcStr;
+use std::test::Fail;
+
+fn name(alloc: Global, text: &str) -> Result<Name, ParseNameError> {
+    Name::from_normalized_str(alloc, text)
+}
+
+/// The type `text` in the namespace `M::N`.
+fn type_in_namespace(alloc: Global, text: &str) -> Result<String, ParseNameError> {
+    let namespace = name(alloc, "M::N")?;
+    let entity_type = EntityType::from_normalized_str(alloc, text)?;
+    Ok(
+        entity_type
+            .qualify_with(alloc, Some(&namespace))?
+            .to_string(alloc)?,
+    )
+}
+
+#[test]
+fn types_are_qualified(rt: HostRuntime) -> Result<(), Fail> {
+    let table = [("A", "M::N::A"), ("A::B", "A::B")];
+    for (text, qualified) in table {
+        assert_eq!(rt; type_in_namespace(rt.alloc(), text)?.as_str(), qualified);
+    }
+    Ok(())
+}
+
+fn uid(alloc: Global, id: &str) -> Result<EntityUID, ParseNameError> {
+    EntityUID::with_eid_and_type(alloc, "User", id)
+}
+
+fn escaped(alloc: Global, id: &str) -> Result<RcStr, Fail> {
+    Ok(Eid::new(RcStr::from_str(alloc, id)?).escaped(alloc)?)
+}
+
+#[test]
+fn uids_are_printed(rt: HostRuntime) -> Result<(), Fail> {
+    let alloc = rt.alloc();
+    let table = [
+        ("\0\t\n\r", "\\0\\t\\n\\r"),
+        ("\"'\\", "\\\"\\'\\\\"),
+        ("\u{1}\u{1f}\u{7f}", "\\u{1}\\u{1f}\\u{7f}"),
+        (" *+é", " *+é"),
+    ];
+    for (id, want) in table {
+        assert_eq!(rt; escaped(alloc, id)?.as_str(), want);
+    }
+    assert_eq!(rt;
+        uid(alloc, "a\"")?.to_string(alloc)?.as_str(),
+        "User::\"a\\\"\""
+    );
+    Ok(())
+}
+
+#[test]
+fn uids_are_ordered(rt: HostRuntime) -> Result<(), Fail> {
+    assert!(rt; uid(rt.alloc(), "a")? < uid(rt.alloc(), "b")?);
+    Ok(())
+}
+
+fn hash_of<T: Hash>(value: &T) -> u64 {
+    let mut hasher = DefaultHasher::new();
+    value.hash(&mut hasher);
+    hasher.finish()
+}
+
+fn place(alloc: Global) -> Result<Loc, Fail> {
+    let src = RcStr::from_str(alloc, "User::\"a\"")?;
+    Ok(Loc::new(Span { start: 0, end: 4 }, src))
+}
+
+/// The uid, as it is written at `loc`.
+fn placed(alloc: Global, uid: EntityUID, loc: Loc) -> Result<EntityUID, Fail> {
+    let (entity_type, eid) = uid.components();
+    let entity_type = entity_type.with_loc(alloc, Some(&loc))?;
+    Ok(EntityUID::from_components(entity_type, eid, Some(loc)))
+}
+
+fn are_alike<T: Hash + PartialEq>(one: &T, other: &T) -> bool {
+    *one == *other && hash_of(one) == hash_of(other)
+}
+
+#[test]
+fn places_of_uids_do_not_count(rt: HostRuntime) -> Result<(), Fail> {
+    let bare = uid(rt.alloc(), "a")?;
+    let placed = placed(rt.alloc(), bare.clone(rt.alloc())?, place(rt.alloc())?)?;
+    assert!(rt; placed.loc().is_some() && placed.entity_type().loc().is_some());
+    assert!(rt; are_alike(&placed, &bare));
+    Ok(())
+}
+
+fn slot(loc: Option<Loc>) -> Slot {
+    Slot {
+        id: SlotId::principal(),
+        loc,
+    }
+}
+
+#[test]
+fn places_of_slots_do_not_count(rt: HostRuntime) -> Result<(), Fail> {
+    assert!(rt; are_alike(&slot(Some(place(rt.alloc())?)), &slot(None)));
+    Ok(())
+}
+
+#[test]
+fn slots_are_printed(rt: HostRuntime) -> Result<(), Fail> {
+    assert_eq!(rt;
+        SlotId::principal().to_string(rt.alloc())?.as_str(),
+        "?principal"
+    );
+    assert_eq!(rt;
+        SlotId::resource().to_string(rt.alloc())?.as_str(),
+        "?resource"
+    );
+    Ok(())
+}
