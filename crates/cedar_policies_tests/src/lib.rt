@@ -6,6 +6,8 @@ mod annotations;
 #[cfg(test)]
 mod constraints;
 #[cfg(test)]
+mod merging;
+#[cfg(test)]
 mod policy_set;
 #[cfg(test)]
 mod templates;

@@ -105,3 +105,233 @@ fn links_hold_their_template(rt: HostRuntime) -> Result<(), Fail> {
     assert!(rt; is_unlinked(rt.alloc())?);
     Ok(())
 }
+
+/// A template `t`, a link `l` and a static policy `p`.
+fn mixed(alloc: Global) -> Result<PolicySet, Fail> {
+    let policy = policy(alloc)?;
+    let mut set = of_link(alloc)?;
+    set.add_static(alloc, policy)?;
+    Ok(set)
+}
+
+fn ids_of_policies(alloc: Global) -> Result<String, Fail> {
+    let set = mixed(alloc)?;
+    let mut ids = String::new(alloc);
+    for policy in set.policies() {
+        ids.push_str(policy.id().as_str())?;
+    }
+    ids.push_str(" ")?;
+    for policy in set.static_policies() {
+        ids.push_str(policy.id().as_str())?;
+    }
+    Ok(ids)
+}
+
+fn ids_of_templates(alloc: Global) -> Result<String, Fail> {
+    let set = mixed(alloc)?;
+    let mut ids = String::new(alloc);
+    for template in set.all_templates() {
+        ids.push_str(template.id().as_str())?;
+    }
+    ids.push_str(" ")?;
+    for template in set.templates() {
+        ids.push_str(template.id().as_str())?;
+    }
+    Ok(ids)
+}
+
+fn ids_given_up(alloc: Global) -> Result<String, Fail> {
+    let mut ids = String::new(alloc);
+    for policy in mixed(alloc)?.into_policies() {
+        ids.push_str(policy.id().as_str())?;
+    }
+    Ok(ids)
+}
+
+/// The ids of the links of a template.
+fn linked(alloc: Global, template: &str) -> Result<String, Fail> {
+    let template = id(alloc, template)?;
+    let set = mixed(alloc)?;
+    let mut ids = String::new(alloc);
+    match set.get_linked_policies(&template) {
+        Ok(links) => {
+            for link in links {
+                ids.push_str(link.as_str())?;
+            }
+            Ok(ids)
+        }
+        Err(error) => Ok(error.to_string(alloc)?),
+    }
+}
+
+#[test]
+fn sets_are_listed_in_order(rt: HostRuntime) -> Result<(), Fail> {
+    let alloc = rt.alloc();
+    assert_eq!(rt; ids_of_policies(alloc)?.as_str(), "lp p");
+    assert_eq!(rt; ids_of_templates(alloc)?.as_str(), "tp t");
+    assert_eq!(rt; ids_given_up(alloc)?.as_str(), "lp");
+    assert_eq!(rt; linked(alloc, "t")?.as_str(), "l");
+    assert_eq!(rt; linked(alloc, "p")?.as_str(), "p");
+    assert_eq!(rt; linked(alloc, "l")?.as_str(), "no template `l`");
+    Ok(())
+}
+
+fn printed(alloc: Global) -> Result<String, Fail> {
+    Ok(mixed(alloc)?.to_string(alloc)?)
+}
+
+#[test]
+fn sets_are_printed(rt: HostRuntime) -> Result<(), Fail> {
+    assert_eq!(rt;
+        printed(rt.alloc())?.as_str(),
+        "Template Instance of t, slots: [?principal -> User::\"a\"]\nforbid(\n  principal,\n  action,\n  resource\n);"
+    );
+    Ok(())
+}
+
+/// Why `template` isn't linked as `link`, with a principal or without.
+fn not_linked(alloc: Global, template: &str, link: &str, bound: bool) -> Result<String, Fail> {
+    let (template, link) = (id(alloc, template)?, id(alloc, link)?);
+    let values = if bound {
+        values(alloc)?
+    } else {
+        SlotEnv::new()
+    };
+    let mut set = mixed(alloc)?;
+    match set.link(alloc, template, link, values) {
+        Ok(()) => Ok(String::new(alloc)),
+        Err(error) => Ok(error.to_string(alloc)?),
+    }
+}
+
+#[test]
+fn links_are_refused(rt: HostRuntime) -> Result<(), Fail> {
+    let alloc = rt.alloc();
+    assert_eq!(rt; not_linked(alloc, "t", "m", true)?.as_str(), "");
+    assert_eq!(rt;
+        not_linked(alloc, "p", "m", true)?.as_str(),
+        "failed to find a template with id `p`"
+    );
+    assert_eq!(rt;
+        not_linked(alloc, "t", "l", true)?.as_str(),
+        "template-linked policy id `l` conflicts with an existing policy id"
+    );
+    assert_eq!(rt;
+        not_linked(alloc, "t", "m", false)?.as_str(),
+        "the following slots were not provided as arguments: ?principal"
+    );
+    Ok(())
+}
+
+fn not_unlinked(alloc: Global, link: &str) -> Result<String, Fail> {
+    let link = id(alloc, link)?;
+    let mut set = mixed(alloc)?;
+    match set.unlink(&link) {
+        Ok(policy) => Ok(policy.id().to_string(alloc)?),
+        Err(error) => Ok(error.to_string(alloc)?),
+    }
+}
+
+fn not_removed(alloc: Global, policy: &str) -> Result<String, Fail> {
+    let policy = id(alloc, policy)?;
+    let mut set = mixed(alloc)?;
+    match set.remove_static(&policy) {
+        Ok(policy) => Ok(policy.id().to_string(alloc)?),
+        Err(error) => Ok(error.to_string(alloc)?),
+    }
+}
+
+fn template_not_removed(alloc: Global, template: &str) -> Result<String, Fail> {
+    let template = id(alloc, template)?;
+    let mut set = mixed(alloc)?;
+    match set.remove_template(&template) {
+        Ok(template) => Ok(template.id().to_string(alloc)?),
+        Err(error) => Ok(error.to_string(alloc)?),
+    }
+}
+
+#[test]
+fn removals_are_refused(rt: HostRuntime) -> Result<(), Fail> {
+    let alloc = rt.alloc();
+    assert_eq!(rt; not_unlinked(alloc, "l")?.as_str(), "l");
+    assert_eq!(rt;
+        not_unlinked(alloc, "m")?.as_str(),
+        "unable to unlink policy id `m` because it does not exist"
+    );
+    assert_eq!(rt;
+        not_unlinked(alloc, "p")?.as_str(),
+        "unable to remove link with policy id `p` because it is not a link"
+    );
+    assert_eq!(rt; not_removed(alloc, "p")?.as_str(), "p");
+    assert_eq!(rt;
+        not_removed(alloc, "t")?.as_str(),
+        "unable to remove static policy id `t` from link list because it does not exist"
+    );
+    assert_eq!(rt;
+        not_removed(alloc, "l")?.as_str(),
+        "unable to remove static policy id `l` from template list because it does not exist"
+    );
+    Ok(())
+}
+
+#[test]
+fn templates_are_kept(rt: HostRuntime) -> Result<(), Fail> {
+    let alloc = rt.alloc();
+    assert_eq!(rt;
+        template_not_removed(alloc, "m")?.as_str(),
+        "unable to remove template id `m` from template list because it does not exist"
+    );
+    assert_eq!(rt;
+        template_not_removed(alloc, "t")?.as_str(),
+        "unable to remove template id `t` from template list because it still has active links"
+    );
+    assert_eq!(rt;
+        template_not_removed(alloc, "p")?.as_str(),
+        "unable to remove template with policy id `p` because it is not a template"
+    );
+    Ok(())
+}
+
+/// `permit(principal, action, resource);` as a template, without slots
+fn slotless(alloc: Global) -> Result<PolicySet, Fail> {
+    let id = id(alloc, "s")?;
+    let template = Template::new(
+        alloc,
+        id,
+        None,
+        Annotations::new(alloc),
+        Effect::Permit,
+        PrincipalConstraint::any(),
+        ActionConstraint::any(),
+        ResourceConstraint::any(),
+        None,
+    )?;
+    let mut set = PolicySet::new(alloc);
+    set.add_template(alloc, template)?;
+    Ok(set)
+}
+
+fn with_slotless_link(alloc: Global) -> Result<PolicySet, Fail> {
+    let (template, link) = (id(alloc, "s")?, id(alloc, "l")?);
+    let mut set = slotless(alloc)?;
+    set.link(alloc, template, link, SlotEnv::new())?;
+    Ok(set)
+}
+
+fn validated(alloc: Global, set: PolicySet) -> Result<String, Fail> {
+    match set.try_validate(alloc) {
+        Ok(()) => Ok(String::new(alloc)),
+        Err(error) => Ok(error.to_string(alloc)?),
+    }
+}
+
+#[test]
+fn sets_are_validated(rt: HostRuntime) -> Result<(), Fail> {
+    let alloc = rt.alloc();
+    assert_eq!(rt; validated(alloc, mixed(alloc)?)?.as_str(), "");
+    assert_eq!(rt;
+        validated(alloc, with_slotless_link(alloc)?)?.as_str(),
+        "policy `l` is a link of a template without slots"
+    );
+    Ok(())
+}

@@ -29,7 +29,7 @@ is_tied Greater h = absurd (cc)
 ties_decide : (a b : Text) → Decides (eq_by_cmp text_cmp a b) (a ≡ b)
 ties_decide a b = (λ h. text_cmp_same a b (is_tied _ h), λ e. ap (λ x. eq_by_cmp text_cmp a x) (sym e) ∙ ap is_eq (tied_itself text_cmp_total a))
 
-ties_are : (a b : Text) → eq_by_cmp text_cmp a b ≡ same_text a b
+pub ties_are : (a b : Text) → eq_by_cmp text_cmp a b ≡ same_text a b
 ties_are a b = same_from_decides _ _ (ties_decide a b) (bytes_decides a b)
 
 found_same : {X : Type 0} (k : Text) (es : List (Text × X)) → find text_cmp k es ≡ lookup (same_text k) es

@@ -2,6 +2,7 @@
 ghost use Rattle.std.specs.Prelude.{◌≡◌};
 
 use cedar_policies::PolicyID;
+use cedar_templates::errors::TemplateValidationError;
 use std::alloc::{AllocError, AllocFailed};
 use thiserror::Error;
 
@@ -75,6 +76,28 @@ pub enum PolicySetPolicyRemovalError {
     Memory(AllocError),
 }
 
+/// Why a policy set isn't valid.
+#[derive(Debug, PartialEq, Eq, Drop, Error)]
+pub enum PolicySetValidationError {
+    /// A template isn't valid, or a static policy, which is its own.
+    #[error("invalid template `{id}`: {error}")]
+    InvalidTemplate {
+        /// The id.
+        id: PolicyID,
+        /// Why it isn't.
+        error: TemplateValidationError,
+    },
+    /// A link is of a template that has no slot.
+    #[error("policy `{id}` is a link of a template without slots")]
+    LinkToSlotlessTemplate {
+        /// The id of the link.
+        id: PolicyID,
+    },
+    /// Memory ran out.
+    #[error(transparent)]
+    Memory(AllocError),
+}
+
 impl From<AllocError> for PolicySetError {
     ghost use Rattle.cedar_policy_set.specs.declared.errors.PolicySetError.TheVariants.{Memory};
 
@@ -133,5 +156,15 @@ impl From<AllocError> for PolicySetPolicyRemovalError {
 
     fn from(error: AllocError) -> PolicySetPolicyRemovalError {
         PolicySetPolicyRemovalError::Memory(error)
+    }
+}
+
+impl From<AllocError> for PolicySetValidationError {
+    ghost use Rattle.cedar_policy_set.specs.declared.errors.PolicySetValidationError.TheVariants.{Memory};
+
+    ghost from_gives = { λ error made. made ≡ Memory error };
+
+    fn from(error: AllocError) -> PolicySetValidationError {
+        PolicySetValidationError::Memory(error)
     }
 }

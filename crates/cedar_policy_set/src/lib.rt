@@ -3,10 +3,12 @@
 
 mod adding;
 pub mod bounds;
+mod displays;
 pub mod errors;
 mod linking;
 pub mod listing;
 mod reading;
 mod removing;
 pub mod sets;
+mod validating;
 pub mod worlds;

@@ -3,7 +3,4 @@ pub mod Same
 pub mod Slots
 pub mod Templates
 pub mod StaticPolicies
-pub mod Policies
-pub mod SamePolicies
-pub mod Linking
 pub mod Validation

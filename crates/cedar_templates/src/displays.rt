@@ -1,6 +1,5 @@
 // How policies and templates are printed: as texts of the language.
 use crate::bodies::TemplateBody;
-use crate::policies::Policy;
 use crate::static_policies::StaticPolicy;
 use crate::templates::Template;
 use std::fmt;
@@ -32,18 +31,5 @@ impl fmt::Display for Template {
 impl fmt::Display for StaticPolicy {
     fn fmt<W: fmt::Write>(&self, f: &mut fmt::Formatter<W>) -> fmt::Result {
         fmt::Display::fmt(self.body(), f)
-    }
-}
-
-/// A link is named by its template and the entities of its slots.
-impl fmt::Display for Policy {
-    fn fmt<W: fmt::Write>(&self, f: &mut fmt::Formatter<W>) -> fmt::Result {
-        let template = self.template();
-        if self.is_static() {
-            return write!(f, "{template}");
-        }
-        let id = template.id();
-        let bindings = self.env();
-        write!(f, "Template Instance of {id}, slots: [{bindings}]")
     }
 }

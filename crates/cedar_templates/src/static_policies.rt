@@ -17,11 +17,13 @@ use cedar_constraints::actions::ActionConstraint;
 use cedar_constraints::errors::UnexpectedSlotError;
 use cedar_constraints::principals::PrincipalConstraint;
 use cedar_constraints::resources::ResourceConstraint;
+use cedar_names::conversions::FromIn;
 use cedar_names::identifiers::AnyId;
 use cedar_names::places::Loc;
 use cedar_policies::{Effect, PolicyID};
 use cedar_trees::expr::Expr;
 use std::alloc::{AllocError, Global};
+use std::rc::Rc;
 
 /// A policy without slots, under an id. Contracts see the id through `static_id` and the rest, without
 /// places, through `static_syntax`. (Cedar language reference, "Policies".)
@@ -235,6 +237,20 @@ impl From<StaticPolicy> for TemplateBody {
 
     fn from(policy: StaticPolicy) -> TemplateBody {
         policy.into_body()
+    }
+}
+
+impl FromIn<StaticPolicy> for Rc<Template> {
+    type Error = AllocError;
+
+    ghost use Rattle.std.specs.Prelude.{IfOk};
+    ghost use Rattle.cedar_templates.specs.StaticPolicies.{static_id, static_syntax};
+    ghost use Rattle.cedar_templates.specs.Templates.{template_id, syntax_of};
+
+    ghost from_in_gives = { λ policy result. IfOk result (λ made. (template_id made.value ≡ static_id policy) × (syntax_of made.value ≡ static_syntax policy)) };
+
+    fn from_in(alloc: Global, policy: StaticPolicy) -> Result<Rc<Template>, AllocError> {
+        Ok(Rc::new(alloc, Template::from_body(alloc, policy.into_body())?)?)
     }
 }
 

@@ -1,0 +1,65 @@
+// Whether what a policy set binds is valid.
+ghost use Rattle.std.specs.Prelude.{◌≡◌, true};
+ghost use Rattle.cedar_templates.specs.Templates.{template_id, syntax_of};
+ghost use Rattle.cedar_links.specs.Policies.{policy_id};
+ghost use Rattle.cedar_policy_set.specs.Entries.{is_link};
+ghost use Rattle.cedar_policy_set.specs.Bounds.{bound_id, entry_of, policy_entry};
+ghost use Rattle.cedar_policy_set.specs.Validated.{ValidatesAll, ValidatesOne, ValidatesTemplate};
+
+use crate::bounds::Bound;
+use crate::errors::PolicySetValidationError;
+use crate::sets::PolicySet;
+use cedar_links::policies::Policy;
+use cedar_templates::errors::TemplateValidationError;
+use cedar_templates::templates::Template;
+use std::alloc::Global;
+
+impl PolicySet {
+    /// Whether each template and static policy of the set is valid, and each link is of a template that
+    /// has slots; refused for the first that isn't, or for memory.
+    pub fn try_validate(&self, alloc: Global) -> Result<(), PolicySetValidationError>
+        ensures { ValidatesAll self.now result }
+    {
+        for bound in self.values() {
+            validate(alloc, bound)?;
+        }
+        Ok(())
+    }
+}
+
+// Whether it is valid.
+fn validate(alloc: Global, bound: &Bound) -> Result<(), PolicySetValidationError>
+    ensures { ValidatesOne (bound_id bound.now) (entry_of bound.now) result }
+{
+    match bound {
+        Bound::Template(template) => validate_template(alloc, template),
+        Bound::Policy(policy) if policy.is_static() => validate_template(alloc, policy.template()),
+        Bound::Policy(link) => validate_link(link),
+    }
+}
+
+// Whether the template is valid.
+fn validate_template(alloc: Global, template: &Template) -> Result<(), PolicySetValidationError>
+    ensures { ValidatesTemplate (template_id template.now) (syntax_of template.now) result }
+{
+    match template.try_validate(alloc) {
+        Ok(()) => Ok(()),
+        Err(TemplateValidationError::Memory(error)) => Err(PolicySetValidationError::Memory(error)),
+        Err(error) => {
+            let id = template.id().clone()?;
+            Err(PolicySetValidationError::InvalidTemplate { id, error })
+        }
+    }
+}
+
+// Whether the link is of a template that has slots.
+fn validate_link(link: &Policy) -> Result<(), PolicySetValidationError>
+    requires { is_link (policy_entry link.now) ≡ true }
+    ensures { ValidatesOne (policy_id link.now) (policy_entry link.now) result }
+{
+    if link.template().is_static() {
+        let id = link.id().clone()?;
+        return Err(PolicySetValidationError::LinkToSlotlessTemplate { id });
+    }
+    Ok(())
+}
