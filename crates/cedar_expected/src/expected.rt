@@ -1,4 +1,7 @@
 // What a parser expected, as a text.
+ghost use Rattle.std.specs.Prelude.{◌≡◌, IfOk, is_some, map, string_bytes};
+ghost use Rattle.cedar_expected.specs.Shown.{texts, is_among, is_shown, shows};
+
 use std::alloc::{AllocError, Global};
 use std::collections::BTreeSet;
 
@@ -20,7 +23,7 @@ pub struct ExpectedTokenConfig {
 }
 
 /// How the kinds of tokens of policies are shown.
-pub const POLICY_TOKENS: ExpectedTokenConfig = ExpectedTokenConfig {
+pub const POLICY_TOKEN_CONFIG: ExpectedTokenConfig = ExpectedTokenConfig {
     friendly_token_names: &[
         ("TRUE", "`true`"),
         ("FALSE", "`false`"),
@@ -68,13 +71,41 @@ pub const POLICY_TOKENS: ExpectedTokenConfig = ExpectedTokenConfig {
 };
 
 impl ExpectedTokenConfig {
-    /// Whether the kind is shown where these are expected.
-    fn is_shown(&self, kind: &str, expected: &[String]) -> bool {
-        let hides_words = is_among(expected, self.identifier_sentinel);
-        let hides_first = hides_words && !is_among(expected, self.first_set_sentinel);
-        !self.impossible_tokens.contains(&kind)
-            && !(hides_words && self.special_identifier_tokens.contains(&kind))
-            && !(hides_first && self.first_set_identifier_tokens.contains(&kind))
+    /// Whether the kind is shown where these are expected: it is none that the conversion refuses, no
+    /// word beside an identifier, and beside an identifier none that begins an expression, unless one
+    /// may begin there.
+    pub fn is_shown(&self, kind: &str, expected: &[String]) -> bool
+        ensures { result ≡ is_shown self.now (map string_bytes expected.now) kind.now }
+    {
+        let beside_word = is_expected(expected, self.identifier_sentinel);
+        let beside_first = is_expected(expected, self.first_set_sentinel);
+        !is_listed(self.impossible_tokens, kind)
+            && !(beside_word && is_listed(self.special_identifier_tokens, kind))
+            && !(beside_word && !beside_first && is_listed(self.first_set_identifier_tokens, kind))
+    }
+
+    /// Whether one of the kinds is shown.
+    fn shows_one_of(&self, expected: &[String]) -> bool
+        ensures { result ≡ shows self.now (map string_bytes expected.now) }
+    {
+        expected
+            .iter()
+            .any(|kind| self.is_shown(kind.as_str(), expected))
+    }
+
+    /// The kinds that are shown, each once, in rising order.
+    fn shown<'e>(
+        &self,
+        alloc: Global,
+        expected: &'e [String],
+    ) -> Result<BTreeSet<&'e str>, AllocError> {
+        let mut kinds = BTreeSet::new(alloc);
+        for kind in expected {
+            if self.is_shown(kind.as_str(), expected) {
+                kinds.insert(kind.as_str())?;
+            }
+        }
+        Ok(kinds)
     }
 
     /// Adds the name of the kind: the friendly one, or else the kind with backticks for its quotes.
@@ -91,35 +122,42 @@ impl ExpectedTokenConfig {
     }
 }
 
-fn is_among(expected: &[String], kind: &str) -> bool {
+/// Whether the kind is among those that are expected.
+fn is_expected(expected: &[String], kind: &str) -> bool
+    ensures { result ≡ is_among (map string_bytes expected.now) kind.now }
+{
     expected.iter().any(|other| other.as_str() == kind)
 }
 
-/// The kinds that are expected, as `expected a, b, or c`; none where none is shown. Refused for memory
-/// alone.
+/// Whether the kind is among these.
+fn is_listed(kinds: &[&str], kind: &str) -> bool
+    ensures { result ≡ is_among (texts kinds.now) kind.now }
+{
+    kinds.iter().any(|other| *other == kind)
+}
+
+/// The kinds that are expected, as `expected a, b, or c`; none where the config shows none of them.
+/// Refused for memory alone.
 pub fn expected_to_string(
     alloc: Global,
     expected: &[String],
     config: &ExpectedTokenConfig,
-) -> Result<Option<String>, AllocError> {
-    let mut kinds = BTreeSet::new(alloc);
-    for kind in expected {
-        if config.is_shown(kind.as_str(), expected) {
-            kinds.insert(kind.as_str())?;
-        }
-    }
-    if kinds.is_empty() {
+) -> Result<Option<String>, AllocError>
+    ensures { IfOk result (λ told. is_some told ≡ shows config.now (map string_bytes expected.now)) }
+{
+    if !config.shows_one_of(expected) {
         return Ok(None);
     }
-    let last = kinds.len() - 1;
-    let mut shown = String::from_str(alloc, "expected ")?;
+    let kinds = config.shown(alloc, expected)?;
+    let last = kinds.len().saturating_sub(1);
+    let mut told = String::from_str(alloc, "expected ")?;
     for (place, kind) in kinds.iter().enumerate() {
         if place > 0 {
-            shown.push_str(separator(place == last, last))?;
+            told.push_str(separator(place == last, last))?;
         }
-        config.push_name(&mut shown, kind)?;
+        config.push_name(&mut told, kind)?;
     }
-    Ok(Some(shown))
+    Ok(Some(told))
 }
 
 /// What stands before a name that isn't the first.

@@ -1,7 +1,10 @@
 // Kinds of tokens that were expected.
+ghost use Rattle.std.specs.Prelude.{◌≡◌, ◌||◌, IfOk, map, string_bytes};
+ghost use Rattle.cedar_expected.specs.Kinds.{meets, named, names_in, names_of};
+
 use std::alloc::{AllocError, Global};
 
-/// Kinds of tokens, as a parser expects them.
+/// A set of kinds of tokens, as a parser expects them. A constant in it is one kind, or a group of them.
 #[derive(Clone, Copy, Debug, PartialEq, Eq)]
 pub struct Kinds(u64);
 
@@ -126,19 +129,32 @@ impl Kinds {
     pub const ACCESSES: Kinds = Kinds(0x405);
 
     /// These kinds and those.
-    pub fn with(self, others: Kinds) -> Kinds {
+    pub fn with(self, others: Kinds) -> Kinds
+        ensures { (kind : Kinds) → meets result kind ≡ (meets self kind || meets others kind) }
+    {
         Kinds(self.0 | others.0)
     }
 
     /// Whether one of those kinds is among these.
-    fn meets(self, others: Kinds) -> bool {
+    pub fn meets(self, others: Kinds) -> bool
+        ensures { result ≡ meets self others }
+    {
         self.0 & others.0 != 0
     }
 
-    /// The kinds' names, as the grammar has them; refused for memory alone.
-    pub fn names(self, alloc: Global) -> Result<Vec<String>, AllocError> {
+    /// The names of these kinds, in the order of `KIND_NAMES`; refused for memory alone.
+    pub fn names(self, alloc: Global) -> Result<Vec<String>, AllocError>
+        ensures { IfOk result (λ names. map string_bytes names.items ≡ names_of self) }
+    {
+        self.names_in(alloc, &KIND_NAMES)
+    }
+
+    /// The names that the table has for these kinds, in its order; refused for memory alone.
+    fn names_in(self, alloc: Global, table: &[(Kinds, &str)]) -> Result<Vec<String>, AllocError>
+        ensures { IfOk result (λ names. map string_bytes names.items ≡ names_in self (named table.now)) }
+    {
         let mut names = Vec::new(alloc);
-        for (kind, name) in &NAMES {
+        'kinds: for (kind, name) in table {
             if self.meets(*kind) {
                 names.push(String::from_str(alloc, name)?)?;
             }
@@ -147,8 +163,8 @@ impl Kinds {
     }
 }
 
-/// Each kind with its name.
-const NAMES: [(Kinds, &str); 50] = [
+/// Each kind with its name: a mark between quotes, a word or a class of tokens in capitals.
+pub const KIND_NAMES: [(Kinds, &str); 50] = [
     (Kinds::LEFT_PAREN, "\"(\""),
     (Kinds::RIGHT_PAREN, "\")\""),
     (Kinds::LEFT_BRACKET, "\"[\""),

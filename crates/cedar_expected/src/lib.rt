@@ -4,5 +4,5 @@
 mod expected;
 mod kinds;
 
-pub use expected::{ExpectedTokenConfig, POLICY_TOKENS, expected_to_string};
-pub use kinds::Kinds;
+pub use expected::{ExpectedTokenConfig, POLICY_TOKEN_CONFIG, expected_to_string};
+pub use kinds::{KIND_NAMES, Kinds};

@@ -17,8 +17,8 @@ pub(crate) fn refusal(alloc: Global, error: ReadError, source: RcStr) -> ParseEr
         ReadError::Syntax(unexpected) => {
             let loc = Loc::new(unexpected.span, source);
             ParseError::ToCST(match unexpected.met {
-                Met::Token => ToCSTError::unrecognized_token(loc),
-                Met::End => ToCSTError::unrecognized_eof(loc),
+                Met::Token => ToCSTError::unrecognized_token(loc, unexpected.expected),
+                Met::End => ToCSTError::unrecognized_eof(loc, unexpected.expected),
                 Met::NoToken => ToCSTError::invalid_token(loc),
             })
         }

@@ -10,10 +10,13 @@ ghost use Rattle.cedar_loose_expressions.specs.Gives.{Begins, Eats, Gives, Leave
 ghost use Rattle.cedar_loose_expressions.specs.Steps.{without_first, begins, begins_literal, begins_name, ended, eat_if, eat_has, eat_like};
 
 use crate::error::{Met, ReadError, Unexpected};
+use crate::kinds::kind_of;
 use cedar_cst::{Mark, Token, TokenKind, Word};
+use cedar_expected::Kinds;
 use cedar_names::places::{Loc, Span};
 use cedar_nodes::node::Node;
 use std::alloc::AllocError;
+use std::cell::Cell;
 use std::marker::Model;
 use std::rc::RcStr;
 
@@ -24,6 +27,8 @@ pub struct Cursor<'t> {
     source: &'t RcStr,
     /// Where the last token that was taken ends.
     end: usize,
+    /// The kinds of tokens that readers looked for where the next token stands.
+    expected: Cell<Kinds>,
 }
 
 impl<'t> Model for Cursor<'t> {
@@ -49,7 +54,13 @@ impl<'t> Cursor<'t> {
             rest: tokens,
             source,
             end: 0,
+            expected: Cell::new(Kinds::NONE),
         }
+    }
+
+    /// Notes that a token of these kinds may stand next.
+    pub(crate) fn note(&self, kinds: Kinds) {
+        self.expected.set(self.expected.get().with(kinds));
     }
 
     /// The next token.
@@ -80,8 +91,19 @@ impl<'t> Cursor<'t> {
         self.span().start
     }
 
-    /// That the next token can't stand there.
+    /// That the next token can't stand there. Behind a name a `::` may stand, so the fault is then what
+    /// follows it.
     pub fn unexpected(&self) -> Unexpected {
+        let expected = self.expected.get();
+        if self.is_separator() && expected.meets(Kinds::COLON_COLON) {
+            self.behind().stopped(Kinds::WORDS)
+        } else {
+            self.stopped(expected)
+        }
+    }
+
+    /// That the next token isn't of the kinds that are expected.
+    pub(crate) fn stopped(&self, expected: Kinds) -> Unexpected {
         let met = if self.rest.is_empty() {
             Met::End
         } else {
@@ -90,7 +112,12 @@ impl<'t> Cursor<'t> {
         Unexpected {
             met,
             span: self.span(),
+            expected,
         }
+    }
+
+    fn is_separator(&self) -> bool {
+        matches!(self.kind(), Some(TokenKind::Mark(Mark::ColonColon)))
     }
 
     /// Whether a token is left.
@@ -131,6 +158,7 @@ impl<'t> Cursor<'t> {
         if !self.rest.is_empty() {
             self.end = self.rest[0].span.end;
             self.rest = &self.rest[1..];
+            self.expected = Cell::new(Kinds::NONE);
         }
     }
 
@@ -149,6 +177,7 @@ impl<'t> Cursor<'t> {
     fn begins(&self, mark: Mark) -> bool
         ensures { result ≡ begins (mark_view mark) self.now }
     {
+        self.note(kind_of(mark));
         matches!(self.kind(), Some(TokenKind::Mark(next)) if next == mark)
     }
 
@@ -156,6 +185,7 @@ impl<'t> Cursor<'t> {
     pub fn begins_word(&self) -> bool
         ensures { result ≡ begins_cond self.now }
     {
+        self.note(Kinds::WORDS);
         matches!(self.kind(), Some(TokenKind::Word(_)))
     }
 
@@ -163,6 +193,7 @@ impl<'t> Cursor<'t> {
     pub fn begins_annotation(&self) -> bool
         ensures { result ≡ begins_annotation self.now }
     {
+        self.note(Kinds::AT);
         matches!(self.kind(), Some(TokenKind::Mark(Mark::At)))
     }
 
@@ -170,6 +201,7 @@ impl<'t> Cursor<'t> {
     pub(crate) fn begins_access(&self) -> bool
         ensures { result ≡ begins_access self.now }
     {
+        self.note(Kinds::ACCESSES);
         matches!(
             self.kind(),
             Some(TokenKind::Mark(Mark::Dot | Mark::LeftParen | Mark::LeftBracket))
@@ -180,6 +212,7 @@ impl<'t> Cursor<'t> {
     pub(crate) fn begins_literal(&self) -> bool
         ensures { result ≡ begins_literal self.now }
     {
+        self.note(Kinds::LITERALS);
         matches!(
             self.kind(),
             Some(
@@ -194,6 +227,7 @@ impl<'t> Cursor<'t> {
     pub(crate) fn begins_name(&self) -> bool
         ensures { result ≡ begins_name self.now }
     {
+        self.note(Kinds::NAMES);
         match self.kind() {
             Some(TokenKind::Word(Word::If | Word::True | Word::False)) => false,
             Some(TokenKind::Word(_)) => true,
@@ -209,6 +243,7 @@ impl<'t> Cursor<'t> {
             rest: self.rest,
             source: self.source,
             end: self.end,
+            expected: Cell::new(Kinds::NONE),
         };
         behind.skip();
         behind
@@ -240,6 +275,7 @@ impl<'t> Cursor<'t> {
     pub fn eat_if(&mut self) -> bool
         ensures { Eats result self.new (eat_if self.old) self.old }
     {
+        self.note(Kinds::IF);
         let found = matches!(self.kind(), Some(TokenKind::Word(Word::If)));
         if found {
             self.skip();
@@ -251,6 +287,7 @@ impl<'t> Cursor<'t> {
     pub fn expect_then(&mut self) -> Result<(), ReadError>
         ensures { Leaves result self.new (needed (eat_then self.old)) }
     {
+        self.note(Kinds::THEN);
         let Some(TokenKind::Word(Word::Then)) = self.kind() else {
             return Err(ReadError::Syntax(self.unexpected()));
         };
@@ -262,6 +299,7 @@ impl<'t> Cursor<'t> {
     pub fn expect_else(&mut self) -> Result<(), ReadError>
         ensures { Leaves result self.new (needed (eat_else self.old)) }
     {
+        self.note(Kinds::ELSE);
         let Some(TokenKind::Word(Word::Else)) = self.kind() else {
             return Err(ReadError::Syntax(self.unexpected()));
         };
@@ -273,6 +311,7 @@ impl<'t> Cursor<'t> {
     pub fn eat_in(&mut self) -> bool
         ensures { Eats result self.new (eat_in self.old) self.old }
     {
+        self.note(Kinds::IN);
         let found = matches!(self.kind(), Some(TokenKind::Word(Word::In)));
         if found {
             self.skip();
@@ -284,6 +323,7 @@ impl<'t> Cursor<'t> {
     pub fn eat_is(&mut self) -> bool
         ensures { Eats result self.new (eat_is self.old) self.old }
     {
+        self.note(Kinds::IS);
         let found = matches!(self.kind(), Some(TokenKind::Word(Word::Is)));
         if found {
             self.skip();
@@ -295,6 +335,7 @@ impl<'t> Cursor<'t> {
     pub fn eat_has(&mut self) -> bool
         ensures { Eats result self.new (eat_has self.old) self.old }
     {
+        self.note(Kinds::HAS);
         let found = matches!(self.kind(), Some(TokenKind::Word(Word::Has)));
         if found {
             self.skip();
@@ -306,6 +347,7 @@ impl<'t> Cursor<'t> {
     pub fn eat_like(&mut self) -> bool
         ensures { Eats result self.new (eat_like self.old) self.old }
     {
+        self.note(Kinds::LIKE);
         let found = matches!(self.kind(), Some(TokenKind::Word(Word::Like)));
         if found {
             self.skip();
@@ -318,6 +360,7 @@ impl<'t> Cursor<'t> {
         ensures gives { Gives word_view result self.new (needed (word_read self.old)) }
         ensures spelled { IfOk result IsSpelledWord }
     {
+        self.note(Kinds::WORDS);
         let Some(TokenKind::Word(word)) = self.kind() else {
             return Err(ReadError::Syntax(self.unexpected()));
         };
@@ -329,6 +372,7 @@ impl<'t> Cursor<'t> {
     pub fn text(&mut self) -> Result<&'t str, ReadError>
         ensures { Gives (λ text. chars text.now) result self.new (needed (text_read self.old)) }
     {
+        self.note(Kinds::STRINGLIT);
         let Some(TokenKind::Text(raw)) = self.kind() else {
             return Err(ReadError::Syntax(self.unexpected()));
         };

@@ -2,6 +2,7 @@
 ghost use Rattle.std.specs.Prelude.{◌≡◌};
 
 use cedar_cst::TokenError;
+use cedar_expected::Kinds;
 use cedar_names::places::Span;
 use std::alloc::{AllocError, AllocFailed};
 
@@ -22,6 +23,8 @@ pub struct Unexpected {
     pub met: Met,
     /// The token; an empty range where there is none.
     pub span: Span,
+    /// The kinds of tokens that may stand there; none where no token begins, or a number is too large.
+    pub expected: Kinds,
 }
 
 /// Why nothing is read.
@@ -68,6 +71,7 @@ impl From<TokenError> for ReadError {
                     start: place,
                     end: place,
                 },
+                expected: Kinds::NONE,
             }),
             TokenError::Memory => ReadError::Memory,
         }

@@ -14,6 +14,7 @@ ghost use Rattle.cedar_loose_expressions.specs.Steps.{slot_read};
 use crate::cursor::Cursor;
 use crate::error::ReadError;
 use cedar_cst::{TokenKind, Word};
+use cedar_expected::Kinds;
 use cedar_nodes::cst::{Ident, Literal, Slot, Str};
 use cedar_nodes::node::Node;
 use std::alloc::{AllocError, Global};
@@ -112,12 +113,13 @@ impl<'t> Cursor<'t> {
         ensures { Gives shown_literal result self.new (literal_of self.old) }
     {
         let start = self.start();
+        self.note(Kinds::LITERALS);
         let literal = match self.kind() {
             Some(TokenKind::Word(Word::True)) => Literal::True,
             Some(TokenKind::Word(Word::False)) => Literal::False,
             Some(TokenKind::Number(digits)) => match digits.parse::<u64>() {
                 Ok(value) => Literal::Num(value),
-                Err(_) => return Err(ReadError::Syntax(self.unexpected())),
+                Err(_) => return Err(ReadError::Syntax(self.stopped(Kinds::NONE))),
             },
             Some(TokenKind::Text(_)) => {
                 let string = self.string(alloc)?;
@@ -134,6 +136,7 @@ impl<'t> Cursor<'t> {
         ensures { Gives shown_slot result self.new (slot_read self.old) }
     {
         let start = self.start();
+        self.note(Kinds::SLOTS);
         let Some(TokenKind::Slot(word)) = self.kind() else {
             return Err(ReadError::Syntax(self.unexpected()));
         };

@@ -4,6 +4,7 @@
 pub mod cursor;
 pub mod error;
 mod expressions;
+mod kinds;
 mod leaves;
 mod names;
 mod nodes;

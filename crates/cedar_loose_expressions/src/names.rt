@@ -11,6 +11,7 @@ ghost use Rattle.cedar_loose_expressions.specs.Gives.{Gives};
 use crate::cursor::Cursor;
 use crate::error::ReadError;
 use cedar_cst::Mark;
+use cedar_expected::Kinds;
 use cedar_nodes::cst::{Name, Ref, RefInit};
 use cedar_nodes::node::Node;
 use cedar_syntax::cst::Primary;
@@ -70,6 +71,8 @@ impl<'t> Cursor<'t> {
     ) -> Result<Node<Option<Ref>>, ReadError>
         ensures { Gives shown_ref result self.new (ref_rest (shown_name path) self.old) }
     {
+        // A word that stood here would have been a part of the name.
+        self.note(Kinds::WORDS);
         if self.eat(Mark::LeftBrace) {
             let rinits = self.ref_inits(alloc)?;
             Ok(self.node(start, Ref::Ref { path, rinits })?)

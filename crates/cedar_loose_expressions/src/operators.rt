@@ -10,6 +10,7 @@ ghost use Rattle.cedar_loose_expressions.specs.Gives.{TakesOperator};
 
 use crate::cursor::Cursor;
 use cedar_cst::{Mark, TokenKind, Word};
+use cedar_expected::Kinds;
 use cedar_nodes::cst::{AddOp, MultOp, NegOp, RelOp};
 
 impl<'t> Cursor<'t> {
@@ -35,6 +36,7 @@ impl<'t> Cursor<'t> {
     pub fn rel_operator(&mut self) -> Option<RelOp>
         ensures { TakesOperator view_rel_op result self.new (operator_at rel_op self.old) self.old }
     {
+        self.note(Kinds::REL_OPERATORS);
         let operator = match self.kind()? {
             TokenKind::Mark(Mark::Less) => RelOp::Less,
             TokenKind::Mark(Mark::LessEqual) => RelOp::LessEq,
@@ -54,6 +56,7 @@ impl<'t> Cursor<'t> {
     pub(crate) fn add_operator(&mut self) -> Option<AddOp>
         ensures { TakesOperator view_add_op result self.new (operator_at add_op self.old) self.old }
     {
+        self.note(Kinds::ADD_OPERATORS);
         let operator = match self.kind()? {
             TokenKind::Mark(Mark::Plus) => AddOp::Plus,
             TokenKind::Mark(Mark::Minus) => AddOp::Minus,
@@ -67,6 +70,7 @@ impl<'t> Cursor<'t> {
     pub(crate) fn mult_operator(&mut self) -> Option<MultOp>
         ensures { TakesOperator view_mult_op result self.new (operator_at mult_op self.old) self.old }
     {
+        self.note(Kinds::MULT_OPERATORS);
         let operator = match self.kind()? {
             TokenKind::Mark(Mark::Star) => MultOp::Times,
             TokenKind::Mark(Mark::Slash) => MultOp::Divide,

@@ -1,6 +1,7 @@
 -- What errors of the parser say.
 
 use Rattle.cedar_names.specs.declared.places.Span.{Span}
+use Rattle.cedar_expected.specs.declared.kinds.Kinds.{Kinds}
 use Rattle.cedar_parse_errors.specs.declared.errors.ToCSTError.{ToCSTError}
 use Rattle.cedar_parse_errors.specs.declared.errors.ParseError.{ParseError}
 use Rattle.cedar_parse_errors.specs.declared.errors.ParseError.TheVariants as error
@@ -19,3 +20,7 @@ cause_of error.Memory = out_of_memory
 -- where an error stands
 abbrev pub span_of : ToCSTError → Span
 span_of e = e.loc.span
+
+-- the kinds of tokens that may stand there
+abbrev pub expected_of : ToCSTError → Kinds
+expected_of e = e.expected

@@ -1,10 +1,13 @@
 // Why a text has no tree.
-ghost use Rattle.std.specs.Prelude.{◌≡◌, [], Some};
-ghost use Rattle.cedar_parse_errors.specs.Errors.{span_of};
+ghost use Rattle.std.specs.Prelude.{◌≡◌, [], Some, IfOk, is_some};
+ghost use Rattle.cedar_expected.specs.Kinds.{names_of};
+ghost use Rattle.cedar_expected.specs.Shown.{shows};
+ghost use Rattle.cedar_parse_errors.specs.Errors.{span_of, expected_of};
 
+use cedar_expected::{ExpectedTokenConfig, Kinds, expected_to_string};
 use cedar_names::places::{Loc, Span};
 use cedar_trees::unknowns::NonEmpty;
-use std::alloc::Global;
+use std::alloc::{AllocError, Global};
 use std::error::Error;
 use std::fmt;
 use thiserror::Error;
@@ -20,41 +23,49 @@ enum Cause {
     UnrecognizedEof,
 }
 
-/// The text is outside the loose grammar. `==` compares places too.
+/// The text is outside the loose grammar. `==` compares places and expected kinds too.
 #[derive(Debug, PartialEq, Eq, Drop)]
 pub struct ToCSTError {
     cause: Cause,
     loc: Loc,
+    /// The kinds of tokens that may stand at the place.
+    expected: Kinds,
 }
 
 impl ToCSTError {
     /// No token stands at this place.
     pub fn invalid_token(loc: Loc) -> ToCSTError
-        ensures { span_of result ≡ loc.span }
+        ensures place { span_of result ≡ loc.span }
+        ensures expected { expected_of result ≡ Kinds.NONE }
     {
         ToCSTError {
             cause: Cause::InvalidToken,
             loc,
+            expected: Kinds::NONE,
         }
     }
 
-    /// The token at this place can't stand there.
-    pub fn unrecognized_token(loc: Loc) -> ToCSTError
-        ensures { span_of result ≡ loc.span }
+    /// The token at this place can't stand there, but one of these kinds may.
+    pub fn unrecognized_token(loc: Loc, expected: Kinds) -> ToCSTError
+        ensures place { span_of result ≡ loc.span }
+        ensures expected { expected_of result ≡ expected }
     {
         ToCSTError {
             cause: Cause::UnrecognizedToken,
             loc,
+            expected,
         }
     }
 
-    /// The text can't end at this place.
-    pub fn unrecognized_eof(loc: Loc) -> ToCSTError
-        ensures { span_of result ≡ loc.span }
+    /// The text can't end at this place, but a token of one of these kinds may follow.
+    pub fn unrecognized_eof(loc: Loc, expected: Kinds) -> ToCSTError
+        ensures place { span_of result ≡ loc.span }
+        ensures expected { expected_of result ≡ expected }
     {
         ToCSTError {
             cause: Cause::UnrecognizedEof,
             loc,
+            expected,
         }
     }
 
@@ -64,6 +75,27 @@ impl ToCSTError {
         ensures { result ≡ Some (span_of self.now) }
     {
         Some(self.loc.span())
+    }
+
+    /// The kinds of tokens that may stand where the text is outside the grammar, as the reader looked for
+    /// them; none where no token begins, or a number is too large.
+    pub fn expected(&self) -> Kinds
+        ensures { result ≡ expected_of self.now }
+    {
+        self.expected
+    }
+
+    /// The expected kinds as a text, `expected a, b, or c`; none where the config shows none of them.
+    /// Refused for memory alone.
+    pub fn label(
+        &self,
+        alloc: Global,
+        config: &ExpectedTokenConfig,
+    ) -> Result<Option<String>, AllocError>
+        ensures { IfOk result (λ told. is_some told ≡ shows config.now (names_of (expected_of self.now))) }
+    {
+        let names = self.expected.names(alloc)?;
+        expected_to_string(alloc, &names, config)
     }
 }
 

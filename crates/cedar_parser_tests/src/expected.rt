@@ -1,10 +1,10 @@
-use cedar_expected::{Kinds, POLICY_TOKENS, expected_to_string};
+use cedar_expected::{Kinds, POLICY_TOKEN_CONFIG, expected_to_string};
 use std::alloc::Global;
 use std::test::Fail;
 
 /// What is said where these kinds are expected.
 fn told(alloc: Global, kinds: Kinds) -> Result<String, Fail> {
-    match expected_to_string(alloc, &kinds.names(alloc)?, &POLICY_TOKENS)? {
+    match expected_to_string(alloc, &kinds.names(alloc)?, &POLICY_TOKEN_CONFIG)? {
         Some(told) => Ok(told),
         None => Ok(String::from_str(alloc, "nothing")?),
     }

@@ -1,4 +1,5 @@
 // Texts that are read, printed again, and texts that are refused with a place.
+use cedar_expected::POLICY_TOKEN_CONFIG;
 use cedar_loose::{
     parse_expr, parse_ident, parse_name, parse_policies, parse_policy, parse_primary, parse_ref,
 };
@@ -157,10 +158,130 @@ fn parts_are_read(rt: HostRuntime) -> Result<(), Fail> {
     let name = shown(alloc, parse_name(alloc, "a::if::principal"))?;
     assert_eq!(rt; name.as_str(), "a::if::principal");
     let name = shown(alloc, parse_name(alloc, "a::"))?;
-    assert_eq!(rt; name.as_str(), "1..3: unexpected token `::`");
+    assert_eq!(rt; name.as_str(), "3..3: unexpected end of input");
     let word = shown(alloc, parse_ident(alloc, "__cedar"))?;
     assert_eq!(rt; word.as_str(), "__cedar");
     let word = shown(alloc, parse_ident(alloc, "1"))?;
     assert_eq!(rt; word.as_str(), "0..1: unexpected token `1`");
+    Ok(())
+}
+
+/// What was expected where the text is outside the grammar.
+fn expected(alloc: Global, errors: &ParseErrors) -> Result<String, Fail> {
+    let label = match &errors.0.head {
+        ParseError::ToCST(error) => error.label(alloc, &POLICY_TOKEN_CONFIG)?,
+        _ => None,
+    };
+    match label {
+        Some(label) => Ok(label),
+        None => Ok(String::from_str(alloc, "nothing")?),
+    }
+}
+
+/// The place of the fault, and what was expected there.
+fn missed<T: Drop>(
+    alloc: Global,
+    read: Result<Node<Option<T>>, ParseErrors>,
+) -> Result<String, Fail> {
+    match read {
+        Ok(_) => Ok(String::from_str(alloc, "read")?),
+        Err(errors) => {
+            let expected = expected(alloc, &errors)?;
+            Ok(format!(in alloc; "{}, {expected}", refused(alloc, &errors)?)?)
+        }
+    }
+}
+
+const BEHIND_NUMBER: &str =
+    "expected `!=`, `&&`, `(`, `*`, `+`, `-`, `.`, `<`, `<=`, `==`, `>`, `>=`, `[`, `||`, `has`, `in`, `is`, or `like`";
+
+#[test]
+fn expected_tokens_of_expressions(rt: HostRuntime) -> Result<(), Fail> {
+    let alloc = rt.alloc();
+    let table = [
+        (
+            "1 +",
+            "3..3: unexpected end of input, expected `!`, `(`, `-`, `[`, `{`, `false`, identifier, number, `?principal`, `?resource`, string literal, or `true`",
+        ),
+        (
+            "",
+            "0..0: unexpected end of input, expected `!`, `(`, `-`, `[`, `{`, `false`, identifier, `if`, number, `?principal`, `?resource`, string literal, or `true`",
+        ),
+        (
+            "!!-a",
+            "2..3: unexpected token `-`, expected `!`, `(`, `[`, `{`, `false`, identifier, number, `?principal`, `?resource`, string literal, or `true`",
+        ),
+        (
+            "f(a ]",
+            "4..5: unexpected token `]`, expected `!=`, `&&`, `(`, `)`, `*`, `+`, `,`, `-`, `.`, `::`, `<`, `<=`, `==`, `>`, `>=`, `[`, `||`, `has`, `in`, `is`, or `like`",
+        ),
+        (
+            "a has b has c",
+            "8..11: unexpected token `has`, expected `&&`, `(`, `*`, `+`, `-`, `.`, `::`, `[`, or `||`",
+        ),
+        ("a.1", "2..3: unexpected token `1`, expected identifier"),
+        (
+            "A::1",
+            "3..4: unexpected token `1`, expected `{`, identifier, or string literal",
+        ),
+        (
+            "18446744073709551616",
+            "0..20: unexpected token `18446744073709551616`, nothing",
+        ),
+        ("a #", "2..2: invalid token, nothing"),
+    ];
+    for (text, wanted) in table {
+        let found = missed(alloc, parse_expr(alloc, text, 2))?;
+        assert_eq!(rt; found.as_str(), wanted, "{text:?}");
+    }
+    let number = missed(alloc, parse_expr(alloc, "1 2", 1))?;
+    let wanted = format!(in alloc; "2..3: unexpected token `2`, {BEHIND_NUMBER}")?;
+    assert_eq!(rt; number.as_str(), wanted.as_str());
+    Ok(())
+}
+
+#[test]
+fn expected_tokens_of_policies(rt: HostRuntime) -> Result<(), Fail> {
+    let alloc = rt.alloc();
+    let table = [
+        (
+            "1",
+            "0..1: unexpected token `1`, expected `@` or identifier",
+        ),
+        ("permit", "6..6: unexpected end of input, expected `(`"),
+        (
+            "permit(principal",
+            "16..16: unexpected end of input, expected `!=`, `)`, `,`, `:`, `<`, `<=`, `==`, `>`, `>=`, `in`, or `is`",
+        ),
+        (
+            "permit(principal: A::\"b\");",
+            "21..24: unexpected token `\"b\"`, expected identifier",
+        ),
+        (
+            "permit()",
+            "8..8: unexpected end of input, expected `;` or identifier",
+        ),
+        (
+            "permit() when 1;",
+            "14..15: unexpected token `1`, expected `{`",
+        ),
+        (
+            "@a(b) permit();",
+            "3..4: unexpected token `b`, expected string literal",
+        ),
+        (
+            "permit(); }",
+            "10..11: unexpected token `}`, expected `@` or identifier",
+        ),
+    ];
+    for (text, wanted) in table {
+        let found = missed(alloc, parse_policies(alloc, text, 1))?;
+        assert_eq!(rt; found.as_str(), wanted, "{text:?}");
+    }
+    let name = missed(alloc, parse_name(alloc, "a::"))?;
+    assert_eq!(rt;
+        name.as_str(),
+        "3..3: unexpected end of input, expected identifier"
+    );
     Ok(())
 }

@@ -5,17 +5,17 @@ pub use cedar_nodes::cst::{
 use cedar_nodes::node::Node;
 
 /// The policies of a text, in its order.
-#[derive(Debug, PartialEq, Eq, Drop)]
+#[derive(PartialEq, Eq, Drop)]
 pub struct Policies(pub Vec<Node<Option<Policy>>>);
 
 /// A policy.
-#[derive(Debug, PartialEq, Eq, Drop)]
+#[derive(PartialEq, Eq, Drop)]
 pub enum Policy {
     Policy(PolicyImpl),
 }
 
 /// The parts of a policy: `@key("value") effect(variables) conds;`
-#[derive(Debug, PartialEq, Eq, Drop)]
+#[derive(PartialEq, Eq, Drop)]
 pub struct PolicyImpl {
     /// The annotations, in the text's order.
     pub annotations: Vec<Node<Option<Annotation>>>,
@@ -28,7 +28,7 @@ pub struct PolicyImpl {
 }
 
 /// An annotation: `@key("value")` or `@key`.
-#[derive(Debug, PartialEq, Eq, Drop)]
+#[derive(PartialEq, Eq, Drop)]
 pub struct Annotation {
     /// The key, which may be any word.
     pub key: Node<Option<Ident>>,
@@ -37,7 +37,7 @@ pub struct Annotation {
 }
 
 /// A constraint of a policy's scope, as `principal is T in e`.
-#[derive(Debug, PartialEq, Eq, Drop)]
+#[derive(PartialEq, Eq, Drop)]
 pub struct VariableDef {
     /// `principal`, `action` or `resource` in a policy that means something.
     pub variable: Node<Option<Ident>>,
@@ -50,7 +50,7 @@ pub struct VariableDef {
 }
 
 /// A clause: `when { expr }` or `unless { expr }`.
-#[derive(Debug, PartialEq, Eq, Drop)]
+#[derive(PartialEq, Eq, Drop)]
 pub struct Cond {
     /// `when` or `unless` in a policy that means something.
     pub cond: Node<Option<Ident>>,
@@ -59,21 +59,21 @@ pub struct Cond {
 }
 
 /// An expression.
-#[derive(Debug, PartialEq, Eq, Drop)]
+#[derive(PartialEq, Eq, Drop)]
 #[cycle(expression)]
 pub enum Expr {
     Expr(ExprImpl),
 }
 
 /// What an expression consists of.
-#[derive(Debug, PartialEq, Eq, Drop)]
+#[derive(PartialEq, Eq, Drop)]
 #[cycle(expression)]
 pub struct ExprImpl {
     pub expr: Box<ExprData>,
 }
 
 /// The forms of an expression.
-#[derive(Debug, PartialEq, Eq, Drop)]
+#[derive(PartialEq, Eq, Drop)]
 #[cycle(expression)]
 pub enum ExprData {
     /// A chain of `||`, which may be one operand alone.
@@ -83,7 +83,7 @@ pub enum ExprData {
 }
 
 /// A chain of `||`.
-#[derive(Debug, PartialEq, Eq, Drop)]
+#[derive(PartialEq, Eq, Drop)]
 #[cycle(expression)]
 pub struct Or {
     /// The first operand.
@@ -93,7 +93,7 @@ pub struct Or {
 }
 
 /// A chain of `&&`.
-#[derive(Debug, PartialEq, Eq, Drop)]
+#[derive(PartialEq, Eq, Drop)]
 #[cycle(expression)]
 pub struct And {
     /// The first operand.
@@ -103,7 +103,7 @@ pub struct And {
 }
 
 /// A comparison, or another relation.
-#[derive(Debug, PartialEq, Eq, Drop)]
+#[derive(PartialEq, Eq, Drop)]
 #[cycle(expression)]
 pub enum Relation {
     /// A chain of comparisons, which may be one operand alone.
@@ -132,7 +132,7 @@ pub enum Relation {
 }
 
 /// A chain of `+` and `-`.
-#[derive(Debug, PartialEq, Eq, Drop)]
+#[derive(PartialEq, Eq, Drop)]
 #[cycle(expression)]
 pub struct Add {
     /// The first operand.
@@ -142,7 +142,7 @@ pub struct Add {
 }
 
 /// A chain of `*`, `/` and `%`.
-#[derive(Debug, PartialEq, Eq, Drop)]
+#[derive(PartialEq, Eq, Drop)]
 #[cycle(expression)]
 pub struct Mult {
     /// The first operand.
@@ -152,7 +152,7 @@ pub struct Mult {
 }
 
 /// An operand and the signs before it.
-#[derive(Debug, PartialEq, Eq, Drop)]
+#[derive(PartialEq, Eq, Drop)]
 #[cycle(expression)]
 pub struct Unary {
     pub op: Option<NegOp>,
@@ -160,7 +160,7 @@ pub struct Unary {
 }
 
 /// A primary and what is accessed of it: `item.a(b)["c"]`.
-#[derive(Debug, PartialEq, Eq, Drop)]
+#[derive(PartialEq, Eq, Drop)]
 #[cycle(expression)]
 pub struct Member {
     pub item: Node<Option<Primary>>,
@@ -169,7 +169,7 @@ pub struct Member {
 }
 
 /// One access.
-#[derive(Debug, PartialEq, Eq, Drop)]
+#[derive(PartialEq, Eq, Drop)]
 #[cycle(expression)]
 pub enum MemAccess {
     /// `.name`
@@ -181,7 +181,7 @@ pub enum MemAccess {
 }
 
 /// An operand without signs and accesses.
-#[derive(Debug, PartialEq, Eq, Drop)]
+#[derive(PartialEq, Eq, Drop)]
 #[cycle(expression)]
 pub enum Primary {
     /// A Boolean, a number or a string.
@@ -201,6 +201,6 @@ pub enum Primary {
 }
 
 /// An entry of a record: a key and its value.
-#[derive(Debug, PartialEq, Eq, Drop)]
+#[derive(PartialEq, Eq, Drop)]
 #[cycle(expression)]
 pub struct RecInit(pub Node<Option<Expr>>, pub Node<Option<Expr>>);
