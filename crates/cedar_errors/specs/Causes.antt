@@ -20,6 +20,7 @@ use Rattle.cedar_errors.specs.declared.operands.BinaryOpOverflowError.{BinaryOpO
 use Rattle.cedar_errors.specs.declared.operands.UnaryOpOverflowError.{UnaryOpOverflowError}
 use Rattle.cedar_errors.specs.declared.operands.IntegerOverflowError.{IntegerOverflowError}
 use Rattle.cedar_errors.specs.declared.operands.IntegerOverflowError.TheVariants as overflow
+use Rattle.cedar_errors.specs.declared.calls.WrongNumArgumentsError.{WrongNumArgumentsError}
 use Rattle.cedar_errors.specs.declared.calls.ExtensionFunctionExecutionError.{ExtensionFunctionExecutionError}
 use Rattle.cedar_errors.specs.declared.evaluation_error.EvaluationError.{EvaluationError}
 use Rattle.cedar_errors.specs.declared.evaluation_error.EvaluationError.TheVariants as error
@@ -48,6 +49,12 @@ name_sought e = e.name
 
 abbrev pub place_sought : FuncDoesNotExistError → Option Loc
 place_sought e = e.source_loc
+
+abbrev pub miscounted : WrongNumArgumentsError → Cause
+miscounted e = OtherCount e.function_name e.expected e.actual
+
+abbrev pub place_miscounted : WrongNumArgumentsError → Option Loc
+place_miscounted e = e.source_loc
 
 abbrev pub name_failed : ExtensionFunctionExecutionError → Name
 name_failed e = e.extension_name
@@ -86,7 +93,7 @@ cause_of (error.EntityAttrDoesNotExist e) = missing_of e.named e.entity.value (r
 cause_of (error.RecordAttrDoesNotExist e) = NoKey (rc_str_bytes e.attr)
 cause_of (error.FailedExtensionFunctionLookup e) = lookup_cause e
 cause_of (error.TypeError e) = OtherType (types_of e.expected) (value_type_of e.actual)
-cause_of (error.WrongNumArguments e) = OtherCount e.function_name e.expected e.actual
+cause_of (error.WrongNumArguments e) = miscounted e
 cause_of (error.IntegerOverflow e) = overflow_cause e
 cause_of (error.UnlinkedSlot e) = Unlinked e.slot
 cause_of (error.FailedExtensionFunctionExecution e) = NoAnswer e.extension_name (string_bytes e.msg)
@@ -109,7 +116,7 @@ place_of (error.EntityAttrDoesNotExist e) = e.source_loc
 place_of (error.RecordAttrDoesNotExist e) = e.source_loc
 place_of (error.FailedExtensionFunctionLookup e) = lookup_place e
 place_of (error.TypeError e) = e.source_loc
-place_of (error.WrongNumArguments e) = e.source_loc
+place_of (error.WrongNumArguments e) = place_miscounted e
 place_of (error.IntegerOverflow e) = overflow_place e
 place_of (error.UnlinkedSlot e) = e.source_loc
 place_of (error.FailedExtensionFunctionExecution e) = e.source_loc

@@ -3,7 +3,8 @@
 ghost use Rattle.std.specs.Prelude.{◌≡◌, IfOk};
 ghost use Rattle.std.specs.String.{string_bytes};
 ghost use Rattle.cedar_names.specs.Names.{name_text};
-ghost use Rattle.cedar_errors.specs.Causes.{name_failed};
+ghost use Rattle.cedar_errors.specs.Causes as causes;
+ghost use Rattle.cedar_errors.specs.Causes.{miscounted, place_miscounted, name_failed};
 
 use cedar_names::names::Name;
 use cedar_names::places::Loc;
@@ -18,6 +19,27 @@ pub struct WrongNumArgumentsError {
     pub(crate) expected: usize,
     pub(crate) actual: usize,
     pub(crate) source_loc: Option<Loc>,
+}
+
+impl WrongNumArgumentsError {
+    /// The error of a function that takes `expected` arguments and was given `actual`, called at
+    /// `source_loc`.
+    pub fn new(
+        function_name: Name,
+        expected: usize,
+        actual: usize,
+        source_loc: Option<Loc>,
+    ) -> WrongNumArgumentsError
+        ensures cause { miscounted result ≡ causes.OtherCount function_name expected actual }
+        ensures place { place_miscounted result ≡ source_loc }
+    {
+        WrongNumArgumentsError {
+            function_name,
+            expected,
+            actual,
+            source_loc,
+        }
+    }
 }
 
 /// A function was called and said that it has no answer.

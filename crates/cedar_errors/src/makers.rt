@@ -134,12 +134,8 @@ impl EvaluationError {
         ensures cause { cause_of result ≡ causes.OtherCount function_name expected actual }
         ensures place { place_of result ≡ source_loc }
     {
-        EvaluationError::from(WrongNumArgumentsError {
-            function_name,
-            expected,
-            actual,
-            source_loc,
-        })
+        let error = WrongNumArgumentsError::new(function_name, expected, actual, source_loc);
+        EvaluationError::from(error)
     }
 
     /// No entity is linked to the slot.

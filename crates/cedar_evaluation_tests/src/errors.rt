@@ -191,6 +191,12 @@ fn what_is_left_is_told(rt: HostRuntime) -> Result<(), Fail> {
 }
 
 #[test]
+fn want_of_memory_is_no_failed_lookup(rt: HostRuntime) {
+    let error = ExtensionFunctionLookupError::from(AllocError);
+    assert!(rt; matches!(EvaluationError::from(error), EvaluationError::Memory));
+}
+
+#[test]
 fn places_count(rt: HostRuntime) -> Result<(), Fail> {
     let alloc = rt.alloc();
     let limit = EvaluationError::recursion_limit(place(alloc)?);

@@ -8,9 +8,13 @@ use cedar_extensions::extension::Extension;
 use cedar_extensions::extensions::Extensions;
 use cedar_extensions::functions::{CallStyle, ExtensionFunction, ExtensionOutputValue, SchemaType};
 use cedar_literals::literals::Literal;
+use cedar_literals::types::Type;
 use cedar_names::errors::ParseNameError;
 use cedar_names::names::Name;
 use cedar_names::reading::FromNormalizedStr;
+use cedar_shapes::readers::ExprReaders;
+use cedar_shapes::types::FunctionTypes;
+use cedar_trees::expr::Expr;
 use cedar_values::values::{Value, ValueKind};
 use std::alloc::{AllocError, Global};
 use std::rc::RcStr;
@@ -130,20 +134,51 @@ fn functions_say_what_they_take(rt: HostRuntime) -> Result<(), Fail> {
     assert_eq!(rt; function.style(), CallStyle::FunctionStyle);
     assert!(rt; function.return_type().is_none());
     assert_eq!(rt; function.arg_types().len(), 1);
+    assert_eq!(rt; function.arity(), Some(1));
     assert!(rt; !function.is_variadic());
     assert!(rt; !function.is_single_arg_constructor());
     Ok(())
 }
 
+// Whether the table knows the type of what calls of this function give.
+fn is_typed(alloc: Global, text: &str) -> Result<bool, Fail> {
+    let table = Extensions::all_available(alloc)?;
+    let name = name(alloc, text)?;
+    Ok(FunctionTypes::return_type(&table, &name).is_some())
+}
+
+#[test]
+fn no_function_has_a_type_yet(rt: HostRuntime) -> Result<(), Fail> {
+    let alloc = rt.alloc();
+    assert!(rt; !is_typed(alloc, "unknown")?);
+    assert!(rt; !is_typed(alloc, "f")?);
+    Ok(())
+}
+
+// Whether an expression shows a long, by what the table knows of functions.
+fn is_long(alloc: Global, expr: Expr) -> Result<bool, Fail> {
+    let table = Extensions::all_available(alloc)?;
+    Ok(expr.try_type_of(alloc, &table)? == Some(Type::Long))
+}
+
+#[test]
+fn tables_are_asked_for_types(rt: HostRuntime) -> Result<(), Fail> {
+    let alloc = rt.alloc();
+    let call = Expr::call_extension_fn(alloc, name(alloc, "unknown")?, Vec::new(alloc))?;
+    assert!(rt; is_long(alloc, Expr::val(Literal::Long(3)))?);
+    assert!(rt; !is_long(alloc, call)?);
+    Ok(())
+}
+
 fn defined_twice(alloc: Global) -> Result<ExtensionInitializationError, Fail> {
     let name = name(alloc, "f")?;
-    Ok(ExtensionInitializationError::from(FuncMultiplyDefinedError { name }))
+    Ok(ExtensionInitializationError::from(FuncMultiplyDefinedError::new(name)))
 }
 
 fn made_twice(alloc: Global) -> Result<ExtensionInitializationError, Fail> {
     let name = name(alloc, "ip")?;
     let return_type = SchemaType::Extension { name };
-    Ok(ExtensionInitializationError::from(MultipleConstructorsSameSignatureError { return_type }))
+    Ok(ExtensionInitializationError::from(MultipleConstructorsSameSignatureError::new(return_type)))
 }
 
 #[test]

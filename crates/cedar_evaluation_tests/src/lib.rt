@@ -1,4 +1,4 @@
-//! Tests of restricted expressions, errors, extensions and restricted evaluation.
+//! Tests of restricted expressions, errors, extensions, restricted evaluation and validation.
 #![tactic(auto)]
 
 #[cfg(test)]
@@ -11,3 +11,5 @@ mod extensions;
 mod restricted;
 #[cfg(test)]
 mod restricted_evaluation;
+#[cfg(test)]
+mod validation;

@@ -1,6 +1,17 @@
-//! Extension functions that expressions may call.
+//! Expressions of Cedar, and all that stands on them alone: names, values, the trees and what builds
+//! them, restricted expressions, extension functions, and why an evaluation has no value. Each item has
+//! the name that it has in `cedar-policy-core`, in the module of that name.
 #![tactic(auto)]
 
-mod extensions;
+pub mod ast;
+pub mod entities;
+pub mod evaluator;
+pub mod expr_builder;
+pub mod extensions;
+pub mod laws;
+pub mod parser;
+pub mod validator;
 
-pub use extensions::Extensions;
+pub use cedar_extensions::extensions::Extensions;
+pub use cedar_names::conversions::FromIn;
+pub use cedar_names::reading::FromNormalizedStr;

@@ -4,3 +4,4 @@ pub mod Defining
 pub mod Tables
 pub mod Lookups
 pub mod Collecting
+pub mod Refused

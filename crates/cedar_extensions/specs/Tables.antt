@@ -1,10 +1,11 @@
 -- What extensions and tables of them hold, and what walks over them still give.
-use Rattle.std.specs.Prelude.{List, ◌++◌, map, Bool, Option, option_map}
+use Rattle.std.specs.Prelude.{List, ◌++◌, map, Bool, Option, Some, None, option_map}
 use Rattle.std.specs.List.{list_any, filter_map, flat_map}
 use Rattle.std.specs.Slice.Iter.{iter_rest}
 use Rattle.cedar_language.specs.Uid.{Name}
+use Rattle.cedar_language.specs.Tree.{ValueType}
 use Rattle.cedar_language.specs.Facts as facts
-use Rattle.cedar_extensions.specs.Functions.{is_unknown, meaning_of, extension_type_of}
+use Rattle.cedar_extensions.specs.Functions.{is_unknown, meaning_of, returned_type, value_type_in, extension_type_of}
 use Rattle.cedar_extensions.specs.Holding.{extension_name, extension_functions, ordered_types, found_in}
 use Rattle.cedar_extensions.specs.declared.functions.ExtensionFunction.{ExtensionFunction}
 use Rattle.cedar_extensions.specs.declared.extension.Extension.{Extension}
@@ -41,3 +42,12 @@ holds_unknown table = list_any is_unknown (functions_in table)
 -- what the name calls, as the definitions have functions
 abbrev pub function_called : Extensions → Name → Option facts.Function
 function_called table n = option_map meaning_of (found_in (functions_in table) n)
+
+-- the type of the function's answers, where there is one that states it
+abbrev pub type_stated : Option ExtensionFunction → Option ValueType
+type_stated None = None
+type_stated (Some f) = value_type_in (returned_type f)
+
+-- the type of the answers of the function of this name
+abbrev pub answer_type : Extensions → Name → Option ValueType
+answer_type table n = type_stated (found_in (functions_in table) n)

@@ -1,4 +1,7 @@
 // Why no table is made.
+ghost use Rattle.std.specs.Prelude.{◌≡◌};
+ghost use Rattle.cedar_literals.specs.Types.{value_type_of};
+ghost use Rattle.cedar_extensions.specs.Refused.{name_repeated, type_repeated};
 
 use crate::functions::SchemaType;
 use cedar_names::names::Name;
@@ -9,14 +12,32 @@ use thiserror::Error;
 #[derive(Debug, PartialEq, Eq, Drop, Error)]
 #[error("extension function `{name}` is defined multiple times")]
 pub struct FuncMultiplyDefinedError {
-    pub(crate) name: Name,
+    name: Name,
+}
+
+impl FuncMultiplyDefinedError {
+    /// The error of the name that two functions have.
+    pub fn new(name: Name) -> FuncMultiplyDefinedError
+        ensures { name_repeated result ≡ name }
+    {
+        FuncMultiplyDefinedError { name }
+    }
 }
 
 /// Two functions of a table make values of one extension type from one text.
 #[derive(Debug, PartialEq, Eq, Drop, Error)]
 #[error("multiple extension constructors for the same extension type {return_type}")]
 pub struct MultipleConstructorsSameSignatureError {
-    pub(crate) return_type: SchemaType,
+    return_type: SchemaType,
+}
+
+impl MultipleConstructorsSameSignatureError {
+    /// The error of the type of which two functions make values.
+    pub fn new(return_type: SchemaType) -> MultipleConstructorsSameSignatureError
+        ensures { type_repeated result ≡ value_type_of return_type }
+    {
+        MultipleConstructorsSameSignatureError { return_type }
+    }
 }
 
 /// Why no table is made.
@@ -34,7 +55,6 @@ pub enum ExtensionInitializationError {
 }
 
 impl From<FuncMultiplyDefinedError> for ExtensionInitializationError {
-    ghost use Rattle.std.specs.Prelude.{◌≡◌};
     ghost use Rattle.cedar_extensions.specs.declared.errors.ExtensionInitializationError.TheVariants.{FuncMultiplyDefined};
 
     ghost from_gives = { λ error made. made ≡ FuncMultiplyDefined error };
@@ -45,7 +65,6 @@ impl From<FuncMultiplyDefinedError> for ExtensionInitializationError {
 }
 
 impl From<MultipleConstructorsSameSignatureError> for ExtensionInitializationError {
-    ghost use Rattle.std.specs.Prelude.{◌≡◌};
     ghost use Rattle.cedar_extensions.specs.declared.errors.ExtensionInitializationError.TheVariants.{MultipleConstructorsSameSignature};
 
     ghost from_gives = { λ error made. made ≡ MultipleConstructorsSameSignature error };
@@ -56,7 +75,6 @@ impl From<MultipleConstructorsSameSignatureError> for ExtensionInitializationErr
 }
 
 impl From<AllocError> for ExtensionInitializationError {
-    ghost use Rattle.std.specs.Prelude.{◌≡◌};
     ghost use Rattle.cedar_extensions.specs.declared.errors.ExtensionInitializationError.TheVariants.{Memory};
 
     ghost from_gives = { λ error made. made ≡ Memory error };

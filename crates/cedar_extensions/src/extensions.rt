@@ -8,7 +8,9 @@ use crate::extension::{Extension, find_among};
 use crate::functions::ExtensionFunction;
 use crate::iteration::{ExtNames, ExtTypes, Funcs, OrderedTypes};
 use cedar_errors::lookups::{ExtensionFunctionLookupError, FuncDoesNotExistError};
+use cedar_literals::types::Type;
 use cedar_names::names::Name;
+use cedar_shapes::types::FunctionTypes;
 use std::alloc::{AllocError, Global};
 use std::marker::PhantomData;
 
@@ -50,6 +52,7 @@ impl<'a> Extensions<'a> {
     pub fn none(alloc: Global) -> Extensions<'a>
         ensures unknown { holds_unknown result ≡ false }
         ensures functions { functions_in result ≡ [] }
+        ensures extensions { extensions_in result ≡ [] }
     {
         Extensions {
             extensions: Vec::new(alloc),
@@ -123,5 +126,15 @@ impl<'a> Extensions<'a> {
         ensures { ordered_left result ≡ flat_map ordered_types (extensions_in self.now) }
     {
         OrderedTypes::new(&self.extensions)
+    }
+}
+
+impl FunctionTypes for Extensions<'_> {
+    ghost use Rattle.cedar_extensions.specs.Tables.{answer_type};
+
+    ghost returns = { answer_type };
+
+    fn return_type(&self, name: &Name) -> Option<&Type> {
+        find_among(&self.extensions, name)?.return_type()
     }
 }

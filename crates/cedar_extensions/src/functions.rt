@@ -1,5 +1,5 @@
 // Extension functions.
-ghost use Rattle.std.specs.Prelude.{◌≡◌, [], ◌∷◌, IfOk, map, is_none, option_map, true};
+ghost use Rattle.std.specs.Prelude.{◌≡◌, [], ◌∷◌, IfOk, map, None, is_none, option_map, true};
 ghost use Rattle.std.specs.Option.{option_copied};
 ghost use Rattle.cedar_language.specs.Order.{all_of};
 ghost use Rattle.cedar_language.specs.Operators.{called, or_fails};
@@ -83,6 +83,7 @@ impl ExtensionFunction {
         ensures name { IfOk result (λ function. function_name function ≡ name) }
         ensures style { IfOk result (λ function. function_style function ≡ style_of style) }
         ensures arguments { IfOk result (λ function. argument_types function ≡ value_type_of arg_type ∷ []) }
+        ensures untyped { IfOk result (λ function. returned_type function ≡ None) }
     {
         Ok(ExtensionFunction {
             name,
@@ -121,13 +122,20 @@ impl ExtensionFunction {
         self.arg_types.as_slice()
     }
 
+    /// How many arguments it takes, or none where it takes any number.
+    pub fn arity(&self) -> Option<usize>
+        ensures { result ≡ (meaning_of self.now).takes }
+    {
+        match self.function {
+            Function::Unknown => Some(1),
+        }
+    }
+
     /// Whether it takes any number of arguments.
     pub fn is_variadic(&self) -> bool
         ensures { result ≡ is_none (meaning_of self.now).takes }
     {
-        match self.function {
-            Function::Unknown => false,
-        }
+        self.arity().is_none()
     }
 
     /// Whether it makes values of an extension type from one text, and is no method.

@@ -2,8 +2,7 @@
 use Rattle.std.specs.Prelude.{ℕ, Result, Ok, Err, Vec, []}
 use Rattle.std.specs.declared.alloc.Global.{Global}
 use Rattle.cedar_language.specs.Tree.{no_trees}
-use Rattle.cedar_expressions.specs.declared.extensions.Extensions.{Extensions}
-use Rattle.cedar_expressions.specs.Extensions.{holds_unknown}
+use Rattle.cedar_expressions.specs.Extensions.{Extensions, holds_unknown}
 use Rattle.cedar_policies.specs.declared.policy_id.PolicyID.{PolicyID}
 use Rattle.std.specs.Option.{option_map}
 use Rattle.std.specs.FinMap as finite

@@ -1,0 +1,3 @@
+// Places in texts.
+
+pub use cedar_names::places::{Loc, Span};

@@ -1,0 +1,5 @@
+//! Expressions of Cedar validated against a table of extension functions.
+#![tactic(auto)]
+
+pub mod errors;
+pub mod validation;
