@@ -2,6 +2,7 @@ mod Lookups
 mod Closed
 mod Adding
 mod Removing
+mod Sameness
 mod ByUid
 mod Passing
 mod Edited

@@ -1,6 +1,6 @@
 -- Entities by their uids, with the ancestors that are kept of them.
 use Rattle.std.specs.Prelude.{◌≡◌, ◌↔◌, Option, None, Some, IsTrue, List, cond}
-use Rattle.std.specs.Option.{option_map, option_map_or, IsSomeAnd}
+use Rattle.std.specs.Option.{option_map, option_map_or, MatchOption, IsSome, IsSomeAnd}
 use Rattle.std.specs.FinSet as set
 use Rattle.std.specs.HashMap.{HashMap, get}
 use Rattle.std.specs.List.{AllByRecursion}
@@ -33,6 +33,14 @@ pub record KeepsAncestors (found : Lookup) : Type 0 where
 -- each entity stands under its own uid
 abbrev pub IsByUid : Lookup → Type 0
 IsByUid found = (uid : Uid) (e : EntityData) → found uid ≡ Some e → IsTrue (same_uid e.uid uid)
+
+-- the same entity stands at a uid in both, or none
+abbrev pub IsSameAt : Lookup → Lookup → Uid → Type 0
+IsSameAt found others uid = MatchOption (found uid) (others uid ≡ None) (λ e. IsSomeAnd (others uid) (IsSameEntity e))
+
+-- what stands in the first stands in the second
+abbrev pub HoldsAllOf : Lookup → Lookup → Type 0
+HoldsAllOf found others = (uid : Uid) → IsSome (found uid) → IsSameAt found others uid
 
 -- ---- edits of what is kept
 

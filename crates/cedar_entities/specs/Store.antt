@@ -9,7 +9,7 @@ use Rattle.cedar_trees.specs.Bare.{bare}
 use Rattle.cedar_entity.specs.Data.{EntityData, ancestors_of}
 use Rattle.cedar_entities.specs.Held.{Held, held_of, IsAncestor}
 use Rattle.cedar_entities.specs.Edits.{add, CanAdd, IsMisfit}
-use Rattle.cedar_entities.specs.Kept.{Lookup, in_map, held_in, KeepsAncestors, added_to, AreVersions, IsOtherVersion}
+use Rattle.cedar_entities.specs.Kept.{Lookup, in_map, held_in, KeepsAncestors, IsSameAt, added_to, AreVersions, IsOtherVersion}
 use Rattle.cedar_entities.specs.Refusals.{IsCycle}
 use Rattle.cedar_entities.specs.Modes.{IsClosedAs, IsRefusedAs, IsClosureRefusal}
 use Rattle.cedar_entities.specs.declared.closing.TCComputation.{TCComputation}
@@ -49,6 +49,10 @@ is_partial_store s = is_partial_mode s.mode
 pub record IsCopy (s copy : Entities) : Type 0 where
   pub found : (uid : Uid) → found_in copy uid ≡ found_in s uid
   pub partial : is_partial_store copy ≡ is_partial_store s
+
+-- both hold entities of the same uids, each with the same attributes, tags and ancestors
+abbrev pub AreSame : Entities → Entities → Type 0
+AreSame s t = (uid : Uid) → IsSameAt (found_in s) (found_in t) uid
 
 -- ---- look-ups
 

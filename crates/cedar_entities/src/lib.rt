@@ -2,6 +2,8 @@
 #![tactic(auto)]
 
 pub mod closing;
+mod comparing;
+mod displays;
 mod edits;
 pub mod errors;
 pub mod store;

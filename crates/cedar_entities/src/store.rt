@@ -9,6 +9,7 @@ ghost use Rattle.cedar_uids.specs.Escapes.{uid_text};
 ghost use Rattle.cedar_entities.specs.Kept.{in_map, IsByUid};
 
 use crate::closing::TCComputation;
+use crate::comparing::agree_where_held;
 use crate::edits::{add_all, put_all, remove_all};
 use crate::errors::EntitiesError;
 use cedar_entity::entity::Entity;
@@ -77,7 +78,7 @@ impl Entities {
     ghost use Rattle.cedar_entities.specs.Edits.{put, remove, ArePlain};
     ghost use Rattle.cedar_entities.specs.Kept.{put_over, removed_from};
     ghost use Rattle.cedar_entities.specs.Refusals.{IsMemory};
-    ghost use Rattle.cedar_entities.specs.Store.{found_in, held_at, IsClosed, entities_in, is_partial_store, IsDereference, Edits, AddsAs, Leaves, Adds};
+    ghost use Rattle.cedar_entities.specs.Store.{found_in, held_at, IsClosed, entities_in, AreSame, is_partial_store, IsDereference, Edits, AddsAs, Leaves, Adds};
     ghost use Rattle.cedar_entities.specs.declared.closing.TCComputation.TheVariants.{ComputeNow};
 
     /// The store that holds nothing.
@@ -146,6 +147,15 @@ impl Entities {
         ensures { IsTrue result ↔ (entities_in self.now ≡ []) }
     {
         self.entities.len() == 0
+    }
+
+    /// Whether both hold entities of the same uids, each with the same attributes, tags and ancestors.
+    /// What is said of entities that aren't held plays no part.
+    pub fn deep_eq(&self, other: &Entities) -> bool
+        ensures { IsTrue result ↔ AreSame self.now other.now }
+    {
+        agree_where_held(&self.entities, &other.entities)
+            && agree_where_held(&other.entities, &self.entities)
     }
 
     /// The store of these entities, as adding them to an empty one makes it; refused as that is.
@@ -234,6 +244,37 @@ impl Entities {
             entities: map,
             mode,
         })
+    }
+}
+
+impl IntoIterator for Entities {
+    type Item = Entity;
+
+    type IntoIter = hash_map::IntoValues<EntityUID, Entity>;
+
+    ghost use Rattle.std.specs.Prelude.{◌≡◌};
+    ghost use Rattle.cedar_entities.specs.Store.{entities_in};
+
+    ghost into_iter_gives = { λ store it. it ≡ entities_in store };
+
+    /// The entities, in no stated order.
+    fn into_iter(self) -> hash_map::IntoValues<EntityUID, Entity> {
+        self.entities.into_values()
+    }
+}
+
+impl<'a> IntoIterator for &'a Entities {
+    type Item = &'a Entity;
+
+    type IntoIter = EntityIterator<'a>;
+
+    ghost use Rattle.std.specs.Prelude.{◌≡◌};
+    ghost use Rattle.cedar_entities.specs.Store.{entities_in};
+
+    ghost into_iter_gives = { λ store it. it ≡ entities_in store.now };
+
+    fn into_iter(self) -> EntityIterator<'a> {
+        self.iter()
     }
 }
 

@@ -146,3 +146,52 @@ fn entities_of_a_partial_store_may_be_unknown(rt: HostRuntime) -> Result<(), Fai
     assert!(rt; is_unknown_in_part(rt.alloc())?);
     Ok(())
 }
+
+// Whether a store of `a` with the parent `h`, and `h` with the parent `g`, is the same as one of these.
+fn is_same(alloc: Global, rows: Rows<'_>) -> Result<bool, Fail> {
+    let first = put(alloc, &[("a", &["h"]), ("h", &["g"])])?;
+    let second = put(alloc, rows)?;
+    Ok(first.deep_eq(&second))
+}
+
+#[test]
+fn stores_are_compared(rt: HostRuntime) -> Result<(), Fail> {
+    let alloc = rt.alloc();
+    assert!(rt; is_same(alloc, &[("h", &["g"]), ("a", &["h"])])?);
+    assert!(rt; is_same(alloc, &[("h", &["g"]), ("a", &["h", "g"])])?);
+    assert!(rt; !is_same(alloc, &[("h", &["g"]), ("a", &["g"])])?);
+    assert!(rt; !is_same(alloc, &[("h", &["g"])])?);
+    assert!(rt; !is_same(alloc, &[("h", &["g"]), ("a", &["h"]), ("b", &[])])?);
+    Ok(())
+}
+
+fn shown(alloc: Global, rows: Rows<'_>) -> Result<String, Fail> {
+    let store = put(alloc, rows)?;
+    Ok(store.to_string(alloc)?)
+}
+
+#[test]
+fn stores_are_printed(rt: HostRuntime) -> Result<(), Fail> {
+    let alloc = rt.alloc();
+    assert_eq!(rt; shown(alloc, &[])?.as_str(), "<empty Entities>");
+    assert_eq!(rt;
+        shown(alloc, &[("b", &["a"]), ("a", &[])])?.as_str(),
+        "G::\"a\":\n  attrs:\n  ancestors:\nG::\"b\":\n  attrs:\n  ancestors:G::\"a\"\n"
+    );
+    Ok(())
+}
+
+// How many entities a store lends, and gives up.
+fn walked(alloc: Global, rows: Rows<'_>) -> Result<(usize, usize), Fail> {
+    let store = put(alloc, rows)?;
+    let lent = (&store).into_iter().count();
+    Ok((lent, store.into_iter().count()))
+}
+
+#[test]
+fn stores_are_walked(rt: HostRuntime) -> Result<(), Fail> {
+    let alloc = rt.alloc();
+    assert_eq!(rt; walked(alloc, &[])?, (0, 0));
+    assert_eq!(rt; walked(alloc, TWO_WAYS)?, (3, 3));
+    Ok(())
+}

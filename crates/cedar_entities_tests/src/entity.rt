@@ -133,3 +133,26 @@ fn same_entities_have_the_same_parts(rt: HostRuntime) -> Result<(), Fail> {
     assert_eq!(rt; is_same(alloc, 1, "x", &[], &["h"])?, false);
     Ok(())
 }
+
+fn shown(alloc: Global) -> Result<String, Fail> {
+    let entity = entity(alloc, 1, "x", &["k", "a"], &["h", "b"])?;
+    Ok(entity.to_string(alloc)?)
+}
+
+fn shown_bare(alloc: Global) -> Result<String, Fail> {
+    let entity = Entity::with_uid(alloc, uid(alloc, "u")?)?;
+    Ok(entity.to_string(alloc)?)
+}
+
+#[test]
+fn entities_are_printed(rt: HostRuntime) -> Result<(), Fail> {
+    assert_eq!(rt;
+        shown(rt.alloc())?.as_str(),
+        "User::\"u\":\n  attrs:a: 1; b: unknown(\"x\")\n  ancestors:User::\"a\", User::\"b\", User::\"h\", User::\"k\""
+    );
+    assert_eq!(rt;
+        shown_bare(rt.alloc())?.as_str(),
+        "User::\"u\":\n  attrs:\n  ancestors:"
+    );
+    Ok(())
+}

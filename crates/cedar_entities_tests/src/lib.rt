@@ -1,4 +1,4 @@
-//! Tests of the transitive closure, of entities and of their store.
+//! Tests of the transitive closure, of entities, of their evaluation and of their store.
 #![tactic(auto)]
 
 #[cfg(test)]
@@ -7,3 +7,5 @@ mod closure;
 mod entities;
 #[cfg(test)]
 mod entity;
+#[cfg(test)]
+mod evaluated;

@@ -3,5 +3,6 @@
 
 pub mod ancestors;
 pub mod attributes;
+mod displays;
 pub mod entity;
 mod nodes;
