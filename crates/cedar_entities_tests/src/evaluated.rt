@@ -53,18 +53,25 @@ fn shown(alloc: Global, partial: Option<&PartialValue>) -> Result<String, AllocE
     }
 }
 
-// What the entity has as its attributes `a` and `b` and its tag `a`, or why there is none.
+// What the entity has as its attributes `a` and `b` and its tag `a`.
+fn held(alloc: Global, entity: &Entity) -> Result<String, Fail> {
+    let first = shown(alloc, entity.get("a"))?;
+    let second = shown(alloc, entity.get("b"))?;
+    let tag = shown(alloc, entity.get_tag("a"))?;
+    Ok(format!(in alloc; "{first}, {second}, {tag}")?)
+}
+
+fn told(alloc: Global, error: &EntityCreationError) -> Result<String, Fail> {
+    Ok(error.to_string(alloc)?)
+}
+
+// What the entity has, or why there is none.
 fn outcome(alloc: Global, attrs: &[(&str, &str)], tags: &[(&str, &str)]) -> Result<String, Fail> {
     let attrs = expressions(alloc, attrs)?;
     let tags = expressions(alloc, tags)?;
     match made(alloc, attrs, tags)? {
-        Ok(entity) => {
-            let first = shown(alloc, entity.get("a"))?;
-            let second = shown(alloc, entity.get("b"))?;
-            let tag = shown(alloc, entity.get_tag("a"))?;
-            Ok(format!(in alloc; "{first}, {second}, {tag}")?)
-        }
-        Err(error) => Ok(error.to_string(alloc)?),
+        Ok(entity) => held(alloc, &entity),
+        Err(error) => told(alloc, &error),
     }
 }
 
