@@ -83,18 +83,27 @@ impl<'t> Cursor<'t> {
         Ok(self.and_node(start, first, extended)?)
     }
 
+    /// Takes an operand of a relation.
+    #[cycle(expression)]
+    fn operand(&mut self, alloc: Global, depth: u32) -> Result<Box<Node<Option<Add>>>, ReadError>
+        ensures { Gives (λ b. shown_add b.value) result self.new (add_of (expr_at depth) self.old) }
+    {
+        let operand = self.add(alloc, depth)?;
+        Ok(Box::new(alloc, operand)?)
+    }
+
     /// Takes a comparison, or another relation.
     #[cycle(expression)]
     fn relation(&mut self, alloc: Global, depth: u32) -> Result<Node<Option<Relation>>, ReadError>
         ensures { Gives shown_relation result self.new (relation_of (expr_at depth) self.old) }
     {
         let start = self.start();
-        let target = self.add(alloc, depth)?;
+        let target = self.operand(alloc, depth)?;
         if self.eat_has() {
-            let field = self.add(alloc, depth)?;
+            let field = self.operand(alloc, depth)?;
             Ok(self.has_relation(start, target, field)?)
         } else if self.eat_like() {
-            let pattern = self.add(alloc, depth)?;
+            let pattern = self.operand(alloc, depth)?;
             Ok(self.like_relation(start, target, pattern)?)
         } else if self.eat_is() {
             self.is(alloc, depth, start, target)
@@ -110,13 +119,13 @@ impl<'t> Cursor<'t> {
         alloc: Global,
         depth: u32,
         start: usize,
-        target: Node<Option<Add>>,
+        target: Box<Node<Option<Add>>>,
     ) -> Result<Node<Option<Relation>>, ReadError>
-        ensures { Gives shown_relation result self.new (is_of (expr_at depth) (shown_add target) self.old) }
+        ensures { Gives shown_relation result self.new (is_of (expr_at depth) (shown_add target.value) self.old) }
     {
-        let entity_type = self.add(alloc, depth)?;
+        let entity_type = self.operand(alloc, depth)?;
         if self.eat_in() {
-            let entity = self.add(alloc, depth)?;
+            let entity = self.operand(alloc, depth)?;
             Ok(self.is_in_relation(start, target, entity_type, entity)?)
         } else {
             Ok(self.is_relation(start, target, entity_type)?)
@@ -130,9 +139,9 @@ impl<'t> Cursor<'t> {
         alloc: Global,
         depth: u32,
         start: usize,
-        target: Node<Option<Add>>,
+        target: Box<Node<Option<Add>>>,
     ) -> Result<Node<Option<Relation>>, ReadError>
-        ensures { Gives shown_relation result self.new (comparisons_of (expr_at depth) (shown_add target) self.old) }
+        ensures { Gives shown_relation result self.new (comparisons_of (expr_at depth) (shown_add target.value) self.old) }
     {
         let mut extended = Vec::new(alloc);
         'links: while let Some(operator) = self.rel_operator() {
@@ -195,7 +204,7 @@ impl<'t> Cursor<'t> {
             let next = self.access(alloc, depth)?;
             access.push(next)?;
         }
-        Ok(self.member_node(start, item, access)?)
+        Ok(self.member_node(alloc, start, item, access)?)
     }
 
     /// Takes an access, which has to be next.

@@ -102,9 +102,9 @@ impl<'t> Cursor<'t> {
         let path = self.name(alloc)?;
         if self.eat(Mark::ColonColon) {
             let entity = self.ref_rest(alloc, start, path)?;
-            Ok(self.entity_primary(start, entity)?)
+            Ok(self.entity_primary(alloc, start, entity)?)
         } else {
-            Ok(self.name_primary(start, path)?)
+            Ok(self.name_primary(alloc, start, path)?)
         }
     }
 

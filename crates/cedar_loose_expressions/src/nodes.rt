@@ -72,10 +72,10 @@ impl<'t> Cursor<'t> {
     pub(crate) fn common_relation(
         &self,
         start: usize,
-        initial: Node<Option<Add>>,
+        initial: Box<Node<Option<Add>>>,
         extended: Vec<(RelOp, Node<Option<Add>>)>,
     ) -> Result<Node<Option<Relation>>, AllocError>
-        ensures { IfOk result (λ node. shown_relation node ≡ loose.common (shown_add initial) (loose.adds (map linked_add extended.items))) }
+        ensures { IfOk result (λ node. shown_relation node ≡ loose.common (shown_add initial.value) (loose.adds (map linked_add extended.items))) }
     {
         self.node(start, Relation::Common { initial, extended })
     }
@@ -84,10 +84,10 @@ impl<'t> Cursor<'t> {
     pub(crate) fn has_relation(
         &self,
         start: usize,
-        target: Node<Option<Add>>,
-        field: Node<Option<Add>>,
+        target: Box<Node<Option<Add>>>,
+        field: Box<Node<Option<Add>>>,
     ) -> Result<Node<Option<Relation>>, AllocError>
-        ensures { IfOk result (λ node. shown_relation node ≡ loose.has (shown_add target) (shown_add field)) }
+        ensures { IfOk result (λ node. shown_relation node ≡ loose.has (shown_add target.value) (shown_add field.value)) }
     {
         self.node(start, Relation::Has { target, field })
     }
@@ -96,10 +96,10 @@ impl<'t> Cursor<'t> {
     pub(crate) fn like_relation(
         &self,
         start: usize,
-        target: Node<Option<Add>>,
-        pattern: Node<Option<Add>>,
+        target: Box<Node<Option<Add>>>,
+        pattern: Box<Node<Option<Add>>>,
     ) -> Result<Node<Option<Relation>>, AllocError>
-        ensures { IfOk result (λ node. shown_relation node ≡ loose.like (shown_add target) (shown_add pattern)) }
+        ensures { IfOk result (λ node. shown_relation node ≡ loose.like (shown_add target.value) (shown_add pattern.value)) }
     {
         self.node(start, Relation::Like { target, pattern })
     }
@@ -108,10 +108,10 @@ impl<'t> Cursor<'t> {
     pub(crate) fn is_relation(
         &self,
         start: usize,
-        target: Node<Option<Add>>,
-        entity_type: Node<Option<Add>>,
+        target: Box<Node<Option<Add>>>,
+        entity_type: Box<Node<Option<Add>>>,
     ) -> Result<Node<Option<Relation>>, AllocError>
-        ensures { IfOk result (λ node. shown_relation node ≡ loose.is_type (shown_add target) (shown_add entity_type)) }
+        ensures { IfOk result (λ node. shown_relation node ≡ loose.is_type (shown_add target.value) (shown_add entity_type.value)) }
     {
         self.node(
             start,
@@ -127,11 +127,11 @@ impl<'t> Cursor<'t> {
     pub(crate) fn is_in_relation(
         &self,
         start: usize,
-        target: Node<Option<Add>>,
-        entity_type: Node<Option<Add>>,
-        entity: Node<Option<Add>>,
+        target: Box<Node<Option<Add>>>,
+        entity_type: Box<Node<Option<Add>>>,
+        entity: Box<Node<Option<Add>>>,
     ) -> Result<Node<Option<Relation>>, AllocError>
-        ensures { IfOk result (λ node. shown_relation node ≡ loose.is_type_in (shown_add target) (shown_add entity_type) (shown_add entity)) }
+        ensures { IfOk result (λ node. shown_relation node ≡ loose.is_type_in (shown_add target.value) (shown_add entity_type.value) (shown_add entity.value)) }
     {
         self.node(
             start,
@@ -182,12 +182,14 @@ impl<'t> Cursor<'t> {
     /// A primary and what is accessed of it.
     pub(crate) fn member_node(
         &self,
+        alloc: Global,
         start: usize,
         item: Node<Option<Primary>>,
         access: Vec<Node<Option<MemAccess>>>,
     ) -> Result<Node<Option<Member>>, AllocError>
         ensures { IfOk result (λ node. shown_member node ≡ loose.member (shown_primary item) (loose.accesses (map shown_mem_access access.items))) }
     {
+        let item = Box::new(alloc, item)?;
         self.node(start, Member { item, access })
     }
 
@@ -238,22 +240,26 @@ impl<'t> Cursor<'t> {
     /// An entity as a primary.
     pub(crate) fn entity_primary(
         &self,
+        alloc: Global,
         start: usize,
         entity: Node<Option<Ref>>,
     ) -> Result<Node<Option<Primary>>, AllocError>
         ensures { IfOk result (λ node. shown_primary node ≡ loose.entity (shown_ref entity)) }
     {
+        let entity = Box::new(alloc, entity)?;
         self.node(start, Primary::Ref(entity))
     }
 
     /// A name as a primary.
     pub(crate) fn name_primary(
         &self,
+        alloc: Global,
         start: usize,
         name: Node<Option<Name>>,
     ) -> Result<Node<Option<Primary>>, AllocError>
         ensures { IfOk result (λ node. shown_primary node ≡ loose.named (shown_name name)) }
     {
+        let name = Box::new(alloc, name)?;
         self.node(start, Primary::Name(name))
     }
 

@@ -97,6 +97,35 @@ fn expressions_are_refused(rt: HostRuntime) -> Result<(), Fail> {
     Ok(())
 }
 
+/// `true` between so many opening and closing parts.
+fn nested(alloc: Global, open: &str, close: &str, levels: usize) -> Result<String, Fail> {
+    let mut text = String::new(alloc);
+    for _ in 0..levels {
+        text.push_str(open)?;
+    }
+    text.push_str("true")?;
+    for _ in 0..levels {
+        text.push_str(close)?;
+    }
+    Ok(text)
+}
+
+/// The stack holds as many levels as the limit lets stand.
+#[test]
+fn nested_texts_are_read_up_to_the_limit(rt: HostRuntime) -> Result<(), Fail> {
+    let alloc = rt.alloc();
+    let constructs = [("(", ")"), ("[", "]"), ("if ", " then 1 else 2")];
+    for (open, close) in constructs {
+        let text = nested(alloc, open, close, 255)?;
+        let printed = shown(alloc, parse_expr(alloc, text.as_str(), 256))?;
+        assert_eq!(rt; printed.as_str(), text.as_str());
+        let text = nested(alloc, open, close, 256)?;
+        let printed = shown(alloc, parse_expr(alloc, text.as_str(), 256))?;
+        assert_eq!(rt; printed.as_str(), DEEP, "{open:?}");
+    }
+    Ok(())
+}
+
 #[test]
 fn policies_are_read(rt: HostRuntime) -> Result<(), Fail> {
     let alloc = rt.alloc();

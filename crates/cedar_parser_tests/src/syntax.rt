@@ -21,11 +21,16 @@ fn list<T: Drop, const N: usize>(rt: &impl Abort, alloc: Global, items: [T; N]) 
     }
 }
 
-fn whole(rt: &impl Abort, alloc: Global, data: ExprData) -> Node<Option<Expr>> {
-    match Box::new(alloc, data) {
-        Ok(expr) => node(Expr::Expr(ExprImpl { expr })),
+fn boxed<T: Drop>(rt: &impl Abort, alloc: Global, value: T) -> Box<T> {
+    match Box::new(alloc, value) {
+        Ok(value) => value,
         Err(_) => panic!(rt; "no memory"),
     }
+}
+
+fn whole(rt: &impl Abort, alloc: Global, data: ExprData) -> Node<Option<Expr>> {
+    let expr = boxed(rt, alloc, data);
+    node(Expr::Expr(ExprImpl { expr }))
 }
 
 fn prints<T: Display>(rt: &impl Abort, alloc: Global, value: &T, text: &str) {
@@ -39,58 +44,59 @@ fn num(value: u64) -> Primary {
     Primary::Literal(node(Literal::Num(value)))
 }
 
-fn variable(alloc: Global, ident: Ident) -> Primary {
-    Primary::Name(node(Name {
+fn variable(rt: &impl Abort, alloc: Global, ident: Ident) -> Primary {
+    let name = Name {
         path: Vec::new(alloc),
         name: node(ident),
-    }))
+    };
+    Primary::Name(boxed(rt, alloc, node(name)))
 }
 
-fn member(alloc: Global, item: Primary) -> Node<Option<Member>> {
+fn member(rt: &impl Abort, alloc: Global, item: Primary) -> Node<Option<Member>> {
     node(Member {
-        item: node(item),
+        item: boxed(rt, alloc, node(item)),
         access: Vec::new(alloc),
     })
 }
 
-fn unary(alloc: Global, item: Primary) -> Node<Option<Unary>> {
+fn unary(rt: &impl Abort, alloc: Global, item: Primary) -> Node<Option<Unary>> {
     node(Unary {
         op: None,
-        item: member(alloc, item),
+        item: member(rt, alloc, item),
     })
 }
 
-fn mult(alloc: Global, item: Primary) -> Node<Option<Mult>> {
+fn mult(rt: &impl Abort, alloc: Global, item: Primary) -> Node<Option<Mult>> {
     node(Mult {
-        initial: unary(alloc, item),
+        initial: unary(rt, alloc, item),
         extended: Vec::new(alloc),
     })
 }
 
-fn add(alloc: Global, item: Primary) -> Node<Option<Add>> {
+fn add(rt: &impl Abort, alloc: Global, item: Primary) -> Node<Option<Add>> {
     node(Add {
-        initial: mult(alloc, item),
+        initial: mult(rt, alloc, item),
         extended: Vec::new(alloc),
     })
 }
 
-fn relation(alloc: Global, item: Primary) -> Node<Option<Relation>> {
+fn relation(rt: &impl Abort, alloc: Global, item: Primary) -> Node<Option<Relation>> {
     node(Relation::Common {
-        initial: add(alloc, item),
+        initial: boxed(rt, alloc, add(rt, alloc, item)),
         extended: Vec::new(alloc),
     })
 }
 
-fn and(alloc: Global, item: Primary) -> Node<Option<And>> {
+fn and(rt: &impl Abort, alloc: Global, item: Primary) -> Node<Option<And>> {
     node(And {
-        initial: relation(alloc, item),
+        initial: relation(rt, alloc, item),
         extended: Vec::new(alloc),
     })
 }
 
 fn expr(rt: &impl Abort, alloc: Global, item: Primary) -> Node<Option<Expr>> {
     let or = Or {
-        initial: and(alloc, item),
+        initial: and(rt, alloc, item),
         extended: Vec::new(alloc),
     };
     whole(rt, alloc, ExprData::Or(node(or)))
@@ -100,12 +106,12 @@ fn expr(rt: &impl Abort, alloc: Global, item: Primary) -> Node<Option<Expr>> {
 fn sums_are_printed(rt: HostRuntime) {
     let alloc = rt.alloc();
     let product = Mult {
-        initial: unary(alloc, num(1)),
-        extended: list(&rt, alloc, [(MultOp::Mod, unary(alloc, num(2)))]),
+        initial: unary(&rt, alloc, num(1)),
+        extended: list(&rt, alloc, [(MultOp::Mod, unary(&rt, alloc, num(2)))]),
     };
     let sum = Add {
         initial: node(product),
-        extended: list(&rt, alloc, [(AddOp::Minus, mult(alloc, num(3)))]),
+        extended: list(&rt, alloc, [(AddOp::Minus, mult(&rt, alloc, num(3)))]),
     };
     prints(&rt, alloc, &sum, "1 % 2 - 3");
 }
@@ -114,12 +120,12 @@ fn sums_are_printed(rt: HostRuntime) {
 fn chains_are_printed(rt: HostRuntime) {
     let alloc = rt.alloc();
     let both = And {
-        initial: relation(alloc, num(1)),
-        extended: list(&rt, alloc, [relation(alloc, num(2))]),
+        initial: relation(&rt, alloc, num(1)),
+        extended: list(&rt, alloc, [relation(&rt, alloc, num(2))]),
     };
     let any = Or {
         initial: node(both),
-        extended: list(&rt, alloc, [and(alloc, num(3))]),
+        extended: list(&rt, alloc, [and(&rt, alloc, num(3))]),
     };
     prints(&rt, alloc, &any, "1 && 2 || 3");
 }
@@ -128,24 +134,32 @@ fn chains_are_printed(rt: HostRuntime) {
 fn relations_are_printed(rt: HostRuntime) {
     let alloc = rt.alloc();
     let common = Relation::Common {
-        initial: add(alloc, num(1)),
-        extended: list(&rt, alloc, [(RelOp::InvalidSingleEq, add(alloc, num(2)))]),
+        initial: boxed(&rt, alloc, add(&rt, alloc, num(1))),
+        extended: list(
+            &rt,
+            alloc,
+            [(RelOp::InvalidSingleEq, add(&rt, alloc, num(2)))],
+        ),
     };
     prints(&rt, alloc, &common, "1 = 2");
     let has = Relation::Has {
-        target: add(alloc, variable(alloc, Ident::Context)),
-        field: Node::new(None),
+        target: boxed(
+            &rt,
+            alloc,
+            add(&rt, alloc, variable(&rt, alloc, Ident::Context)),
+        ),
+        field: boxed(&rt, alloc, Node::new(None)),
     };
     prints(&rt, alloc, &has, "context has [error]");
     let like = Relation::Like {
-        target: add(alloc, num(1)),
-        pattern: add(alloc, num(2)),
+        target: boxed(&rt, alloc, add(&rt, alloc, num(1))),
+        pattern: boxed(&rt, alloc, add(&rt, alloc, num(2))),
     };
     prints(&rt, alloc, &like, "1 like 2");
     let is = Relation::IsIn {
-        target: add(alloc, num(1)),
-        entity_type: add(alloc, num(2)),
-        in_entity: Some(add(alloc, num(3))),
+        target: boxed(&rt, alloc, add(&rt, alloc, num(1))),
+        entity_type: boxed(&rt, alloc, add(&rt, alloc, num(2))),
+        in_entity: Some(boxed(&rt, alloc, add(&rt, alloc, num(3)))),
     };
     prints(&rt, alloc, &is, "1 is 2 in 3");
 }
@@ -165,7 +179,7 @@ fn accesses_are_printed(rt: HostRuntime) {
         node(MemAccess::Index(index)),
     ];
     let accessed = Member {
-        item: node(Primary::Expr(expr(&rt, alloc, num(0)))),
+        item: boxed(&rt, alloc, node(Primary::Expr(expr(&rt, alloc, num(0))))),
         access: list(&rt, alloc, access),
     };
     let signed = Unary {
@@ -180,7 +194,7 @@ fn lists_are_printed(rt: HostRuntime) {
     let alloc = rt.alloc();
     let elements = [expr(&rt, alloc, num(1)), expr(&rt, alloc, num(2))];
     let set = Primary::EList(list(&rt, alloc, elements));
-    let key = expr(&rt, alloc, variable(alloc, Ident::Action));
+    let key = expr(&rt, alloc, variable(&rt, alloc, Ident::Action));
     let entry = RecInit(key, expr(&rt, alloc, set));
     let record = Primary::RInits(list(&rt, alloc, [node(entry)]));
     prints(&rt, alloc, &record, "{action: [1, 2]}");
@@ -202,7 +216,7 @@ fn scope(rt: &impl Abort, alloc: Global) -> VariableDef {
     VariableDef {
         variable: node(Ident::Principal),
         unused_type_name: None,
-        entity_type: Some(add(alloc, num(1))),
+        entity_type: Some(add(rt, alloc, num(1))),
         ineq: Some((RelOp::In, expr(rt, alloc, slot))),
     }
 }

@@ -165,12 +165,12 @@ view_primary_literal t a is =
     ap view_primary (is ∙ sym (primary.rolls-Literal a))
     ∙ fold-roll-Primary loose.Expr loose.Expr loose.MemAccess loose.Primary loose.Relation loose.Add loose.And loose.Expr loose.Member loose.Mult loose.Or loose.RecInit loose.Unary expr_step expr_data_step mem_access_step primary_step relation_step add_step and_step expr_impl_step member_step mult_step or_step rec_init_step unary_step (layer.Literal a)
 
-pub view_primary_ref : (t : Primary) (a : Node (Option Ref)) → t ≡ primary.Ref a → view_primary t ≡ loose.entity (shown_ref a)
+pub view_primary_ref : (t : Primary) (a : Box (Node (Option Ref)) Global) → t ≡ primary.Ref a → view_primary t ≡ loose.entity (shown_ref a.value)
 view_primary_ref t a is =
     ap view_primary (is ∙ sym (primary.rolls-Ref a))
     ∙ fold-roll-Primary loose.Expr loose.Expr loose.MemAccess loose.Primary loose.Relation loose.Add loose.And loose.Expr loose.Member loose.Mult loose.Or loose.RecInit loose.Unary expr_step expr_data_step mem_access_step primary_step relation_step add_step and_step expr_impl_step member_step mult_step or_step rec_init_step unary_step (layer.Ref a)
 
-pub view_primary_name : (t : Primary) (a : Node (Option Name)) → t ≡ primary.Name a → view_primary t ≡ loose.named (shown_name a)
+pub view_primary_name : (t : Primary) (a : Box (Node (Option Name)) Global) → t ≡ primary.Name a → view_primary t ≡ loose.named (shown_name a.value)
 view_primary_name t a is =
     ap view_primary (is ∙ sym (primary.rolls-Name a))
     ∙ fold-roll-Primary loose.Expr loose.Expr loose.MemAccess loose.Primary loose.Relation loose.Add loose.And loose.Expr loose.Member loose.Mult loose.Or loose.RecInit loose.Unary expr_step expr_data_step mem_access_step primary_step relation_step add_step and_step expr_impl_step member_step mult_step or_step rec_init_step unary_step (layer.Name a)
@@ -198,41 +198,41 @@ view_primary_r_inits t a is =
     ∙ fold-roll-Primary loose.Expr loose.Expr loose.MemAccess loose.Primary loose.Relation loose.Add loose.And loose.Expr loose.Member loose.Mult loose.Or loose.RecInit loose.Unary expr_step expr_data_step mem_access_step primary_step relation_step add_step and_step expr_impl_step member_step mult_step or_step rec_init_step unary_step (layer.RInits a)
     ∙ ap (λ y. loose.r_inits (loose.rec_inits y)) (listed loose.missing_rec_init view_rec_init (former-Primary-RInits-0-at-3.map RecInit loose.RecInit view_rec_init) (λ x. in-Primary-RInits-0 x.node x.loc) a.items)
 
-pub view_relation_common : (t : Relation) (a : Node (Option Add)) (b : Vec (RelOp × Node (Option Add)) Global) → t ≡ relation.Common a b → view_relation t ≡ loose.common (shown_add a) (loose.adds (map {B = loose.RelOp × loose.Add} (λ x. (view_rel_op x.0, shown_add x.1)) b.items))
+pub view_relation_common : (t : Relation) (a : Box (Node (Option Add)) Global) (b : Vec (RelOp × Node (Option Add)) Global) → t ≡ relation.Common a b → view_relation t ≡ loose.common (shown_add a.value) (loose.adds (map {B = loose.RelOp × loose.Add} (λ x. (view_rel_op x.0, shown_add x.1)) b.items))
 view_relation_common t a b is =
     ap view_relation (is ∙ sym (relation.rolls-Common a b))
     ∙ fold-roll-Relation loose.Expr loose.Expr loose.MemAccess loose.Primary loose.Relation loose.Add loose.And loose.Expr loose.Member loose.Mult loose.Or loose.RecInit loose.Unary expr_step expr_data_step mem_access_step primary_step relation_step add_step and_step expr_impl_step member_step mult_step or_step rec_init_step unary_step (layer.Common a b)
-    ∙ ap (λ y. loose.common y (loose.adds (map {B = loose.RelOp × loose.Add} (λ x. (view_rel_op x.0, part loose.missing_add x.1)) (map (former-Relation-Common-1-at-5.map Add loose.Add view_add) b.items)))) (in-Relation-Common-0 a.node a.loc)
-    ∙ ap (λ y. loose.common (shown_add a) (loose.adds y)) (paired view_rel_op loose.missing_add view_add (former-Relation-Common-1-at-5.map Add loose.Add view_add) (λ x. in-Relation-Common-1 x.0 x.1.node x.1.loc) b.items)
+    ∙ ap (λ y. loose.common y (loose.adds (map {B = loose.RelOp × loose.Add} (λ x. (view_rel_op x.0, part loose.missing_add x.1)) (map (former-Relation-Common-1-at-5.map Add loose.Add view_add) b.items)))) (in-Relation-Common-0 a.value.node a.value.loc)
+    ∙ ap (λ y. loose.common (shown_add a.value) (loose.adds y)) (paired view_rel_op loose.missing_add view_add (former-Relation-Common-1-at-5.map Add loose.Add view_add) (λ x. in-Relation-Common-1 x.0 x.1.node x.1.loc) b.items)
 
-pub view_relation_has : (t : Relation) (a : Node (Option Add)) (b : Node (Option Add)) → t ≡ relation.Has a b → view_relation t ≡ loose.has (shown_add a) (shown_add b)
+pub view_relation_has : (t : Relation) (a : Box (Node (Option Add)) Global) (b : Box (Node (Option Add)) Global) → t ≡ relation.Has a b → view_relation t ≡ loose.has (shown_add a.value) (shown_add b.value)
 view_relation_has t a b is =
     ap view_relation (is ∙ sym (relation.rolls-Has a b))
     ∙ fold-roll-Relation loose.Expr loose.Expr loose.MemAccess loose.Primary loose.Relation loose.Add loose.And loose.Expr loose.Member loose.Mult loose.Or loose.RecInit loose.Unary expr_step expr_data_step mem_access_step primary_step relation_step add_step and_step expr_impl_step member_step mult_step or_step rec_init_step unary_step (layer.Has a b)
-    ∙ ap (λ y. loose.has y (part loose.missing_add (former-Relation-Common-0-at-3.map Add loose.Add view_add b))) (in-Relation-Common-0 a.node a.loc)
-    ∙ ap (λ y. loose.has (shown_add a) y) (in-Relation-Common-0 b.node b.loc)
+    ∙ ap (λ y. loose.has y (part loose.missing_add (former-Relation-Common-0-at-3.map Add loose.Add view_add b.value))) (in-Relation-Common-0 a.value.node a.value.loc)
+    ∙ ap (λ y. loose.has (shown_add a.value) y) (in-Relation-Common-0 b.value.node b.value.loc)
 
-pub view_relation_like : (t : Relation) (a : Node (Option Add)) (b : Node (Option Add)) → t ≡ relation.Like a b → view_relation t ≡ loose.like (shown_add a) (shown_add b)
+pub view_relation_like : (t : Relation) (a : Box (Node (Option Add)) Global) (b : Box (Node (Option Add)) Global) → t ≡ relation.Like a b → view_relation t ≡ loose.like (shown_add a.value) (shown_add b.value)
 view_relation_like t a b is =
     ap view_relation (is ∙ sym (relation.rolls-Like a b))
     ∙ fold-roll-Relation loose.Expr loose.Expr loose.MemAccess loose.Primary loose.Relation loose.Add loose.And loose.Expr loose.Member loose.Mult loose.Or loose.RecInit loose.Unary expr_step expr_data_step mem_access_step primary_step relation_step add_step and_step expr_impl_step member_step mult_step or_step rec_init_step unary_step (layer.Like a b)
-    ∙ ap (λ y. loose.like y (part loose.missing_add (former-Relation-Common-0-at-3.map Add loose.Add view_add b))) (in-Relation-Common-0 a.node a.loc)
-    ∙ ap (λ y. loose.like (shown_add a) y) (in-Relation-Common-0 b.node b.loc)
+    ∙ ap (λ y. loose.like y (part loose.missing_add (former-Relation-Common-0-at-3.map Add loose.Add view_add b.value))) (in-Relation-Common-0 a.value.node a.value.loc)
+    ∙ ap (λ y. loose.like (shown_add a.value) y) (in-Relation-Common-0 b.value.node b.value.loc)
 
-pub view_relation_is_type : (t : Relation) (a : Node (Option Add)) (b : Node (Option Add)) → t ≡ relation.IsIn a b None → view_relation t ≡ loose.is_type (shown_add a) (shown_add b)
+pub view_relation_is_type : (t : Relation) (a : Box (Node (Option Add)) Global) (b : Box (Node (Option Add)) Global) → t ≡ relation.IsIn a b None → view_relation t ≡ loose.is_type (shown_add a.value) (shown_add b.value)
 view_relation_is_type t a b is =
     ap view_relation (is ∙ sym (relation.rolls-IsIn a b None))
     ∙ fold-roll-Relation loose.Expr loose.Expr loose.MemAccess loose.Primary loose.Relation loose.Add loose.And loose.Expr loose.Member loose.Mult loose.Or loose.RecInit loose.Unary expr_step expr_data_step mem_access_step primary_step relation_step add_step and_step expr_impl_step member_step mult_step or_step rec_init_step unary_step (layer.IsIn a b None)
-    ∙ ap (λ y. loose.is_type y (part loose.missing_add (former-Relation-Common-0-at-3.map Add loose.Add view_add b))) (in-Relation-Common-0 a.node a.loc)
-    ∙ ap (λ y. loose.is_type (shown_add a) y) (in-Relation-Common-0 b.node b.loc)
+    ∙ ap (λ y. loose.is_type y (part loose.missing_add (former-Relation-Common-0-at-3.map Add loose.Add view_add b.value))) (in-Relation-Common-0 a.value.node a.value.loc)
+    ∙ ap (λ y. loose.is_type (shown_add a.value) y) (in-Relation-Common-0 b.value.node b.value.loc)
 
-pub view_relation_is_type_in : (t : Relation) (a : Node (Option Add)) (b : Node (Option Add)) (c : Node (Option Add)) → t ≡ relation.IsIn a b (Some c) → view_relation t ≡ loose.is_type_in (shown_add a) (shown_add b) (shown_add c)
+pub view_relation_is_type_in : (t : Relation) (a : Box (Node (Option Add)) Global) (b : Box (Node (Option Add)) Global) (c : Box (Node (Option Add)) Global) → t ≡ relation.IsIn a b (Some c) → view_relation t ≡ loose.is_type_in (shown_add a.value) (shown_add b.value) (shown_add c.value)
 view_relation_is_type_in t a b c is =
     ap view_relation (is ∙ sym (relation.rolls-IsIn a b (Some c)))
     ∙ fold-roll-Relation loose.Expr loose.Expr loose.MemAccess loose.Primary loose.Relation loose.Add loose.And loose.Expr loose.Member loose.Mult loose.Or loose.RecInit loose.Unary expr_step expr_data_step mem_access_step primary_step relation_step add_step and_step expr_impl_step member_step mult_step or_step rec_init_step unary_step (layer.IsIn a b (Some c))
-    ∙ ap (λ y. loose.is_type_in y (part loose.missing_add (former-Relation-Common-0-at-3.map Add loose.Add view_add b)) (part loose.missing_add (former-Relation-IsIn-2-at-3.map Add loose.Add view_add c))) (in-Relation-Common-0 a.node a.loc)
-    ∙ ap (λ y. loose.is_type_in (shown_add a) y (part loose.missing_add (former-Relation-IsIn-2-at-3.map Add loose.Add view_add c))) (in-Relation-Common-0 b.node b.loc)
-    ∙ ap (λ y. loose.is_type_in (shown_add a) (shown_add b) y) (in-Relation-IsIn-2 c.node c.loc)
+    ∙ ap (λ y. loose.is_type_in y (part loose.missing_add (former-Relation-Common-0-at-3.map Add loose.Add view_add b.value)) (part loose.missing_add (former-Relation-IsIn-2-at-3.map Add loose.Add view_add c.value))) (in-Relation-Common-0 a.value.node a.value.loc)
+    ∙ ap (λ y. loose.is_type_in (shown_add a.value) y (part loose.missing_add (former-Relation-IsIn-2-at-3.map Add loose.Add view_add c.value))) (in-Relation-Common-0 b.value.node b.value.loc)
+    ∙ ap (λ y. loose.is_type_in (shown_add a.value) (shown_add b.value) y) (in-Relation-IsIn-2 c.value.node c.value.loc)
 
 -- ---- structs: one that is made, and one that is looked into
 
@@ -273,19 +273,19 @@ view_expr_impl_out t =
     let a = (out-ExprImpl t).expr in
     fold_out-ExprImpl loose.Expr loose.Expr loose.MemAccess loose.Primary loose.Relation loose.Add loose.And loose.Expr loose.Member loose.Mult loose.Or loose.RecInit loose.Unary expr_step expr_data_step mem_access_step primary_step relation_step add_step and_step expr_impl_step member_step mult_step or_step rec_init_step unary_step t
 
-pub view_member_roll : (a : Node (Option Primary)) (b : Vec (Node (Option MemAccess)) Global) → view_member (roll-Member record { item = a; access = b }) ≡ loose.member (shown_primary a) (loose.accesses (map shown_mem_access b.items))
+pub view_member_roll : (a : Box (Node (Option Primary)) Global) (b : Vec (Node (Option MemAccess)) Global) → view_member (roll-Member record { item = a; access = b }) ≡ loose.member (shown_primary a.value) (loose.accesses (map shown_mem_access b.items))
 view_member_roll a b =
     fold-roll-Member loose.Expr loose.Expr loose.MemAccess loose.Primary loose.Relation loose.Add loose.And loose.Expr loose.Member loose.Mult loose.Or loose.RecInit loose.Unary expr_step expr_data_step mem_access_step primary_step relation_step add_step and_step expr_impl_step member_step mult_step or_step rec_init_step unary_step record { item = a; access = b }
-    ∙ ap (λ y. loose.member y (loose.accesses (map (part loose.missing_access) (map (former-Member-access-at-3.map MemAccess loose.MemAccess view_mem_access) b.items)))) (in-Member-item a.node a.loc)
-    ∙ ap (λ y. loose.member (shown_primary a) (loose.accesses y)) (listed loose.missing_access view_mem_access (former-Member-access-at-3.map MemAccess loose.MemAccess view_mem_access) (λ x. in-Member-access x.node x.loc) b.items)
+    ∙ ap (λ y. loose.member y (loose.accesses (map (part loose.missing_access) (map (former-Member-access-at-3.map MemAccess loose.MemAccess view_mem_access) b.items)))) (in-Member-item a.value.node a.value.loc)
+    ∙ ap (λ y. loose.member (shown_primary a.value) (loose.accesses y)) (listed loose.missing_access view_mem_access (former-Member-access-at-3.map MemAccess loose.MemAccess view_mem_access) (λ x. in-Member-access x.node x.loc) b.items)
 
-pub view_member_out : (t : Member) → view_member t ≡ loose.member (shown_primary (out-Member t).item) (loose.accesses (map shown_mem_access (out-Member t).access.items))
+pub view_member_out : (t : Member) → view_member t ≡ loose.member (shown_primary (out-Member t).item.value) (loose.accesses (map shown_mem_access (out-Member t).access.items))
 view_member_out t =
     let a = (out-Member t).item in
     let b = (out-Member t).access in
     fold_out-Member loose.Expr loose.Expr loose.MemAccess loose.Primary loose.Relation loose.Add loose.And loose.Expr loose.Member loose.Mult loose.Or loose.RecInit loose.Unary expr_step expr_data_step mem_access_step primary_step relation_step add_step and_step expr_impl_step member_step mult_step or_step rec_init_step unary_step t
-    ∙ ap (λ y. loose.member y (loose.accesses (map (part loose.missing_access) (map (former-Member-access-at-3.map MemAccess loose.MemAccess view_mem_access) b.items)))) (in-Member-item a.node a.loc)
-    ∙ ap (λ y. loose.member (shown_primary a) (loose.accesses y)) (listed loose.missing_access view_mem_access (former-Member-access-at-3.map MemAccess loose.MemAccess view_mem_access) (λ x. in-Member-access x.node x.loc) b.items)
+    ∙ ap (λ y. loose.member y (loose.accesses (map (part loose.missing_access) (map (former-Member-access-at-3.map MemAccess loose.MemAccess view_mem_access) b.items)))) (in-Member-item a.value.node a.value.loc)
+    ∙ ap (λ y. loose.member (shown_primary a.value) (loose.accesses y)) (listed loose.missing_access view_mem_access (former-Member-access-at-3.map MemAccess loose.MemAccess view_mem_access) (λ x. in-Member-access x.node x.loc) b.items)
 
 pub view_mult_roll : (a : Node (Option Unary)) (b : Vec (MultOp × Node (Option Unary)) Global) → view_mult (roll-Mult record { initial = a; extended = b }) ≡ loose.mult (shown_unary a) (loose.unaries (map {B = loose.MultOp × loose.Unary} (λ x. (view_mult_op x.0, shown_unary x.1)) b.items))
 view_mult_roll a b =

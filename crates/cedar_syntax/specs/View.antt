@@ -47,19 +47,19 @@ mem_access_step (layer.Index n) = loose.index (part loose.missing_expr n)
 
 abbrev pub primary_step : Primary-F loose.Expr loose.Expr loose.MemAccess loose.Primary loose.Relation loose.Add loose.And loose.Expr loose.Member loose.Mult loose.Or loose.RecInit loose.Unary → loose.Primary
 primary_step (layer.Literal n) = loose.literal (shown_literal n)
-primary_step (layer.Ref n) = loose.entity (shown_ref n)
-primary_step (layer.Name n) = loose.named (shown_name n)
+primary_step (layer.Ref n) = loose.entity (shown_ref n.value)
+primary_step (layer.Name n) = loose.named (shown_name n.value)
 primary_step (layer.Slot n) = loose.slot (shown_slot n)
 primary_step (layer.Primary::Expr n) = loose.expr (part loose.missing_expr n)
 primary_step (layer.EList v) = loose.e_list (loose.exprs (map (part loose.missing_expr) v.items))
 primary_step (layer.RInits v) = loose.r_inits (loose.rec_inits (map (part loose.missing_rec_init) v.items))
 
 abbrev pub relation_step : Relation-F loose.Expr loose.Expr loose.MemAccess loose.Primary loose.Relation loose.Add loose.And loose.Expr loose.Member loose.Mult loose.Or loose.RecInit loose.Unary → loose.Relation
-relation_step (layer.Common first more) = loose.common (part loose.missing_add first) (loose.adds (map (λ x. (view_rel_op x.0, part loose.missing_add x.1)) more.items))
-relation_step (layer.Has a b) = loose.has (part loose.missing_add a) (part loose.missing_add b)
-relation_step (layer.Like a b) = loose.like (part loose.missing_add a) (part loose.missing_add b)
-relation_step (layer.IsIn a b None) = loose.is_type (part loose.missing_add a) (part loose.missing_add b)
-relation_step (layer.IsIn a b (Some c)) = loose.is_type_in (part loose.missing_add a) (part loose.missing_add b) (part loose.missing_add c)
+relation_step (layer.Common first more) = loose.common (part loose.missing_add first.value) (loose.adds (map (λ x. (view_rel_op x.0, part loose.missing_add x.1)) more.items))
+relation_step (layer.Has a b) = loose.has (part loose.missing_add a.value) (part loose.missing_add b.value)
+relation_step (layer.Like a b) = loose.like (part loose.missing_add a.value) (part loose.missing_add b.value)
+relation_step (layer.IsIn a b None) = loose.is_type (part loose.missing_add a.value) (part loose.missing_add b.value)
+relation_step (layer.IsIn a b (Some c)) = loose.is_type_in (part loose.missing_add a.value) (part loose.missing_add b.value) (part loose.missing_add c.value)
 
 abbrev pub add_step : Add-F loose.Expr loose.Expr loose.MemAccess loose.Primary loose.Relation loose.Add loose.And loose.Expr loose.Member loose.Mult loose.Or loose.RecInit loose.Unary → loose.Add
 add_step f = loose.add (part loose.missing_mult f.initial) (loose.mults (map (λ x. (view_add_op x.0, part loose.missing_mult x.1)) f.extended.items))
@@ -71,7 +71,7 @@ abbrev pub expr_impl_step : ExprImpl-F loose.Expr loose.Expr loose.MemAccess loo
 expr_impl_step f = f.expr.value
 
 abbrev pub member_step : Member-F loose.Expr loose.Expr loose.MemAccess loose.Primary loose.Relation loose.Add loose.And loose.Expr loose.Member loose.Mult loose.Or loose.RecInit loose.Unary → loose.Member
-member_step f = loose.member (part loose.missing_primary f.item) (loose.accesses (map (part loose.missing_access) f.access.items))
+member_step f = loose.member (part loose.missing_primary f.item.value) (loose.accesses (map (part loose.missing_access) f.access.items))
 
 abbrev pub mult_step : Mult-F loose.Expr loose.Expr loose.MemAccess loose.Primary loose.Relation loose.Add loose.And loose.Expr loose.Member loose.Mult loose.Or loose.RecInit loose.Unary → loose.Mult
 mult_step f = loose.mult (part loose.missing_unary f.initial) (loose.unaries (map (λ x. (view_mult_op x.0, part loose.missing_unary x.1)) f.extended.items))

@@ -102,32 +102,33 @@ pub struct And {
     pub extended: Vec<Node<Option<Relation>>>,
 }
 
-/// A comparison, or another relation.
+/// A comparison, or another relation. Its operands stand in boxes, since reading keeps what it makes on
+/// the stack, at every level of nested brackets.
 #[derive(PartialEq, Eq, Drop)]
 #[cycle(expression)]
 pub enum Relation {
     /// A chain of comparisons, which may be one operand alone.
     Common {
         /// The first operand.
-        initial: Node<Option<Add>>,
+        initial: Box<Node<Option<Add>>>,
         /// The further operands, each with the operator before it.
         extended: Vec<(RelOp, Node<Option<Add>>)>,
     },
     /// `target has field`
     Has {
-        target: Node<Option<Add>>,
-        field: Node<Option<Add>>,
+        target: Box<Node<Option<Add>>>,
+        field: Box<Node<Option<Add>>>,
     },
     /// `target like pattern`
     Like {
-        target: Node<Option<Add>>,
-        pattern: Node<Option<Add>>,
+        target: Box<Node<Option<Add>>>,
+        pattern: Box<Node<Option<Add>>>,
     },
     /// `target is entity_type` or `target is entity_type in in_entity`
     IsIn {
-        target: Node<Option<Add>>,
-        entity_type: Node<Option<Add>>,
-        in_entity: Option<Node<Option<Add>>>,
+        target: Box<Node<Option<Add>>>,
+        entity_type: Box<Node<Option<Add>>>,
+        in_entity: Option<Box<Node<Option<Add>>>>,
     },
 }
 
@@ -163,7 +164,7 @@ pub struct Unary {
 #[derive(PartialEq, Eq, Drop)]
 #[cycle(expression)]
 pub struct Member {
-    pub item: Node<Option<Primary>>,
+    pub item: Box<Node<Option<Primary>>>,
     /// The accesses, in the text's order.
     pub access: Vec<Node<Option<MemAccess>>>,
 }
@@ -187,9 +188,9 @@ pub enum Primary {
     /// A Boolean, a number or a string.
     Literal(Node<Option<Literal>>),
     /// An entity.
-    Ref(Node<Option<Ref>>),
+    Ref(Box<Node<Option<Ref>>>),
     /// A name.
-    Name(Node<Option<Name>>),
+    Name(Box<Node<Option<Name>>>),
     /// A slot of a template.
     Slot(Node<Option<Slot>>),
     /// An expression in parentheses.

@@ -128,7 +128,7 @@ comparisons-links-init t c = rw c.new-extended.ensures.items (links_start rel_op
 pub comparisons-returns-in_err-next : goal.comparisons-returns-in_err-next
 comparisons-returns-in_err-next t c =
     let p = err_from_is_err_and c.from_residual.result c.from_residual.ensures.1 in
-    rw (p.1, p.2) (mapped_fails c.in_err-next.field-0.0 (links_of rel_op (add_of (expr_at c.args.depth)) c.args.self.now) (λ bs. loose.common (shown_add c.args.target) (loose.adds bs)) (links_fail rel_op (add_of (expr_at c.args.depth)) (map linked_add c.links.extended.items) c.links.self (links_of rel_op (add_of (expr_at c.args.depth)) c.args.self.now) _ c.rel_operator.new.self c.in-Some.ensures c.in_err-next.field-0.0 c.links.invariant c.in_err-next.ensures))
+    rw (p.1, p.2) (mapped_fails c.in_err-next.field-0.0 (links_of rel_op (add_of (expr_at c.args.depth)) c.args.self.now) (λ bs. loose.common (shown_add c.args.target.value) (loose.adds bs)) (links_fail rel_op (add_of (expr_at c.args.depth)) (map linked_add c.links.extended.items) c.links.self (links_of rel_op (add_of (expr_at c.args.depth)) c.args.self.now) _ c.rel_operator.new.self c.in-Some.ensures c.in_err-next.field-0.0 c.links.invariant c.in_err-next.ensures))
 
 pub comparisons-links-preserved : goal.comparisons-links-preserved
 comparisons-links-preserved t c = rw (c.in_ok-push.ensures.items, map_push) (links_more rel_op (add_of (expr_at c.args.depth)) (map linked_add c.links.extended.items) c.links.self (links_of rel_op (add_of (expr_at c.args.depth)) c.args.self.now) _ c.rel_operator.new.self c.in-Some.ensures (shown_add c.in_ok-next.next) c.add.new.self c.in_ok-next.ensures (add-leaves (expr_at c.args.depth) (expr_at-leaves c.args.depth)) c.links.invariant)
@@ -137,7 +137,7 @@ pub comparisons-links-smaller : goal.comparisons-links-smaller
 comparisons-links-smaller t c = links_fewer rel_op (add_of (expr_at c.args.depth)) (map linked_add c.links.extended.items) c.links.self (links_of rel_op (add_of (expr_at c.args.depth)) c.args.self.now) _ c.rel_operator.new.self c.in-Some.ensures (shown_add c.in_ok-next.next) c.add.new.self c.in_ok-next.ensures (add-leaves (expr_at c.args.depth) (expr_at-leaves c.args.depth))
 
 pub comparisons-returns : goal.comparisons-returns
-comparisons-returns t c = ap (λ r. mapped (λ bs. loose.common (shown_add c.args.target) (loose.adds bs)) r) (links_done rel_op (add_of (expr_at c.args.depth)) (map linked_add c.links.extended.items) c.links.self (links_of rel_op (add_of (expr_at c.args.depth)) c.args.self.now) c.links.invariant c.rel_operator.new.self c.in_default.ensures)
+comparisons-returns t c = ap (λ r. mapped (λ bs. loose.common (shown_add c.args.target.value) (loose.adds bs)) r) (links_done rel_op (add_of (expr_at c.args.depth)) (map linked_add c.links.extended.items) c.links.self (links_of rel_op (add_of (expr_at c.args.depth)) c.args.self.now) c.links.invariant c.rel_operator.new.self c.in_default.ensures)
     ∙ ap (λ o. Ok (o, c.rel_operator.new.self)) (sym c.in_ok-common_relation.ensures)
 
 pub exprs-items-init : goal.exprs-items-init
@@ -298,21 +298,21 @@ relation-returns-in_err-target t c =
 pub relation-returns-in_err-field : goal.relation-returns-in_err-field
 relation-returns-in_err-field t c =
     let p = err_from_is_err_and c.from_residual-in_err-field.result c.from_residual-in_err-field.ensures.1 in
-    rw (p.1, p.2) (fails_as c.in_err-field.field-0.0 (relation_of (expr_at c.args.depth) c.args.self.now) (mapped (loose.has (shown_add c.in_ok-target.target)) (add_of (expr_at c.args.depth) c.eat_has.new.self)) (relation_by_has (expr_at c.args.depth) c.args.self.now (shown_add c.in_ok-target.target) c.add.new.self c.in_ok-target.ensures c.eat_has.new.self c.if-eat_has.ensures) (mapped_fails c.in_err-field.field-0.0 (add_of (expr_at c.args.depth) c.eat_has.new.self) (loose.has (shown_add c.in_ok-target.target)) c.in_err-field.ensures))
+    rw (p.1, p.2) (fails_as c.in_err-field.field-0.0 (relation_of (expr_at c.args.depth) c.args.self.now) (mapped (loose.has (shown_add c.in_ok-target.target.value)) (add_of (expr_at c.args.depth) c.eat_has.new.self)) (relation_by_has (expr_at c.args.depth) c.args.self.now (shown_add c.in_ok-target.target.value) c.operand.new.self c.in_ok-target.ensures c.eat_has.new.self c.if-eat_has.ensures) (mapped_fails c.in_err-field.field-0.0 (add_of (expr_at c.args.depth) c.eat_has.new.self) (loose.has (shown_add c.in_ok-target.target.value)) c.in_err-field.ensures))
 
 pub relation-returns-in_ok-has_relation : goal.relation-returns-in_ok-has_relation
-relation-returns-in_ok-has_relation t c = made c.in_ok-has_relation.ensures (relation_by_has (expr_at c.args.depth) c.args.self.now (shown_add c.in_ok-target.target) c.add.new.self c.in_ok-target.ensures c.eat_has.new.self c.if-eat_has.ensures ∙ ap (mapped (loose.has (shown_add c.in_ok-target.target))) c.in_ok-field.ensures)
+relation-returns-in_ok-has_relation t c = made c.in_ok-has_relation.ensures (relation_by_has (expr_at c.args.depth) c.args.self.now (shown_add c.in_ok-target.target.value) c.operand.new.self c.in_ok-target.ensures c.eat_has.new.self c.if-eat_has.ensures ∙ ap (mapped (loose.has (shown_add c.in_ok-target.target.value))) c.in_ok-field.ensures)
 
 pub relation-returns-in_err-pattern : goal.relation-returns-in_err-pattern
 relation-returns-in_err-pattern t c =
     let p = err_from_is_err_and c.from_residual-in_err-pattern.result c.from_residual-in_err-pattern.ensures.1 in
-    rw (p.1, p.2) (fails_as c.in_err-pattern.field-0.0 (relation_of (expr_at c.args.depth) c.args.self.now) (mapped (loose.like (shown_add c.in_ok-target.target)) (add_of (expr_at c.args.depth) c.eat_like.new.self)) (relation_by_like (expr_at c.args.depth) c.args.self.now (shown_add c.in_ok-target.target) c.add.new.self c.in_ok-target.ensures c.eat_has.new.self c.if-eat_has.ensures c.eat_like.new.self c.if-eat_like.ensures) (mapped_fails c.in_err-pattern.field-0.0 (add_of (expr_at c.args.depth) c.eat_like.new.self) (loose.like (shown_add c.in_ok-target.target)) c.in_err-pattern.ensures))
+    rw (p.1, p.2) (fails_as c.in_err-pattern.field-0.0 (relation_of (expr_at c.args.depth) c.args.self.now) (mapped (loose.like (shown_add c.in_ok-target.target.value)) (add_of (expr_at c.args.depth) c.eat_like.new.self)) (relation_by_like (expr_at c.args.depth) c.args.self.now (shown_add c.in_ok-target.target.value) c.operand.new.self c.in_ok-target.ensures c.eat_has.new.self c.if-eat_has.ensures c.eat_like.new.self c.if-eat_like.ensures) (mapped_fails c.in_err-pattern.field-0.0 (add_of (expr_at c.args.depth) c.eat_like.new.self) (loose.like (shown_add c.in_ok-target.target.value)) c.in_err-pattern.ensures))
 
 pub relation-returns-in_ok-like_relation : goal.relation-returns-in_ok-like_relation
-relation-returns-in_ok-like_relation t c = made c.in_ok-like_relation.ensures (relation_by_like (expr_at c.args.depth) c.args.self.now (shown_add c.in_ok-target.target) c.add.new.self c.in_ok-target.ensures c.eat_has.new.self c.if-eat_has.ensures c.eat_like.new.self c.if-eat_like.ensures ∙ ap (mapped (loose.like (shown_add c.in_ok-target.target))) c.in_ok-pattern.ensures)
+relation-returns-in_ok-like_relation t c = made c.in_ok-like_relation.ensures (relation_by_like (expr_at c.args.depth) c.args.self.now (shown_add c.in_ok-target.target.value) c.operand.new.self c.in_ok-target.ensures c.eat_has.new.self c.if-eat_has.ensures c.eat_like.new.self c.if-eat_like.ensures ∙ ap (mapped (loose.like (shown_add c.in_ok-target.target.value))) c.in_ok-pattern.ensures)
 
 pub relation-returns-then-eat_is : goal.relation-returns-then-eat_is
-relation-returns-then-eat_is t c = gives_as shown_relation c.is.result c.is.new.self (relation_of (expr_at c.args.depth) c.args.self.now) (is_of (expr_at c.args.depth) (shown_add c.in_ok-target.target) c.eat_is.new.self) (relation_by_is (expr_at c.args.depth) c.args.self.now (shown_add c.in_ok-target.target) c.add.new.self c.in_ok-target.ensures c.eat_has.new.self c.if-eat_has.ensures c.eat_like.new.self c.if-eat_like.ensures c.eat_is.new.self c.if-eat_is.ensures) c.is.ensures
+relation-returns-then-eat_is t c = gives_as shown_relation c.is.result c.is.new.self (relation_of (expr_at c.args.depth) c.args.self.now) (is_of (expr_at c.args.depth) (shown_add c.in_ok-target.target.value) c.eat_is.new.self) (relation_by_is (expr_at c.args.depth) c.args.self.now (shown_add c.in_ok-target.target.value) c.operand.new.self c.in_ok-target.ensures c.eat_has.new.self c.if-eat_has.ensures c.eat_like.new.self c.if-eat_like.ensures c.eat_is.new.self c.if-eat_is.ensures) c.is.ensures
 
 pub relation-returns-else-eat_is : goal.relation-returns-else-eat_is
-relation-returns-else-eat_is t c = gives_as shown_relation c.comparisons.result c.comparisons.new.self (relation_of (expr_at c.args.depth) c.args.self.now) (comparisons_of (expr_at c.args.depth) (shown_add c.in_ok-target.target) c.eat_is.new.self) (relation_by_common (expr_at c.args.depth) c.args.self.now (shown_add c.in_ok-target.target) c.add.new.self c.in_ok-target.ensures c.eat_has.new.self c.if-eat_has.ensures c.eat_like.new.self c.if-eat_like.ensures c.eat_is.new.self c.if-eat_is.ensures) c.comparisons.ensures
+relation-returns-else-eat_is t c = gives_as shown_relation c.comparisons.result c.comparisons.new.self (relation_of (expr_at c.args.depth) c.args.self.now) (comparisons_of (expr_at c.args.depth) (shown_add c.in_ok-target.target.value) c.eat_is.new.self) (relation_by_common (expr_at c.args.depth) c.args.self.now (shown_add c.in_ok-target.target.value) c.operand.new.self c.in_ok-target.ensures c.eat_has.new.self c.if-eat_has.ensures c.eat_like.new.self c.if-eat_like.ensures c.eat_is.new.self c.if-eat_is.ensures) c.comparisons.ensures

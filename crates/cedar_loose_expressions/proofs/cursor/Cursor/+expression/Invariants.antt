@@ -43,17 +43,20 @@ decreases-add l = 16 * l.depth + 7
 abbrev pub decreases-comparisons : goal.decreases-comparisons
 decreases-comparisons l = 16 * l.depth + 8
 
+abbrev pub decreases-operand : goal.decreases-operand
+decreases-operand l = 16 * l.depth + 8
+
 abbrev pub decreases-is : goal.decreases-is
-decreases-is l = 16 * l.depth + 8
+decreases-is l = 16 * l.depth + 9
 
 abbrev pub decreases-relation : goal.decreases-relation
-decreases-relation l = 16 * l.depth + 9
+decreases-relation l = 16 * l.depth + 10
 
 abbrev pub decreases-and : goal.decreases-and
-decreases-and l = 16 * l.depth + 10
+decreases-and l = 16 * l.depth + 11
 
 abbrev pub decreases-or : goal.decreases-or
-decreases-or l = 16 * l.depth + 11
+decreases-or l = 16 * l.depth + 12
 
 abbrev pub invariant-or-links : goal.invariant-or-links
 invariant-or-links l = Links or_op (and_of (expr_at l.depth)) (map (alone shown_and) l.extended.items) l.self (links_of or_op (and_of (expr_at l.depth)) l.initial.self)
