@@ -1,11 +1,12 @@
 //! The builder of `Expr`.
-ghost use Rattle.std.specs.Prelude.{◌≡◌, IfOk, IfNone, IfSome, IsSomeAnd, map};
+ghost use Rattle.std.specs.Prelude.{◌≡◌, None, Some, IfOk, IfNone, IfSome, IsSomeAnd, map};
+ghost use Rattle.std.specs.Option.{option_copied};
 ghost use Rattle.cedar_language.specs.Tree as tree;
 ghost use Rattle.cedar_trees.specs.Bare.{bare, bare_entries, record_tree};
 ghost use Rattle.cedar_trees.specs.Records.{refused_key, record_made};
 ghost use Rattle.cedar_grammar.specs.Build.{trees};
 ghost use Rattle.cedar_builders.specs.Operations.{Gives, Builds};
-ghost use Rattle.cedar_builders.specs.Places.{SamePlace};
+ghost use Rattle.cedar_builders.specs.Places.{SamePlace, SamePlaces};
 
 use crate::expr_builder;
 use cedar_literals::literals::Literal;
@@ -83,7 +84,7 @@ impl<T> ExprBuilder<T> {
 }
 
 impl<T: Clone + Drop> Clone for ExprBuilder<T> {
-    ghost is_clone = { λ builder copy. T.is_clone builder.«data» copy.«data» };
+    ghost is_clone = { λ builder copy. T.is_clone builder.«data» copy.«data» × SamePlaces builder.source_loc copy.source_loc };
 
     fn clone(&self) -> Result<ExprBuilder<T>, AllocError> {
         let data = self.data.clone()?;
@@ -125,7 +126,9 @@ impl expr_builder::ExprBuilder for ExprBuilder {
 
     ghost memory = { λ a e is. ap refused_key is };
 
-    fn new(alloc: Global) -> ExprBuilder {
+    fn new(alloc: Global) -> ExprBuilder
+        ensures { result.source_loc ≡ None }
+    {
         ExprBuilder {
             alloc,
             source_loc: None,
@@ -133,7 +136,9 @@ impl expr_builder::ExprBuilder for ExprBuilder {
         }
     }
 
-    fn with_data(alloc: Global, data: ()) -> ExprBuilder {
+    fn with_data(alloc: Global, data: ()) -> ExprBuilder
+        ensures { result.source_loc ≡ None }
+    {
         ExprBuilder {
             alloc,
             source_loc: None,
@@ -141,7 +146,9 @@ impl expr_builder::ExprBuilder for ExprBuilder {
         }
     }
 
-    fn with_maybe_source_loc(self, source_loc: Option<Loc>) -> ExprBuilder {
+    fn with_maybe_source_loc(self, source_loc: Option<Loc>) -> ExprBuilder
+        ensures { result.source_loc ≡ source_loc }
+    {
         ExprBuilder {
             alloc: self.alloc,
             source_loc,
@@ -149,7 +156,15 @@ impl expr_builder::ExprBuilder for ExprBuilder {
         }
     }
 
-    fn loc(&self) -> Option<&Loc> {
+    fn with_source_loc(self, source_loc: Loc) -> ExprBuilder
+        ensures { result.source_loc ≡ Some source_loc }
+    {
+        self.with_maybe_source_loc(Some(source_loc))
+    }
+
+    fn loc(&self) -> Option<&Loc>
+        ensures { option_copied result ≡ self.now.source_loc }
+    {
         self.source_loc.as_ref()
     }
 

@@ -1,5 +1,5 @@
 -- What errors tell: what was met, and where.
-use Rattle.std.specs.Prelude.{ℕ, List, [], ◌∷◌, map, Option, None}
+use Rattle.std.specs.Prelude.{ℕ, List, [], ◌∷◌, map, Bool, true, false, Option, None, option_map}
 use Rattle.std.specs.Rc.{rc_str_bytes}
 use Rattle.std.specs.String.{string_bytes}
 use Rattle.cedar_language.specs.Uid.{Text, Name, Uid}
@@ -9,6 +9,7 @@ use Rattle.cedar_literals.specs.Types.{value_type_of}
 use Rattle.cedar_literals.specs.Operators.{unary_operator_of, binary_operator_of}
 use Rattle.cedar_literals.specs.declared.types.Type as code
 use Rattle.cedar_names.specs.declared.places.Loc.{Loc}
+use Rattle.cedar_names.specs.declared.places.Span.{Span}
 use Rattle.cedar_trees.specs.declared.unknowns.NonEmpty.{NonEmpty}
 use Rattle.cedar_errors.specs.Residuals.{residual_tree}
 use Rattle.cedar_errors.specs.declared.missing.Named.{Named}
@@ -123,6 +124,20 @@ place_of (error.FailedExtensionFunctionExecution e) = e.source_loc
 place_of (error.NonValue e) = e.source_loc
 place_of (error.RecursionLimit e) = e.source_loc
 place_of error.Memory = None
+
+-- the error of a failed look-up; want of memory is none
+abbrev pub by_lookup : ExtensionFunctionLookupError → EvaluationError
+by_lookup (lookup.FuncDoesNotExist e) = error.FailedExtensionFunctionLookup (lookup.FuncDoesNotExist e)
+by_lookup (lookup.Memory e) = error.Memory
+
+-- a failed look-up that is want of memory
+abbrev pub hides_memory : EvaluationError → Bool
+hides_memory (error.FailedExtensionFunctionLookup (lookup.Memory e)) = true
+hides_memory _ = false
+
+-- the range of a place, and its text
+abbrev pub seen_place : Option Loc → Option (Span × Text)
+seen_place = option_map (λ l. (l.span, rc_str_bytes l.src))
 
 -- the place of such an error that is met elsewhere; want of memory has none
 abbrev pub place_kept : Cause → Option Loc → Option Loc

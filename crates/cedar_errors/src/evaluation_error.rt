@@ -1,7 +1,7 @@
 // Why an expression has no value.
-ghost use Rattle.std.specs.Prelude.{◌≡◌};
+ghost use Rattle.std.specs.Prelude.{◌≡◌, false};
 ghost use Rattle.std.specs.Option.{option_copied};
-ghost use Rattle.cedar_errors.specs.Causes.{cause_of, place_of, place_kept, lookup_cause, lookup_place, overflow_cause, overflow_place};
+ghost use Rattle.cedar_errors.specs.Causes.{hides_memory, cause_of, place_of, place_kept, lookup_cause, lookup_place, overflow_cause, overflow_place};
 
 use crate::calls::{ExtensionFunctionExecutionError, WrongNumArgumentsError};
 use crate::lookups::{ExtensionFunctionLookupError, FuncDoesNotExistError};
@@ -79,10 +79,12 @@ impl EvaluationError {
         }
     }
 
-    /// The same error, met at another place, or at none. Want of memory has no place.
+    /// The same error, met at another place, or at none. Want of memory has no place, and is no failed
+    /// look-up.
     pub fn with_maybe_source_loc(self, source_loc: Option<Loc>) -> EvaluationError
         ensures cause { cause_of result ≡ cause_of self }
         ensures place { place_of result ≡ place_kept (cause_of self) source_loc }
+        ensures memory { hides_memory result ≡ false }
     {
         match self {
             EvaluationError::EntityDoesNotExist(error) => {
@@ -243,9 +245,9 @@ impl From<RecursionLimitError> for EvaluationError {
 
 impl From<ExtensionFunctionLookupError> for EvaluationError {
     ghost use Rattle.std.specs.Prelude.{◌≡◌};
-    ghost use Rattle.cedar_errors.specs.Causes.{cause_of, place_of, lookup_cause, lookup_place};
+    ghost use Rattle.cedar_errors.specs.Causes.{by_lookup, cause_of, place_of, lookup_cause, lookup_place};
 
-    ghost from_gives = { λ error made. (cause_of made ≡ lookup_cause error) × (place_of made ≡ lookup_place error) };
+    ghost from_gives = { λ error made. (made ≡ by_lookup error) × (cause_of made ≡ lookup_cause error) × (place_of made ≡ lookup_place error) };
 
     /// Want of memory stays want of memory.
     fn from(error: ExtensionFunctionLookupError) -> EvaluationError {

@@ -1,5 +1,5 @@
 -- Extension functions, as the definitions have them, and what calls give.
-use Rattle.std.specs.Prelude.{◌≡◌, ⊤, List, [], ◌∷◌, map, Bool, true, false, Option, Some, None}
+use Rattle.std.specs.Prelude.{◌≡◌, ⊤, ℕ, List, [], ◌∷◌, map, Bool, true, false, Option, Some, None}
 use Rattle.std.specs.declared.alloc.Global.{Global}
 use Rattle.std.specs.declared.rc.RcStr.{RcStr}
 use Rattle.std.specs.Rc.{rc_str_bytes}
@@ -9,6 +9,7 @@ use Rattle.cedar_language.specs.Value.{Value, Plain}
 use Rattle.cedar_language.specs.Facts as facts
 use Rattle.cedar_literals.specs.Types.{value_type_of}
 use Rattle.cedar_literals.specs.declared.types.Type as code
+use Rattle.cedar_errors.specs.Causes.{Cause, OtherCount, NoAnswer, OutOfMemory}
 use Rattle.cedar_trees.specs.Unknowns.{unknown_name, unknown_type}
 use Rattle.cedar_world.specs.Functions as world
 use Rattle.cedar_world.specs.Functions.{NamedFunction, unknown_function}
@@ -87,3 +88,10 @@ IsOutput true (output.Unknown u) = unknown_type u ≡ None
 IsOutput true (output.Known v) = ⊥
 IsOutput false (output.Unknown u) = ⊥
 IsOutput false (output.Known v) = ⊤
+
+-- what a refused call tells: the function, how many arguments it takes, and how many it was given; or that it has no answer
+abbrev pub TellsOfCall : Name → Option ℕ → ℕ → Cause → Type 0
+TellsOfCall f taken given (OtherCount g m n) = (g ≡ f) × (Some m ≡ taken) × (n ≡ given)
+TellsOfCall f taken given (NoAnswer g msg) = g ≡ f
+TellsOfCall f taken given OutOfMemory = ⊤
+TellsOfCall f taken given _ = ⊥

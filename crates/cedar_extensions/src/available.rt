@@ -1,7 +1,7 @@
 // The extensions of the library's own.
 ghost use Rattle.std.specs.Prelude.{◌≡◌, ◌∷◌, [], IfOk};
 ghost use Rattle.cedar_names.specs.Identifiers.{IsUnreservedId};
-ghost use Rattle.cedar_extensions.specs.Holding.{extension_functions};
+ghost use Rattle.cedar_extensions.specs.Holding.{extension_functions, ordered_types};
 ghost use Rattle.cedar_extensions.specs.Lookups.{IsUnknownAlone};
 
 use crate::extension::Extension;
@@ -12,7 +12,8 @@ use std::alloc::{AllocError, Global};
 
 /// The extension of the built-in `unknown`.
 pub(crate) fn partial_evaluation(alloc: Global) -> Result<Extension, AllocError>
-    ensures { IfOk result (λ extension. IsUnknownAlone (extension_functions extension)) }
+    ensures alone { IfOk result (λ extension. IsUnknownAlone (extension_functions extension)) }
+    ensures ordered { IfOk result (λ extension. ordered_types extension ≡ []) }
 {
     let unknown = ExtensionFunction::partial_eval_unknown(
         alloc,

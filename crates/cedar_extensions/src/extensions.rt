@@ -41,6 +41,7 @@ impl<'a> Extensions<'a> {
     pub fn all_available(alloc: Global) -> Result<Extensions<'a>, AllocError>
         ensures unknown { IfOk result (λ table. holds_unknown table ≡ true) }
         ensures alone { IfOk result (λ table. IsUnknownAlone (functions_in table)) }
+        ensures ordered { IfOk result (λ table. flat_map ordered_types (extensions_in table) ≡ []) }
     {
         Ok(Extensions {
             extensions: vec![in alloc; partial_evaluation(alloc)?]?,

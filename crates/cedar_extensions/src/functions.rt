@@ -1,5 +1,5 @@
 // Extension functions.
-ghost use Rattle.std.specs.Prelude.{◌≡◌, [], ◌∷◌, IfOk, map, None, is_none, option_map, true};
+ghost use Rattle.std.specs.Prelude.{◌≡◌, ℕ, [], ◌∷◌, length, IfOk, IfErr, map, Option, None, is_none, option_map, true};
 ghost use Rattle.std.specs.Option.{option_copied};
 ghost use Rattle.cedar_language.specs.Order.{all_of};
 ghost use Rattle.cedar_language.specs.Operators.{called, or_fails};
@@ -7,9 +7,10 @@ ghost use Rattle.cedar_language.specs.Value as language;
 ghost use Rattle.cedar_language.specs.Value.{a_value, no_values, FailedExtensionFunctionExecution};
 ghost use Rattle.cedar_literals.specs.Types.{value_type_of};
 ghost use Rattle.cedar_world.specs.Functions.{one_string, unknown_function};
+ghost use Rattle.cedar_errors.specs.Causes.{cause_of};
 ghost use Rattle.cedar_errors.specs.Giving.{Gives};
 ghost use Rattle.cedar_errors.specs.Failures.{OfKind, failure_of};
-ghost use Rattle.cedar_extensions.specs.Functions.{function_name, function_style, style_of, meaning_of, is_unknown, returned_type, argument_types, is_single_argument_constructor, extension_type_of, output_value, IsOutput, string_value};
+ghost use Rattle.cedar_extensions.specs.Functions.{function_name, function_style, style_of, meaning_of, is_unknown, returned_type, argument_types, is_single_argument_constructor, extension_type_of, output_value, IsOutput, TellsOfCall, string_value};
 
 use cedar_errors::evaluation_error::EvaluationError;
 use cedar_literals::literals::Literal;
@@ -180,6 +181,8 @@ impl ExtensionFunction {
     ) -> Result<ExtensionOutputValue, EvaluationError>
         ensures meaning { Gives output_value ⊥ result (called (Some (meaning_of self.now)) (all_of args.now)) }
         ensures unknown { IfOk result (IsOutput (is_unknown self.now)) }
+        ensures refusal { IfErr result (λ error. TellsOfCall (function_name self.now)
+            (meaning_of self.now).takes (length args.now) (cause_of error)) }
     {
         match self.function {
             Function::Unknown => self.call_unknown(alloc, args),
@@ -193,6 +196,8 @@ impl ExtensionFunction {
     ) -> Result<ExtensionOutputValue, EvaluationError>
         ensures meaning { Gives output_value ⊥ result (called (Some unknown_function) (all_of args.now)) }
         ensures unknown { IfOk result (IsOutput true) }
+        ensures refusal { IfErr result (λ error. TellsOfCall (function_name self.now)
+            unknown_function.takes (length args.now) (cause_of error)) }
     {
         if args.len() != 1 {
             let name = self.name.clone(alloc)?;
@@ -207,7 +212,9 @@ impl ExtensionFunction {
 
     // What it was given is no text.
     fn no_text(&self, alloc: Global) -> Result<EvaluationError, AllocError>
-        ensures { IfOk result (λ error. failure_of error ≡ OfKind FailedExtensionFunctionExecution) }
+        ensures kind { IfOk result (λ error. failure_of error ≡ OfKind FailedExtensionFunctionExecution) }
+        ensures refusal { IfOk result (λ error. (taken : Option ℕ) (given : ℕ) →
+            TellsOfCall (function_name self.now) taken given (cause_of error)) }
     {
         let name = self.name.clone(alloc)?;
         let msg = String::from_str(alloc, "the name of an unknown is a string")?;

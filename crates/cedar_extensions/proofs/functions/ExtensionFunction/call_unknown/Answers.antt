@@ -3,3 +3,6 @@ use Rattle.cedar_extensions.proofs.functions.ExtensionFunction.call_unknown.Goal
 
 pub returns-then-args-ne1-clause-meaning : goal.returns-then-args-ne1-clause-meaning
 returns-then-args-ne1-clause-meaning c = rw c.wrong_num_arguments.ensures.kind (called_others c.args.args.now c.if-args-ne1.true)
+
+pub returns-in_ok-no_text-in-None-clause-refusal : goal.returns-in_ok-no_text-in-None-clause-refusal
+returns-in_ok-no_text-in-None-clause-refusal c = c.in_ok-no_text-in-None.ensures.refusal _ _
