@@ -1,3 +1,4 @@
 pub mod Policies
 pub mod SamePolicies
 pub mod Linking
+pub mod Unknowns

@@ -5,3 +5,4 @@ mod displays;
 pub mod errors;
 pub mod linking;
 pub mod policies;
+mod unknowns;

@@ -11,3 +11,5 @@ mod merging;
 mod policy_set;
 #[cfg(test)]
 mod templates;
+#[cfg(test)]
+mod unknowns;

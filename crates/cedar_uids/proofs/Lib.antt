@@ -1,1 +1,4 @@
 pub mod Sameness
+pub mod Escaping
+pub mod ReadingBack
+pub mod Cutting

@@ -98,7 +98,7 @@ impl fmt::Display for EscapedChar {
     }
 }
 
-fn is_control(c: char) -> bool
+pub(crate) fn is_control(c: char) -> bool
     ensures { result ≡ escapes.is_control c }
 {
     (c as u32) < 32 || c as u32 == 127

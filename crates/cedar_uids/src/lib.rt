@@ -4,5 +4,7 @@
 
 pub mod escapes;
 pub mod laws;
+pub mod reading;
 pub mod slots;
 pub mod uids;
+mod unescaping;

@@ -61,6 +61,76 @@ fn uids_are_printed(rt: HostRuntime) -> Result<(), Fail> {
     Ok(())
 }
 
+/// What is printed of the uid that is read from this text.
+fn reread(alloc: Global, text: &str) -> Result<String, ParseNameError> {
+    Ok(EntityUID::from_normalized_str(alloc, text)?.to_string(alloc)?)
+}
+
+#[test]
+fn uids_are_read_from_what_is_printed(rt: HostRuntime) -> Result<(), Fail> {
+    let texts = [
+        "User::\"\"",
+        "A::B::User::\"a b\"",
+        "User::\"\\0\\t\\n\\r\\\"\\'\\\\\"",
+        "User::\"\\u{1}\\u{1f}\\u{7f}\"",
+        "User::\"::é*\"",
+    ];
+    for text in texts {
+        assert_eq!(rt; reread(rt.alloc(), text)?.as_str(), text);
+    }
+    Ok(())
+}
+
+#[test]
+fn uids_are_read_by_their_parts(rt: HostRuntime) -> Result<(), Fail> {
+    let alloc = rt.alloc();
+    let uid = EntityUID::from_normalized_str(alloc, "A::User::\"\\u{7f}\\n\"")?;
+    assert_eq!(rt; uid.eid().as_str(), "\u{7f}\n");
+    assert_eq!(rt; uid.entity_type().to_string(alloc)?.as_str(), "A::User");
+    Ok(())
+}
+
+#[test]
+fn other_texts_are_no_uids(rt: HostRuntime) -> Result<(), Fail> {
+    let texts = [
+        "",
+        "User",
+        "User::a",
+        "User:\"a\"",
+        "User::\"a",
+        "User::\"a\" ",
+        " User::\"a\"",
+        "User::\"a\"\"",
+        "User::\"'\"",
+        "User::\"\\x41\"",
+        "User::\"\\u{41}\"",
+        "User::\"\\u{01}\"",
+        "User::\"\\u{1F}\"",
+        "User::\"\\u{0}\"",
+        "User::\"\n\"",
+        "if::\"a\"",
+        "::\"a\"",
+        "__cedar::\"'\"",
+    ];
+    for text in texts {
+        let read = reread(rt.alloc(), text);
+        assert!(rt; matches!(read, Err(ParseNameError::NotNormalized)));
+    }
+    Ok(())
+}
+
+#[test]
+fn uids_of_reserved_types_are_refused(rt: HostRuntime) -> Result<(), Fail> {
+    match reread(rt.alloc(), "A::__cedar::\"a\"") {
+        Err(ParseNameError::Reserved(error)) => {
+            let name = error.name().to_string(rt.alloc())?;
+            assert_eq!(rt; name.as_str(), "A::__cedar");
+        }
+        _ => assert!(rt; false),
+    }
+    Ok(())
+}
+
 #[test]
 fn uids_are_ordered(rt: HostRuntime) -> Result<(), Fail> {
     assert!(rt; uid(rt.alloc(), "a")? < uid(rt.alloc(), "b")?);
