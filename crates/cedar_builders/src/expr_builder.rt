@@ -302,6 +302,17 @@ pub trait ExprBuilder: Clone + Drop {
     ) -> Result<Self::Expr, Self::BuildError>
         ensures { Builds meaning refusal result (of_one operations (tree.Is entity_type) (meaning expr)) };
 
+    /// `expr is entity_type in in_entity`, which is `expr is entity_type && expr in in_entity`.
+    fn is_in_entity_type(
+        self,
+        expr: Self::Expr,
+        entity_type: EntityType,
+        in_entity: Self::Expr,
+    ) -> Result<Self::Expr, Self::BuildError>
+        ensures { Builds meaning refusal result (operations.and
+            (of_one operations (tree.Is entity_type) (meaning expr))
+            (of_two operations tree.In (meaning expr) (meaning in_entity))) };
+
     ghost lawful: { IsLawful operations };
 
     ghost memory: { (a : OutOfMemory) (e : Self.BuildError)

@@ -282,4 +282,19 @@ impl expr_builder::ExprBuilder for ExprBuilder {
         let kind = kinds::is_entity_type(self.alloc, expr, entity_type)?;
         Ok(self.with_expr_kind(kind))
     }
+
+    fn is_in_entity_type(
+        self,
+        expr: Expr,
+        entity_type: EntityType,
+        in_entity: Expr,
+    ) -> Result<Expr, ExpressionConstructionError> {
+        let copy = expr.clone(self.alloc)?;
+        let is = kinds::is_entity_type(self.alloc, copy, entity_type)?;
+        let is = self.clone()?.with_expr_kind(is);
+        let within = kinds::binary_app(self.alloc, BinaryOp::In, expr, in_entity)?;
+        let within = self.clone()?.with_expr_kind(within);
+        let kind = kinds::and(self.alloc, is, within)?;
+        Ok(self.with_expr_kind(kind))
+    }
 }

@@ -1,3 +1,4 @@
+mod Spelled
 pub mod Loops
 pub mod Cases
 pub mod Signs

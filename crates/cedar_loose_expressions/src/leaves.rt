@@ -48,6 +48,7 @@ fn spelling(word: Word<'_>) -> &str
 }
 
 /// The word, as a tree has it; refused for memory alone.
+#[tactic(auto, using(crate::proofs::Spelled::other_written))]
 fn ident_of(alloc: Global, word: Word<'_>) -> Result<Ident, AllocError>
     requires { IsSpelledWord word }
     ensures { IfOk result (λ ident. view_ident ident ≡ loose.ident (word_view word.entry)) }

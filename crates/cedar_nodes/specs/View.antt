@@ -1,8 +1,10 @@
 -- What leaves are without their places: the loose trees of words, strings, names, entities, literals, slots and operators.
-use Rattle.std.specs.Prelude.{map, Option, string_bytes}
+use Rattle.std.specs.Prelude.{map, cond, Option, string_bytes}
 use Rattle.std.specs.Option.{option_map, unwrap_or}
 use Rattle.std.specs.Rc.{rc_str_bytes}
 use Rattle.std.specs.Str.{chars}
+use Rattle.cedar_language.specs.Uid.{Text}
+use Rattle.cedar_names.specs.Identifiers.{is_identifier}
 use Rattle.cedar_grammar.specs.Token as word
 use Rattle.cedar_grammar.specs.Token.{word_of}
 use Rattle.cedar_loose_grammar.specs.Loose as loose
@@ -32,6 +34,10 @@ use Rattle.cedar_nodes.specs.declared.cst.NegOp.TheVariants as signs
 abbrev pub shown : {A B : Type 0} → B → (A → B) → Node (Option A) → B
 shown missing view n = unwrap_or (option_map view n.node) missing
 
+-- the word that is so written; what is no word is invalid
+abbrev pub written_ident : Text → loose.Ident
+written_ident s = cond (is_identifier s) (loose.ident (word_of s)) (loose.invalid_ident s)
+
 abbrev pub view_ident : Ident → loose.Ident
 view_ident idents.Principal = loose.ident word.Principal
 view_ident idents.Action = loose.ident word.Action
@@ -50,7 +56,7 @@ view_ident idents.Is = loose.ident word.Is
 view_ident idents.If = loose.ident word.If
 view_ident idents.Then = loose.ident word.Then
 view_ident idents.Else = loose.ident word.Else
-view_ident (idents.Ident s) = loose.ident (word_of (rc_str_bytes s))
+view_ident (idents.Ident s) = written_ident (rc_str_bytes s)
 view_ident (idents.Invalid s) = loose.invalid_ident (string_bytes s)
 
 abbrev pub shown_ident : Node (Option Ident) → loose.Ident

@@ -164,6 +164,15 @@ impl expr_builder::ExprBuilder for Mentions {
     fn is_entity_type(self, _expr: bool, _entity_type: EntityType) -> Result<bool, AllocError> {
         Ok(false)
     }
+
+    fn is_in_entity_type(
+        self,
+        _expr: bool,
+        _entity_type: EntityType,
+        _in_entity: bool,
+    ) -> Result<bool, AllocError> {
+        Ok(false)
+    }
 }
 
 fn name(alloc: Global, text: &str) -> Result<RcStr, AllocError> {
