@@ -1,0 +1,4 @@
+pub mod Keyed
+pub mod Listing
+pub mod Naming
+pub mod Wholes

@@ -1,0 +1,10 @@
+use Rattle.std.proofs.Common.{◌≡◌, map, drop}
+use Rattle.cedar_grammar.specs.Build.{trees}
+use Rattle.cedar_trees.specs.Bare.{bare}
+use Rattle.cedar_world.specs.Bodies.{each}
+use Rattle.cedar_bodies.specs.Entities.{all_written, written_body}
+use Rattle.cedar_bodies.proofs.Listing.{after}
+use Rattle.cedar_bodies.proofs.entities.listed_bodies.Given as goal
+
+abbrev pub invariant-loop-item : goal.invariant-loop-item
+invariant-loop-item l = each written_body (trees (map bare l.items)) ≡ after (all_written l.bodies) (each written_body (trees (map bare (drop l.item-index l.items))))

@@ -1,0 +1,5 @@
+use Rattle.cedar_bodies.proofs.Keyed.{found_at}
+use Rattle.cedar_bodies.proofs.fields.field.Goals as goal
+
+pub returns : goal.returns
+returns c = found_at c.args.entries.now c.args.key.now c.get.result c.get.ensures.value

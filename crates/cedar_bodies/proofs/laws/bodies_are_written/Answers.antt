@@ -1,0 +1,5 @@
+use Rattle.cedar_bodies.proofs.Naming.{bodies_named}
+use Rattle.cedar_bodies.proofs.laws.bodies_are_written.Goals as goal
+
+pub returns : goal.returns
+returns c = bodies_named

@@ -1,0 +1,4 @@
+pub mod Lent
+pub mod Links
+pub mod Questions
+pub mod Entities

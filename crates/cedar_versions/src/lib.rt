@@ -1,0 +1,10 @@
+//! Entities that bodies of commands list, made: their attributes and tags are evaluated.
+#![tactic(auto)]
+
+mod fields;
+pub mod laws;
+mod listing;
+mod making;
+mod values;
+
+pub use listing::listed_entities;
