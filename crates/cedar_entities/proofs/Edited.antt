@@ -1,5 +1,5 @@
 -- Edits whose ancestors are computed, said by what is held alone.
-use Rattle.std.proofs.Common.{◌≡◌, ◌↔◌, inl, inr, Bool, true, false, not, ◌&&◌, true≢false, cond, List, [], ◌∷◌, Option, None, Some, option_map, MatchOption, refl, sym, ap, subst, ◌∙◌, IfSome, Result, Ok, Err}
+use Rattle.std.proofs.Common.{◌≡◌, ◌↔◌, inl, inr, Bool, true, false, not, ◌&&◌, true≢false, cond, List, [], ◌∷◌, Option, None, Some, option_map, MatchOption, refl, sym, ap, ◌∙◌, IfSome, IfErr, Result, Ok, Err}
 use Rattle.std.specs.FinSet as set
 use Rattle.std.specs.List.{AllByRecursion}
 use Rattle.std.specs.Option.{option_map_or, IsSomeAnd}
@@ -11,10 +11,9 @@ use Rattle.cedar_closure.specs.declared.errors.TcError.TheVariants as closure
 use Rattle.cedar_entity.specs.Data.{EntityData, UidSet, IsSameEntity, ancestors_of}
 use Rattle.cedar_entity.proofs.Uids.{union-empty, uid_is, same_uids}
 use Rattle.cedar_entities.specs.Held.{Held, held_of, parents_of, IsAncestor}
-use Rattle.cedar_entities.specs.Edits.{first_by, or_first, add, without_parents, FitsIn, IsAsHeld, CanAdd, ArePlain, IsListed}
+use Rattle.cedar_entities.specs.Edits.{first_by, or_first, add, without_parents, FitsIn, IsAsHeld, ArePlain, IsListed}
 use Rattle.cedar_entities.specs.Kept.{Lookup, held_in, KeepsAncestors, IsByUid, same, added_to, removed_from, IsVersion, AreVersions}
 use Rattle.cedar_entities.specs.Refusals.{IsCycle, IsAddRefusal, IsMemory}
-use Rattle.cedar_entities.specs.Modes.{IsComputed, IsRefusedAs, IsClosureRefusal}
 use Rattle.cedar_entities.specs.declared.closing.TCComputation.{TCComputation}
 use Rattle.cedar_entities.specs.Store.{found_in, Edits, AddsAs, Leaves, Adds, IsDereference}
 use Rattle.cedar_entities.specs.declared.closing.TCComputation.TheVariants.{ComputeNow}
@@ -36,9 +35,6 @@ leaves edited held is (Err (Duplicate e)) h = h
 leaves edited held is (Err (TransitiveClosureError e)) h = cycle_along (IsAncestor (held_in edited)) (IsAncestor held) (λ a r. ancestors_same (held_in edited) held is r) e h
 leaves edited held is (Err (Memory e)) h = h
 
-pub leaves_ok : (edited new : Lookup) (held : Uid → Option Held) → ((uid : Uid) → held_in edited uid ≡ held uid) → IsComputed edited new → ((uid : Uid) → held_in new uid ≡ held uid) × KeepsAncestors new
-leaves_ok edited new held is h = (λ uid. h.held uid ∙ is uid, h.keeps)
-
 -- ---- a removal leaves no cycle where there was none
 
 both_true : (a b : Bool) → (a && b) ≡ true → a ≡ true
@@ -50,24 +46,26 @@ no_new_parent gone true o b h = absurd (true≢false (sym h ∙ set.contains-emp
 no_new_parent gone false None b h = h
 no_new_parent gone false (Some k) b h = both_true (set.contains k.parents b) (not (set.contains gone b)) (sym (set.contains-difference uid_cmp_total k.parents gone b) ∙ h)
 
-pub only_memory : (found edited : Lookup) (gone : UidSet) → ((uid : Uid) → edited uid ≡ removed_from found gone uid) → ((a : Uid) → ¬ (IsAncestor (held_in found) a a)) → (e : EntitiesError) → IsClosureRefusal ComputeNow edited e → IsMemory e
-only_memory found edited gone is acyclic (Duplicate e) h = h
-only_memory found edited gone is acyclic (TransitiveClosureError (closure.MissingTcEdge e)) h = h
-only_memory found edited gone is acyclic (TransitiveClosureError (closure.HasCycle e)) h =
-    acyclic e.vertex_with_loop (reaches_along (λ a b p. no_new_parent gone (set.contains gone a) (held_in found a) b (ap (λ o. set.contains (parents_of o) b) (sym (ap (option_map held_of) (is a) ∙ held-removed found gone a)) ∙ p)) h)
-only_memory found edited gone is acyclic (TransitiveClosureError (closure.Memory e)) h = h
-only_memory found edited gone is acyclic (Memory e) h = h
+pub only_memory : (found : Lookup) (gone : UidSet) → ((a : Uid) → ¬ (IsAncestor (held_in found) a a)) → (r : Result Entities EntitiesError) → Edits ComputeNow (removed_from found gone) r → IfErr r IsMemory
+only_memory found gone acyclic (Ok s) h = tt
+only_memory found gone acyclic (Err (Duplicate e)) h = h
+only_memory found gone acyclic (Err (TransitiveClosureError (closure.MissingTcEdge e))) h = h
+only_memory found gone acyclic (Err (TransitiveClosureError (closure.HasCycle e))) h =
+    acyclic e.vertex_with_loop (reaches_along (λ a b p. no_new_parent gone (set.contains gone a) (held_in found a) b (ap (λ o. set.contains (parents_of o) b) (sym (held-removed found gone a)) ∙ p)) h)
+only_memory found gone acyclic (Err (TransitiveClosureError (closure.Memory e))) h = h
+only_memory found gone acyclic (Err (Memory e)) h = h
 
--- what adding is refused for, and what closing is
+-- what adding is refused for, and what closing what was added answers
 pub adding_refused : (mode : TCComputation) (found : Lookup) (es : List EntityData) (e : EntitiesError) → IsAddRefusal found es e → AddsAs mode found es (Err e)
 adding_refused mode found es (Duplicate e) h = h
 adding_refused mode found es (TransitiveClosureError e) h = absurd h
 adding_refused mode found es (Memory e) h = h
 
-pub closing_refused : (mode : TCComputation) (found edited : Lookup) (es : List EntityData) → ((uid : Uid) → edited uid ≡ added_to found es uid) → AreVersions (added_to found es) es → (e : EntitiesError) → IsClosureRefusal mode edited e → AddsAs mode found es (Err e)
-closing_refused mode found edited es is versions (Duplicate e) h = absurd h
-closing_refused mode found edited es is versions (TransitiveClosureError e) h = (versions, subst (λ f. IsRefusedAs mode f e) (λ i uid. is uid i) h)
-closing_refused mode found edited es is versions (Memory e) h = h
+pub added_as : (mode : TCComputation) (found : Lookup) (es : List EntityData) → AreVersions (added_to found es) es → (r : Result Entities EntitiesError) → Edits mode (added_to found es) r → AddsAs mode found es r
+added_as mode found es versions (Ok s) h = (versions, h)
+added_as mode found es versions (Err (Duplicate e)) h = absurd h
+added_as mode found es versions (Err (TransitiveClosureError e)) h = (versions, h)
+added_as mode found es versions (Err (Memory e)) h = h
 
 -- ---- listed versions without ancestors of their own
 
@@ -156,10 +154,6 @@ module _ (found : Lookup) (es : List EntityData) (keeps : KeepsAncestors found) 
   plain_listed [] e p h = absurd h
   plain_listed (f ∷ fs) e p (inl h) = ap (λ (x : EntityData). x.indirect) h ∙ p.0
   plain_listed (f ∷ fs) e p (inr h) = plain_listed fs e p.1 h
-
-  pub adds_ok : (edited new : Lookup) → ((uid : Uid) → edited uid ≡ added_to found es uid) → AreVersions (added_to found es) es → IsComputed edited new
-      → CanAdd (held_in found) es × ((uid : Uid) → held_in new uid ≡ add (held_in found) es uid) × KeepsAncestors new
-  adds_ok edited new is versions h = (all_fit es plain versions, λ uid. h.held uid ∙ ap (option_map held_of) (is uid) ∙ held-added found es uid, h.keeps)
 
   -- what is added is said by what is held
   pub adds : (r : Result Entities EntitiesError) → AddsAs ComputeNow found es r → Adds (held_in found) es r

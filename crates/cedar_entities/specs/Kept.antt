@@ -42,6 +42,10 @@ IsSameAt found others uid = MatchOption (found uid) (others uid ≡ None) (λ e.
 abbrev pub HoldsAllOf : Lookup → Lookup → Type 0
 HoldsAllOf found others = (uid : Uid) → IsSome (found uid) → IsSameAt found others uid
 
+-- where something stands in the second, something stands in the first
+abbrev pub HoldsUidsOf : Lookup → Lookup → Type 0
+HoldsUidsOf found others = (uid : Uid) → IsSome (others uid) → IsSome (found uid)
+
 -- ---- edits of what is kept
 
 abbrev pub same : EntityData → EntityData

@@ -1,6 +1,6 @@
 // Whether two stores hold the same.
 ghost use Rattle.std.specs.Prelude.{◌↔◌, IsTrue};
-ghost use Rattle.cedar_entities.specs.Kept.{in_map, IsSameAt, HoldsAllOf};
+ghost use Rattle.cedar_entities.specs.Kept.{in_map, IsSameAt, HoldsAllOf, HoldsUidsOf};
 
 use cedar_entity::entity::Entity;
 use cedar_uids::uids::EntityUID;
@@ -30,6 +30,21 @@ pub(crate) fn agree_where_held(
 {
     for uid in entities.keys() {
         if !is_same_at(entities, others, uid) {
+            return false;
+        }
+    }
+    true
+}
+
+/// Whether the first map has an entity at each uid at which the second has one.
+pub(crate) fn has_uids_of(
+    entities: &HashMap<EntityUID, Entity>,
+    others: &HashMap<EntityUID, Entity>,
+) -> bool
+    ensures { IsTrue result ↔ HoldsUidsOf (in_map entities.now) (in_map others.now) }
+{
+    for uid in others.keys() {
+        if !entities.contains_key(uid) {
             return false;
         }
     }

@@ -9,7 +9,7 @@ ghost use Rattle.cedar_uids.specs.Escapes.{uid_text};
 ghost use Rattle.cedar_entities.specs.Kept.{in_map, IsByUid};
 
 use crate::closing::TCComputation;
-use crate::comparing::agree_where_held;
+use crate::comparing::{agree_where_held, has_uids_of};
 use crate::edits::{add_all, put_all, remove_all};
 use crate::errors::EntitiesError;
 use cedar_entity::entity::Entity;
@@ -78,7 +78,7 @@ impl Entities {
     ghost use Rattle.cedar_entities.specs.Edits.{put, remove, ArePlain};
     ghost use Rattle.cedar_entities.specs.Kept.{put_over, removed_from};
     ghost use Rattle.cedar_entities.specs.Refusals.{IsMemory};
-    ghost use Rattle.cedar_entities.specs.Store.{found_in, held_at, IsClosed, entities_in, AreSame, is_partial_store, IsDereference, Edits, AddsAs, Leaves, Adds};
+    ghost use Rattle.cedar_entities.specs.Store.{found_in, held_at, IsClosed, entities_in, AreSame, is_partial_mode, is_partial_store, IsDereference, Edits, AddsAs, Leaves, Adds};
     ghost use Rattle.cedar_entities.specs.declared.closing.TCComputation.TheVariants.{ComputeNow};
 
     /// The store that holds nothing.
@@ -155,7 +155,22 @@ impl Entities {
         ensures { IsTrue result ↔ AreSame self.now other.now }
     {
         agree_where_held(&self.entities, &other.entities)
-            && agree_where_held(&other.entities, &self.entities)
+            && has_uids_of(&self.entities, &other.entities)
+    }
+
+    // The store of these entities, their ancestors closed or seen to be closed.
+    fn closed(
+        alloc: Global,
+        mut entities: HashMap<EntityUID, Entity>,
+        mode: Mode,
+        tc_computation: TCComputation,
+    ) -> Result<Entities, EntitiesError>
+        requires { IsByUid (in_map entities) }
+        ensures edited { Edits tc_computation (in_map entities) result }
+        ensures partial { IfOk result (λ store. is_partial_store store ≡ is_partial_mode mode) }
+    {
+        tc_computation.close(alloc, &mut entities)?;
+        Ok(Entities { entities, mode })
     }
 
     /// The store of these entities, as adding them to an empty one makes it; refused as that is.
@@ -166,6 +181,7 @@ impl Entities {
     ) -> Result<Entities, EntitiesError>
         ensures edited { AddsAs tc_computation (λ uid. None) entities.items result }
         ensures added { tc_computation ≡ ComputeNow → ArePlain entities.items → Adds (λ uid. None) entities.items result }
+        ensures partial { IfOk result (λ store. is_partial_store store ≡ false) }
     {
         Entities::new(alloc).add_entities(alloc, entities, tc_computation)
     }
@@ -189,11 +205,7 @@ impl Entities {
             mode,
         } = self;
         add_all(alloc, &mut map, entities)?;
-        tc_computation.close(alloc, &mut map)?;
-        Ok(Entities {
-            entities: map,
-            mode,
-        })
+        Entities::closed(alloc, map, mode, tc_computation)
     }
 
     /// Puts entities over those that are held: the last version of a uid stays. Refused for the closure
@@ -213,11 +225,7 @@ impl Entities {
             mode,
         } = self;
         put_all(alloc, &mut map, entities)?;
-        tc_computation.close(alloc, &mut map)?;
-        Ok(Entities {
-            entities: map,
-            mode,
-        })
+        Entities::closed(alloc, map, mode, tc_computation)
     }
 
     /// Takes the entities of these uids away, with all edges from and to them; of a uid that isn't held
@@ -239,11 +247,7 @@ impl Entities {
             mode,
         } = self;
         remove_all(&mut map, uids);
-        tc_computation.close(alloc, &mut map)?;
-        Ok(Entities {
-            entities: map,
-            mode,
-        })
+        Entities::closed(alloc, map, mode, tc_computation)
     }
 }
 

@@ -125,6 +125,31 @@ fn closures_hold_what_is_reached(rt: HostRuntime) -> Result<(), Fail> {
     Ok(())
 }
 
+fn chain(alloc: Global, last: u32) -> Result<HashMap<u32, Number>, AllocError> {
+    let mut edges = Vec::new(alloc);
+    for key in 1..last {
+        edges.push((key, key + 1))?;
+    }
+    graph(alloc, last, &edges)
+}
+
+// How many edges there are from a key of a chain, once it is closed.
+fn edges_in_a_chain(alloc: Global, last: u32, key: u32) -> Result<Option<usize>, AllocError> {
+    let mut nodes = chain(alloc, last)?;
+    if compute_tc(alloc, &mut nodes, true).is_err() {
+        return Ok(None);
+    }
+    Ok(Some(edges_from(alloc, &nodes, key)?.len()))
+}
+
+#[test]
+fn chains_are_closed(rt: HostRuntime) -> Result<(), Fail> {
+    let alloc = rt.alloc();
+    assert_eq!(rt; edges_in_a_chain(alloc, 60, 1)?, Some(59));
+    assert_eq!(rt; edges_in_a_chain(alloc, 60, 59)?, Some(1));
+    Ok(())
+}
+
 #[test]
 fn repairs_fix_the_listed_keys(rt: HostRuntime) -> Result<(), Fail> {
     let alloc = rt.alloc();

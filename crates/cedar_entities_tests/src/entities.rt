@@ -4,9 +4,12 @@ use cedar_entities::closing::TCComputation;
 use cedar_entities::errors::EntitiesError;
 use cedar_entities::store::{Dereference, Entities};
 use cedar_entity::entity::Entity;
+use cedar_partial_values::partial_values::PartialValue;
+use cedar_trees::unknowns::Unknown;
 use cedar_uids::uids::EntityUID;
 use std::alloc::Global;
-use std::collections::HashSet;
+use std::collections::{BTreeMap, HashSet};
+use std::rc::RcStr;
 use std::test::Fail;
 
 fn uid(alloc: Global, id: &str) -> Result<EntityUID, Fail> {
@@ -77,6 +80,35 @@ fn removals_leave_other_paths(rt: HostRuntime) -> Result<(), Fail> {
     Ok(())
 }
 
+fn numbered(alloc: Global, number: u32) -> Result<EntityUID, Fail> {
+    let id = number.to_string(alloc)?;
+    uid(alloc, id.as_str())
+}
+
+fn linked(alloc: Global, number: u32, parent: u32) -> Result<Entity, Fail> {
+    let mut entity = Entity::with_uid(alloc, numbered(alloc, number)?)?;
+    entity.add_parent(numbered(alloc, parent)?)?;
+    Ok(entity)
+}
+
+// Each number below the last one has the next one as its parent.
+fn chain(alloc: Global, last: u32) -> Result<Entities, Fail> {
+    let mut entities = Vec::new(alloc);
+    for number in 1..last {
+        entities.push(linked(alloc, number, number + 1)?)?;
+    }
+    Ok(Entities::from_entities(alloc, entities, TCComputation::ComputeNow)?)
+}
+
+#[test]
+fn chains_reach_their_ends(rt: HostRuntime) -> Result<(), Fail> {
+    let alloc = rt.alloc();
+    assert!(rt; reaches(alloc, &chain(alloc, 40)?, "1", "40")?);
+    assert!(rt; reaches(alloc, &removed(alloc, chain(alloc, 40)?, "20")?, "1", "19")?);
+    assert!(rt; !reaches(alloc, &removed(alloc, chain(alloc, 40)?, "20")?, "1", "40")?);
+    Ok(())
+}
+
 // What adding these to these answers.
 fn added(alloc: Global, held: Rows<'_>, rows: Rows<'_>) -> Result<&'static str, Fail> {
     let store = put(alloc, held)?;
@@ -97,6 +129,50 @@ fn versions_have_the_same_ancestors(rt: HostRuntime) -> Result<(), Fail> {
     assert_eq!(rt; added(alloc, held, &[("b", &["h"]), ("b", &["h"])])?, "ok");
     assert_eq!(rt; added(alloc, held, &[("g", &["a"])])?, "cycle");
     assert_eq!(rt; added(alloc, &[], &[("a", &["a"])])?, "cycle");
+    Ok(())
+}
+
+// The entity `a`, whose attribute `x` is the unknown of this name.
+fn with_unknown(alloc: Global, name: &str) -> Result<Entity, Fail> {
+    let unknown = Unknown::new_untyped(RcStr::from_str(alloc, name)?);
+    let mut attrs = BTreeMap::new(alloc);
+    attrs.insert(RcStr::from_str(alloc, "x")?, PartialValue::unknown(unknown))?;
+    let none = HashSet::new(alloc);
+    let parents = HashSet::new(alloc);
+    let tags = BTreeMap::new(alloc);
+    let uid = uid(alloc, "a")?;
+    Ok(Entity::new_with_attr_partial_value(alloc, uid, attrs, none, parents, tags)?)
+}
+
+// What adding a version with an unknown to one with an unknown answers.
+fn added_unknown(alloc: Global, held: &str, name: &str) -> Result<&'static str, Fail> {
+    let held = vec![in alloc; with_unknown(alloc, held)?]?;
+    let entities = vec![in alloc; with_unknown(alloc, name)?]?;
+    let store = Entities::from_entities(alloc, held, TCComputation::ComputeNow)?;
+    Ok(outcome(store.add_entities(alloc, entities, TCComputation::ComputeNow)))
+}
+
+#[test]
+fn versions_have_the_same_residuals(rt: HostRuntime) -> Result<(), Fail> {
+    let alloc = rt.alloc();
+    assert_eq!(rt; added_unknown(alloc, "p", "p")?, "ok");
+    assert_eq!(rt; added_unknown(alloc, "p", "q")?, "duplicate");
+    Ok(())
+}
+
+// The id of the entity of which two versions differ.
+fn differing(alloc: Global) -> Result<String, Fail> {
+    let store = put(alloc, &[("a", &["h"]), ("b", &["h"])])?;
+    let entities = listed(alloc, &[("a", &["h"]), ("b", &["k"])])?;
+    match store.add_entities(alloc, entities, TCComputation::ComputeNow) {
+        Err(EntitiesError::Duplicate(duplicate)) => Ok(duplicate.euid().to_string(alloc)?),
+        _ => Ok(String::from_str(alloc, "none")?),
+    }
+}
+
+#[test]
+fn the_entity_that_differs_is_told(rt: HostRuntime) -> Result<(), Fail> {
+    assert_eq!(rt; differing(rt.alloc())?.as_str(), "G::\"b\"");
     Ok(())
 }
 
@@ -193,5 +269,48 @@ fn stores_are_walked(rt: HostRuntime) -> Result<(), Fail> {
     let alloc = rt.alloc();
     assert_eq!(rt; walked(alloc, &[])?, (0, 0));
     assert_eq!(rt; walked(alloc, TWO_WAYS)?, (3, 3));
+    Ok(())
+}
+
+// A store's copy, and whether it stays when the store is edited.
+fn is_copied(alloc: Global) -> Result<bool, Fail> {
+    let store = put(alloc, TWO_WAYS)?;
+    let copy = store.clone(alloc)?;
+    let same = copy.deep_eq(&store);
+    let edited = removed(alloc, store, "h")?;
+    Ok(same && !copy.deep_eq(&edited) && reaches(alloc, &copy, "a", "h")?)
+}
+
+#[test]
+fn copies_stay(rt: HostRuntime) -> Result<(), Fail> {
+    assert!(rt; is_copied(rt.alloc())?);
+    Ok(())
+}
+
+// How many entities a store counts, whether it is empty, and whether it is partial.
+fn counted(alloc: Global, rows: Rows<'_>) -> Result<(usize, bool, bool), Fail> {
+    let store = put(alloc, rows)?;
+    Ok((store.len(), store.is_empty(), store.is_partial()))
+}
+
+#[test]
+fn stores_are_counted(rt: HostRuntime) -> Result<(), Fail> {
+    let alloc = rt.alloc();
+    assert_eq!(rt; counted(alloc, &[])?, (0, true, false));
+    assert_eq!(rt; counted(alloc, TWO_WAYS)?, (3, false, false));
+    assert!(rt; put(alloc, &[])?.partial().is_partial());
+    Ok(())
+}
+
+fn id_held(alloc: Global, id: &str) -> Result<String, Fail> {
+    let entity = Entity::with_uid(alloc, uid(alloc, id)?)?;
+    let lent = Dereference::Data(&entity).unwrap();
+    let named = Dereference::Data(lent).expect("it was put there");
+    Ok(named.uid().to_string(alloc)?)
+}
+
+#[test]
+fn what_is_held_is_lent(rt: HostRuntime) -> Result<(), Fail> {
+    assert_eq!(rt; id_held(rt.alloc(), "a")?.as_str(), "G::\"a\"");
     Ok(())
 }

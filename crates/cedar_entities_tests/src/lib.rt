@@ -1,4 +1,4 @@
-//! Tests of the transitive closure, of entities, of their evaluation and of their store.
+//! Tests of the transitive closure, of entities, of their evaluation and validation, and of their store.
 #![tactic(auto)]
 
 #[cfg(test)]
@@ -9,3 +9,7 @@ mod entities;
 mod entity;
 #[cfg(test)]
 mod evaluated;
+#[cfg(test)]
+mod readers;
+#[cfg(test)]
+mod validated;

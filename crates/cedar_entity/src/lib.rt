@@ -6,3 +6,4 @@ pub mod attributes;
 mod displays;
 pub mod entity;
 mod nodes;
+mod typing;

@@ -9,6 +9,8 @@ pub use Rattle.cedar_entities.specs.Modes
 pub use Rattle.cedar_entities.specs.Refusals
 pub use Rattle.cedar_entities.specs.Store
 pub use Rattle.cedar_entity_evaluation.specs.Evaluated
+pub use Rattle.cedar_entity_validation.specs.Calls
+pub use Rattle.cedar_entity_validation.specs.Validated as ValidatedCalls
 pub use Rattle.cedar_entities_world.specs.Shown
 pub use Rattle.cedar_policies.specs.Effects
 pub use Rattle.cedar_annotations.specs.Annotations

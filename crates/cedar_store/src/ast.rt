@@ -12,6 +12,7 @@ pub use cedar_entity::ancestors::Ancestors;
 pub use cedar_entity::attributes::Attributes;
 pub use cedar_entity::entity::Entity;
 pub use cedar_entity_evaluation::{EntityAttrEvaluationError, EntityCreationError, EvaluateEntity};
+pub use cedar_entity_validation::EntityValidation;
 pub use cedar_links::errors::LinkingError;
 pub use cedar_links::linking::TemplateLinks;
 pub use cedar_links::policies::Policy;

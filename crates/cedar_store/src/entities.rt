@@ -3,3 +3,4 @@
 pub use cedar_entities::closing::TCComputation;
 pub use cedar_entities::errors::{Duplicate, EntitiesError};
 pub use cedar_entities::store::{Dereference, Entities, EntityIterator};
+pub use cedar_entity_validation::EntitiesValidation;
