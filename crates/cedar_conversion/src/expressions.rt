@@ -1,0 +1,452 @@
+// Expressions.
+ghost use Rattle.std.specs.Prelude.{Option};
+ghost use Rattle.cedar_loose_grammar.specs.Converting as converting;
+ghost use Rattle.cedar_loose_grammar.specs.Converting.{expr_tree, or_tree, and_tree, relation_tree, add_tree, mult_tree, unary_tree, member_tree, access_head, primary_head, rec_init_tree};
+ghost use Rattle.cedar_syntax.specs.View.{shown_expr, shown_or, shown_and, shown_relation, shown_add, shown_mult, shown_unary, shown_member, shown_mem_access, shown_primary, shown_rec_init};
+ghost use Rattle.cedar_conversion_faults.specs.Reasons.{IsFault};
+ghost use Rattle.cedar_conversion_leaves.specs.Converts.{and_then, Converts};
+ghost use Rattle.cedar_conversion_parts.specs.Building.{IsBuilt};
+ghost use Rattle.cedar_conversion_parts.specs.Entries.{IsEntry};
+ghost use Rattle.cedar_conversion_parts.specs.Heads.{IsHead};
+
+use cedar_builders::expr_builder::ExprBuilder;
+use cedar_conversion_faults::{ConversionError, ToASTErrorKind, flatten_tuple_2};
+use cedar_conversion_leaves::{to_literal, to_ref, to_unreserved_ident};
+use cedar_conversion_lookahead::{
+    lone_number, to_entity_type, to_fields, to_index, to_key, to_like_pattern,
+};
+use cedar_conversion_parts::{
+    Head, Joint, Sign, attribute, call, entity_to_head, expr_to_head, has, head_to_expr, index,
+    is_type, is_type_in, ite, join, like, literal_to_head, negative, pushed, pushed_entry,
+    record_to_head, set_to_head, signed,
+};
+use cedar_literals::operators::UnaryOp;
+use cedar_names::places::Loc;
+use cedar_nodes::cst::{NegOp, Slot};
+use cedar_nodes::node::Node;
+use cedar_styles::ExtStyles;
+use cedar_syntax::cst::{
+    Add, And, Expr, ExprData, MemAccess, Member, Mult, Or, Primary, RecInit, Relation, Unary,
+};
+use std::alloc::{AllocError, Global};
+use std::rc::RcStr;
+
+// The expression.
+#[cycle(to_expr)]
+fn expr_to_expr<B: ExprBuilder>(
+    alloc: Global,
+    styles: &ExtStyles,
+    node: &Node<Option<Expr>>,
+) -> Result<B::Expr, ConversionError>
+    ensures { Converts (IsBuilt B.operations B.meaning) result (expr_tree styles.now (shown_expr node.now)) }
+{
+    match &node.node {
+        None => {
+            let kind = ToASTErrorKind::EmptyNodeInvariantViolation;
+            Err(ConversionError::fault(alloc, kind, node.loc()))
+        }
+        Some(expr) => match expr {
+            Expr::Expr(inner) => {
+                let data = &*inner.expr;
+                match data {
+                    ExprData::Or(or) => or_to_expr::<B>(alloc, styles, or),
+                    ExprData::If(test, then_expr, else_expr) => {
+                        let tested = expr_to_expr::<B>(alloc, styles, test);
+                        let taken = expr_to_expr::<B>(alloc, styles, then_expr);
+                        let other = expr_to_expr::<B>(alloc, styles, else_expr);
+                        ite::<B>(alloc, node.loc(), tested, taken, other)
+                    }
+                }
+            }
+        },
+    }
+}
+
+// A chain of `||`.
+#[cycle(to_expr)]
+fn or_to_expr<B: ExprBuilder>(
+    alloc: Global,
+    styles: &ExtStyles,
+    node: &Node<Option<Or>>,
+) -> Result<B::Expr, ConversionError>
+    ensures { Converts (IsBuilt B.operations B.meaning) result (or_tree styles.now (shown_or node.now)) }
+{
+    match &node.node {
+        None => {
+            let kind = ToASTErrorKind::EmptyNodeInvariantViolation;
+            Err(ConversionError::fault(alloc, kind, node.loc()))
+        }
+        Some(or) => {
+            let mut whole = and_to_expr::<B>(alloc, styles, &or.initial);
+            let parts = &or.extended;
+            'parts: for part in parts {
+                let next = and_to_expr::<B>(alloc, styles, part);
+                whole = join::<B>(alloc, node.loc(), Joint::Or, whole, next);
+            }
+            whole
+        }
+    }
+}
+
+// A chain of `&&`.
+#[cycle(to_expr)]
+fn and_to_expr<B: ExprBuilder>(
+    alloc: Global,
+    styles: &ExtStyles,
+    node: &Node<Option<And>>,
+) -> Result<B::Expr, ConversionError>
+    ensures { Converts (IsBuilt B.operations B.meaning) result (and_tree styles.now (shown_and node.now)) }
+{
+    match &node.node {
+        None => {
+            let kind = ToASTErrorKind::EmptyNodeInvariantViolation;
+            Err(ConversionError::fault(alloc, kind, node.loc()))
+        }
+        Some(and) => {
+            let mut whole = relation_to_expr::<B>(alloc, styles, &and.initial);
+            let parts = &and.extended;
+            'parts: for part in parts {
+                let next = relation_to_expr::<B>(alloc, styles, part);
+                whole = join::<B>(alloc, node.loc(), Joint::And, whole, next);
+            }
+            whole
+        }
+    }
+}
+
+// A relation.
+#[cycle(to_expr)]
+fn relation_to_expr<B: ExprBuilder>(
+    alloc: Global,
+    styles: &ExtStyles,
+    node: &Node<Option<Relation>>,
+) -> Result<B::Expr, ConversionError>
+    ensures { Converts (IsBuilt B.operations B.meaning) result (relation_tree styles.now (shown_relation node.now)) }
+{
+    match &node.node {
+        None => {
+            let kind = ToASTErrorKind::EmptyNodeInvariantViolation;
+            Err(ConversionError::fault(alloc, kind, node.loc()))
+        }
+        Some(relation) => match relation {
+            Relation::Common { initial, extended } => {
+                let operand = &**initial;
+                let first = add_to_expr::<B>(alloc, styles, operand);
+                let links = extended.as_slice();
+                match links.split_first() {
+                    None => first,
+                    Some((link, more)) => {
+                        if more.is_empty() {
+                            let second = add_to_expr::<B>(alloc, styles, &link.1);
+                            join::<B>(alloc, node.loc(), Joint::Relation(link.0), first, second)
+                        } else {
+                            let kind = ToASTErrorKind::AmbiguousOperators;
+                            Err(ConversionError::fault(alloc, kind, node.loc()))
+                        }
+                    }
+                }
+            }
+            Relation::Has { target, field } => {
+                let holder = &**target;
+                let path = &**field;
+                let held = add_to_expr::<B>(alloc, styles, holder);
+                let attrs = to_fields(alloc, path);
+                has::<B>(alloc, node.loc(), held, attrs)
+            }
+            Relation::Like { target, pattern } => {
+                let matched = &**target;
+                let text = &**pattern;
+                let subject = add_to_expr::<B>(alloc, styles, matched);
+                let elems = to_like_pattern(alloc, text);
+                like::<B>(alloc, node.loc(), subject, elems)
+            }
+            Relation::IsIn {
+                target,
+                entity_type,
+                in_entity,
+            } => {
+                let typed = &**target;
+                let named = &**entity_type;
+                let value = add_to_expr::<B>(alloc, styles, typed);
+                let name = to_entity_type(alloc, named);
+                match in_entity {
+                    None => is_type::<B>(alloc, node.loc(), value, name),
+                    Some(entity) => {
+                        let among = &**entity;
+                        let within = add_to_expr::<B>(alloc, styles, among);
+                        is_type_in::<B>(alloc, node.loc(), value, name, within)
+                    }
+                }
+            }
+        },
+    }
+}
+
+// A sum.
+#[cycle(to_expr)]
+fn add_to_expr<B: ExprBuilder>(
+    alloc: Global,
+    styles: &ExtStyles,
+    node: &Node<Option<Add>>,
+) -> Result<B::Expr, ConversionError>
+    ensures { Converts (IsBuilt B.operations B.meaning) result (add_tree styles.now (shown_add node.now)) }
+{
+    match &node.node {
+        None => {
+            let kind = ToASTErrorKind::EmptyNodeInvariantViolation;
+            Err(ConversionError::fault(alloc, kind, node.loc()))
+        }
+        Some(add) => {
+            let mut whole = mult_to_expr::<B>(alloc, styles, &add.initial);
+            let parts = &add.extended;
+            'parts: for part in parts {
+                let next = mult_to_expr::<B>(alloc, styles, &part.1);
+                whole = join::<B>(alloc, node.loc(), Joint::Sum(part.0), whole, next);
+            }
+            whole
+        }
+    }
+}
+
+// A product.
+#[cycle(to_expr)]
+fn mult_to_expr<B: ExprBuilder>(
+    alloc: Global,
+    styles: &ExtStyles,
+    node: &Node<Option<Mult>>,
+) -> Result<B::Expr, ConversionError>
+    ensures { Converts (IsBuilt B.operations B.meaning) result (mult_tree styles.now (shown_mult node.now)) }
+{
+    match &node.node {
+        None => {
+            let kind = ToASTErrorKind::EmptyNodeInvariantViolation;
+            Err(ConversionError::fault(alloc, kind, node.loc()))
+        }
+        Some(mult) => {
+            let mut whole = unary_to_expr::<B>(alloc, styles, &mult.initial);
+            let parts = &mult.extended;
+            'parts: for part in parts {
+                let next = unary_to_expr::<B>(alloc, styles, &part.1);
+                whole = join::<B>(alloc, node.loc(), Joint::Product(part.0), whole, next);
+            }
+            whole
+        }
+    }
+}
+
+// An operand and the signs before it.
+#[cycle(to_expr)]
+fn unary_to_expr<B: ExprBuilder>(
+    alloc: Global,
+    styles: &ExtStyles,
+    node: &Node<Option<Unary>>,
+) -> Result<B::Expr, ConversionError>
+    ensures { Converts (IsBuilt B.operations B.meaning) result (unary_tree styles.now (shown_unary node.now)) }
+{
+    match &node.node {
+        None => {
+            let kind = ToASTErrorKind::EmptyNodeInvariantViolation;
+            Err(ConversionError::fault(alloc, kind, node.loc()))
+        }
+        Some(unary) => match unary.op {
+            None => member_to_expr::<B>(alloc, styles, &unary.item),
+            Some(op) => match op {
+                NegOp::Bang(count) => {
+                    let item = member_to_expr::<B>(alloc, styles, &unary.item);
+                    signed::<B>(alloc, node.loc(), Sign::Bang, count, item)
+                }
+                NegOp::Dash(count) => match lone_number(&unary.item) {
+                    Some(number) => {
+                        if count == 0 {
+                            member_to_expr::<B>(alloc, styles, &unary.item)
+                        } else {
+                            let item = negative::<B>(alloc, node.loc(), number);
+                            signed::<B>(alloc, node.loc(), Sign::Minus, count - 1, item)
+                        }
+                    }
+                    None => {
+                        let item = member_to_expr::<B>(alloc, styles, &unary.item);
+                        signed::<B>(alloc, node.loc(), Sign::Minus, count, item)
+                    }
+                },
+                NegOp::OverBang => {
+                    let kind = ToASTErrorKind::UnaryOpLimit(UnaryOp::Not);
+                    Err(ConversionError::fault(alloc, kind, node.loc()))
+                }
+                NegOp::OverDash => {
+                    let kind = ToASTErrorKind::UnaryOpLimit(UnaryOp::Neg);
+                    Err(ConversionError::fault(alloc, kind, node.loc()))
+                }
+            },
+        },
+    }
+}
+
+// An operand and its accesses.
+#[cycle(to_expr)]
+fn member_to_expr<B: ExprBuilder>(
+    alloc: Global,
+    styles: &ExtStyles,
+    node: &Node<Option<Member>>,
+) -> Result<B::Expr, ConversionError>
+    ensures { Converts (IsBuilt B.operations B.meaning) result (member_tree styles.now (shown_member node.now)) }
+{
+    match &node.node {
+        None => {
+            let kind = ToASTErrorKind::EmptyNodeInvariantViolation;
+            Err(ConversionError::fault(alloc, kind, node.loc()))
+        }
+        Some(member) => {
+            let operand = &*member.item;
+            let mut head = primary_to_head::<B>(alloc, styles, operand);
+            let accesses = &member.access;
+            'accesses: for access in accesses {
+                head = access_to_head::<B>(alloc, styles, access, head);
+            }
+            head_to_expr::<B>(alloc, node.loc(), head)
+        }
+    }
+}
+
+// The fault of a slot, which may stand in a scope alone.
+fn no_slots(alloc: Global, slot: &Node<Option<Slot>>, loc: Option<&Loc>) -> ConversionError
+    ensures { IsFault result }
+{
+    match printed(alloc, slot) {
+        Ok(text) => ConversionError::fault(alloc, ToASTErrorKind::InvalidSlot(text), loc),
+        Err(_) => ConversionError::Memory,
+    }
+}
+
+fn printed(alloc: Global, slot: &Node<Option<Slot>>) -> Result<RcStr, AllocError> {
+    match &slot.node {
+        Some(slot) => RcStr::from_string(slot.to_string(alloc)?),
+        None => RcStr::from_str(alloc, ""),
+    }
+}
+
+// What an access makes of an operand.
+#[cycle(to_expr)]
+fn access_to_head<'a, B: ExprBuilder>(
+    alloc: Global,
+    styles: &ExtStyles,
+    node: &Node<Option<MemAccess>>,
+    head: Result<Head<'a, B::Expr>, ConversionError>,
+) -> Result<Head<'a, B::Expr>, ConversionError>
+    ensures { (v : Option converting.Head) → Converts (IsHead B.operations B.meaning) head.entry v →
+        Converts (IsHead B.operations B.meaning) result (and_then v (λ h. access_head styles.now h (shown_mem_access node.now))) }
+{
+    match &node.node {
+        None => {
+            let kind = ToASTErrorKind::EmptyNodeInvariantViolation;
+            Err(ConversionError::fault(alloc, kind, node.loc()))
+        }
+        Some(access) => match access {
+            MemAccess::Field(id) => {
+                let word = to_unreserved_ident(alloc, id);
+                attribute::<B>(alloc, node.loc(), head, word)
+            }
+            MemAccess::Call(args) => {
+                let mut values = Ok(Vec::new(alloc));
+                'values: for arg in args {
+                    let value = expr_to_expr::<B>(alloc, styles, arg);
+                    values = pushed::<B>(values, value);
+                }
+                call::<B>(alloc, styles, node.loc(), head, values)
+            }
+            MemAccess::Index(text) => {
+                let key = to_index(alloc, text);
+                index::<B>(alloc, node.loc(), head, key)
+            }
+        },
+    }
+}
+
+// An operand without signs and accesses.
+#[cycle(to_expr)]
+fn primary_to_head<'a, B: ExprBuilder>(
+    alloc: Global,
+    styles: &ExtStyles,
+    node: &'a Node<Option<Primary>>,
+) -> Result<Head<'a, B::Expr>, ConversionError>
+    ensures { Converts (IsHead B.operations B.meaning) result (primary_head styles.now (shown_primary node.now)) }
+{
+    match &node.node {
+        None => {
+            let kind = ToASTErrorKind::EmptyNodeInvariantViolation;
+            Err(ConversionError::fault(alloc, kind, node.loc()))
+        }
+        Some(primary) => match primary {
+            Primary::Literal(literal) => {
+                let value = to_literal(alloc, literal);
+                literal_to_head::<B>(alloc, node.loc(), value)
+            }
+            Primary::Ref(entity) => {
+                let reference = &**entity;
+                let uid = to_ref(alloc, reference);
+                entity_to_head::<B>(alloc, node.loc(), uid)
+            }
+            Primary::Name(name) => {
+                let inner = &**name;
+                Ok(Head::Name(inner))
+            }
+            Primary::Slot(slot) => Err(no_slots(alloc, slot, node.loc())),
+            Primary::Expr(expr) => {
+                let inner = expr_to_expr::<B>(alloc, styles, expr);
+                expr_to_head::<B>(inner)
+            }
+            Primary::EList(list) => {
+                let mut made = Ok(Vec::new(alloc));
+                'items: for item in list {
+                    let next = expr_to_expr::<B>(alloc, styles, item);
+                    made = pushed::<B>(made, next);
+                }
+                set_to_head::<B>(alloc, node.loc(), made)
+            }
+            Primary::RInits(fields) => {
+                let mut pairs = Ok(Vec::new(alloc));
+                'entries: for entry in fields {
+                    let pair = entry_to_pair::<B>(alloc, styles, entry);
+                    pairs = pushed_entry::<B>(pairs, pair);
+                }
+                record_to_head::<B>(alloc, node.loc(), pairs)
+            }
+        },
+    }
+}
+
+// An entry of a record, or the faults of its parts.
+#[cycle(to_expr)]
+fn entry_to_pair<B: ExprBuilder>(
+    alloc: Global,
+    styles: &ExtStyles,
+    node: &Node<Option<RecInit>>,
+) -> Result<(RcStr, B::Expr), ConversionError>
+    ensures { Converts (IsEntry B.operations B.meaning) result (rec_init_tree styles.now (shown_rec_init node.now)) }
+{
+    match &node.node {
+        None => {
+            let kind = ToASTErrorKind::EmptyNodeInvariantViolation;
+            Err(ConversionError::fault(alloc, kind, node.loc()))
+        }
+        Some(entry) => {
+            let key = to_key(alloc, &entry.0);
+            let value = expr_to_expr::<B>(alloc, styles, &entry.1);
+            flatten_tuple_2(key, value)
+        }
+    }
+}
+
+/// The expression that a loose tree writes, built by `B`; `styles` says what may be called.
+///
+/// What is given has the builder's meaning of the tree that the loose tree converts to; faults stand exactly
+/// where it converts to none, one at least. A builder's own refusal, and want of memory, are told apart from these.
+pub fn to_expr<B: ExprBuilder>(
+    alloc: Global,
+    node: &Node<Option<Expr>>,
+    styles: &ExtStyles,
+) -> Result<B::Expr, ConversionError>
+    ensures { Converts (IsBuilt B.operations B.meaning) result (expr_tree styles.now (shown_expr node.now)) }
+{
+    expr_to_expr::<B>(alloc, styles, node)
+}

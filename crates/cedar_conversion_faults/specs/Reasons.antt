@@ -1,0 +1,45 @@
+-- Why a conversion gives nothing, and what two parts fail by together.
+use Rattle.std.specs.Prelude.{◌≡◌, ⊤, List, [], ◌∷◌}
+use Rattle.cedar_trees.specs.declared.unknowns.NonEmpty.{NonEmpty}
+use Rattle.cedar_nodes.specs.declared.errors.PlacedError.{PlacedError}
+use Rattle.cedar_conversion_faults.specs.declared.kinds.ToASTErrorKind.{ToASTErrorKind}
+use Rattle.cedar_conversion_faults.specs.declared.errors.ConversionError.{ConversionError}
+use Rattle.cedar_conversion_faults.specs.declared.errors.ConversionError.TheVariants as error
+
+pub data Reason : Type 0 where
+  -- the tree means nothing
+  means_nothing : Reason
+  -- the builder refused a part
+  refused : Reason
+  out_of_memory : Reason
+
+abbrev pub reason : ConversionError → Reason
+reason (error.Faults fs) = means_nothing
+reason error.Builder = refused
+reason error.Memory = out_of_memory
+
+-- faults, or want of memory
+abbrev pub IsFault : ConversionError → Type 0
+IsFault (error.Faults fs) = ⊤
+IsFault error.Builder = ⊥
+IsFault error.Memory = ⊤
+
+-- the reason of two parts together
+abbrev pub gathered : Reason → Reason → Reason
+gathered out_of_memory s = out_of_memory
+gathered means_nothing out_of_memory = out_of_memory
+gathered means_nothing s = means_nothing
+gathered refused s = s
+
+-- the third is the reason of the two together, or memory ran out meanwhile
+abbrev pub Gathers : Reason → Reason → Reason → Type 0
+Gathers r s out_of_memory = ⊤
+Gathers r s t = t ≡ gathered r s
+
+abbrev pub listed : {A : Type 0} → NonEmpty A → List A
+listed xs = xs.head ∷ xs.tail.items
+
+-- the faults, in order
+abbrev pub faults_of : ConversionError → List (PlacedError ToASTErrorKind)
+faults_of (error.Faults fs) = listed fs
+faults_of e = []

@@ -1,0 +1,4 @@
+pub mod Converts
+pub mod Words
+pub mod Refusing
+pub mod Fields

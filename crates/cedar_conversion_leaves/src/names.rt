@@ -1,0 +1,130 @@
+// Words and names.
+ghost use Rattle.std.specs.Prelude.{◌≡◌, MatchOption, IfOk, None, map, false};
+ghost use Rattle.cedar_loose_grammar.specs.Converting.{ident_text, name_path, each};
+ghost use Rattle.cedar_nodes.specs.View.{view_ident, shown_ident, shown_name, written_ident};
+ghost use Rattle.cedar_conversion_faults.specs.Reasons.{IsFault};
+ghost use Rattle.cedar_names.specs.Names.{is_reserved_name};
+ghost use Rattle.cedar_conversion_leaves.specs.Converts.{Finds};
+
+use cedar_conversion_faults::{ConversionError, ToASTErrorKind};
+use cedar_names::identifiers::{Id, UnreservedId, is_normalized_ident};
+use cedar_names::names::{InternalName, Name};
+use cedar_names::places::Loc;
+use cedar_nodes::cst;
+use cedar_nodes::cst::Ident;
+use cedar_nodes::node::Node;
+use std::alloc::{AllocError, Global};
+use std::rc::RcStr;
+
+/// How a word is written; none where it is invalid.
+pub(crate) fn spelling(ident: &Ident) -> Option<&str>
+    ensures { MatchOption result (ident_text (view_ident ident.now) ≡ None)
+        (λ text. view_ident ident.now ≡ written_ident text.now) }
+{
+    match ident {
+        Ident::Principal => Some("principal"),
+        Ident::Action => Some("action"),
+        Ident::Resource => Some("resource"),
+        Ident::Context => Some("context"),
+        Ident::True => Some("true"),
+        Ident::False => Some("false"),
+        Ident::Permit => Some("permit"),
+        Ident::Forbid => Some("forbid"),
+        Ident::When => Some("when"),
+        Ident::Unless => Some("unless"),
+        Ident::In => Some("in"),
+        Ident::Has => Some("has"),
+        Ident::Like => Some("like"),
+        Ident::Is => Some("is"),
+        Ident::If => Some("if"),
+        Ident::Then => Some("then"),
+        Ident::Else => Some("else"),
+        Ident::Ident(text) => Some(text.as_str()),
+        Ident::Invalid(_) => None,
+    }
+}
+
+// The fault of a word that is no identifier.
+fn no_identifier(alloc: Global, ident: &Ident, loc: Option<&Loc>) -> ConversionError
+    ensures { IsFault result }
+{
+    match kind_of_no_identifier(alloc, ident) {
+        Ok(kind) => ConversionError::fault(alloc, kind, loc),
+        Err(_) => ConversionError::Memory,
+    }
+}
+
+fn kind_of_no_identifier(alloc: Global, ident: &Ident) -> Result<ToASTErrorKind, AllocError> {
+    match ident {
+        Ident::Invalid(text) => Ok(ToASTErrorKind::InvalidIdentifier(RcStr::from_str(
+            alloc,
+            text.as_str(),
+        )?)),
+        _ => Ok(ToASTErrorKind::ReservedIdentifier(ident.clone()?)),
+    }
+}
+
+// The identifier that is so written, unless it is reserved.
+fn unreserved(alloc: Global, text: &str) -> Result<Option<UnreservedId>, AllocError>
+    ensures { IfOk result (λ id. id ≡ ident_text (written_ident text.now)) }
+{
+    if !is_normalized_ident(text) {
+        return Ok(None);
+    }
+    let id = Id::new_unchecked(RcStr::from_str(alloc, text)?);
+    match UnreservedId::try_from(id) {
+        Ok(id) => Ok(Some(id)),
+        Err(_) => unreachable!(),
+    }
+}
+
+/// The identifier of a word; faults where the word is missing, invalid or reserved.
+pub fn to_unreserved_ident(
+    alloc: Global,
+    node: &Node<Option<Ident>>,
+) -> Result<UnreservedId, ConversionError>
+    ensures { Finds (λ id. id) result (ident_text (shown_ident node.now)) }
+{
+    let Some(ident) = &node.node else {
+        let kind = ToASTErrorKind::EmptyNodeInvariantViolation;
+        return Err(ConversionError::fault(alloc, kind, node.loc()));
+    };
+    let Some(text) = spelling(ident) else {
+        return Err(no_identifier(alloc, ident, node.loc()));
+    };
+    match unreserved(alloc, text)? {
+        Some(id) => Ok(id),
+        None => Err(no_identifier(alloc, ident, node.loc())),
+    }
+}
+
+// The identifiers of words, up to the first that has faults.
+fn to_path(alloc: Global, words: &Vec<Node<Option<Ident>>>) -> Result<Vec<Id>, ConversionError>
+    ensures path { Finds (λ ids. ids.items) result (each ident_text (map shown_ident words.now.items)) }
+    ensures unreserved { IfOk result (λ ids. is_reserved_name ids.items ≡ false) }
+{
+    let mut path = Vec::new(alloc);
+    'words: for word in words {
+        let id = to_unreserved_ident(alloc, word)?;
+        path.push(Id::from(id))?;
+    }
+    Ok(path)
+}
+
+/// The name of a path; faults where a word of it is missing, invalid or reserved.
+pub fn to_name(alloc: Global, node: &Node<Option<cst::Name>>) -> Result<Name, ConversionError>
+    ensures { Finds (λ name. name) result (name_path (shown_name node.now)) }
+{
+    let Some(name) = &node.node else {
+        let kind = ToASTErrorKind::EmptyNodeInvariantViolation;
+        return Err(ConversionError::fault(alloc, kind, node.loc()));
+    };
+    let path = to_path(alloc, &name.path)?;
+    let last = to_unreserved_ident(alloc, &name.name)?;
+    let loc = node.loc().cloned()?;
+    let name = InternalName::new(alloc, Id::from(last), path, loc)?;
+    match Name::try_from(name) {
+        Ok(name) => Ok(name),
+        Err(_) => unreachable!(),
+    }
+}

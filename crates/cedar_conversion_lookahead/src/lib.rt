@@ -1,0 +1,11 @@
+//! What stands alone in a loose tree where one lone part is asked for: numbers, strings, keys, names,
+//! patterns and attributes.
+#![tactic(auto)]
+
+mod lookahead;
+mod primaries;
+
+pub use lookahead::lone_number;
+pub use primaries::{
+    to_entity_type, to_fields, to_index, to_key, to_like_pattern, to_string_literal,
+};

@@ -1,0 +1,3 @@
+pub mod Converting
+pub mod Made
+pub mod Ordering

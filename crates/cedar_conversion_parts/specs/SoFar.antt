@@ -1,0 +1,10 @@
+-- What a loop over a chain keeps: what stands for the part that is done, and what the rest makes of it.
+use Rattle.std.specs.Prelude.{◌≡◌, Option, Result}
+use Rattle.cedar_grammar.specs.Reading.{◌>>=◌}
+use Rattle.cedar_conversion_faults.specs.declared.errors.ConversionError.{ConversionError}
+use Rattle.cedar_conversion_leaves.specs.Converts.{Converts}
+
+pub record SoFar {E W V : Type 0} (stands_for : E → W → Type 0) (whole : Result E ConversionError) (want : Option V) (rest : W → Option V) : Type 0 where
+  pub value : Option W
+  pub is : Converts stands_for whole value
+  pub same : want ≡ (value >>= rest)

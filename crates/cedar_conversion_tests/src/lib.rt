@@ -1,0 +1,5 @@
+//! Tests of the conversion of loose trees to expressions.
+#![tactic(auto)]
+
+#[cfg(test)]
+mod expressions;

@@ -1,0 +1,6 @@
+//! The table of names that texts may call.
+#![tactic(auto)]
+
+mod styles;
+
+pub use styles::ExtStyles;
