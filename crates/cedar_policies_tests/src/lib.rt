@@ -11,5 +11,3 @@ mod merging;
 mod policy_set;
 #[cfg(test)]
 mod templates;
-#[cfg(test)]
-mod unknowns;
