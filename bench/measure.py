@@ -1,5 +1,5 @@
 #!/usr/bin/env python3
-"""Times the built program on asks and on loads, and prints how time grows.
+"""Times the built program on asks, loads and puts, and prints how time grows.
 
     python3 bench/measure.py --program crates/cedar_main/out/cedar_main [--repeat 5]
 
@@ -30,10 +30,38 @@ def asks(count, held):
     return frame('load', policies(held)) + frame('ask', ASK) * count
 
 
+def entity(number):
+    """User number `number`, in one of ten groups."""
+    return '{uid: User::"u%d", parents: [Group::"g%d"]}' % (number, number % 10)
+
+
+def put(numbers):
+    return frame('put', '[' + ', '.join(entity(n) for n in numbers) + ']')
+
+
+def groups():
+    return frame('put', '[' + ', '.join('{uid: Group::"g%d", parents: [Group::"all"]}' % n for n in range(10)) + ']')
+
+
+def puts(held, count):
+    return groups() + put(range(held)) + b''.join(put([held + n]) for n in range(count))
+
+
+def asks_in_groups(count, policies_held, held):
+    text = ''.join('permit(principal in Group::"h%d", action, resource);\n' % n for n in range(policies_held - 1))
+    text += 'permit(principal in Group::"all", action, resource);\n'
+    return groups() + put(range(held)) + frame('load', text) + frame('ask', ASK) * count
+
+
 def cases():
     yield '10,000 asks, 100 policies', asks(10_000, 100)
     yield '20,000 asks, 100 policies', asks(20_000, 100)
     yield '10,000 asks, 200 policies', asks(10_000, 200)
+    yield 'put of 1,000 entities', puts(1000, 0)
+    yield '100 puts of one, into 1,000', puts(1000, 100)
+    yield '1,000 puts of one, into 1,000', puts(1000, 1000)
+    yield '100 puts of one, into 2,000', puts(2000, 100)
+    yield '10,000 asks, 100 policies with in', asks_in_groups(10_000, 100, 1000)
     for size in (64, 256, 512, 1024):
         yield 'load of %d KiB' % size, frame('load', policies_of_size(size * 1024))
     body = 'permit(principal, action in [' + ', '.join('Action::"a%d"' % n for n in range(40_000)) + '], resource);'

@@ -22,7 +22,7 @@ use Rattle.cedar_nodes.specs.declared.cst.Slot.{Slot}
 use Rattle.cedar_nodes.specs.declared.cst.RelOp.{RelOp}
 use Rattle.cedar_nodes.specs.declared.cst.NegOp.{NegOp}
 use Rattle.cedar_nodes.specs.declared.cst.NegOp.TheVariants as signs
-use Rattle.cedar_nodes.specs.View.{shown, shown_ident, shown_literal, shown_ref, shown_name, shown_slot, view_rel_op, view_neg_op}
+use Rattle.cedar_nodes.specs.View.{shown_ident, shown_literal, shown_ref, shown_name, view_rel_op, view_neg_op}
 use Rattle.cedar_syntax.specs.declared.cst.Expr.{Expr, out-Expr, roll-Expr, roll-out-Expr}
 use Rattle.cedar_syntax.specs.declared.cst.Expr.TheOpen.{Expr-F}
 use Rattle.cedar_syntax.specs.declared.cst.Expr.TheOpen as layer
@@ -43,7 +43,7 @@ use Rattle.cedar_syntax.specs.declared.cst.MemAccess.TheVariants as mem_access
 use Rattle.cedar_syntax.specs.declared.cst.Primary.{Primary}
 use Rattle.cedar_syntax.specs.declared.cst.Primary.TheVariants as primary
 use Rattle.cedar_syntax.specs.declared.cst.RecInit.{RecInit, out-RecInit}
-use Rattle.cedar_syntax.specs.View.{view_expr, view_expr_impl, view_expr_data, view_relation, view_unary, view_mem_access, view_primary, view_rec_init, shown_expr, shown_or, shown_relation, shown_add, shown_unary, shown_member, shown_mem_access, shown_primary, shown_rec_init}
+use Rattle.cedar_syntax.specs.View.{view_expr, view_expr_data, view_relation, view_unary, view_mem_access, view_primary, view_rec_init, shown_expr, shown_or, shown_relation, shown_add, shown_unary, shown_member, shown_mem_access, shown_primary, shown_rec_init}
 use Rattle.cedar_syntax.proofs.Views.{seen, view_expr_expr, view_expr_impl_out, view_expr_data_or, view_expr_data_if, view_relation_common, view_relation_has, view_relation_like, view_relation_is_type, view_relation_is_type_in, view_unary_out, view_mem_access_field, view_mem_access_call, view_mem_access_index, view_primary_literal, view_primary_ref, view_primary_name, view_primary_slot, view_primary_expr, view_primary_e_list, view_primary_r_inits, view_rec_init_out}
 use Rattle.cedar_conversion_parts.specs.Joints.{joined, minus_long}
 use Rattle.cedar_conversion_parts.specs.declared.applying.Joint.TheVariants as joint

@@ -4,10 +4,10 @@ ghost use Rattle.cedar_loose_grammar.specs.Converting as converting;
 ghost use Rattle.cedar_loose_grammar.specs.Converting.{expr_tree, or_tree, and_tree, relation_tree, add_tree, mult_tree, unary_tree, member_tree, access_head, primary_head, rec_init_tree};
 ghost use Rattle.cedar_syntax.specs.View.{shown_expr, shown_or, shown_and, shown_relation, shown_add, shown_mult, shown_unary, shown_member, shown_mem_access, shown_primary, shown_rec_init};
 ghost use Rattle.cedar_conversion_faults.specs.Reasons.{IsFault};
-ghost use Rattle.cedar_conversion_leaves.specs.Converts.{and_then, Converts};
-ghost use Rattle.cedar_conversion_parts.specs.Building.{IsBuilt};
-ghost use Rattle.cedar_conversion_parts.specs.Entries.{IsEntry};
-ghost use Rattle.cedar_conversion_parts.specs.Heads.{IsHead};
+ghost use Rattle.cedar_conversion_leaves.specs.Converts.{and_then};
+ghost use Rattle.cedar_conversion_parts.specs.Building.{MakesTree};
+ghost use Rattle.cedar_conversion_parts.specs.Entries.{MakesEntry};
+ghost use Rattle.cedar_conversion_parts.specs.Heads.{MakesHead};
 
 use cedar_builders::expr_builder::ExprBuilder;
 use cedar_conversion_faults::{ConversionError, ToASTErrorKind, flatten_tuple_2};
@@ -37,14 +37,11 @@ fn expr_to_expr<B: ExprBuilder>(
     alloc: Global,
     styles: &ExtStyles,
     node: &Node<Option<Expr>>,
-) -> Result<B::Expr, ConversionError>
-    ensures { Converts (IsBuilt B.operations B.meaning) result (expr_tree styles.now (shown_expr node.now)) }
+) -> Result<B::Expr, ConversionError<B::BuildError>>
+    ensures { MakesTree B.operations B.meaning B.refusal result (expr_tree styles.now (shown_expr node.now)) }
 {
     match &node.node {
-        None => {
-            let kind = ToASTErrorKind::EmptyNodeInvariantViolation;
-            Err(ConversionError::fault(alloc, kind, node.loc()))
-        }
+        None => Err(ConversionError::missing(alloc, node.loc())),
         Some(expr) => match expr {
             Expr::Expr(inner) => {
                 let data = &*inner.expr;
@@ -68,14 +65,11 @@ fn or_to_expr<B: ExprBuilder>(
     alloc: Global,
     styles: &ExtStyles,
     node: &Node<Option<Or>>,
-) -> Result<B::Expr, ConversionError>
-    ensures { Converts (IsBuilt B.operations B.meaning) result (or_tree styles.now (shown_or node.now)) }
+) -> Result<B::Expr, ConversionError<B::BuildError>>
+    ensures { MakesTree B.operations B.meaning B.refusal result (or_tree styles.now (shown_or node.now)) }
 {
     match &node.node {
-        None => {
-            let kind = ToASTErrorKind::EmptyNodeInvariantViolation;
-            Err(ConversionError::fault(alloc, kind, node.loc()))
-        }
+        None => Err(ConversionError::missing(alloc, node.loc())),
         Some(or) => {
             let mut whole = and_to_expr::<B>(alloc, styles, &or.initial);
             let parts = &or.extended;
@@ -94,14 +88,11 @@ fn and_to_expr<B: ExprBuilder>(
     alloc: Global,
     styles: &ExtStyles,
     node: &Node<Option<And>>,
-) -> Result<B::Expr, ConversionError>
-    ensures { Converts (IsBuilt B.operations B.meaning) result (and_tree styles.now (shown_and node.now)) }
+) -> Result<B::Expr, ConversionError<B::BuildError>>
+    ensures { MakesTree B.operations B.meaning B.refusal result (and_tree styles.now (shown_and node.now)) }
 {
     match &node.node {
-        None => {
-            let kind = ToASTErrorKind::EmptyNodeInvariantViolation;
-            Err(ConversionError::fault(alloc, kind, node.loc()))
-        }
+        None => Err(ConversionError::missing(alloc, node.loc())),
         Some(and) => {
             let mut whole = relation_to_expr::<B>(alloc, styles, &and.initial);
             let parts = &and.extended;
@@ -120,14 +111,11 @@ fn relation_to_expr<B: ExprBuilder>(
     alloc: Global,
     styles: &ExtStyles,
     node: &Node<Option<Relation>>,
-) -> Result<B::Expr, ConversionError>
-    ensures { Converts (IsBuilt B.operations B.meaning) result (relation_tree styles.now (shown_relation node.now)) }
+) -> Result<B::Expr, ConversionError<B::BuildError>>
+    ensures { MakesTree B.operations B.meaning B.refusal result (relation_tree styles.now (shown_relation node.now)) }
 {
     match &node.node {
-        None => {
-            let kind = ToASTErrorKind::EmptyNodeInvariantViolation;
-            Err(ConversionError::fault(alloc, kind, node.loc()))
-        }
+        None => Err(ConversionError::missing(alloc, node.loc())),
         Some(relation) => match relation {
             Relation::Common { initial, extended } => {
                 let operand = &**initial;
@@ -188,14 +176,11 @@ fn add_to_expr<B: ExprBuilder>(
     alloc: Global,
     styles: &ExtStyles,
     node: &Node<Option<Add>>,
-) -> Result<B::Expr, ConversionError>
-    ensures { Converts (IsBuilt B.operations B.meaning) result (add_tree styles.now (shown_add node.now)) }
+) -> Result<B::Expr, ConversionError<B::BuildError>>
+    ensures { MakesTree B.operations B.meaning B.refusal result (add_tree styles.now (shown_add node.now)) }
 {
     match &node.node {
-        None => {
-            let kind = ToASTErrorKind::EmptyNodeInvariantViolation;
-            Err(ConversionError::fault(alloc, kind, node.loc()))
-        }
+        None => Err(ConversionError::missing(alloc, node.loc())),
         Some(add) => {
             let mut whole = mult_to_expr::<B>(alloc, styles, &add.initial);
             let parts = &add.extended;
@@ -214,14 +199,11 @@ fn mult_to_expr<B: ExprBuilder>(
     alloc: Global,
     styles: &ExtStyles,
     node: &Node<Option<Mult>>,
-) -> Result<B::Expr, ConversionError>
-    ensures { Converts (IsBuilt B.operations B.meaning) result (mult_tree styles.now (shown_mult node.now)) }
+) -> Result<B::Expr, ConversionError<B::BuildError>>
+    ensures { MakesTree B.operations B.meaning B.refusal result (mult_tree styles.now (shown_mult node.now)) }
 {
     match &node.node {
-        None => {
-            let kind = ToASTErrorKind::EmptyNodeInvariantViolation;
-            Err(ConversionError::fault(alloc, kind, node.loc()))
-        }
+        None => Err(ConversionError::missing(alloc, node.loc())),
         Some(mult) => {
             let mut whole = unary_to_expr::<B>(alloc, styles, &mult.initial);
             let parts = &mult.extended;
@@ -240,14 +222,11 @@ fn unary_to_expr<B: ExprBuilder>(
     alloc: Global,
     styles: &ExtStyles,
     node: &Node<Option<Unary>>,
-) -> Result<B::Expr, ConversionError>
-    ensures { Converts (IsBuilt B.operations B.meaning) result (unary_tree styles.now (shown_unary node.now)) }
+) -> Result<B::Expr, ConversionError<B::BuildError>>
+    ensures { MakesTree B.operations B.meaning B.refusal result (unary_tree styles.now (shown_unary node.now)) }
 {
     match &node.node {
-        None => {
-            let kind = ToASTErrorKind::EmptyNodeInvariantViolation;
-            Err(ConversionError::fault(alloc, kind, node.loc()))
-        }
+        None => Err(ConversionError::missing(alloc, node.loc())),
         Some(unary) => match unary.op {
             None => member_to_expr::<B>(alloc, styles, &unary.item),
             Some(op) => match op {
@@ -288,14 +267,11 @@ fn member_to_expr<B: ExprBuilder>(
     alloc: Global,
     styles: &ExtStyles,
     node: &Node<Option<Member>>,
-) -> Result<B::Expr, ConversionError>
-    ensures { Converts (IsBuilt B.operations B.meaning) result (member_tree styles.now (shown_member node.now)) }
+) -> Result<B::Expr, ConversionError<B::BuildError>>
+    ensures { MakesTree B.operations B.meaning B.refusal result (member_tree styles.now (shown_member node.now)) }
 {
     match &node.node {
-        None => {
-            let kind = ToASTErrorKind::EmptyNodeInvariantViolation;
-            Err(ConversionError::fault(alloc, kind, node.loc()))
-        }
+        None => Err(ConversionError::missing(alloc, node.loc())),
         Some(member) => {
             let operand = &*member.item;
             let mut head = primary_to_head::<B>(alloc, styles, operand);
@@ -309,7 +285,11 @@ fn member_to_expr<B: ExprBuilder>(
 }
 
 // The fault of a slot, which may stand in a scope alone.
-fn no_slots(alloc: Global, slot: &Node<Option<Slot>>, loc: Option<&Loc>) -> ConversionError
+fn no_slots<E: Drop>(
+    alloc: Global,
+    slot: &Node<Option<Slot>>,
+    loc: Option<&Loc>,
+) -> ConversionError<E>
     ensures { IsFault result }
 {
     match printed(alloc, slot) {
@@ -331,16 +311,13 @@ fn access_to_head<'a, B: ExprBuilder>(
     alloc: Global,
     styles: &ExtStyles,
     node: &Node<Option<MemAccess>>,
-    head: Result<Head<'a, B::Expr>, ConversionError>,
-) -> Result<Head<'a, B::Expr>, ConversionError>
-    ensures { (v : Option converting.Head) → Converts (IsHead B.operations B.meaning) head.entry v →
-        Converts (IsHead B.operations B.meaning) result (and_then v (λ h. access_head styles.now h (shown_mem_access node.now))) }
+    head: Result<Head<'a, B::Expr>, ConversionError<B::BuildError>>,
+) -> Result<Head<'a, B::Expr>, ConversionError<B::BuildError>>
+    ensures { (v : Option converting.Head) → MakesHead B.operations B.meaning B.refusal head.entry v →
+        MakesHead B.operations B.meaning B.refusal result (and_then v (λ h. access_head styles.now h (shown_mem_access node.now))) }
 {
     match &node.node {
-        None => {
-            let kind = ToASTErrorKind::EmptyNodeInvariantViolation;
-            Err(ConversionError::fault(alloc, kind, node.loc()))
-        }
+        None => Err(ConversionError::missing(alloc, node.loc())),
         Some(access) => match access {
             MemAccess::Field(id) => {
                 let word = to_unreserved_ident(alloc, id);
@@ -368,14 +345,11 @@ fn primary_to_head<'a, B: ExprBuilder>(
     alloc: Global,
     styles: &ExtStyles,
     node: &'a Node<Option<Primary>>,
-) -> Result<Head<'a, B::Expr>, ConversionError>
-    ensures { Converts (IsHead B.operations B.meaning) result (primary_head styles.now (shown_primary node.now)) }
+) -> Result<Head<'a, B::Expr>, ConversionError<B::BuildError>>
+    ensures { MakesHead B.operations B.meaning B.refusal result (primary_head styles.now (shown_primary node.now)) }
 {
     match &node.node {
-        None => {
-            let kind = ToASTErrorKind::EmptyNodeInvariantViolation;
-            Err(ConversionError::fault(alloc, kind, node.loc()))
-        }
+        None => Err(ConversionError::missing(alloc, node.loc())),
         Some(primary) => match primary {
             Primary::Literal(literal) => {
                 let value = to_literal(alloc, literal);
@@ -421,14 +395,11 @@ fn entry_to_pair<B: ExprBuilder>(
     alloc: Global,
     styles: &ExtStyles,
     node: &Node<Option<RecInit>>,
-) -> Result<(RcStr, B::Expr), ConversionError>
-    ensures { Converts (IsEntry B.operations B.meaning) result (rec_init_tree styles.now (shown_rec_init node.now)) }
+) -> Result<(RcStr, B::Expr), ConversionError<B::BuildError>>
+    ensures { MakesEntry B.operations B.meaning B.refusal result (rec_init_tree styles.now (shown_rec_init node.now)) }
 {
     match &node.node {
-        None => {
-            let kind = ToASTErrorKind::EmptyNodeInvariantViolation;
-            Err(ConversionError::fault(alloc, kind, node.loc()))
-        }
+        None => Err(ConversionError::missing(alloc, node.loc())),
         Some(entry) => {
             let key = to_key(alloc, &entry.0);
             let value = expr_to_expr::<B>(alloc, styles, &entry.1);
@@ -440,13 +411,14 @@ fn entry_to_pair<B: ExprBuilder>(
 /// The expression that a loose tree writes, built by `B`; `styles` says what may be called.
 ///
 /// What is given has the builder's meaning of the tree that the loose tree converts to; faults stand exactly
-/// where it converts to none, one at least. A builder's own refusal, and want of memory, are told apart from these.
+/// where it converts to none, one at least. The builder's own error, the first one where there are several,
+/// stands only where its operations refuse the tree, or for want of memory.
 pub fn to_expr<B: ExprBuilder>(
     alloc: Global,
     node: &Node<Option<Expr>>,
     styles: &ExtStyles,
-) -> Result<B::Expr, ConversionError>
-    ensures { Converts (IsBuilt B.operations B.meaning) result (expr_tree styles.now (shown_expr node.now)) }
+) -> Result<B::Expr, ConversionError<B::BuildError>>
+    ensures { MakesTree B.operations B.meaning B.refusal result (expr_tree styles.now (shown_expr node.now)) }
 {
     expr_to_expr::<B>(alloc, styles, node)
 }

@@ -13,52 +13,52 @@ use std::fmt;
 /// Why a part of a loose tree means nothing, and where it stands.
 pub type ToASTError = PlacedError<ToASTErrorKind>;
 
-/// Why a conversion gives nothing.
+/// Why a conversion gives nothing; `E` is why a builder refuses.
 #[derive(Debug, PartialEq, Eq)]
-pub enum ConversionError {
+pub enum ConversionError<E> {
     /// The tree means nothing: its faults, at least one.
     Faults(NonEmpty<ToASTError>),
-    /// The builder refused a part, for a reason of its own.
-    Builder,
+    /// The builder refused a part: its own error.
+    Builder(E),
     /// Memory ran out.
     Memory,
 }
 
-impl Drop for ConversionError {
+impl<E: Drop> Drop for ConversionError<E> {
     fn drop(self) {
         match self {
             ConversionError::Faults(_faults) => {}
-            ConversionError::Builder => {}
+            ConversionError::Builder(_error) => {}
             ConversionError::Memory => {}
         }
     }
 }
 
-impl From<AllocError> for ConversionError {
+impl<E> From<AllocError> for ConversionError<E> {
     ghost use Rattle.std.specs.Prelude.{◌≡◌};
     ghost use Rattle.cedar_conversion_faults.specs.declared.errors.ConversionError.TheVariants.{Memory};
 
     ghost from_gives = { λ _ e. e ≡ Memory };
 
-    fn from(_error: AllocError) -> ConversionError {
+    fn from(_error: AllocError) -> ConversionError<E> {
         ConversionError::Memory
     }
 }
 
-impl<T: Drop> From<AllocFailed<T>> for ConversionError {
+impl<T: Drop, E> From<AllocFailed<T>> for ConversionError<E> {
     ghost use Rattle.std.specs.Prelude.{◌≡◌};
     ghost use Rattle.cedar_conversion_faults.specs.declared.errors.ConversionError.TheVariants.{Memory};
 
     ghost from_gives = { λ _ e. e ≡ Memory };
 
-    fn from(_error: AllocFailed<T>) -> ConversionError {
+    fn from(_error: AllocFailed<T>) -> ConversionError<E> {
         ConversionError::Memory
     }
 }
 
-impl ConversionError {
+impl<E: Drop> ConversionError<E> {
     /// The fault of this kind at a copy of this place; or want of memory for the copy.
-    pub fn fault(alloc: Global, kind: ToASTErrorKind, loc: Option<&Loc>) -> ConversionError
+    pub fn fault(alloc: Global, kind: ToASTErrorKind, loc: Option<&Loc>) -> ConversionError<E>
         ensures { IsFault result }
     {
         match loc.cloned() {
@@ -70,21 +70,32 @@ impl ConversionError {
         }
     }
 
-    /// What two parts fail by together: the faults of both in order, where one has faults; want of memory
-    /// wins over all, and a fault over a builder's refusal.
-    pub fn and(self, other: ConversionError) -> ConversionError
+    /// The fault of a node at this place that recovery left empty; or want of memory.
+    pub fn missing(alloc: Global, loc: Option<&Loc>) -> ConversionError<E>
+        ensures { IsFault result }
+    {
+        ConversionError::fault(alloc, ToASTErrorKind::EmptyNodeInvariantViolation, loc)
+    }
+
+    /// What two parts fail by together: want of memory wins over all, and faults, of both in order, over a
+    /// builder's refusals, of which the first counts.
+    pub fn and(self, other: ConversionError<E>) -> ConversionError<E>
         ensures reason { Gathers (reason self) (reason other) (reason result) }
         ensures faults { reason result ≡ means_nothing → faults_of result ≡ faults_of self ++ faults_of other }
     {
         match self {
             ConversionError::Faults(faults) => other.after(faults),
-            ConversionError::Builder => other,
+            ConversionError::Builder(error) => match other {
+                ConversionError::Faults(faults) => ConversionError::Faults(faults),
+                ConversionError::Builder(_later) => ConversionError::Builder(error),
+                ConversionError::Memory => ConversionError::Memory,
+            },
             ConversionError::Memory => ConversionError::Memory,
         }
     }
 
     // What fails by these faults and then by this.
-    fn after(self, faults: NonEmpty<ToASTError>) -> ConversionError
+    fn after(self, faults: NonEmpty<ToASTError>) -> ConversionError<E>
         ensures reason { Gathers means_nothing (reason self) (reason result) }
         ensures faults { reason result ≡ means_nothing → faults_of result ≡ listed faults ++ faults_of self }
     {
@@ -93,7 +104,7 @@ impl ConversionError {
                 Ok(all) => ConversionError::Faults(all),
                 Err(_) => ConversionError::Memory,
             },
-            ConversionError::Builder => ConversionError::Faults(faults),
+            ConversionError::Builder(_error) => ConversionError::Faults(faults),
             ConversionError::Memory => ConversionError::Memory,
         }
     }
@@ -118,14 +129,14 @@ fn joined(
     Ok(NonEmpty { head, tail })
 }
 
-impl fmt::Display for ConversionError {
+impl<E: fmt::Display> fmt::Display for ConversionError<E> {
     fn fmt<W: fmt::Write>(&self, f: &mut fmt::Formatter<W>) -> fmt::Result {
         match self {
             ConversionError::Faults(faults) => faults.head.fmt(f),
-            ConversionError::Builder => write!(f, "the builder refused a part"),
+            ConversionError::Builder(error) => error.fmt(f),
             ConversionError::Memory => write!(f, "out of memory"),
         }
     }
 }
 
-impl Error for ConversionError {}
+impl<E: Error> Error for ConversionError<E> {}

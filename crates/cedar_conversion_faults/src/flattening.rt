@@ -4,10 +4,10 @@ ghost use Rattle.cedar_conversion_faults.specs.Flat.{Flat};
 use crate::errors::ConversionError;
 
 /// Both, where both are there; else what the failing ones fail by together.
-pub fn flatten_tuple_2<A: Drop, B: Drop>(
-    first: Result<A, ConversionError>,
-    second: Result<B, ConversionError>,
-) -> Result<(A, B), ConversionError>
+pub fn flatten_tuple_2<A: Drop, B: Drop, E: Drop>(
+    first: Result<A, ConversionError<E>>,
+    second: Result<B, ConversionError<E>>,
+) -> Result<(A, B), ConversionError<E>>
     ensures { Flat first second result }
 {
     match first {

@@ -5,6 +5,6 @@ use Rattle.cedar_cst.specs.declared.error.UnescapeError.TheVariants as unescape
 use Rattle.cedar_conversion_faults.specs.declared.errors.ConversionError.{ConversionError}
 use Rattle.cedar_conversion_faults.specs.Reasons.{IsFault, reason, out_of_memory}
 
-abbrev pub Refuses : UnescapeError → ConversionError → Type 0
+abbrev pub Refuses : {B : Type 0} → UnescapeError → ConversionError B → Type 0
 Refuses (unescape.Invalid place) e = IsFault e
 Refuses unescape.Memory e = reason e ≡ out_of_memory

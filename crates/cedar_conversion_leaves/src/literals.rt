@@ -17,17 +17,14 @@ use cedar_uids::uids::{Eid, EntityType, EntityUID};
 use std::alloc::Global;
 
 /// The literal; faults where it is missing, a number is too large, or a string stands for no text.
-pub fn to_literal(
+pub fn to_literal<E: Drop>(
     alloc: Global,
     node: &Node<Option<cst::Literal>>,
-) -> Result<Literal, ConversionError>
+) -> Result<Literal, ConversionError<E>>
     ensures { Finds (λ literal. tree.Lit (literal_of literal)) result (literal_tree (shown_literal node.now)) }
 {
     match &node.node {
-        None => {
-            let kind = ToASTErrorKind::EmptyNodeInvariantViolation;
-            Err(ConversionError::fault(alloc, kind, node.loc()))
-        }
+        None => Err(ConversionError::missing(alloc, node.loc())),
         Some(cst::Literal::True) => Ok(Literal::Bool(true)),
         Some(cst::Literal::False) => Ok(Literal::Bool(false)),
         Some(cst::Literal::Num(number)) => {
@@ -43,14 +40,14 @@ pub fn to_literal(
 }
 
 /// The entity; faults where it is missing, a part of it has faults, or it is written by its attributes.
-pub fn to_ref(alloc: Global, node: &Node<Option<Ref>>) -> Result<EntityUID, ConversionError>
+pub fn to_ref<E: Drop>(
+    alloc: Global,
+    node: &Node<Option<Ref>>,
+) -> Result<EntityUID, ConversionError<E>>
     ensures { Finds (λ uid. uid) result (ref_entity (shown_ref node.now)) }
 {
     match &node.node {
-        None => {
-            let kind = ToASTErrorKind::EmptyNodeInvariantViolation;
-            Err(ConversionError::fault(alloc, kind, node.loc()))
-        }
+        None => Err(ConversionError::missing(alloc, node.loc())),
         Some(Ref::Uid { path, eid }) => {
             let name = to_name(alloc, path);
             let text = to_text(alloc, eid);

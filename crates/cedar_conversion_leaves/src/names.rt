@@ -45,7 +45,7 @@ pub(crate) fn spelling(ident: &Ident) -> Option<&str>
 }
 
 // The fault of a word that is no identifier.
-fn no_identifier(alloc: Global, ident: &Ident, loc: Option<&Loc>) -> ConversionError
+fn no_identifier<E: Drop>(alloc: Global, ident: &Ident, loc: Option<&Loc>) -> ConversionError<E>
     ensures { IsFault result }
 {
     match kind_of_no_identifier(alloc, ident) {
@@ -79,15 +79,14 @@ fn unreserved(alloc: Global, text: &str) -> Result<Option<UnreservedId>, AllocEr
 }
 
 /// The identifier of a word; faults where the word is missing, invalid or reserved.
-pub fn to_unreserved_ident(
+pub fn to_unreserved_ident<E: Drop>(
     alloc: Global,
     node: &Node<Option<Ident>>,
-) -> Result<UnreservedId, ConversionError>
+) -> Result<UnreservedId, ConversionError<E>>
     ensures { Finds (λ id. id) result (ident_text (shown_ident node.now)) }
 {
     let Some(ident) = &node.node else {
-        let kind = ToASTErrorKind::EmptyNodeInvariantViolation;
-        return Err(ConversionError::fault(alloc, kind, node.loc()));
+        return Err(ConversionError::missing(alloc, node.loc()));
     };
     let Some(text) = spelling(ident) else {
         return Err(no_identifier(alloc, ident, node.loc()));
@@ -99,7 +98,10 @@ pub fn to_unreserved_ident(
 }
 
 // The identifiers of words, up to the first that has faults.
-fn to_path(alloc: Global, words: &Vec<Node<Option<Ident>>>) -> Result<Vec<Id>, ConversionError>
+fn to_path<E: Drop>(
+    alloc: Global,
+    words: &Vec<Node<Option<Ident>>>,
+) -> Result<Vec<Id>, ConversionError<E>>
     ensures path { Finds (λ ids. ids.items) result (each ident_text (map shown_ident words.now.items)) }
     ensures unreserved { IfOk result (λ ids. is_reserved_name ids.items ≡ false) }
 {
@@ -112,12 +114,14 @@ fn to_path(alloc: Global, words: &Vec<Node<Option<Ident>>>) -> Result<Vec<Id>, C
 }
 
 /// The name of a path; faults where a word of it is missing, invalid or reserved.
-pub fn to_name(alloc: Global, node: &Node<Option<cst::Name>>) -> Result<Name, ConversionError>
+pub fn to_name<E: Drop>(
+    alloc: Global,
+    node: &Node<Option<cst::Name>>,
+) -> Result<Name, ConversionError<E>>
     ensures { Finds (λ name. name) result (name_path (shown_name node.now)) }
 {
     let Some(name) = &node.node else {
-        let kind = ToASTErrorKind::EmptyNodeInvariantViolation;
-        return Err(ConversionError::fault(alloc, kind, node.loc()));
+        return Err(ConversionError::missing(alloc, node.loc()));
     };
     let path = to_path(alloc, &name.path)?;
     let last = to_unreserved_ident(alloc, &name.name)?;

@@ -22,14 +22,14 @@ use std::rc::RcStr;
 
 /// The text of a string; faults where it is missing, or holds what stands for no character.
 #[tactic(auto, unfolding(cedar_grammar::specs::Escape::string_of))]
-pub fn to_text(alloc: Global, node: &Node<Option<Str>>) -> Result<RcStr, ConversionError>
+pub fn to_text<E: Drop>(
+    alloc: Global,
+    node: &Node<Option<Str>>,
+) -> Result<RcStr, ConversionError<E>>
     ensures { Finds rc_str_bytes result (str_text (shown_str node.now)) }
 {
     match &node.node {
-        None => {
-            let kind = ToASTErrorKind::EmptyNodeInvariantViolation;
-            Err(ConversionError::fault(alloc, kind, node.loc()))
-        }
+        None => Err(ConversionError::missing(alloc, node.loc())),
         Some(Str::String(raw)) => match to_unescaped_string(alloc, raw.as_str()) {
             Ok(text) => Ok(text),
             Err(error) => Err(no_text(alloc, error, node.loc())),
@@ -42,7 +42,7 @@ pub fn to_text(alloc: Global, node: &Node<Option<Str>>) -> Result<RcStr, Convers
 }
 
 // What a string that stands for nothing is refused by.
-fn no_text(alloc: Global, error: UnescapeError, loc: Option<&Loc>) -> ConversionError
+fn no_text<E: Drop>(alloc: Global, error: UnescapeError, loc: Option<&Loc>) -> ConversionError<E>
     ensures { Refuses error result }
 {
     match error {
@@ -56,7 +56,11 @@ fn no_text(alloc: Global, error: UnescapeError, loc: Option<&Loc>) -> Conversion
 /// The pattern that a string stands for, by what is written between its quotes; faults where it holds what
 /// stands for no character.
 #[tactic(auto, unfolding(cedar_grammar::specs::Escape::pattern_of))]
-pub fn to_pattern(alloc: Global, raw: &str, loc: Option<&Loc>) -> Result<Pattern, ConversionError>
+pub fn to_pattern<E: Drop>(
+    alloc: Global,
+    raw: &str,
+    loc: Option<&Loc>,
+) -> Result<Pattern, ConversionError<E>>
     ensures { Finds (λ pattern. pattern) result (pattern_of (chars raw.now)) }
 {
     match unescape_parts(alloc, raw) {
@@ -65,7 +69,10 @@ pub fn to_pattern(alloc: Global, raw: &str, loc: Option<&Loc>) -> Result<Pattern
     }
 }
 
-fn pattern_of_parts(alloc: Global, parts: &Vec<Part>) -> Result<Pattern, ConversionError>
+fn pattern_of_parts<E: Drop>(
+    alloc: Global,
+    parts: &Vec<Part>,
+) -> Result<Pattern, ConversionError<E>>
     ensures { Finds (λ pattern. pattern) result (Some (map pattern_elem (map part_view parts.now.items))) }
 {
     let mut elems = Vec::new(alloc);

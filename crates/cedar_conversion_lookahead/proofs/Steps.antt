@@ -187,7 +187,7 @@ none_more xs e = length_none xs (eqb-true (length xs) 0 e)
     length_none (x ∷ xs) e = absurd (omega arith)
 
 -- faults where there is nothing
-pub lacking : {W : Type 0} (e : ConversionError) (want : Option W) → IsFault e → want ≡ None → Lacks (reason e) want
+pub lacking : {B W : Type 0} (e : ConversionError B) (want : Option W) → IsFault e → want ≡ None → Lacks (reason e) want
 lacking (error.Faults fs) want h is = is
-lacking error.Builder want h is = absurd h
+lacking (error.Builder b) want h is = absurd h
 lacking error.Memory want h is = tt

@@ -37,7 +37,7 @@ fn printed<T: fmt::Display>(alloc: Global, node: &Node<Option<T>>) -> Result<RcS
 }
 
 // The fault of what stands where a key should.
-fn no_key(alloc: Global, node: &Node<Option<Primary>>) -> ConversionError
+fn no_key<E: Drop>(alloc: Global, node: &Node<Option<Primary>>) -> ConversionError<E>
     ensures { IsFault result }
 {
     match printed(alloc, node) {
@@ -49,11 +49,11 @@ fn no_key(alloc: Global, node: &Node<Option<Primary>>) -> ConversionError
 }
 
 // The text of a literal that is a string.
-fn literal_to_text(
+fn literal_to_text<E: Drop>(
     alloc: Global,
     literal: &Node<Option<Literal>>,
     loc: Option<&Loc>,
-) -> Result<RcStr, ConversionError>
+) -> Result<RcStr, ConversionError<E>>
     ensures { Finds rc_str_bytes result (primary_text (loose.literal (shown_literal literal.now))) }
 {
     match &literal.node {
@@ -63,10 +63,10 @@ fn literal_to_text(
 }
 
 /// The text of a string that stands alone; faults where anything else does.
-pub fn to_string_literal(
+pub fn to_string_literal<E: Drop>(
     alloc: Global,
     node: &Node<Option<Primary>>,
-) -> Result<RcStr, ConversionError>
+) -> Result<RcStr, ConversionError<E>>
     ensures { Finds rc_str_bytes result (primary_text (shown_primary node.now)) }
 {
     match only_literal(node) {
@@ -76,16 +76,15 @@ pub fn to_string_literal(
 }
 
 // The identifier that a name is.
-fn name_to_key(
+fn name_to_key<E: Drop>(
     alloc: Global,
     name: &Node<Option<Name>>,
     loc: Option<&Loc>,
-) -> Result<RcStr, ConversionError>
+) -> Result<RcStr, ConversionError<E>>
     ensures { Finds rc_str_bytes result (primary_key (loose.named (shown_name name.now))) }
 {
     let Some(inner) = &name.node else {
-        let kind = ToASTErrorKind::EmptyNodeInvariantViolation;
-        return Err(ConversionError::fault(alloc, kind, loc));
+        return Err(ConversionError::missing(alloc, loc));
     };
     if !inner.path.is_empty() {
         let text = printed(alloc, name)?;
@@ -97,7 +96,10 @@ fn name_to_key(
 }
 
 /// The key that a primary is: an identifier or a string.
-fn primary_to_key(alloc: Global, node: &Node<Option<Primary>>) -> Result<RcStr, ConversionError>
+fn primary_to_key<E: Drop>(
+    alloc: Global,
+    node: &Node<Option<Primary>>,
+) -> Result<RcStr, ConversionError<E>>
     ensures { Finds rc_str_bytes result (primary_key (shown_primary node.now)) }
 {
     match only_name(node) {
@@ -107,7 +109,10 @@ fn primary_to_key(alloc: Global, node: &Node<Option<Primary>>) -> Result<RcStr, 
 }
 
 /// The key of an entry.
-pub fn to_key(alloc: Global, node: &Node<Option<Expr>>) -> Result<RcStr, ConversionError>
+pub fn to_key<E: Drop>(
+    alloc: Global,
+    node: &Node<Option<Expr>>,
+) -> Result<RcStr, ConversionError<E>>
     ensures { Finds rc_str_bytes result (and_then (alone (shown_expr node.now)) primary_key) }
 {
     match lookahead::alone(node) {
@@ -120,7 +125,10 @@ pub fn to_key(alloc: Global, node: &Node<Option<Expr>>) -> Result<RcStr, Convers
 }
 
 /// The text between the brackets of an access.
-pub fn to_index(alloc: Global, node: &Node<Option<Expr>>) -> Result<RcStr, ConversionError>
+pub fn to_index<E: Drop>(
+    alloc: Global,
+    node: &Node<Option<Expr>>,
+) -> Result<RcStr, ConversionError<E>>
     ensures { Finds rc_str_bytes result (and_then (alone (shown_expr node.now)) primary_text) }
 {
     match lookahead::alone(node) {
@@ -133,10 +141,10 @@ pub fn to_index(alloc: Global, node: &Node<Option<Expr>>) -> Result<RcStr, Conve
 }
 
 // The name that a primary is.
-fn primary_to_path(
+fn primary_to_path<E: Drop>(
     alloc: Global,
     node: &Node<Option<Primary>>,
-) -> Result<names::Name, ConversionError>
+) -> Result<names::Name, ConversionError<E>>
     ensures { Finds (λ name. name) result (primary_path (shown_primary node.now)) }
 {
     match only_name(node) {
@@ -149,10 +157,10 @@ fn primary_to_path(
 }
 
 /// The type that stands behind `is`.
-pub fn to_entity_type(
+pub fn to_entity_type<E: Drop>(
     alloc: Global,
     node: &Node<Option<Add>>,
-) -> Result<names::Name, ConversionError>
+) -> Result<names::Name, ConversionError<E>>
     ensures { Finds (λ name. name) result (and_then (lone_primary (shown_add node.now)) primary_path) }
 {
     match lookahead::lone_primary(node) {
@@ -188,10 +196,10 @@ fn raw_of(node: &Node<Option<Primary>>) -> Option<&str>
 }
 
 // The pattern that a primary is.
-fn primary_to_pattern(
+fn primary_to_pattern<E: Drop>(
     alloc: Global,
     node: &Node<Option<Primary>>,
-) -> Result<Pattern, ConversionError>
+) -> Result<Pattern, ConversionError<E>>
     ensures { Finds (λ pattern. pattern) result (and_then (primary_raw (shown_primary node.now)) pattern_of) }
 {
     match raw_of(node) {
@@ -204,7 +212,10 @@ fn primary_to_pattern(
 }
 
 /// The pattern that stands behind `like`.
-pub fn to_like_pattern(alloc: Global, node: &Node<Option<Add>>) -> Result<Pattern, ConversionError>
+pub fn to_like_pattern<E: Drop>(
+    alloc: Global,
+    node: &Node<Option<Add>>,
+) -> Result<Pattern, ConversionError<E>>
     ensures { Finds (λ pattern. pattern) result (and_then (and_then (lone_primary (shown_add node.now)) primary_raw) pattern_of) }
 {
     match lookahead::lone_primary(node) {
@@ -217,10 +228,10 @@ pub fn to_like_pattern(alloc: Global, node: &Node<Option<Add>>) -> Result<Patter
 }
 
 // The words of a path of attributes.
-fn to_words(
+fn to_words<E: Drop>(
     alloc: Global,
     accesses: &Vec<Node<Option<MemAccess>>>,
-) -> Result<Vec<RcStr>, ConversionError>
+) -> Result<Vec<RcStr>, ConversionError<E>>
     ensures { Finds (λ words. map rc_str_bytes words.items) result (fields (loose.accesses (map shown_mem_access accesses.now.items))) }
 {
     let mut words = Vec::new(alloc);
@@ -231,7 +242,10 @@ fn to_words(
 }
 
 // The word of an access that is one.
-fn access_to_word(alloc: Global, node: &Node<Option<MemAccess>>) -> Result<RcStr, ConversionError>
+fn access_to_word<E: Drop>(
+    alloc: Global,
+    node: &Node<Option<MemAccess>>,
+) -> Result<RcStr, ConversionError<E>>
     ensures { Finds rc_str_bytes result (access_word (shown_mem_access node.now)) }
 {
     match &node.node {
@@ -241,7 +255,7 @@ fn access_to_word(alloc: Global, node: &Node<Option<MemAccess>>) -> Result<RcStr
 }
 
 // The fault of what stands behind `has`.
-fn no_fields<T: fmt::Display>(alloc: Global, node: &Node<Option<T>>) -> ConversionError
+fn no_fields<T: fmt::Display, E: Drop>(alloc: Global, node: &Node<Option<T>>) -> ConversionError<E>
     ensures { IsFault result }
 {
     match printed(alloc, node) {
@@ -251,12 +265,12 @@ fn no_fields<T: fmt::Display>(alloc: Global, node: &Node<Option<T>>) -> Conversi
 }
 
 // The attributes of a path of words.
-fn words_to_fields(
+fn words_to_fields<E: Drop>(
     alloc: Global,
     name: &Node<Option<Name>>,
     accesses: &Vec<Node<Option<MemAccess>>>,
     loc: Option<&Loc>,
-) -> Result<NonEmpty<RcStr>, ConversionError>
+) -> Result<NonEmpty<RcStr>, ConversionError<E>>
     ensures { Finds path_texts result (and_then (primary_key (loose.named (shown_name name.now)))
         (λ s. and_then (fields (loose.accesses (map shown_mem_access accesses.now.items))) (λ ss. Some (s ∷ ss)))) }
 {
@@ -266,10 +280,10 @@ fn words_to_fields(
 }
 
 // The one attribute that a string names.
-fn text_to_field(
+fn text_to_field<E: Drop>(
     alloc: Global,
     node: &Node<Option<Primary>>,
-) -> Result<NonEmpty<RcStr>, ConversionError>
+) -> Result<NonEmpty<RcStr>, ConversionError<E>>
     ensures { Finds path_texts result (and_then (primary_text (shown_primary node.now)) (λ s. Some (s ∷ []))) }
 {
     let head = to_string_literal(alloc, node)?;
@@ -280,10 +294,10 @@ fn text_to_field(
 }
 
 // The attributes that a member is: words, or one string.
-fn member_to_fields(
+fn member_to_fields<E: Drop>(
     alloc: Global,
     node: &Node<Option<Member>>,
-) -> Result<NonEmpty<RcStr>, ConversionError>
+) -> Result<NonEmpty<RcStr>, ConversionError<E>>
     ensures { Finds path_texts result (member_fields (shown_member node.now)) }
 {
     match &node.node {
@@ -302,10 +316,10 @@ fn member_to_fields(
 }
 
 /// The attributes that stand behind `has`.
-pub fn to_fields(
+pub fn to_fields<E: Drop>(
     alloc: Global,
     node: &Node<Option<Add>>,
-) -> Result<NonEmpty<RcStr>, ConversionError>
+) -> Result<NonEmpty<RcStr>, ConversionError<E>>
     ensures { Finds path_texts result (and_then (lone_member (shown_add node.now)) member_fields) }
 {
     match lookahead::lone_member(node) {

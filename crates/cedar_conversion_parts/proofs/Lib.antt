@@ -1,3 +1,4 @@
 pub mod Converting
 pub mod Made
 pub mod Ordering
+pub mod Refusing

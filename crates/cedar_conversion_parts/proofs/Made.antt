@@ -1,7 +1,7 @@
 -- What is built of the trees of each construct.
-use Rattle.std.proofs.Common.{◌≡◌, suc, ◌<◌, length, arith, map, Vec, Global, true, false, List, [], ◌∷◌, ◌++◌, Option, Some, None, Result, Ok, Err, refl, sym, ap, ◌∙◌, subst}
+use Rattle.std.proofs.Common.{◌≡◌, suc, ◌<◌, length, arith, map, Vec, Global, true, false, List, [], ◌∷◌, ◌++◌, Option, Some, None, Result, Ok, Err, refl, sym, ap, ◌∙◌}
 use Rattle.std.proofs.lemmas.Bool.{eqb-true, eqb-false}
-use Rattle.std.specs.Prelude.{◌==◌, Bool, ◌&&◌, ◌||◌, not}
+use Rattle.std.specs.Prelude.{◌==◌, Bool, ◌&&◌, ◌||◌, IfSome, is_err}
 use Rattle.cedar_language.specs.Tree as tree
 use Rattle.cedar_language.specs.Tree.{Tree, Trees, Operator, Lit, Boolean, And, Or, Apply}
 use Rattle.cedar_language.specs.Uid.{Text}
@@ -10,23 +10,30 @@ use Rattle.cedar_literals.specs.declared.operators.BinaryOp.TheVariants as binar
 use Rattle.cedar_literals.specs.Operators.{binary_operator_of}
 use Rattle.cedar_grammar.specs.Build as build
 use Rattle.cedar_grammar.specs.Build.{without_argument, with_argument, trees, unary, binary, conjunction, disjunction}
-use Rattle.cedar_builders.specs.Operations.{Operations, IsLawful, Gives, ◌>>=◌, operated, made, made_all, built, built_all}
+use Rattle.cedar_builders.specs.Operations.{Operations, IsLawful, OnRefusal, ◌>>=◌, operated, made, built, built_all}
 use Rattle.cedar_conversion_faults.specs.declared.errors.ConversionError.{ConversionError}
 use Rattle.cedar_conversion_faults.specs.Reasons.{Reason, means_nothing, refused, out_of_memory, reason}
-use Rattle.cedar_conversion_leaves.specs.Converts.{Misses, Converts}
-use Rattle.cedar_conversion_parts.specs.Building.{IsBuilt, Takes}
+use Rattle.cedar_conversion_leaves.specs.Converts.{Misses}
+use Rattle.cedar_conversion_parts.specs.Building.{IsBuilt, IsRefused, MakesTree, TakesNot, Takes}
 use Rattle.cedar_conversion_parts.proofs.Converting.{same_as}
 
-no_fault : {W : Type 0} (r : Reason) (want : Option W) → ¬ (r ≡ means_nothing) → Misses r want
-no_fault means_nothing want h = absurd (h refl)
-no_fault refused want h = tt
-no_fault out_of_memory want h = tt
+module _ {E B M R : Type 0} (o : Operations M R) (m : E → M) (refusal : B → Option R) where
+  not_taken : (r : Reason B) (meant : Result M R) (t : Tree) → built o t ≡ meant → TakesNot refusal r meant → Misses (IsRefused o) refusal r (Some t)
+  not_taken means_nothing meant t law takes = absurd takes
+  not_taken (refused b) meant t law takes = by (refusal b) takes
+    where
+      by : (x : Option R) → OnRefusal x meant → IfSome x (λ r. IsRefused o t)
+      by None h = tt
+      by (Some r) h = ap is_err (law ∙ h)
+  not_taken out_of_memory meant t law takes = tt
 
-module _ {E M R : Type 0} (o : Operations M R) (m : E → M) where
   -- what a builder gave stands for the tree from which it is built
-  pub took : (r : Result E ConversionError) (meant : Result M R) (t : Tree) → built o t ≡ meant → Takes m r meant → Converts (IsBuilt o m) r (Some t)
+  pub took : (r : Result E (ConversionError B)) (meant : Result M R) (t : Tree) → built o t ≡ meant → Takes m refusal r meant → MakesTree o m refusal r (Some t)
   took (Ok e) meant t law takes = record { value = t; is = refl; stands = law ∙ takes }
-  took (Err f) meant t law takes = no_fault (reason f) (Some t) takes
+  took (Err f) meant t law takes = not_taken (reason f) meant t law takes
+
+  pub took_some : (r : Result E (ConversionError B)) (meant : Result M R) (t : Tree) (want : Option Tree) → want ≡ Some t → built o t ≡ meant → Takes m refusal r meant → MakesTree o m refusal r want
+  took_some r meant t want is law takes = same_as refusal (IsBuilt o m) (IsRefused o) r (Some t) want is (took r meant t law takes)
 
 module _ {M R : Type 0} (o : Operations M R) where
   pub built_unary : (op : Operator) (x : Tree) (a : M) → built o x ≡ Ok a → built o (unary op x) ≡ operated o op (a ∷ [])
@@ -147,10 +154,6 @@ module _ {M R : Type 0} (o : Operations M R) where
   binary_operands binary_op.ContainsAny xs = refl
   binary_operands binary_op.GetTag xs = refl
   binary_operands binary_op.HasTag xs = refl
-
-module _ {E M R : Type 0} (o : Operations M R) (m : E → M) where
-  pub took_some : (r : Result E ConversionError) (meant : Result M R) (t : Tree) (want : Option Tree) → want ≡ Some t → built o t ≡ meant → Takes m r meant → Converts (IsBuilt o m) r want
-  took_some r meant t want is law takes = same_as (IsBuilt o m) r (Some t) want is (took o m r meant t law takes)
 
 -- ---- arguments of methods
 

@@ -1,6 +1,6 @@
 -- Entries, put in one by one, each in the place of its key.
-use Rattle.std.proofs.Common.{◌≡◌, refl, sym, ap, ◌∙◌, List, [], ◌∷◌, ◌++◌, append_assoc, map, Bool, true, false, Global, Option, Some, None, Result, Ok, Err}
-use Rattle.std.specs.Prelude.{⊤, cond, not, ◌&&◌, ◌||◌, is_some}
+use Rattle.std.proofs.Common.{◌≡◌, refl, sym, ap, ◌∙◌, List, [], ◌∷◌, ◌++◌, map, Bool, true, false, Global, Option, Some, None, Result, Ok, Err}
+use Rattle.std.specs.Prelude.{cond, not, ◌&&◌, ◌||◌, is_some}
 use Rattle.std.specs.declared.cmp.Ordering.{Ordering}
 use Rattle.std.specs.declared.cmp.Ordering.TheVariants.{Less, Equal, Greater}
 use Rattle.std.specs.Ordering.{nat_cmp, is_lt, is_eq, match_ordering}
@@ -11,7 +11,7 @@ use Rattle.std.specs.List.{zip}
 use Rattle.std.specs.Rc.{rc_str_bytes}
 use Rattle.std.specs.declared.rc.RcStr.{RcStr}
 use Rattle.cedar_language.specs.Uid.{Text}
-use Rattle.cedar_language.specs.Tree.{Tree, Apply, MakeRecord}
+use Rattle.cedar_language.specs.Tree.{Tree, MakeRecord}
 use Rattle.cedar_grammar.specs.Names.{is_text, is_among, are_distinct}
 use Rattle.cedar_grammar.specs.Build.{Keyed, keys, put, by_key, trees, record_of}
 use Rattle.cedar_loose_grammar.specs.Converting.{record_tree}
@@ -226,7 +226,7 @@ a_record ps qs es same h =
 pub meant_in_order : {E M : Type 0} (m : E → M) (ps qs : List (RcStr Global × E)) → by_key (keyed ps) ≡ keyed qs → by_key (meant m ps) ≡ meant m qs
 meant_in_order m ps qs h = ap by_key (meant_keyed m ps) ∙ sym (by_key_beside m (keyed ps)) ∙ ap (map (λ e. (e.0, m e.1))) h ∙ sym (meant_keyed m qs)
 
-pub puts_not : (e : ConversionError) (b : Bool) → IsFault e → b ≡ true → PutsNot (reason e) b
+pub puts_not : {B : Type 0} (e : ConversionError B) (b : Bool) → IsFault e → b ≡ true → PutsNot (reason e) b
 puts_not (error.Faults fs) b h is = is
-puts_not error.Builder b h is = absurd h
+puts_not (error.Builder r) b h is = absurd h
 puts_not error.Memory b h is = tt

@@ -8,6 +8,8 @@ use Rattle.cedar_grammar.specs.Names.{are_distinct, is_among}
 use Rattle.cedar_grammar.specs.Build.{Keyed, keys, put, by_key}
 use Rattle.cedar_conversion_faults.specs.declared.errors.ConversionError.{ConversionError}
 use Rattle.cedar_conversion_faults.specs.Reasons.{Reason, means_nothing, refused, out_of_memory, reason}
+use Rattle.cedar_conversion_leaves.specs.Converts.{Converts}
+use Rattle.cedar_conversion_parts.specs.Building.{IsRefused, AreRefused}
 use Rattle.cedar_builders.specs.Operations.{Operations, built}
 
 abbrev pub keyed : {E : Type 0} → List (RcStr Global × E) → List (Keyed E)
@@ -33,12 +35,26 @@ AreEntries o meaning v es = EachIsBuilt o (meant meaning v.items) es
 abbrev pub IsEntry : {E M R : Type 0} → Operations M R → (E → M) → RcStr Global × E → Keyed Tree → Type 0
 IsEntry o meaning p e = (rc_str_bytes p.0 ≡ e.0) × (built o e.1 ≡ Ok (meaning p.1))
 
+-- the operations make nothing of what stands beside the key
+abbrev pub IsEntryRefused : {M R : Type 0} → Operations M R → Keyed Tree → Type 0
+IsEntryRefused o e = IsRefused o e.1
+
+-- of what stands beside one of the keys
+abbrev pub AreEntriesRefused : {M R : Type 0} → Operations M R → List (Keyed Tree) → Type 0
+AreEntriesRefused o es = AreRefused o (map (λ e. e.1) es)
+
+abbrev pub MakesEntry : {E B M R : Type 0} → Operations M R → (E → M) → (B → Option R) → Result (RcStr Global × E) (ConversionError B) → Option (Keyed Tree) → Type 0
+MakesEntry o meaning refusal result want = Converts (IsEntry o meaning) (IsEntryRefused o) refusal result want
+
+abbrev pub MakesEntries : {E B M R : Type 0} → Operations M R → (E → M) → (B → Option R) → Result (Vec (RcStr Global × E) Global) (ConversionError B) → Option (List (Keyed Tree)) → Type 0
+MakesEntries o meaning refusal result want = Converts (AreEntries o meaning) (AreEntriesRefused o) refusal result want
+
 -- an entry of a new key is put among others, and faults stand where the key isn't new
-abbrev pub PutsNot : Reason → Bool → Type 0
+abbrev pub PutsNot : {B : Type 0} → Reason B → Bool → Type 0
 PutsNot means_nothing b = b ≡ true
-PutsNot refused b = ⊥
+PutsNot (refused r) b = ⊥
 PutsNot out_of_memory b = ⊤
 
-abbrev pub Puts : {A : Type 0} → Keyed A → List (Keyed A) → List (Keyed A) → Result Unit ConversionError → Type 0
+abbrev pub Puts : {A B : Type 0} → Keyed A → List (Keyed A) → List (Keyed A) → Result Unit (ConversionError B) → Type 0
 Puts e old new (Ok u) = (is_among e.0 (keys old) ≡ false) × (new ≡ put e old)
 Puts e old new (Err f) = PutsNot (reason f) (is_among e.0 (keys old))

@@ -1,8 +1,8 @@
 // Operators of two operands.
 ghost use Rattle.std.specs.Prelude.{Option, Some};
 ghost use Rattle.cedar_language.specs.Tree.{Tree};
-ghost use Rattle.cedar_conversion_leaves.specs.Converts.{and_then, Converts};
-ghost use Rattle.cedar_conversion_parts.specs.Building.{IsBuilt};
+ghost use Rattle.cedar_conversion_leaves.specs.Converts.{and_then};
+ghost use Rattle.cedar_conversion_parts.specs.Building.{IsBuilt, MakesTree};
 ghost use Rattle.cedar_conversion_parts.specs.Joints.{joined};
 
 use crate::building::{builder_at, taken};
@@ -30,9 +30,9 @@ fn compared<B: ExprBuilder>(
     op: RelOp,
     left: B::Expr,
     right: B::Expr,
-) -> Result<B::Expr, ConversionError>
+) -> Result<B::Expr, ConversionError<B::BuildError>>
     ensures { (x y : Tree) → IsBuilt B.operations B.meaning left x → IsBuilt B.operations B.meaning right y →
-        Converts (IsBuilt B.operations B.meaning) result (joined (Joint.Relation op) x y) }
+        MakesTree B.operations B.meaning B.refusal result (joined (Joint.Relation op) x y) }
 {
     match op {
         RelOp::Less => taken::<B>(builder.less(left, right)),
@@ -57,9 +57,9 @@ fn multiplied<B: ExprBuilder>(
     op: MultOp,
     left: B::Expr,
     right: B::Expr,
-) -> Result<B::Expr, ConversionError>
+) -> Result<B::Expr, ConversionError<B::BuildError>>
     ensures { (x y : Tree) → IsBuilt B.operations B.meaning left x → IsBuilt B.operations B.meaning right y →
-        Converts (IsBuilt B.operations B.meaning) result (joined (Joint.Product op) x y) }
+        MakesTree B.operations B.meaning B.refusal result (joined (Joint.Product op) x y) }
 {
     match op {
         MultOp::Times => taken::<B>(builder.mul(left, right)),
@@ -80,9 +80,9 @@ fn added<B: ExprBuilder>(
     op: AddOp,
     left: B::Expr,
     right: B::Expr,
-) -> Result<B::Expr, ConversionError>
+) -> Result<B::Expr, ConversionError<B::BuildError>>
     ensures { (x y : Tree) → IsBuilt B.operations B.meaning left x → IsBuilt B.operations B.meaning right y →
-        Converts (IsBuilt B.operations B.meaning) result (joined (Joint.Sum op) x y) }
+        MakesTree B.operations B.meaning B.refusal result (joined (Joint.Sum op) x y) }
 {
     match op {
         AddOp::Plus => taken::<B>(builder.add(left, right)),
@@ -97,9 +97,9 @@ fn applied<B: ExprBuilder>(
     joint: Joint,
     left: B::Expr,
     right: B::Expr,
-) -> Result<B::Expr, ConversionError>
+) -> Result<B::Expr, ConversionError<B::BuildError>>
     ensures { (x y : Tree) → IsBuilt B.operations B.meaning left x → IsBuilt B.operations B.meaning right y →
-        Converts (IsBuilt B.operations B.meaning) result (joined joint x y) }
+        MakesTree B.operations B.meaning B.refusal result (joined joint x y) }
 {
     let builder = builder_at::<B>(alloc, loc)?;
     match joint {
@@ -116,11 +116,11 @@ pub fn join<B: ExprBuilder>(
     alloc: Global,
     loc: Option<&Loc>,
     joint: Joint,
-    left: Result<B::Expr, ConversionError>,
-    right: Result<B::Expr, ConversionError>,
-) -> Result<B::Expr, ConversionError>
-    ensures { (v w : Option Tree) → Converts (IsBuilt B.operations B.meaning) left v → Converts (IsBuilt B.operations B.meaning) right w →
-        Converts (IsBuilt B.operations B.meaning) result (and_then v (λ x. and_then w (λ y. joined joint x y))) }
+    left: Result<B::Expr, ConversionError<B::BuildError>>,
+    right: Result<B::Expr, ConversionError<B::BuildError>>,
+) -> Result<B::Expr, ConversionError<B::BuildError>>
+    ensures { (v w : Option Tree) → MakesTree B.operations B.meaning B.refusal left v → MakesTree B.operations B.meaning B.refusal right w →
+        MakesTree B.operations B.meaning B.refusal result (and_then v (λ x. and_then w (λ y. joined joint x y))) }
 {
     let (left, right) = flatten_tuple_2(left, right)?;
     applied::<B>(alloc, loc, joint, left, right)

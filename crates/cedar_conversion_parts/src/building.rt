@@ -3,8 +3,8 @@ ghost use Rattle.std.specs.Prelude.{◌≡◌, List, [], ◌∷◌, ◌++◌, Op
 ghost use Rattle.cedar_language.specs.Tree.{Tree};
 ghost use Rattle.cedar_builders.specs.Operations.{Gives};
 ghost use Rattle.cedar_conversion_faults.specs.Reasons.{reason, out_of_memory};
-ghost use Rattle.cedar_conversion_leaves.specs.Converts.{and_then, Converts};
-ghost use Rattle.cedar_conversion_parts.specs.Building.{IsBuilt, AreBuilt, Takes};
+ghost use Rattle.cedar_conversion_leaves.specs.Converts.{and_then};
+ghost use Rattle.cedar_conversion_parts.specs.Building.{MakesTree, MakesTrees, Takes};
 
 use cedar_builders::expr_builder::ExprBuilder;
 use cedar_conversion_faults::{ConversionError, flatten_tuple_2};
@@ -15,31 +15,31 @@ use std::alloc::Global;
 pub(crate) fn builder_at<B: ExprBuilder>(
     alloc: Global,
     loc: Option<&Loc>,
-) -> Result<B, ConversionError>
+) -> Result<B, ConversionError<B::BuildError>>
     ensures { IfErr result (λ error. reason error ≡ out_of_memory) }
 {
     Ok(B::new(alloc).with_maybe_source_loc(loc.cloned()?))
 }
 
-/// What the builder gave. Its error may say no more than want of memory.
+/// What the builder gave, or its own error.
 pub(crate) fn taken<B: ExprBuilder>(
     given: Result<B::Expr, B::BuildError>,
-) -> Result<B::Expr, ConversionError>
-    ensures { (meant : Result B.Meaning B.Refusal) → Gives B.meaning B.refusal given meant → Takes B.meaning result meant }
+) -> Result<B::Expr, ConversionError<B::BuildError>>
+    ensures { (meant : Result B.Meaning B.Refusal) → Gives B.meaning B.refusal given meant → Takes B.meaning B.refusal result meant }
 {
     match given {
         Ok(expr) => Ok(expr),
-        Err(_) => Err(ConversionError::Builder),
+        Err(error) => Err(ConversionError::Builder(error)),
     }
 }
 
 /// One more expression at the end, or the faults of all.
 pub fn pushed<B: ExprBuilder>(
-    made: Result<Vec<B::Expr>, ConversionError>,
-    next: Result<B::Expr, ConversionError>,
-) -> Result<Vec<B::Expr>, ConversionError>
-    ensures { (v : Option (List Tree)) (w : Option Tree) → Converts (AreBuilt B.operations B.meaning) made v → Converts (IsBuilt B.operations B.meaning) next w →
-        Converts (AreBuilt B.operations B.meaning) result (and_then v (λ xs. and_then w (λ x. Some (xs ++ x ∷ [])))) }
+    made: Result<Vec<B::Expr>, ConversionError<B::BuildError>>,
+    next: Result<B::Expr, ConversionError<B::BuildError>>,
+) -> Result<Vec<B::Expr>, ConversionError<B::BuildError>>
+    ensures { (v : Option (List Tree)) (w : Option Tree) → MakesTrees B.operations B.meaning B.refusal made v → MakesTree B.operations B.meaning B.refusal next w →
+        MakesTrees B.operations B.meaning B.refusal result (and_then v (λ xs. and_then w (λ x. Some (xs ++ x ∷ [])))) }
 {
     let (mut made, next) = flatten_tuple_2(made, next)?;
     made.push(next)?;

@@ -7,9 +7,9 @@ ghost use Rattle.cedar_grammar.specs.Build.{method, with_argument, without_argum
 ghost use Rattle.cedar_grammar.specs.Names.{is_among};
 ghost use Rattle.cedar_loose_grammar.specs.Converting as converting;
 ghost use Rattle.cedar_nodes.specs.View.{shown_name};
-ghost use Rattle.cedar_conversion_leaves.specs.Converts.{and_then, Converts};
-ghost use Rattle.cedar_conversion_parts.specs.Building.{IsBuilt, AreBuilt};
-ghost use Rattle.cedar_conversion_parts.specs.Heads.{IsHead};
+ghost use Rattle.cedar_conversion_leaves.specs.Converts.{and_then};
+ghost use Rattle.cedar_conversion_parts.specs.Building.{IsBuilt, MakesTree, AreBuilt, MakesTrees};
+ghost use Rattle.cedar_conversion_parts.specs.Heads.{IsHead, MakesHead};
 
 use crate::building::{builder_at, taken};
 use crate::heads::{Head, expr_to_head};
@@ -32,9 +32,9 @@ fn call_function<B: ExprBuilder>(
     loc: Option<&Loc>,
     name: &Node<Option<cst::Name>>,
     args: Vec<B::Expr>,
-) -> Result<B::Expr, ConversionError>
+) -> Result<B::Expr, ConversionError<B::BuildError>>
     ensures { (xs : List Tree) → AreBuilt B.operations B.meaning args xs →
-        Converts (IsBuilt B.operations B.meaning) result (converting.called styles.now (converting.a_name (shown_name name.now)) xs) }
+        MakesTree B.operations B.meaning B.refusal result (converting.called styles.now (converting.a_name (shown_name name.now)) xs) }
 {
     let function = to_name(alloc, name)?;
     if !styles.is_function(&function) {
@@ -61,9 +61,9 @@ fn with_argument<B: ExprBuilder>(
     op: BinaryOp,
     expr: B::Expr,
     args: Vec<B::Expr>,
-) -> Result<B::Expr, ConversionError>
+) -> Result<B::Expr, ConversionError<B::BuildError>>
     ensures { (t : Tree) (xs : List Tree) → IsBuilt B.operations B.meaning expr t → AreBuilt B.operations B.meaning args xs →
-        Converts (IsBuilt B.operations B.meaning) result (with_argument (binary_operator_of op) t xs) }
+        MakesTree B.operations B.meaning B.refusal result (with_argument (binary_operator_of op) t xs) }
 {
     let got = args.len();
     match only(args) {
@@ -88,9 +88,9 @@ fn is_empty<B: ExprBuilder>(
     loc: Option<&Loc>,
     expr: B::Expr,
     args: Vec<B::Expr>,
-) -> Result<B::Expr, ConversionError>
+) -> Result<B::Expr, ConversionError<B::BuildError>>
     ensures { (t : Tree) (xs : List Tree) → IsBuilt B.operations B.meaning expr t → AreBuilt B.operations B.meaning args xs →
-        Converts (IsBuilt B.operations B.meaning) result (without_argument tree.IsEmpty t xs) }
+        MakesTree B.operations B.meaning B.refusal result (without_argument tree.IsEmpty t xs) }
 {
     if args.is_empty() {
         let builder = builder_at::<B>(alloc, loc)?;
@@ -112,9 +112,9 @@ fn call_table_method<B: ExprBuilder>(
     expr: B::Expr,
     id: UnreservedId,
     args: Vec<B::Expr>,
-) -> Result<B::Expr, ConversionError>
+) -> Result<B::Expr, ConversionError<B::BuildError>>
     ensures { (t : Tree) (xs : List Tree) → IsBuilt B.operations B.meaning expr t → AreBuilt B.operations B.meaning args xs →
-        Converts (IsBuilt B.operations B.meaning) result
+        MakesTree B.operations B.meaning B.refusal result
         (cond (is_among id styles.now.methods) (Some (tree.Apply (tree.Call (id ∷ [])) (trees (t ∷ xs)))) None) }
 {
     if !styles.is_method(&id) {
@@ -136,9 +136,9 @@ fn call_method<B: ExprBuilder>(
     expr: B::Expr,
     id: UnreservedId,
     args: Vec<B::Expr>,
-) -> Result<B::Expr, ConversionError>
+) -> Result<B::Expr, ConversionError<B::BuildError>>
     ensures { (t : Tree) (xs : List Tree) → IsBuilt B.operations B.meaning expr t → AreBuilt B.operations B.meaning args xs →
-        Converts (IsBuilt B.operations B.meaning) result (method styles.now id t xs) }
+        MakesTree B.operations B.meaning B.refusal result (method styles.now id t xs) }
 {
     match id.as_str() {
         "contains" => with_argument::<B>(alloc, loc, "contains", BinaryOp::Contains, expr, args),
@@ -162,9 +162,9 @@ fn called<B: ExprBuilder>(
     loc: Option<&Loc>,
     head: Head<'_, B::Expr>,
     args: Vec<B::Expr>,
-) -> Result<B::Expr, ConversionError>
+) -> Result<B::Expr, ConversionError<B::BuildError>>
     ensures { (h : converting.Head) (xs : List Tree) → IsHead B.operations B.meaning head.entry h → AreBuilt B.operations B.meaning args xs →
-        Converts (IsBuilt B.operations B.meaning) result (converting.called styles.now h xs) }
+        MakesTree B.operations B.meaning B.refusal result (converting.called styles.now h xs) }
 {
     match head {
         Head::Expr(_) => {
@@ -181,11 +181,11 @@ pub fn call<'a, B: ExprBuilder>(
     alloc: Global,
     styles: &ExtStyles,
     loc: Option<&Loc>,
-    head: Result<Head<'_, B::Expr>, ConversionError>,
-    args: Result<Vec<B::Expr>, ConversionError>,
-) -> Result<Head<'a, B::Expr>, ConversionError>
-    ensures { (v : Option converting.Head) (w : Option (List Tree)) → Converts (IsHead B.operations B.meaning) head.entry v → Converts (AreBuilt B.operations B.meaning) args w →
-        Converts (IsHead B.operations B.meaning) result (and_then v (λ h. and_then w (λ xs. and_then (converting.called styles.now h xs) (λ t. Some (converting.a_tree t))))) }
+    head: Result<Head<'_, B::Expr>, ConversionError<B::BuildError>>,
+    args: Result<Vec<B::Expr>, ConversionError<B::BuildError>>,
+) -> Result<Head<'a, B::Expr>, ConversionError<B::BuildError>>
+    ensures { (v : Option converting.Head) (w : Option (List Tree)) → MakesHead B.operations B.meaning B.refusal head.entry v → MakesTrees B.operations B.meaning B.refusal args w →
+        MakesHead B.operations B.meaning B.refusal result (and_then v (λ h. and_then w (λ xs. and_then (converting.called styles.now h xs) (λ t. Some (converting.a_tree t))))) }
 {
     match head {
         Ok(head) => match args {

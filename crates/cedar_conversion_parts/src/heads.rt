@@ -10,9 +10,9 @@ ghost use Rattle.cedar_loose_grammar.specs.Converting as converting;
 ghost use Rattle.cedar_loose_grammar.specs.Converting.{head_tree};
 ghost use Rattle.cedar_nodes.specs.View.{shown_name};
 ghost use Rattle.cedar_conversion_faults.specs.Reasons.{IsFault};
-ghost use Rattle.cedar_conversion_leaves.specs.Converts.{and_then, Converts, Finds};
-ghost use Rattle.cedar_conversion_parts.specs.Building.{IsBuilt, AreBuilt};
-ghost use Rattle.cedar_conversion_parts.specs.Heads.{IsHead};
+ghost use Rattle.cedar_conversion_leaves.specs.Converts.{and_then, Finds};
+ghost use Rattle.cedar_conversion_parts.specs.Building.{IsBuilt, MakesTree, MakesTrees};
+ghost use Rattle.cedar_conversion_parts.specs.Heads.{MakesHead};
 
 use crate::building::{builder_at, taken};
 use cedar_builders::expr_builder::ExprBuilder;
@@ -42,39 +42,37 @@ pub enum Head<'a, E> {
 pub fn literal_to_head<'a, B: ExprBuilder>(
     alloc: Global,
     loc: Option<&Loc>,
-    literal: Result<Literal, ConversionError>,
-) -> Result<Head<'a, B::Expr>, ConversionError>
+    literal: Result<Literal, ConversionError<B::BuildError>>,
+) -> Result<Head<'a, B::Expr>, ConversionError<B::BuildError>>
     ensures { (v : Option Tree) → Finds (λ l. tree.Lit (literal_of l)) literal v →
-        Converts (IsHead B.operations B.meaning) result (and_then v (λ t. Some (converting.a_tree t))) }
+        MakesHead B.operations B.meaning B.refusal result (and_then v (λ t. Some (converting.a_tree t))) }
 {
     let literal = literal?;
     let builder = builder_at::<B>(alloc, loc)?;
-    let expr = taken::<B>(builder.val(literal))?;
-    Ok(Head::Expr(expr))
+    expr_to_head::<B>(taken::<B>(builder.val(literal)))
 }
 
 /// An entity.
 pub fn entity_to_head<'a, B: ExprBuilder>(
     alloc: Global,
     loc: Option<&Loc>,
-    uid: Result<EntityUID, ConversionError>,
-) -> Result<Head<'a, B::Expr>, ConversionError>
+    uid: Result<EntityUID, ConversionError<B::BuildError>>,
+) -> Result<Head<'a, B::Expr>, ConversionError<B::BuildError>>
     ensures { (v : Option Uid) → Finds (λ u. u) uid v →
-        Converts (IsHead B.operations B.meaning) result (and_then v (λ u. Some (converting.a_tree (tree.Lit (tree.Entity u))))) }
+        MakesHead B.operations B.meaning B.refusal result (and_then v (λ u. Some (converting.a_tree (tree.Lit (tree.Entity u))))) }
 {
     let uid = uid?;
     let shared = Rc::new(alloc, uid)?;
     let builder = builder_at::<B>(alloc, loc)?;
-    let expr = taken::<B>(builder.val(Literal::EntityUID(shared)))?;
-    Ok(Head::Expr(expr))
+    expr_to_head::<B>(taken::<B>(builder.val(Literal::EntityUID(shared))))
 }
 
 /// An expression that stands alone.
 pub fn expr_to_head<'a, B: ExprBuilder>(
-    expr: Result<B::Expr, ConversionError>,
-) -> Result<Head<'a, B::Expr>, ConversionError>
-    ensures { (v : Option Tree) → Converts (IsBuilt B.operations B.meaning) expr v →
-        Converts (IsHead B.operations B.meaning) result (and_then v (λ t. Some (converting.a_tree t))) }
+    expr: Result<B::Expr, ConversionError<B::BuildError>>,
+) -> Result<Head<'a, B::Expr>, ConversionError<B::BuildError>>
+    ensures { (v : Option Tree) → MakesTree B.operations B.meaning B.refusal expr v →
+        MakesHead B.operations B.meaning B.refusal result (and_then v (λ t. Some (converting.a_tree t))) }
 {
     let expr = expr?;
     Ok(Head::Expr(expr))
@@ -84,15 +82,14 @@ pub fn expr_to_head<'a, B: ExprBuilder>(
 pub fn set_to_head<'a, B: ExprBuilder>(
     alloc: Global,
     loc: Option<&Loc>,
-    items: Result<Vec<B::Expr>, ConversionError>,
-) -> Result<Head<'a, B::Expr>, ConversionError>
-    ensures { (v : Option (List Tree)) → Converts (AreBuilt B.operations B.meaning) items v →
-        Converts (IsHead B.operations B.meaning) result (and_then v (λ xs. Some (converting.a_tree (tree.Apply tree.MakeSet (trees xs))))) }
+    items: Result<Vec<B::Expr>, ConversionError<B::BuildError>>,
+) -> Result<Head<'a, B::Expr>, ConversionError<B::BuildError>>
+    ensures { (v : Option (List Tree)) → MakesTrees B.operations B.meaning B.refusal items v →
+        MakesHead B.operations B.meaning B.refusal result (and_then v (λ xs. Some (converting.a_tree (tree.Apply tree.MakeSet (trees xs))))) }
 {
     let items = items?;
     let builder = builder_at::<B>(alloc, loc)?;
-    let expr = taken::<B>(builder.set(items))?;
-    Ok(Head::Expr(expr))
+    expr_to_head::<B>(taken::<B>(builder.set(items)))
 }
 
 // The variable that a name is.
@@ -100,8 +97,8 @@ fn variable<B: ExprBuilder>(
     alloc: Global,
     loc: Option<&Loc>,
     name: &Node<Option<Name>>,
-) -> Result<B::Expr, ConversionError>
-    ensures { Converts (IsBuilt B.operations B.meaning) result (head_tree (converting.a_name (shown_name name.now))) }
+) -> Result<B::Expr, ConversionError<B::BuildError>>
+    ensures { MakesTree B.operations B.meaning B.refusal result (head_tree (converting.a_name (shown_name name.now))) }
 {
     match to_variable(name) {
         Some(var) => {
@@ -113,7 +110,11 @@ fn variable<B: ExprBuilder>(
 }
 
 // The fault of a name that stands alone and is no variable.
-fn no_variable(alloc: Global, name: &Node<Option<Name>>, loc: Option<&Loc>) -> ConversionError
+fn no_variable<E: Drop>(
+    alloc: Global,
+    name: &Node<Option<Name>>,
+    loc: Option<&Loc>,
+) -> ConversionError<E>
     ensures { IsFault result }
 {
     match printed(alloc, name) {
@@ -135,9 +136,9 @@ fn accessed<B: ExprBuilder>(
     loc: Option<&Loc>,
     expr: B::Expr,
     id: UnreservedId,
-) -> Result<B::Expr, ConversionError>
+) -> Result<B::Expr, ConversionError<B::BuildError>>
     ensures { (t : Tree) → IsBuilt B.operations B.meaning expr t →
-        Converts (IsBuilt B.operations B.meaning) result (Some (unary (tree.GetAttr id) t)) }
+        MakesTree B.operations B.meaning B.refusal result (Some (unary (tree.GetAttr id) t)) }
 {
     let builder = builder_at::<B>(alloc, loc)?;
     taken::<B>(builder.get_attr(expr, id.into_smolstr()))
@@ -147,10 +148,10 @@ fn accessed<B: ExprBuilder>(
 pub fn head_to_expr<B: ExprBuilder>(
     alloc: Global,
     loc: Option<&Loc>,
-    head: Result<Head<'_, B::Expr>, ConversionError>,
-) -> Result<B::Expr, ConversionError>
-    ensures { (v : Option converting.Head) → Converts (IsHead B.operations B.meaning) head.entry v →
-        Converts (IsBuilt B.operations B.meaning) result (and_then v head_tree) }
+    head: Result<Head<'_, B::Expr>, ConversionError<B::BuildError>>,
+) -> Result<B::Expr, ConversionError<B::BuildError>>
+    ensures { (v : Option converting.Head) → MakesHead B.operations B.meaning B.refusal head.entry v →
+        MakesTree B.operations B.meaning B.refusal result (and_then v head_tree) }
 {
     match head {
         Ok(Head::Expr(expr)) => Ok(expr),
@@ -164,11 +165,11 @@ pub fn head_to_expr<B: ExprBuilder>(
 pub fn attribute<'a, B: ExprBuilder>(
     alloc: Global,
     loc: Option<&Loc>,
-    head: Result<Head<'_, B::Expr>, ConversionError>,
-    id: Result<UnreservedId, ConversionError>,
-) -> Result<Head<'a, B::Expr>, ConversionError>
-    ensures { (v : Option converting.Head) (w : Option Text) → Converts (IsHead B.operations B.meaning) head.entry v → Finds (λ s. s) id w →
-        Converts (IsHead B.operations B.meaning) result (and_then v (λ h. and_then (head_tree h) (λ a. and_then w (λ s. Some (converting.an_attribute a s))))) }
+    head: Result<Head<'_, B::Expr>, ConversionError<B::BuildError>>,
+    id: Result<UnreservedId, ConversionError<B::BuildError>>,
+) -> Result<Head<'a, B::Expr>, ConversionError<B::BuildError>>
+    ensures { (v : Option converting.Head) (w : Option Text) → MakesHead B.operations B.meaning B.refusal head.entry v → Finds (λ s. s) id w →
+        MakesHead B.operations B.meaning B.refusal result (and_then v (λ h. and_then (head_tree h) (λ a. and_then w (λ s. Some (converting.an_attribute a s))))) }
 {
     let expr = head_to_expr::<B>(alloc, loc, head);
     let (expr, id) = flatten_tuple_2(expr, id)?;
@@ -179,15 +180,14 @@ pub fn attribute<'a, B: ExprBuilder>(
 pub fn index<'a, B: ExprBuilder>(
     alloc: Global,
     loc: Option<&Loc>,
-    head: Result<Head<'_, B::Expr>, ConversionError>,
-    text: Result<RcStr, ConversionError>,
-) -> Result<Head<'a, B::Expr>, ConversionError>
-    ensures { (v : Option converting.Head) (w : Option Text) → Converts (IsHead B.operations B.meaning) head.entry v → Finds rc_str_bytes text w →
-        Converts (IsHead B.operations B.meaning) result (and_then v (λ h. and_then (head_tree h) (λ a. and_then w (λ s. Some (converting.a_tree (unary (tree.GetAttr s) a)))))) }
+    head: Result<Head<'_, B::Expr>, ConversionError<B::BuildError>>,
+    text: Result<RcStr, ConversionError<B::BuildError>>,
+) -> Result<Head<'a, B::Expr>, ConversionError<B::BuildError>>
+    ensures { (v : Option converting.Head) (w : Option Text) → MakesHead B.operations B.meaning B.refusal head.entry v → Finds rc_str_bytes text w →
+        MakesHead B.operations B.meaning B.refusal result (and_then v (λ h. and_then (head_tree h) (λ a. and_then w (λ s. Some (converting.a_tree (unary (tree.GetAttr s) a)))))) }
 {
     let expr = head_to_expr::<B>(alloc, loc, head);
     let (expr, text) = flatten_tuple_2(expr, text)?;
     let builder = builder_at::<B>(alloc, loc)?;
-    let expr = taken::<B>(builder.get_attr(expr, text))?;
-    Ok(Head::Expr(expr))
+    expr_to_head::<B>(taken::<B>(builder.get_attr(expr, text)))
 }

@@ -5,8 +5,8 @@ ghost use Rattle.cedar_language.specs.Tree.{Tree, PatternElem};
 ghost use Rattle.cedar_language.specs.Uid.{Text, Name};
 ghost use Rattle.cedar_grammar.specs.Build as build;
 ghost use Rattle.cedar_grammar.specs.Build.{unary, is_in};
-ghost use Rattle.cedar_conversion_leaves.specs.Converts.{and_then, Converts, Finds};
-ghost use Rattle.cedar_conversion_parts.specs.Building.{IsBuilt};
+ghost use Rattle.cedar_conversion_leaves.specs.Converts.{and_then, Finds};
+ghost use Rattle.cedar_conversion_parts.specs.Building.{MakesTree};
 ghost use Rattle.cedar_conversion_leaves.specs.Fields.{path_texts};
 
 use crate::building::{builder_at, taken};
@@ -24,11 +24,11 @@ use std::rc::RcStr;
 pub fn has<B: ExprBuilder>(
     alloc: Global,
     loc: Option<&Loc>,
-    target: Result<B::Expr, ConversionError>,
-    attrs: Result<NonEmpty<RcStr>, ConversionError>,
-) -> Result<B::Expr, ConversionError>
-    ensures { (v : Option Tree) (w : Option (List Text)) → Converts (IsBuilt B.operations B.meaning) target v → Finds path_texts attrs w →
-        Converts (IsBuilt B.operations B.meaning) result (and_then v (λ x. and_then w (λ ss. Some (build.has ss x)))) }
+    target: Result<B::Expr, ConversionError<B::BuildError>>,
+    attrs: Result<NonEmpty<RcStr>, ConversionError<B::BuildError>>,
+) -> Result<B::Expr, ConversionError<B::BuildError>>
+    ensures { (v : Option Tree) (w : Option (List Text)) → MakesTree B.operations B.meaning B.refusal target v → Finds path_texts attrs w →
+        MakesTree B.operations B.meaning B.refusal result (and_then v (λ x. and_then w (λ ss. Some (build.has ss x)))) }
 {
     let (target, attrs) = flatten_tuple_2(target, attrs)?;
     let builder = builder_at::<B>(alloc, loc)?;
@@ -43,11 +43,11 @@ pub fn has<B: ExprBuilder>(
 pub fn like<B: ExprBuilder>(
     alloc: Global,
     loc: Option<&Loc>,
-    target: Result<B::Expr, ConversionError>,
-    pattern: Result<Pattern, ConversionError>,
-) -> Result<B::Expr, ConversionError>
-    ensures { (v : Option Tree) (w : Option (List PatternElem)) → Converts (IsBuilt B.operations B.meaning) target v → Finds (λ p. p) pattern w →
-        Converts (IsBuilt B.operations B.meaning) result (and_then v (λ x. and_then w (λ q. Some (unary (tree.Like q) x)))) }
+    target: Result<B::Expr, ConversionError<B::BuildError>>,
+    pattern: Result<Pattern, ConversionError<B::BuildError>>,
+) -> Result<B::Expr, ConversionError<B::BuildError>>
+    ensures { (v : Option Tree) (w : Option (List PatternElem)) → MakesTree B.operations B.meaning B.refusal target v → Finds (λ p. p) pattern w →
+        MakesTree B.operations B.meaning B.refusal result (and_then v (λ x. and_then w (λ q. Some (unary (tree.Like q) x)))) }
 {
     let (target, pattern) = flatten_tuple_2(target, pattern)?;
     let builder = builder_at::<B>(alloc, loc)?;
@@ -58,11 +58,11 @@ pub fn like<B: ExprBuilder>(
 pub fn is_type<B: ExprBuilder>(
     alloc: Global,
     loc: Option<&Loc>,
-    target: Result<B::Expr, ConversionError>,
-    name: Result<names::Name, ConversionError>,
-) -> Result<B::Expr, ConversionError>
-    ensures { (v : Option Tree) (w : Option Name) → Converts (IsBuilt B.operations B.meaning) target v → Finds (λ p. p) name w →
-        Converts (IsBuilt B.operations B.meaning) result (and_then v (λ x. and_then w (λ p. Some (unary (tree.Is p) x)))) }
+    target: Result<B::Expr, ConversionError<B::BuildError>>,
+    name: Result<names::Name, ConversionError<B::BuildError>>,
+) -> Result<B::Expr, ConversionError<B::BuildError>>
+    ensures { (v : Option Tree) (w : Option Name) → MakesTree B.operations B.meaning B.refusal target v → Finds (λ p. p) name w →
+        MakesTree B.operations B.meaning B.refusal result (and_then v (λ x. and_then w (λ p. Some (unary (tree.Is p) x)))) }
 {
     let (target, name) = flatten_tuple_2(target, name)?;
     let builder = builder_at::<B>(alloc, loc)?;
@@ -73,12 +73,12 @@ pub fn is_type<B: ExprBuilder>(
 pub fn is_type_in<B: ExprBuilder>(
     alloc: Global,
     loc: Option<&Loc>,
-    target: Result<B::Expr, ConversionError>,
-    name: Result<names::Name, ConversionError>,
-    entity: Result<B::Expr, ConversionError>,
-) -> Result<B::Expr, ConversionError>
-    ensures { (v : Option Tree) (w : Option Name) (u : Option Tree) → Converts (IsBuilt B.operations B.meaning) target v → Finds (λ p. p) name w → Converts (IsBuilt B.operations B.meaning) entity u →
-        Converts (IsBuilt B.operations B.meaning) result (and_then v (λ x. and_then w (λ p. and_then u (λ y. Some (is_in p x y))))) }
+    target: Result<B::Expr, ConversionError<B::BuildError>>,
+    name: Result<names::Name, ConversionError<B::BuildError>>,
+    entity: Result<B::Expr, ConversionError<B::BuildError>>,
+) -> Result<B::Expr, ConversionError<B::BuildError>>
+    ensures { (v : Option Tree) (w : Option Name) (u : Option Tree) → MakesTree B.operations B.meaning B.refusal target v → Finds (λ p. p) name w → MakesTree B.operations B.meaning B.refusal entity u →
+        MakesTree B.operations B.meaning B.refusal result (and_then v (λ x. and_then w (λ p. and_then u (λ y. Some (is_in p x y))))) }
 {
     let (target, (name, entity)) = flatten_tuple_2(target, flatten_tuple_2(name, entity))?;
     let builder = builder_at::<B>(alloc, loc)?;
@@ -89,12 +89,12 @@ pub fn is_type_in<B: ExprBuilder>(
 pub fn ite<B: ExprBuilder>(
     alloc: Global,
     loc: Option<&Loc>,
-    test: Result<B::Expr, ConversionError>,
-    then_expr: Result<B::Expr, ConversionError>,
-    else_expr: Result<B::Expr, ConversionError>,
-) -> Result<B::Expr, ConversionError>
-    ensures { (u v w : Option Tree) → Converts (IsBuilt B.operations B.meaning) test u → Converts (IsBuilt B.operations B.meaning) then_expr v → Converts (IsBuilt B.operations B.meaning) else_expr w →
-        Converts (IsBuilt B.operations B.meaning) result (and_then u (λ x. and_then v (λ y. and_then w (λ z. Some (tree.If x y z))))) }
+    test: Result<B::Expr, ConversionError<B::BuildError>>,
+    then_expr: Result<B::Expr, ConversionError<B::BuildError>>,
+    else_expr: Result<B::Expr, ConversionError<B::BuildError>>,
+) -> Result<B::Expr, ConversionError<B::BuildError>>
+    ensures { (u v w : Option Tree) → MakesTree B.operations B.meaning B.refusal test u → MakesTree B.operations B.meaning B.refusal then_expr v → MakesTree B.operations B.meaning B.refusal else_expr w →
+        MakesTree B.operations B.meaning B.refusal result (and_then u (λ x. and_then v (λ y. and_then w (λ z. Some (tree.If x y z))))) }
 {
     let (test, (then_expr, else_expr)) = flatten_tuple_2(
         test,

@@ -3,8 +3,8 @@ ghost use Rattle.std.specs.Prelude.{◌≡◌, Option, Some};
 ghost use Rattle.std.specs.Option.{option_map};
 ghost use Rattle.cedar_language.specs.Tree.{Tree, Lit};
 ghost use Rattle.cedar_literals.specs.Literals.{literal_of};
-ghost use Rattle.cedar_conversion_leaves.specs.Converts.{and_then, Converts};
-ghost use Rattle.cedar_conversion_parts.specs.Building.{IsBuilt};
+ghost use Rattle.cedar_conversion_leaves.specs.Converts.{and_then};
+ghost use Rattle.cedar_conversion_parts.specs.Building.{IsBuilt, MakesTree};
 ghost use Rattle.cedar_conversion_parts.specs.Joints.{repeated, minus_long};
 
 use crate::building::{builder_at, taken};
@@ -27,8 +27,8 @@ fn signed_once<B: ExprBuilder>(
     loc: Option<&Loc>,
     sign: Sign,
     expr: B::Expr,
-) -> Result<B::Expr, ConversionError>
-    ensures { (t : Tree) → IsBuilt B.operations B.meaning expr t → Converts (IsBuilt B.operations B.meaning) result (Some (repeated sign 1 t)) }
+) -> Result<B::Expr, ConversionError<B::BuildError>>
+    ensures { (t : Tree) → IsBuilt B.operations B.meaning expr t → MakesTree B.operations B.meaning B.refusal result (Some (repeated sign 1 t)) }
 {
     let builder = builder_at::<B>(alloc, loc)?;
     match sign {
@@ -43,9 +43,9 @@ pub fn signed<B: ExprBuilder>(
     loc: Option<&Loc>,
     sign: Sign,
     count: u8,
-    expr: Result<B::Expr, ConversionError>,
-) -> Result<B::Expr, ConversionError>
-    ensures { (v : Option Tree) → Converts (IsBuilt B.operations B.meaning) expr v → Converts (IsBuilt B.operations B.meaning) result (and_then v (λ t. Some (repeated sign count t))) }
+    expr: Result<B::Expr, ConversionError<B::BuildError>>,
+) -> Result<B::Expr, ConversionError<B::BuildError>>
+    ensures { (v : Option Tree) → MakesTree B.operations B.meaning B.refusal expr v → MakesTree B.operations B.meaning B.refusal result (and_then v (λ t. Some (repeated sign count t))) }
 {
     let first = expr?;
     let mut made = first;
@@ -60,8 +60,8 @@ pub fn negative<B: ExprBuilder>(
     alloc: Global,
     loc: Option<&Loc>,
     number: u64,
-) -> Result<B::Expr, ConversionError>
-    ensures { Converts (IsBuilt B.operations B.meaning) result (minus_long number) }
+) -> Result<B::Expr, ConversionError<B::BuildError>>
+    ensures { MakesTree B.operations B.meaning B.refusal result (minus_long number) }
 {
     match minus(number) {
         Some(literal) => {

@@ -7,11 +7,12 @@ use cedar_names::identifiers::UnreservedId;
 use cedar_names::names::Name;
 use cedar_names::reading::FromNormalizedStr;
 use cedar_styles::ExtStyles;
+use cedar_trees::errors::ExpressionConstructionError;
 use std::alloc::Global;
 use std::test::Fail;
 
 /// A function `decimal`, a function `ip::of` and a method `lessThan`.
-fn styles(alloc: Global) -> Result<ExtStyles, Fail> {
+pub(crate) fn styles(alloc: Global) -> Result<ExtStyles, Fail> {
     let mut functions = Vec::new(alloc);
     for text in ["decimal", "ip::of", "principal"] {
         functions.push(Name::from_normalized_str(alloc, text)?)?;
@@ -34,8 +35,11 @@ fn converted(alloc: Global, text: &str) -> Result<String, Fail> {
     }
 }
 
-/// The first fault, with its place.
-fn refused(alloc: Global, error: &ConversionError) -> Result<String, Fail> {
+/// The first fault, with its place; or the builder's own error as it is printed.
+fn refused(
+    alloc: Global,
+    error: &ConversionError<ExpressionConstructionError>,
+) -> Result<String, Fail> {
     let ConversionError::Faults(faults) = error else {
         return Ok(format!(in alloc; "{error}")?);
     };

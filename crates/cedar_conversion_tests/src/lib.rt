@@ -3,3 +3,5 @@
 
 #[cfg(test)]
 mod expressions;
+#[cfg(test)]
+mod refusing;

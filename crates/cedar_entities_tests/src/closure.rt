@@ -1,7 +1,6 @@
 // Graphs, their closures and what is refused of them.
-use cedar_closure::{
-    HasCycle, MissingTcEdge, TCNode, TcError, compute_tc, enforce_tc_and_dag, rebuild_tc, repair_tc,
-};
+use crate::asserts::{assert_text, assert_value};
+use cedar_closure::{TCNode, TcError, compute_tc, enforce_tc_and_dag, rebuild_tc, repair_tc};
 use std::alloc::{AllocError, Global};
 use std::collections::{HashMap, HashSet};
 use std::test::Fail;
@@ -101,27 +100,54 @@ fn edges_from(
     Ok(edges)
 }
 
+fn shown(alloc: Global, nodes: &HashMap<u32, Number>, key: u32) -> Result<String, AllocError> {
+    let edges = edges_from(alloc, nodes, key)?;
+    format!(in alloc; "{edges:?}")
+}
+
+fn told(alloc: Global, answer: Result<(), TcError<u32>>) -> Result<String, AllocError> {
+    match answer {
+        Ok(()) => String::from_str(alloc, "ok"),
+        Err(error) => error.clone()?.to_string(alloc),
+    }
+}
+
+// The keys that a node reaches.
+fn reached(alloc: Global, edges: &[(u32, u32)], key: u32) -> Result<String, AllocError> {
+    let mut nodes = graph(alloc, 4, edges)?;
+    match compute_tc(alloc, &mut nodes, false) {
+        Ok(()) => shown(alloc, &nodes, key),
+        Err(error) => told(alloc, Err(error)),
+    }
+}
+
 #[test]
 fn closures_hold_what_is_reached(rt: HostRuntime) -> Result<(), Fail> {
     let alloc = rt.alloc();
-    // Edges, a node and the keys that it reaches.
-    let table: [(&[(u32, u32)], u32, &[u32]); 9] = [
-        (&[(1, 2), (2, 3), (3, 1)], 1, &[1, 2, 3]),
-        (&[(1, 2), (2, 3), (3, 1)], 2, &[1, 2, 3]),
-        (&[(1, 2), (2, 3), (3, 1)], 3, &[1, 2, 3]),
-        (&[(1, 2), (1, 3), (2, 4), (3, 4)], 1, &[2, 3, 4]),
-        (&[(1, 2), (1, 3), (2, 4), (3, 4)], 2, &[4]),
-        (&[(1, 1), (2, 1)], 2, &[1]),
-        (&[(1, 1), (2, 1)], 1, &[1]),
-        (&[(1, 2), (2, 9)], 1, &[2, 9]),
-        (&[(1, 2), (2, 9)], 9, &[]),
-    ];
-    for (edges, key, want) in table {
-        let mut nodes = graph(alloc, 4, edges)?;
-        assert_eq!(rt; compute_tc(alloc, &mut nodes, false).is_ok(), true);
-        let have = edges_from(alloc, &nodes, key)?;
-        assert_eq!(rt; have.as_slice(), want, "from {key}");
-    }
+    assert_text(
+        &rt,
+        reached(alloc, &[(1, 2), (2, 3), (3, 1)], 1),
+        "[1, 2, 3]",
+    )?;
+    assert_text(
+        &rt,
+        reached(alloc, &[(1, 2), (2, 3), (3, 1)], 3),
+        "[1, 2, 3]",
+    )?;
+    assert_text(
+        &rt,
+        reached(alloc, &[(1, 2), (1, 3), (2, 4), (3, 4)], 1),
+        "[2, 3, 4]",
+    )?;
+    assert_text(
+        &rt,
+        reached(alloc, &[(1, 2), (1, 3), (2, 4), (3, 4)], 2),
+        "[4]",
+    )?;
+    assert_text(&rt, reached(alloc, &[(1, 1), (2, 1)], 2), "[1]")?;
+    assert_text(&rt, reached(alloc, &[(1, 1), (2, 1)], 1), "[1]")?;
+    assert_text(&rt, reached(alloc, &[(1, 2), (2, 9)], 1), "[2, 9]")?;
+    assert_text(&rt, reached(alloc, &[(1, 2), (2, 9)], 9), "[]")?;
     Ok(())
 }
 
@@ -145,65 +171,84 @@ fn edges_in_a_chain(alloc: Global, last: u32, key: u32) -> Result<Option<usize>,
 #[test]
 fn chains_are_closed(rt: HostRuntime) -> Result<(), Fail> {
     let alloc = rt.alloc();
-    assert_eq!(rt; edges_in_a_chain(alloc, 60, 1)?, Some(59));
-    assert_eq!(rt; edges_in_a_chain(alloc, 60, 59)?, Some(1));
+    assert_value(&rt, edges_in_a_chain(alloc, 60, 1), Some(59))?;
+    assert_value(&rt, edges_in_a_chain(alloc, 60, 59), Some(1))?;
     Ok(())
+}
+
+// The edges of a node of a chain of three, once that of the first is repaired.
+fn repaired(alloc: Global, key: u32) -> Result<String, AllocError> {
+    let mut nodes = chain(alloc, 3)?;
+    match repair_tc(alloc, &mut nodes, &[1], true) {
+        Ok(()) => shown(alloc, &nodes, key),
+        Err(error) => told(alloc, Err(error)),
+    }
+}
+
+// Whether a repaired chain of three is its own closure.
+fn repaired_and_enforced(alloc: Global) -> Result<String, AllocError> {
+    let mut nodes = chain(alloc, 3)?;
+    match repair_tc(alloc, &mut nodes, &[1], true) {
+        Ok(()) => told(alloc, enforce_tc_and_dag(alloc, &nodes)),
+        Err(error) => told(alloc, Err(error)),
+    }
 }
 
 #[test]
 fn repairs_fix_the_listed_keys(rt: HostRuntime) -> Result<(), Fail> {
     let alloc = rt.alloc();
-    let mut nodes = graph(alloc, 3, &[(1, 2), (2, 3)])?;
-    assert_eq!(rt; repair_tc(alloc, &mut nodes, &[1], true).is_ok(), true);
-    assert_eq!(rt; edges_from(alloc, &nodes, 1)?.as_slice(), [2, 3].as_slice());
-    assert_eq!(rt; edges_from(alloc, &nodes, 2)?.as_slice(), [3].as_slice());
-    assert_eq!(rt; enforce_tc_and_dag(alloc, &nodes), Ok(()));
+    assert_text(&rt, repaired_and_enforced(alloc), "ok")?;
+    assert_text(&rt, repaired(alloc, 1), "[2, 3]")?;
+    assert_text(&rt, repaired(alloc, 2), "[3]")?;
     Ok(())
+}
+
+fn with_an_edge_more(alloc: Global) -> Result<HashMap<u32, Number>, AllocError> {
+    let mut nodes = chain(alloc, 3)?;
+    if let Some(node) = nodes.get_mut(&2) {
+        node.add_edge_to(9)?;
+    }
+    Ok(nodes)
+}
+
+// The edges of a node of a chain of three that had an edge more, once it is built again.
+fn rebuilt(alloc: Global, key: u32) -> Result<String, AllocError> {
+    let mut nodes = with_an_edge_more(alloc)?;
+    match rebuild_tc(alloc, &mut nodes, true) {
+        Ok(()) => shown(alloc, &nodes, key),
+        Err(error) => told(alloc, Err(error)),
+    }
 }
 
 #[test]
 fn rebuilding_keeps_the_direct_edges(rt: HostRuntime) -> Result<(), Fail> {
     let alloc = rt.alloc();
-    let mut nodes = graph(alloc, 3, &[(1, 2), (2, 3)])?;
-    if let Some(node) = nodes.get_mut(&2) {
-        node.add_edge_to(9)?;
-    }
-    assert_eq!(rt; rebuild_tc(alloc, &mut nodes, true), Ok(()));
-    assert_eq!(rt; edges_from(alloc, &nodes, 1)?.as_slice(), [2, 3].as_slice());
-    assert_eq!(rt; edges_from(alloc, &nodes, 2)?.as_slice(), [3].as_slice());
+    assert_text(&rt, rebuilt(alloc, 1), "[2, 3]")?;
+    assert_text(&rt, rebuilt(alloc, 2), "[3]")?;
     Ok(())
 }
 
-#[test]
-fn cycles_are_refused(rt: HostRuntime) -> Result<(), Fail> {
-    let alloc = rt.alloc();
-    let refusal = TcError::HasCycle(HasCycle {
-        vertex_with_loop: 1,
-    });
-    assert_eq!(rt;
-        format!(in alloc; "{refusal}")?.as_str(),
-        "input graph has a cycle containing vertex `1`"
-    );
-    let mut nodes = graph(alloc, 2, &[(1, 1), (2, 1)])?;
-    assert_eq!(rt; repair_tc(alloc, &mut nodes, &[2], true).is_ok(), true);
-    assert_eq!(rt; enforce_tc_and_dag(alloc, &nodes), Err(refusal.clone()?));
-    assert_eq!(rt; compute_tc(alloc, &mut nodes, true), Err(refusal));
-    Ok(())
+fn enforced(alloc: Global, edges: &[(u32, u32)]) -> Result<String, AllocError> {
+    let nodes = graph(alloc, 3, edges)?;
+    told(alloc, enforce_tc_and_dag(alloc, &nodes))
+}
+
+fn computed(alloc: Global, edges: &[(u32, u32)]) -> Result<String, AllocError> {
+    let mut nodes = graph(alloc, 3, edges)?;
+    told(alloc, compute_tc(alloc, &mut nodes, true))
 }
 
 #[test]
-fn missing_edges_are_refused(rt: HostRuntime) -> Result<(), Fail> {
+fn graphs_are_refused(rt: HostRuntime) -> Result<(), Fail> {
     let alloc = rt.alloc();
-    let nodes = graph(alloc, 2, &[(1, 2), (2, 9)])?;
-    let refusal = TcError::MissingTcEdge(MissingTcEdge {
-        child: 1,
-        parent: 2,
-        grandparent: 9,
-    });
-    assert_eq!(rt;
-        format!(in alloc; "{refusal}")?.as_str(),
-        "expected all transitive edges to exist, but `1` -> `2` and `2` -> `9` exist, while `1` -> `9` does not"
-    );
-    assert_eq!(rt; enforce_tc_and_dag(alloc, &nodes), Err(refusal));
+    let cycle = "input graph has a cycle containing vertex `1`";
+    assert_text(&rt, enforced(alloc, &[(1, 1), (2, 1)]), cycle)?;
+    assert_text(&rt, computed(alloc, &[(1, 1), (2, 1)]), cycle)?;
+    assert_text(&rt, enforced(alloc, &[(1, 2), (1, 3), (2, 3)]), "ok")?;
+    assert_text(
+        &rt,
+        enforced(alloc, &[(1, 2), (2, 9)]),
+        "expected all transitive edges to exist, but `1` -> `2` and `2` -> `9` exist, while `1` -> `9` does not",
+    )?;
     Ok(())
 }

@@ -1,4 +1,5 @@
 // What entities hold where there is memory, and which are the same.
+use crate::asserts::{assert_text, assert_value, text_of};
 use cedar_entity::entity::Entity;
 use cedar_literals::literals::Literal;
 use cedar_partial_values::partial_values::PartialValue;
@@ -100,12 +101,9 @@ fn is_copied(alloc: Global) -> Result<bool, Fail> {
 
 #[test]
 fn entities_hold_their_parts(rt: HostRuntime) -> Result<(), Fail> {
-    assert_eq!(rt; parts(rt.alloc())?.as_str(), "2 0 1 2 3");
-    assert_eq!(rt;
-        parts_with_another_parent(rt.alloc())?.as_str(),
-        "2 0 2 1 3"
-    );
-    assert_eq!(rt; parts_without_a_parent(rt.alloc())?.as_str(), "2 0 1 1 2");
+    assert_text(&rt, parts(rt.alloc()), "2 0 1 2 3")?;
+    assert_text(&rt, parts_with_another_parent(rt.alloc()), "2 0 2 1 3")?;
+    assert_text(&rt, parts_without_a_parent(rt.alloc()), "2 0 1 1 2")?;
     assert!(rt; is_copied(rt.alloc())?);
     Ok(())
 }
@@ -126,33 +124,35 @@ fn is_same(
 #[test]
 fn same_entities_have_the_same_parts(rt: HostRuntime) -> Result<(), Fail> {
     let alloc = rt.alloc();
-    assert_eq!(rt; is_same(alloc, 1, "x", &["g"], &["h"])?, true);
-    assert_eq!(rt; is_same(alloc, 1, "x", &[], &["h", "g"])?, true);
-    assert_eq!(rt; is_same(alloc, 2, "x", &["g"], &["h"])?, false);
-    assert_eq!(rt; is_same(alloc, 1, "y", &["g"], &["h"])?, false);
-    assert_eq!(rt; is_same(alloc, 1, "x", &[], &["h"])?, false);
+    assert_value(&rt, is_same(alloc, 1, "x", &["g"], &["h"]), true)?;
+    assert_value(&rt, is_same(alloc, 1, "x", &[], &["h", "g"]), true)?;
+    assert_value(&rt, is_same(alloc, 2, "x", &["g"], &["h"]), false)?;
+    assert_value(&rt, is_same(alloc, 1, "y", &["g"], &["h"]), false)?;
+    assert_value(&rt, is_same(alloc, 1, "x", &[], &["h"]), false)?;
     Ok(())
 }
 
 fn shown(alloc: Global) -> Result<String, Fail> {
     let entity = entity(alloc, 1, "x", &["k", "a"], &["h", "b"])?;
-    Ok(entity.to_string(alloc)?)
+    Ok(text_of(alloc, entity)?)
 }
 
 fn shown_bare(alloc: Global) -> Result<String, Fail> {
     let entity = Entity::with_uid(alloc, uid(alloc, "u")?)?;
-    Ok(entity.to_string(alloc)?)
+    Ok(text_of(alloc, entity)?)
 }
 
 #[test]
 fn entities_are_printed(rt: HostRuntime) -> Result<(), Fail> {
-    assert_eq!(rt;
-        shown(rt.alloc())?.as_str(),
-        "User::\"u\":\n  attrs:a: 1; b: unknown(\"x\")\n  ancestors:User::\"a\", User::\"b\", User::\"h\", User::\"k\""
-    );
-    assert_eq!(rt;
-        shown_bare(rt.alloc())?.as_str(),
-        "User::\"u\":\n  attrs:\n  ancestors:"
-    );
+    assert_text(
+        &rt,
+        shown(rt.alloc()),
+        "User::\"u\":\n  attrs:a: 1; b: unknown(\"x\")\n  ancestors:User::\"a\", User::\"b\", User::\"h\", User::\"k\"",
+    )?;
+    assert_text(
+        &rt,
+        shown_bare(rt.alloc()),
+        "User::\"u\":\n  attrs:\n  ancestors:",
+    )?;
     Ok(())
 }

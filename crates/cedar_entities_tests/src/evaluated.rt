@@ -1,4 +1,5 @@
 // Entities whose attributes and tags are evaluated, where there is memory.
+use crate::asserts::assert_text;
 use cedar_entity::entity::Entity;
 use cedar_entity_evaluation::{EntityCreationError, EvaluateEntity};
 use cedar_extensions::extensions::Extensions;
@@ -78,32 +79,35 @@ fn outcome(alloc: Global, attrs: &[(&str, &str)], tags: &[(&str, &str)]) -> Resu
 #[test]
 fn attributes_are_evaluated(rt: HostRuntime) -> Result<(), Fail> {
     let alloc = rt.alloc();
-    assert_eq!(rt;
-        outcome(alloc, &[("a", "one"), ("b", "unknown")], &[])?.as_str(),
-        "1, unknown(\"b\"), nothing"
-    );
-    assert_eq!(rt;
-        outcome(alloc, &[], &[("a", "one")])?.as_str(),
-        "nothing, nothing, 1"
-    );
+    assert_text(
+        &rt,
+        outcome(alloc, &[("a", "one"), ("b", "unknown")], &[]),
+        "1, unknown(\"b\"), nothing",
+    )?;
+    assert_text(
+        &rt,
+        outcome(alloc, &[], &[("a", "one")]),
+        "nothing, nothing, 1",
+    )?;
     Ok(())
 }
 
 #[test]
 fn the_first_error_is_told(rt: HostRuntime) -> Result<(), Fail> {
     let alloc = rt.alloc();
-    assert_eq!(rt;
+    assert_text(
+        &rt,
         outcome(
             alloc,
             &[("b", "f"), ("c", "g"), ("a", "one")],
-            &[("a", "g")]
-        )?
-        .as_str(),
-        "failed to evaluate attribute `b` of `User::\"u\"`: extension function `f` does not exist"
-    );
-    assert_eq!(rt;
-        outcome(alloc, &[("a", "one")], &[("a", "g")])?.as_str(),
-        "failed to evaluate tag `a` of `User::\"u\"`: extension function `g` does not exist"
-    );
+            &[("a", "g")],
+        ),
+        "failed to evaluate attribute `b` of `User::\"u\"`: extension function `f` does not exist",
+    )?;
+    assert_text(
+        &rt,
+        outcome(alloc, &[("a", "one")], &[("a", "g")]),
+        "failed to evaluate tag `a` of `User::\"u\"`: extension function `g` does not exist",
+    )?;
     Ok(())
 }

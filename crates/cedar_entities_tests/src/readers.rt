@@ -1,4 +1,5 @@
 // What the readers of entities give, and what their changes leave, where there is memory.
+use crate::asserts::{assert_text, assert_value};
 use cedar_closure::TCNode;
 use cedar_entity::entity::Entity;
 use cedar_literals::literals::Literal;
@@ -72,13 +73,27 @@ fn at(alloc: Global, name: &str) -> Result<String, Fail> {
     Ok(format!(in alloc; "{attribute} {tag}")?)
 }
 
+fn has_edge(alloc: Global, entity: &Entity, id: &str) -> Result<bool, Fail> {
+    Ok(entity.has_edge_to(&uid(alloc, id)?))
+}
+
 // All edges, those that are direct, and whether there is one to `g` and to `z`.
 fn edges(alloc: Global, entity: &Entity) -> Result<String, Fail> {
     let all = entity.out_edges(alloc)?.len();
     let direct = entity.direct_edges(alloc)?.len();
-    let to_further = entity.has_edge_to(&uid(alloc, "g")?);
-    let to_new = entity.has_edge_to(&uid(alloc, "z")?);
+    let to_further = has_edge(alloc, entity, "g")?;
+    let to_new = has_edge(alloc, entity, "z")?;
     Ok(format!(in alloc; "{all} {direct} {to_further} {to_new}")?)
+}
+
+fn edges_of_sample(alloc: Global) -> Result<String, Fail> {
+    let entity = sample(alloc)?;
+    edges(alloc, &entity)
+}
+
+fn is_key(alloc: Global, id: &str) -> Result<bool, Fail> {
+    let uid = uid(alloc, id)?;
+    Ok(*sample(alloc)?.get_key() == uid)
 }
 
 fn edges_with_one_more(alloc: Global) -> Result<String, Fail> {
@@ -128,45 +143,42 @@ fn taken_apart(alloc: Global) -> Result<(usize, usize, usize, usize), Fail> {
 
 #[test]
 fn types_are_those_of_uids(rt: HostRuntime) -> Result<(), Fail> {
-    assert_eq!(rt;
-        name_of_type(rt.alloc())?.as_str(),
-        "(entity of type `User`)"
-    );
+    assert_text(&rt, name_of_type(rt.alloc()), "(entity of type `User`)")?;
     Ok(())
 }
 
 #[test]
 fn names_rise(rt: HostRuntime) -> Result<(), Fail> {
-    assert_eq!(rt; names(rt.alloc())?.as_str(), "abt");
+    assert_text(&rt, names(rt.alloc()), "abt")?;
     Ok(())
 }
 
 #[test]
 fn parts_are_found_by_their_names(rt: HostRuntime) -> Result<(), Fail> {
     let alloc = rt.alloc();
-    assert_eq!(rt; at(alloc, "a")?.as_str(), "1 none");
-    assert_eq!(rt; at(alloc, "t")?.as_str(), "none 3");
-    assert_eq!(rt; taken_apart(alloc)?, (2, 2, 1, 1));
+    assert_text(&rt, at(alloc, "a"), "1 none")?;
+    assert_text(&rt, at(alloc, "t"), "none 3")?;
+    assert_value(&rt, taken_apart(alloc), (2, 2, 1, 1))?;
     Ok(())
 }
 
 #[test]
 fn edges_lead_to_ancestors(rt: HostRuntime) -> Result<(), Fail> {
     let alloc = rt.alloc();
-    assert_eq!(rt; edges(alloc, &sample(alloc)?)?.as_str(), "3 1 true false");
-    assert_eq!(rt; edges_with_one_more(alloc)?.as_str(), "4 1 true true");
-    assert_eq!(rt; edges_reset(alloc)?.as_str(), "1 1 false false");
-    assert_eq!(rt; *sample(alloc)?.get_key() == uid(alloc, "u")?, true);
+    assert_text(&rt, edges_of_sample(alloc), "3 1 true false")?;
+    assert_text(&rt, edges_with_one_more(alloc), "4 1 true true")?;
+    assert_text(&rt, edges_reset(alloc), "1 1 false false")?;
+    assert!(rt; is_key(alloc, "u")?);
     Ok(())
 }
 
 #[test]
 fn ancestors_come_and_go(rt: HostRuntime) -> Result<(), Fail> {
     let alloc = rt.alloc();
-    assert_eq!(rt; with_ancestor(alloc, "z")?, (1, 3));
-    assert_eq!(rt; with_ancestor(alloc, "h")?, (1, 2));
-    assert_eq!(rt; without_ancestor(alloc, "g")?, (1, 1));
-    assert_eq!(rt; without_ancestor(alloc, "h")?, (1, 2));
-    assert_eq!(rt; without_ancestors(alloc, &["h", "k"])?, (0, 1));
+    assert_value(&rt, with_ancestor(alloc, "z"), (1, 3))?;
+    assert_value(&rt, with_ancestor(alloc, "h"), (1, 2))?;
+    assert_value(&rt, without_ancestor(alloc, "g"), (1, 1))?;
+    assert_value(&rt, without_ancestor(alloc, "h"), (1, 2))?;
+    assert_value(&rt, without_ancestors(alloc, &["h", "k"]), (0, 1))?;
     Ok(())
 }

@@ -1,4 +1,5 @@
 // Which entities and stores are valid, where there is memory.
+use crate::asserts::{assert_text, text_of};
 use cedar_entities::closing::TCComputation;
 use cedar_entities::store::Entities;
 use cedar_entity::entity::Entity;
@@ -50,7 +51,7 @@ fn entity(alloc: Global, id: &str, attrs: Rows<'_>, tags: Rows<'_>) -> Result<En
 fn said(alloc: Global, answer: Result<(), ExprValidationError>) -> Result<String, Fail> {
     match answer {
         Ok(()) => Ok(String::from_str(alloc, "valid")?),
-        Err(error) => Ok(error.to_string(alloc)?),
+        Err(error) => Ok(text_of(alloc, error)?),
     }
 }
 
@@ -64,16 +65,16 @@ fn said_of_entity(alloc: Global, attrs: Rows<'_>, tags: Rows<'_>) -> Result<Stri
 #[test]
 fn entities_whose_calls_fit_are_valid(rt: HostRuntime) -> Result<(), Fail> {
     let alloc = rt.alloc();
-    assert_eq!(rt; said_of_entity(alloc, &[], &[])?.as_str(), "valid");
-    assert_eq!(rt;
+    assert_text(&rt, said_of_entity(alloc, &[], &[]), "valid")?;
+    assert_text(
+        &rt,
         said_of_entity(
             alloc,
             &[("a", "unknown"), ("b", "one")],
-            &[("a", "unknown")]
-        )?
-        .as_str(),
-        "valid"
-    );
+            &[("a", "unknown")],
+        ),
+        "valid",
+    )?;
     Ok(())
 }
 
@@ -81,19 +82,20 @@ fn entities_whose_calls_fit_are_valid(rt: HostRuntime) -> Result<(), Fail> {
 #[test]
 fn the_first_call_that_does_not_fit_is_told(rt: HostRuntime) -> Result<(), Fail> {
     let alloc = rt.alloc();
-    assert_eq!(rt;
+    assert_text(
+        &rt,
         said_of_entity(
             alloc,
             &[("c", "h"), ("a", "unknown"), ("b", "g")],
-            &[("a", "f")]
-        )?
-        .as_str(),
-        "extension function `g` does not exist"
-    );
-    assert_eq!(rt;
-        said_of_entity(alloc, &[("b", "one")], &[("b", "g"), ("a", "f")])?.as_str(),
-        "extension function `f` does not exist"
-    );
+            &[("a", "f")],
+        ),
+        "extension function `g` does not exist",
+    )?;
+    assert_text(
+        &rt,
+        said_of_entity(alloc, &[("b", "one")], &[("b", "g"), ("a", "f")]),
+        "extension function `f` does not exist",
+    )?;
     Ok(())
 }
 
@@ -129,8 +131,8 @@ fn said_of_store(alloc: Global, first: &str, second: &str) -> Result<String, Fai
 fn stores_are_valid_where_each_entity_is(rt: HostRuntime) -> Result<(), Fail> {
     let alloc = rt.alloc();
     let wrong = "extension function `f` does not exist";
-    assert_eq!(rt; said_of_store(alloc, "one", "unknown")?.as_str(), "valid");
-    assert_eq!(rt; said_of_store(alloc, "one", "f")?.as_str(), wrong);
-    assert_eq!(rt; said_of_store(alloc, "f", "one")?.as_str(), wrong);
+    assert_text(&rt, said_of_store(alloc, "one", "unknown"), "valid")?;
+    assert_text(&rt, said_of_store(alloc, "one", "f"), wrong)?;
+    assert_text(&rt, said_of_store(alloc, "f", "one"), wrong)?;
     Ok(())
 }

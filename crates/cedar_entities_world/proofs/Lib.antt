@@ -1,3 +1,3 @@
-mod Shown
+pub mod Shown
 mod Edited
 mod Fitting

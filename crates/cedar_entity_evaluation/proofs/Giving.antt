@@ -1,5 +1,5 @@
 -- Expressions that are evaluated in turn.
-use Rattle.std.proofs.Common.{◌≡◌, Bool, true, false, cond, Option, None, Some, List, [], ◌∷◌, ◌++◌, append_assoc, map, refl, sym, ap, subst, ◌∙◌, ℕ, Global, MatchOption}
+use Rattle.std.proofs.Common.{◌≡◌, ◌≤◌, Bool, true, false, cond, Option, None, Some, List, [], ◌∷◌, ◌++◌, append_assoc, map, refl, sym, ap, subst, ◌∙◌, ℕ, Global, MatchOption}
 use Rattle.std.specs.Option.{IsSomeAnd}
 use Rattle.std.specs.Ordering.{eq_by_cmp}
 use Rattle.std.specs.FinMap as finite
@@ -10,6 +10,7 @@ use Rattle.std.specs.declared.rc.RcStr.{RcStr}
 use Rattle.std.proofs.lemmas.List.{append-nil, map-append}
 use Rattle.cedar_language.specs.Uid.{Text}
 use Rattle.cedar_language.specs.Tree.{Tree}
+use Rattle.cedar_language.specs.Height.{height}
 use Rattle.cedar_language.specs.Order.{text_cmp}
 use Rattle.cedar_language.specs.OrderLaws.{text_cmp_total}
 use Rattle.cedar_errors.specs.declared.evaluation_error.EvaluationError.{EvaluationError}
@@ -20,7 +21,7 @@ use Rattle.cedar_partial_values.proofs.Rising.{key_cmp, texts, put_next, texts_n
 use Rattle.cedar_restricted.specs.Views.{restricted_tree, restricted_entries}
 use Rattle.cedar_restricted.specs.declared.restricted.RestrictedExpr.{RestrictedExpr}
 use Rattle.cedar_entity.specs.Attributes.{Attribute, Entries, seen_entries, attributes_of}
-use Rattle.cedar_entity_evaluation.specs.Evaluated.{Expressions, IsGiven, AreGiven, HoldsWhatIsGiven}
+use Rattle.cedar_entity_evaluation.specs.Evaluated.{Expressions, IsGiven, AreGiven, AreWithin, HoldsWhatIsGiven}
 use Rattle.cedar_entity_evaluation.specs.Refused.{IsError, HaveValues, IsFirstRefused}
 
 abbrev pub Exprs : Type 0
@@ -100,3 +101,8 @@ module _ (table : Extensions) where
 
   pub all_given : (all : Exprs) (made : Entries) → IsUnderway all [] made → AreGiven table (restricted_entries all) (seen_entries made)
   all_given all made underway = subst (λ es. AreGiven table es (seen_entries made)) (sym (append-nil underway.done) ∙ underway.cut) underway.given
+
+pub within_next : (depth : ℕ) (all rest more : Exprs) (k : RcStr Global) (expr : RestrictedExpr) → rest ≡ (k, expr) ∷ more
+    → (AreWithin depth (restricted_entries rest) → AreWithin depth (restricted_entries all)) → height (restricted_tree expr) ≤ depth
+    → AreWithin depth (restricted_entries more) → AreWithin depth (restricted_entries all)
+within_next depth all rest more k expr step goes first others = goes (subst (λ r. AreWithin depth (restricted_entries r)) (sym step) (first, others))

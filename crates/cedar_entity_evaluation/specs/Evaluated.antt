@@ -1,10 +1,12 @@
 -- What the expressions of an entity's attributes and tags give.
-use Rattle.std.specs.Prelude.{◌≡◌, ⊤, None, MatchOption, List, [], ◌∷◌}
+use Rattle.std.specs.Prelude.{◌≡◌, ◌≤◌, ⊤, ℕ, None, MatchOption, List, [], ◌∷◌}
 use Rattle.std.specs.Option.{IsSomeAnd}
 use Rattle.std.specs.FinMap as finite
+use Rattle.std.specs.List.{AllByRecursion}
 use Rattle.cedar_language.specs.Uid.{Text, Uid}
 use Rattle.cedar_language.specs.Tree.{Tree}
 use Rattle.cedar_language.specs.Facts.{Facts}
+use Rattle.cedar_language.specs.Height.{height}
 use Rattle.cedar_language.specs.Meaning.{Request, meaning}
 use Rattle.cedar_language.specs.Order.{text_cmp}
 use Rattle.cedar_grammar.specs.Build.{Keyed}
@@ -28,6 +30,10 @@ abbrev pub AreGiven : Extensions → Expressions → List (Text × Attribute) �
 AreGiven table [] [] = ⊤
 AreGiven table (e ∷ es) (a ∷ gs) = (a.0 ≡ e.0) × IsGiven table e.1 a.1 × AreGiven table es gs
 AreGiven table es gs = ⊥
+
+-- none of them nests deeper than this
+abbrev pub AreWithin : ℕ → Expressions → Type 0
+AreWithin depth es = AllByRecursion (λ e. height e.1 ≤ depth) es
 
 -- each name has what its expression gives, and no other name has anything
 abbrev pub HoldsWhatIsGiven : Extensions → Expressions → AttributeMap → Type 0

@@ -3,7 +3,7 @@ ghost use Rattle.std.specs.Prelude.{◌≡◌, IfOk, IfErr};
 ghost use Rattle.std.specs.Rc.{rc_str_bytes};
 ghost use Rattle.cedar_entity.specs.Attributes.{seen_entries};
 ghost use Rattle.cedar_restricted.specs.Views.{restricted_entries};
-ghost use Rattle.cedar_entity_evaluation.specs.Evaluated.{AreGiven};
+ghost use Rattle.cedar_entity_evaluation.specs.Evaluated.{AreGiven, AreWithin};
 ghost use Rattle.cedar_entity_evaluation.specs.Refused.{IfNoValue, IsFirstRefused};
 
 use crate::errors::{EntityAttrEvaluationError, EntityCreationError};
@@ -28,6 +28,7 @@ pub fn evaluate_all(
     depth: u32,
 ) -> Result<BTreeMap<RcStr, PartialValue>, EntityCreationError>
     ensures given { IfOk result (λ values. AreGiven extensions.now (restricted_entries exprs.entries) (seen_entries values.entries)) }
+    ensures limit { IfOk result (λ values. AreWithin depth (restricted_entries exprs.entries)) }
     ensures refused { IfErr result (λ error. IfNoValue error (λ e. (e.uid ≡ uid) × (e.was_attr ≡ was_attr)
         × IsFirstRefused extensions.now depth (restricted_entries exprs.entries) (rc_str_bytes e.attr_or_tag) e.err)) }
 {

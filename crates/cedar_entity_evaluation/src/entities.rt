@@ -3,7 +3,7 @@ ghost use Rattle.std.specs.Prelude.{IfOk, IfErr};
 ghost use Rattle.std.specs.FinSet as set;
 ghost use Rattle.cedar_entity.specs.Data.{EntityData};
 ghost use Rattle.cedar_restricted.specs.Views.{restricted_entries};
-ghost use Rattle.cedar_entity_evaluation.specs.Evaluated.{IsEvaluated};
+ghost use Rattle.cedar_entity_evaluation.specs.Evaluated.{IsEvaluated, AreWithin};
 ghost use Rattle.cedar_entity_evaluation.specs.Refused.{IsCreationRefusal};
 
 use crate::attributes::evaluate_all;
@@ -38,6 +38,8 @@ pub trait EvaluateEntity: Sized {
     ) -> Result<Self, EntityCreationError>
         ensures evaluated { IfOk result (λ made. IsEvaluated extensions.now uid (restricted_entries attrs.entries) (restricted_entries tags.entries)
             (set.from_list parents.keys) (set.from_list indirect_ancestors.keys) (held made)) }
+        ensures attributes_limit { IfOk result (λ made. AreWithin depth (restricted_entries attrs.entries)) }
+        ensures tags_limit { IfOk result (λ made. AreWithin depth (restricted_entries tags.entries)) }
         ensures refused { IfErr result (IsCreationRefusal extensions.now depth uid (restricted_entries attrs.entries) (restricted_entries tags.entries)) };
 }
 

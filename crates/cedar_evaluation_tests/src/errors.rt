@@ -1,4 +1,5 @@
 // Texts of errors, their places, and that `==` looks at both.
+use crate::asserts::{are_same, assert_text, shown};
 use cedar_errors::evaluation_error::EvaluationError;
 use cedar_errors::lookups::{ExtensionFunctionLookupError, FuncDoesNotExistError};
 use cedar_errors::operands::{BinaryOpOverflowError, IntegerOverflowError, UnaryOpOverflowError};
@@ -38,8 +39,8 @@ fn place(alloc: Global) -> Result<Option<Loc>, AllocError> {
     Ok(Some(Loc::new(span, text(alloc, "f()")?)))
 }
 
-fn shown(alloc: Global, made: Result<EvaluationError, Fail>) -> Result<String, Fail> {
-    Ok(made?.to_string(alloc)?)
+fn told(alloc: Global, made: Result<EvaluationError, Fail>) -> Result<String, Fail> {
+    Ok(shown(alloc, made?)?)
 }
 
 fn no_entity(alloc: Global) -> Result<EvaluationError, Fail> {
@@ -64,22 +65,26 @@ fn no_key(alloc: Global) -> Result<EvaluationError, Fail> {
 #[test]
 fn what_is_missing_is_told(rt: HostRuntime) -> Result<(), Fail> {
     let alloc = rt.alloc();
-    assert_eq!(rt;
-        shown(alloc, no_entity(alloc))?.as_str(),
-        "entity `User::\"a\"` does not exist"
-    );
-    assert_eq!(rt;
-        shown(alloc, no_attribute(alloc))?.as_str(),
-        "`User::\"a\"` does not have the attribute `b`"
-    );
-    assert_eq!(rt;
-        shown(alloc, no_tag(alloc))?.as_str(),
-        "`User::\"a\"` does not have the tag `b`"
-    );
-    assert_eq!(rt;
-        shown(alloc, no_key(alloc))?.as_str(),
-        "record does not have the attribute `b`"
-    );
+    assert_text(
+        &rt,
+        told(alloc, no_entity(alloc)),
+        "entity `User::\"a\"` does not exist",
+    )?;
+    assert_text(
+        &rt,
+        told(alloc, no_attribute(alloc)),
+        "`User::\"a\"` does not have the attribute `b`",
+    )?;
+    assert_text(
+        &rt,
+        told(alloc, no_tag(alloc)),
+        "`User::\"a\"` does not have the tag `b`",
+    )?;
+    assert_text(
+        &rt,
+        told(alloc, no_key(alloc)),
+        "record does not have the attribute `b`",
+    )?;
     Ok(())
 }
 
@@ -88,9 +93,10 @@ fn other_type(alloc: Global) -> Result<EvaluationError, Fail> {
 }
 
 fn other_types(alloc: Global) -> Result<EvaluationError, Fail> {
+    let named = Type::entity_type(name(alloc)?);
     let expected = NonEmpty {
         head: Type::Set,
-        tail: Vec::from_array(alloc, [Type::entity_type(name(alloc)?), Type::Record])?,
+        tail: Vec::from_array(alloc, [named, Type::Record])?,
     };
     Ok(EvaluationError::type_error(alloc, expected, &long(1))?)
 }
@@ -108,22 +114,26 @@ fn overflow_of_one(_alloc: Global) -> Result<EvaluationError, Fail> {
 #[test]
 fn operands_are_told(rt: HostRuntime) -> Result<(), Fail> {
     let alloc = rt.alloc();
-    assert_eq!(rt;
-        shown(alloc, other_type(alloc))?.as_str(),
-        "type error: expected bool, got long"
-    );
-    assert_eq!(rt;
-        shown(alloc, other_types(alloc))?.as_str(),
-        "type error: expected one of [set, (entity of type `f`), record], got long"
-    );
-    assert_eq!(rt;
-        shown(alloc, overflow_of_two(alloc))?.as_str(),
-        "integer overflow while attempting to multiply the values `2` and `3`"
-    );
-    assert_eq!(rt;
-        shown(alloc, overflow_of_one(alloc))?.as_str(),
-        "integer overflow while attempting to negate the value `2`"
-    );
+    assert_text(
+        &rt,
+        told(alloc, other_type(alloc)),
+        "type error: expected bool, got long",
+    )?;
+    assert_text(
+        &rt,
+        told(alloc, other_types(alloc)),
+        "type error: expected one of [set, (entity of type `f`), record], got long",
+    )?;
+    assert_text(
+        &rt,
+        told(alloc, overflow_of_two(alloc)),
+        "integer overflow while attempting to multiply the values `2` and `3`",
+    )?;
+    assert_text(
+        &rt,
+        told(alloc, overflow_of_one(alloc)),
+        "integer overflow while attempting to negate the value `2`",
+    )?;
     Ok(())
 }
 
@@ -144,18 +154,21 @@ fn no_answer(alloc: Global) -> Result<EvaluationError, Fail> {
 #[test]
 fn calls_are_told(rt: HostRuntime) -> Result<(), Fail> {
     let alloc = rt.alloc();
-    assert_eq!(rt;
-        shown(alloc, no_function(alloc))?.as_str(),
-        "extension function `f` does not exist"
-    );
-    assert_eq!(rt;
-        shown(alloc, other_count(alloc))?.as_str(),
-        "wrong number of arguments provided to extension function `f`: expected 1, got 2"
-    );
-    assert_eq!(rt;
-        shown(alloc, no_answer(alloc))?.as_str(),
-        "error while evaluating `f` extension function: no answer"
-    );
+    assert_text(
+        &rt,
+        told(alloc, no_function(alloc)),
+        "extension function `f` does not exist",
+    )?;
+    assert_text(
+        &rt,
+        told(alloc, other_count(alloc)),
+        "wrong number of arguments provided to extension function `f`: expected 1, got 2",
+    )?;
+    assert_text(
+        &rt,
+        told(alloc, no_answer(alloc)),
+        "error while evaluating `f` extension function: no answer",
+    )?;
     Ok(())
 }
 
@@ -171,39 +184,48 @@ fn residual(alloc: Global) -> Result<EvaluationError, Fail> {
 #[test]
 fn what_is_left_is_told(rt: HostRuntime) -> Result<(), Fail> {
     let alloc = rt.alloc();
-    assert_eq!(rt;
-        shown(alloc, unlinked(alloc))?.as_str(),
-        "template slot `?resource` was not linked"
-    );
-    assert_eq!(rt;
-        shown(alloc, residual(alloc))?.as_str(),
-        "the expression contains unknown(s): `unknown(\"x\")`"
-    );
-    assert_eq!(rt;
-        shown(alloc, Ok(EvaluationError::recursion_limit(None)))?.as_str(),
-        "recursion limit reached"
-    );
-    assert_eq!(rt;
-        shown(alloc, Ok(EvaluationError::from(AllocError)))?.as_str(),
-        "memory ran out"
-    );
+    assert_text(
+        &rt,
+        told(alloc, unlinked(alloc)),
+        "template slot `?resource` was not linked",
+    )?;
+    assert_text(
+        &rt,
+        told(alloc, residual(alloc)),
+        "the expression contains unknown(s): `unknown(\"x\")`",
+    )?;
+    assert_text(
+        &rt,
+        told(alloc, Ok(EvaluationError::recursion_limit(None))),
+        "recursion limit reached",
+    )?;
+    assert_text(
+        &rt,
+        told(alloc, Ok(EvaluationError::from(AllocError))),
+        "memory ran out",
+    )?;
     Ok(())
 }
 
+fn failed_lookup(_alloc: Global) -> Result<EvaluationError, Fail> {
+    Ok(EvaluationError::from(ExtensionFunctionLookupError::from(AllocError)))
+}
+
 #[test]
-fn want_of_memory_is_no_failed_lookup(rt: HostRuntime) {
-    let error = ExtensionFunctionLookupError::from(AllocError);
-    assert!(rt; matches!(EvaluationError::from(error), EvaluationError::Memory));
+fn want_of_memory_is_no_failed_lookup(rt: HostRuntime) -> Result<(), Fail> {
+    let alloc = rt.alloc();
+    assert_text(&rt, told(alloc, failed_lookup(alloc)), "memory ran out")
+}
+
+fn limit(alloc: Global) -> Result<EvaluationError, AllocError> {
+    Ok(EvaluationError::recursion_limit(place(alloc)?))
 }
 
 #[test]
 fn places_count(rt: HostRuntime) -> Result<(), Fail> {
     let alloc = rt.alloc();
-    let limit = EvaluationError::recursion_limit(place(alloc)?);
-    assert!(rt; limit.source_loc().is_some());
-    assert!(rt; limit == EvaluationError::recursion_limit(place(alloc)?));
-    assert!(rt; limit != EvaluationError::recursion_limit(None));
-    assert!(rt; residual(alloc)? == residual(alloc)?);
-    assert!(rt; residual(alloc)? != unlinked(alloc)?);
+    assert!(rt; are_same(limit(alloc), limit(alloc))?);
+    assert!(rt; !are_same(limit(alloc), Ok(EvaluationError::recursion_limit(None)))?);
+    assert!(rt; !are_same(limit(alloc), Ok(EvaluationError::from(AllocError)))?);
     Ok(())
 }

@@ -1,4 +1,5 @@
 // What tables and functions answer where there is memory.
+use crate::asserts::{assert_text, assert_value, shown};
 use cedar_errors::evaluation_error::EvaluationError;
 use cedar_extensions::collecting::{CollectError, collect_no_duplicates};
 use cedar_extensions::errors::{
@@ -35,109 +36,160 @@ fn unknown(alloc: Global, text: &str) -> Result<ExtensionFunction, ParseNameErro
     Ok(ExtensionFunction::partial_eval_unknown(alloc, name, style, SchemaType::String)?)
 }
 
-// What looking the name up among all functions says, or that it was found.
-fn sought(alloc: Global, text: &str) -> Result<String, Fail> {
-    let table = Extensions::all_available(alloc)?;
-    match table.func(alloc, &name(alloc, text)?) {
+fn sought_in(alloc: Global, table: &Extensions, name: &Name) -> Result<String, Fail> {
+    match table.func(alloc, name) {
         Ok(function) => Ok(function.name().to_string(alloc)?),
         Err(error) => Ok(error.to_string(alloc)?),
     }
 }
 
+// What looking the name up among all functions says, or that it was found.
+fn sought(alloc: Global, text: &str) -> Result<String, Fail> {
+    let table = Extensions::all_available(alloc)?;
+    let name = name(alloc, text)?;
+    sought_in(alloc, &table, &name)
+}
+
 #[test]
 fn functions_are_found_by_whole_names(rt: HostRuntime) -> Result<(), Fail> {
     let alloc = rt.alloc();
-    assert!(rt; Extensions::all_available(alloc)?.holds_unknown());
-    assert!(rt; !Extensions::none(alloc).holds_unknown());
-    assert_eq!(rt; sought(alloc, "unknown")?.as_str(), "unknown");
-    assert_eq!(rt;
-        sought(alloc, "a::unknown")?.as_str(),
-        "extension function `a::unknown` does not exist"
-    );
+    assert_text(&rt, sought(alloc, "unknown"), "unknown")?;
+    assert_text(
+        &rt,
+        sought(alloc, "a::unknown"),
+        "extension function `a::unknown` does not exist",
+    )?;
     Ok(())
 }
 
-// The name of the unknown that a call gives.
-fn called(alloc: Global, args: &[Value]) -> Result<RcStr, EvaluationError> {
-    let Ok(function) = unknown(alloc, "unknown") else {
-        return Err(EvaluationError::Memory);
-    };
-    match function.call(alloc, args)? {
+fn answered(answer: ExtensionOutputValue) -> Result<RcStr, EvaluationError> {
+    match answer {
         ExtensionOutputValue::Unknown(unknown) => Ok(unknown.name),
         ExtensionOutputValue::Known(_) => Err(EvaluationError::recursion_limit(None)),
     }
 }
 
+// The name of the unknown that a call gives.
+fn called(
+    alloc: Global,
+    function: &ExtensionFunction,
+    args: &[Value],
+) -> Result<RcStr, EvaluationError> {
+    answered(function.call(alloc, args)?)
+}
+
 fn told(alloc: Global, answer: Result<RcStr, EvaluationError>) -> Result<String, AllocError> {
     match answer {
         Ok(name) => String::from_str(alloc, name.as_str()),
-        Err(error) => error.to_string(alloc),
+        Err(error) => shown(alloc, error),
     }
+}
+
+// What a call of `unknown` answers.
+fn told_of(alloc: Global, args: &[Value]) -> Result<String, Fail> {
+    let function = unknown(alloc, "unknown")?;
+    Ok(told(alloc, called(alloc, &function, args))?)
+}
+
+fn told_of_text(alloc: Global) -> Result<String, Fail> {
+    let text = string(alloc, "x")?;
+    told_of(alloc, &[text])
+}
+
+fn told_of_number(alloc: Global) -> Result<String, Fail> {
+    let number = Value::new(ValueKind::Lit(Literal::Long(3)), None);
+    told_of(alloc, &[number])
 }
 
 #[test]
 fn unknowns_are_named(rt: HostRuntime) -> Result<(), Fail> {
     let alloc = rt.alloc();
-    let text = string(alloc, "x")?;
-    let number = Value::new(ValueKind::Lit(Literal::Long(3)), None);
-    assert_eq!(rt; told(alloc, called(alloc, &[text]))?.as_str(), "x");
-    assert_eq!(rt;
-        told(alloc, called(alloc, &[]))?.as_str(),
-        "wrong number of arguments provided to extension function `unknown`: expected 1, got 0"
-    );
-    assert_eq!(rt;
-        told(alloc, called(alloc, &[number]))?.as_str(),
-        "error while evaluating `unknown` extension function: the name of an unknown is a string"
-    );
+    assert_text(&rt, told_of_text(alloc), "x")?;
+    assert_text(
+        &rt,
+        told_of(alloc, &[]),
+        "wrong number of arguments provided to extension function `unknown`: expected 1, got 0",
+    )?;
+    assert_text(
+        &rt,
+        told_of_number(alloc),
+        "error while evaluating `unknown` extension function: the name of an unknown is a string",
+    )?;
     Ok(())
+}
+
+fn functions(alloc: Global) -> Result<Vec<ExtensionFunction>, Fail> {
+    let mut functions = Vec::new(alloc);
+    for text in ["f", "g"] {
+        functions.push(unknown(alloc, text)?)?;
+    }
+    Ok(functions)
+}
+
+fn types(alloc: Global) -> Result<Vec<Name>, Fail> {
+    let mut types = Vec::new(alloc);
+    types.push(name(alloc, "T")?)?;
+    Ok(types)
 }
 
 // An extension of two functions, and a type that has an order.
 fn extension(alloc: Global) -> Result<Extension, Fail> {
-    let functions = Vec::from_array(alloc, [unknown(alloc, "f")?, unknown(alloc, "g")?])?;
-    let types = Vec::from_array(alloc, [name(alloc, "T")?])?;
-    Ok(Extension::new(name(alloc, "e")?, functions, types))
+    let name = name(alloc, "e")?;
+    let types = types(alloc)?;
+    Ok(Extension::new(name, functions(alloc)?, types))
+}
+
+fn is_held(alloc: Global, text: &str) -> Result<bool, Fail> {
+    let name = name(alloc, text)?;
+    Ok(extension(alloc)?.get_func(&name).is_some())
+}
+
+// How many functions and types with an order there are.
+fn counted(alloc: Global) -> Result<(usize, usize), Fail> {
+    let extension = extension(alloc)?;
+    let ordered = extension.types_with_operator_overloading().count();
+    Ok((extension.funcs().count(), ordered))
+}
+
+// Whether there are types that functions give.
+fn has_types(alloc: Global) -> Result<bool, Fail> {
+    let extension = extension(alloc)?;
+    Ok(extension.ext_types().next().is_some())
 }
 
 #[test]
 fn extensions_are_read(rt: HostRuntime) -> Result<(), Fail> {
     let alloc = rt.alloc();
-    let extension = extension(alloc)?;
-    assert!(rt; extension.get_func(&name(alloc, "g")?).is_some());
-    assert!(rt; extension.get_func(&name(alloc, "e")?).is_none());
-    assert_eq!(rt; extension.funcs().count(), 2);
-    assert_eq!(rt; extension.types_with_operator_overloading().count(), 1);
-    assert!(rt; extension.ext_types().next().is_none());
+    assert!(rt; is_held(alloc, "g")?);
+    assert!(rt; !is_held(alloc, "e")?);
+    assert_value(&rt, counted(alloc), (2, 1))?;
+    assert!(rt; !has_types(alloc)?);
     Ok(())
 }
 
-fn first_name(alloc: Global) -> Result<Option<String>, Fail> {
+fn first_name(alloc: Global) -> Result<String, Fail> {
     let table = Extensions::all_available(alloc)?;
     match table.ext_names().next() {
-        Some(name) => Ok(Some(name.to_string(alloc)?)),
-        None => Ok(None),
+        Some(name) => Ok(name.to_string(alloc)?),
+        None => Ok(String::new(alloc)),
     }
 }
 
 #[test]
 fn names_are_walked(rt: HostRuntime) -> Result<(), Fail> {
-    let alloc = rt.alloc();
-    let name = first_name(alloc)?.ok_or("no extension")?;
-    assert_eq!(rt; name.as_str(), "partial_evaluation");
-    Ok(())
+    assert_text(&rt, first_name(rt.alloc()), "partial_evaluation")
+}
+
+// How many arguments it takes, and whether it takes one that tells its type.
+fn taken(alloc: Global) -> Result<(Option<usize>, usize, bool), Fail> {
+    let function = unknown(alloc, "unknown")?;
+    let is_plain = !function.is_variadic() && !function.is_single_arg_constructor();
+    Ok((function.arity(), function.arg_types().len(), is_plain))
 }
 
 #[test]
 fn functions_say_what_they_take(rt: HostRuntime) -> Result<(), Fail> {
-    let alloc = rt.alloc();
-    let function = unknown(alloc, "unknown")?;
-    assert_eq!(rt; function.style(), CallStyle::FunctionStyle);
-    assert!(rt; function.return_type().is_none());
-    assert_eq!(rt; function.arg_types().len(), 1);
-    assert_eq!(rt; function.arity(), Some(1));
-    assert!(rt; !function.is_variadic());
-    assert!(rt; !function.is_single_arg_constructor());
-    Ok(())
+    assert_value(&rt, taken(rt.alloc()), (Some(1), 1, true))
 }
 
 // Whether the table knows the type of what calls of this function give.
@@ -161,37 +213,45 @@ fn is_long(alloc: Global, expr: Expr) -> Result<bool, Fail> {
     Ok(expr.try_type_of(alloc, &table)? == Some(Type::Long))
 }
 
+fn call_of_unknown(alloc: Global) -> Result<Expr, Fail> {
+    let name = name(alloc, "unknown")?;
+    Ok(Expr::call_extension_fn(alloc, name, Vec::new(alloc))?)
+}
+
 #[test]
 fn tables_are_asked_for_types(rt: HostRuntime) -> Result<(), Fail> {
     let alloc = rt.alloc();
-    let call = Expr::call_extension_fn(alloc, name(alloc, "unknown")?, Vec::new(alloc))?;
     assert!(rt; is_long(alloc, Expr::val(Literal::Long(3)))?);
-    assert!(rt; !is_long(alloc, call)?);
+    assert!(rt; !is_long(alloc, call_of_unknown(alloc)?)?);
     Ok(())
 }
 
-fn defined_twice(alloc: Global) -> Result<ExtensionInitializationError, Fail> {
+fn defined_twice(alloc: Global) -> Result<String, Fail> {
     let name = name(alloc, "f")?;
-    Ok(ExtensionInitializationError::from(FuncMultiplyDefinedError::new(name)))
+    let error = ExtensionInitializationError::from(FuncMultiplyDefinedError::new(name));
+    Ok(error.to_string(alloc)?)
 }
 
-fn made_twice(alloc: Global) -> Result<ExtensionInitializationError, Fail> {
+fn made_twice(alloc: Global) -> Result<String, Fail> {
     let name = name(alloc, "ip")?;
     let return_type = SchemaType::Extension { name };
-    Ok(ExtensionInitializationError::from(MultipleConstructorsSameSignatureError::new(return_type)))
+    let error = MultipleConstructorsSameSignatureError::new(return_type);
+    Ok(ExtensionInitializationError::from(error).to_string(alloc)?)
 }
 
 #[test]
 fn tables_are_refused(rt: HostRuntime) -> Result<(), Fail> {
     let alloc = rt.alloc();
-    assert_eq!(rt;
-        defined_twice(alloc)?.to_string(alloc)?.as_str(),
-        "extension function `f` is defined multiple times"
-    );
-    assert_eq!(rt;
-        made_twice(alloc)?.to_string(alloc)?.as_str(),
-        "multiple extension constructors for the same extension type ip"
-    );
+    assert_text(
+        &rt,
+        defined_twice(alloc),
+        "extension function `f` is defined multiple times",
+    )?;
+    assert_text(
+        &rt,
+        made_twice(alloc),
+        "multiple extension constructors for the same extension type ip",
+    )?;
     Ok(())
 }
 

@@ -1,4 +1,5 @@
 // What is restricted, and what is read of it, where there is memory.
+use crate::asserts::{assert_text, assert_value};
 use cedar_extension_values::extension_values::{ExtensionValue, RepresentableExtensionValue};
 use cedar_literals::literals::Literal;
 use cedar_literals::operators::{BinaryOp, UnaryOp};
@@ -41,30 +42,48 @@ fn feature(alloc: Global, expr: Expr) -> Result<Option<&'static str>, AllocError
     }
 }
 
+fn any_pattern(alloc: Global) -> Result<Pattern, Fail> {
+    Ok(Pattern::from(Rc::new(alloc, Vec::new(alloc))?))
+}
+
 /// Expressions each of which has one feature of its own, in the order of the features below.
-fn offenders(alloc: Global) -> Result<Vec<Expr>, Fail> {
-    let mut all = Vec::new(alloc);
-    all.push(Expr::var(Var::Context))?;
-    all.push(Expr::slot(SlotId::principal()))?;
-    all.push(Expr::ite(alloc, long(1), long(2), long(3))?)?;
-    all.push(Expr::and(alloc, long(1), long(2))?)?;
-    all.push(Expr::or(alloc, long(1), long(2))?)?;
-    all.push(Expr::get_attr(alloc, long(1), text(alloc, "a")?)?)?;
-    all.push(Expr::has_attr(alloc, long(1), text(alloc, "a")?)?)?;
-    all.push(Expr::like(
-        alloc,
-        long(1),
-        Pattern::from(Rc::new(alloc, Vec::new(alloc))?),
-    )?)?;
-    Ok(all)
+fn offender(alloc: Global, case: u8) -> Result<Expr, Fail> {
+    Ok(match case {
+        0 => Expr::var(Var::Context),
+        1 => Expr::slot(SlotId::principal()),
+        2 => Expr::ite(alloc, long(1), long(2), long(3))?,
+        3 => Expr::and(alloc, long(1), long(2))?,
+        4 => Expr::or(alloc, long(1), long(2))?,
+        5 => {
+            let attr = text(alloc, "a")?;
+            Expr::get_attr(alloc, long(1), attr)?
+        }
+        6 => {
+            let attr = text(alloc, "a")?;
+            Expr::has_attr(alloc, long(1), attr)?
+        }
+        _ => {
+            let pattern = any_pattern(alloc)?;
+            Expr::like(alloc, long(1), pattern)?
+        }
+    })
+}
+
+fn unary_feature(alloc: Global, op: UnaryOp) -> Result<&'static str, AllocError> {
+    let expr = Expr::unary_app(alloc, op, long(1))?;
+    Ok(feature(alloc, expr)?.unwrap_or("?"))
+}
+
+fn binary_feature(alloc: Global, op: BinaryOp) -> Result<&'static str, AllocError> {
+    let expr = Expr::binary_app(alloc, op, long(1), long(2))?;
+    Ok(feature(alloc, expr)?.unwrap_or("?"))
 }
 
 /// The names of operators, each after the next one's.
 fn unary_features(alloc: Global) -> Result<String, Fail> {
     let mut features = String::new(alloc);
     for op in [UnaryOp::Not, UnaryOp::Neg, UnaryOp::IsEmpty] {
-        let expr = Expr::unary_app(alloc, op, long(1))?;
-        features.push_str(feature(alloc, expr)?.unwrap_or("?"))?;
+        features.push_str(unary_feature(alloc, op)?)?;
         features.push_str(" ")?;
     }
     Ok(features)
@@ -86,67 +105,118 @@ fn binary_features(alloc: Global) -> Result<String, Fail> {
         BinaryOp::GetTag,
         BinaryOp::HasTag,
     ] {
-        let expr = Expr::binary_app(alloc, op, long(1), long(2))?;
-        features.push_str(feature(alloc, expr)?.unwrap_or("?"))?;
+        features.push_str(binary_feature(alloc, op)?)?;
         features.push_str(" ")?;
     }
     Ok(features)
 }
 
+/// What keeps a set of 1 and this from being restricted.
+fn feature_within(alloc: Global, expr: Expr) -> Result<&'static str, Fail> {
+    let set = Expr::set(alloc, vec![in alloc; long(1), expr]?)?;
+    Ok(feature(alloc, set)?.unwrap_or("?"))
+}
+
 fn other_features(alloc: Global) -> Result<String, Fail> {
     let mut features = String::new(alloc);
-    for expr in offenders(alloc)? {
-        let set = Expr::set(alloc, vec![in alloc; long(1), expr]?)?;
-        features.push_str(feature(alloc, set)?.unwrap_or("?"))?;
+    for case in 0..8 {
+        features.push_str(feature_within(alloc, offender(alloc, case)?)?)?;
         features.push_str(", ")?;
     }
     Ok(features)
 }
 
-fn path(alloc: Global) -> Result<NonEmpty<RcStr>, AllocError> {
-    Ok(NonEmpty {
-        head: text(alloc, "a")?,
-        tail: vec![in alloc; text(alloc, "b")?]?,
-    })
-}
-
 #[test]
 fn features_are_named(rt: HostRuntime) -> Result<(), Fail> {
     let alloc = rt.alloc();
-    assert_eq!(rt; unary_features(alloc)?.as_str(), "! - isEmpty ");
-    let binary = "== < <= + - * in contains containsAll containsAny getTag hasTag ";
-    assert_eq!(rt; binary_features(alloc)?.as_str(), binary);
-    let others =
-        "variables, template slots, if-then-else, &&, ||, attribute accesses, 'has', 'like', ";
-    assert_eq!(rt; other_features(alloc)?.as_str(), others);
+    assert_text(&rt, unary_features(alloc), "! - isEmpty ")?;
+    assert_text(
+        &rt,
+        binary_features(alloc),
+        "== < <= + - * in contains containsAll containsAny getTag hasTag ",
+    )?;
+    assert_text(
+        &rt,
+        other_features(alloc),
+        "variables, template slots, if-then-else, &&, ||, attribute accesses, 'has', 'like', ",
+    )?;
     Ok(())
+}
+
+/// `1 has a.b`
+fn has_path(alloc: Global) -> Result<Expr, Fail> {
+    let head = text(alloc, "a")?;
+    let tail = vec![in alloc; text(alloc, "b")?]?;
+    Ok(Expr::extended_has_attr(alloc, long(1), NonEmpty { head, tail })?)
+}
+
+/// `action is T`
+fn is_type(alloc: Global) -> Result<Expr, Fail> {
+    let entity_type = EntityType::from(Name::parse_unqualified_name(alloc, "T")?);
+    Ok(Expr::is_entity_type(alloc, Expr::var(Var::Action), entity_type)?)
+}
+
+fn pair(alloc: Global, key: &str, expr: Expr) -> Result<(RcStr, Expr), Fail> {
+    Ok((text(alloc, key)?, expr))
+}
+
+/// `{b: 1 has a.b, a: action is T}`
+fn two_offenders(alloc: Global) -> Result<Expr, Fail> {
+    let mut pairs = Vec::new(alloc);
+    pairs.push(pair(alloc, "b", has_path(alloc)?)?)?;
+    pairs.push(pair(alloc, "a", is_type(alloc)?)?)?;
+    Ok(Expr::record(alloc, pairs)?)
+}
+
+fn first_feature(alloc: Global) -> Result<Option<&'static str>, Fail> {
+    Ok(feature(alloc, two_offenders(alloc)?)?)
 }
 
 #[test]
 fn leftmost_outermost_parts_are_named(rt: HostRuntime) -> Result<(), Fail> {
-    let alloc = rt.alloc();
-    let entity_type = EntityType::from(Name::parse_unqualified_name(alloc, "T")?);
-    let is = Expr::is_entity_type(alloc, Expr::var(Var::Action), entity_type)?;
-    let has = Expr::extended_has_attr(alloc, long(1), path(alloc)?)?;
-    let pairs = vec![in alloc; (text(alloc, "b")?, has), (text(alloc, "a")?, is)]?;
-    assert_eq!(rt; feature(alloc, Expr::record(alloc, pairs)?)?, Some("'is'"));
-    Ok(())
+    assert_value(&rt, first_feature(rt.alloc()), Some("'is'"))
 }
 
-/// `{a: [1, "x"], b: f(true, U::"u", ?)}`.
-fn whole(alloc: Global) -> Result<RestrictedExpr, Fail> {
+/// `[1, "x"]`
+fn set_part(alloc: Global) -> Result<RestrictedExpr, Fail> {
     let string = RestrictedExpr::val(Literal::String(text(alloc, "x")?));
     let one = RestrictedExpr::val(Literal::Long(1));
-    let set = RestrictedExpr::set(alloc, vec![in alloc; one, string]?)?;
+    Ok(RestrictedExpr::set(alloc, vec![in alloc; one, string]?)?)
+}
+
+fn uid_part(alloc: Global) -> Result<RestrictedExpr, Fail> {
     let uid = EntityUID::with_eid_and_type(alloc, "U", "u")?;
-    let args = vec![in alloc;
-        RestrictedExpr::val(Literal::Bool(true)),
-        RestrictedExpr::val(Literal::EntityUID(Rc::new(alloc, uid)?)),
-        RestrictedExpr::unknown(Unknown::new_untyped(text(alloc, "n")?)),
-    ]?;
+    Ok(RestrictedExpr::val(Literal::EntityUID(Rc::new(alloc, uid)?)))
+}
+
+fn unknown_part(alloc: Global) -> Result<RestrictedExpr, Fail> {
+    Ok(RestrictedExpr::unknown(Unknown::new_untyped(text(alloc, "n")?)))
+}
+
+fn arguments(alloc: Global) -> Result<Vec<RestrictedExpr>, Fail> {
+    let mut args = Vec::new(alloc);
+    args.push(RestrictedExpr::val(Literal::Bool(true)))?;
+    args.push(uid_part(alloc)?)?;
+    args.push(unknown_part(alloc)?)?;
+    Ok(args)
+}
+
+/// `f(true, U::"u", ?)`
+fn call_part(alloc: Global) -> Result<RestrictedExpr, Fail> {
     let f = Name::parse_unqualified_name(alloc, "f")?;
-    let call = RestrictedExpr::call_extension_fn(alloc, f, args)?;
-    let pairs = vec![in alloc; (text(alloc, "b")?, call), (text(alloc, "a")?, set)]?;
+    let args = arguments(alloc)?;
+    Ok(RestrictedExpr::call_extension_fn(alloc, f, args)?)
+}
+
+fn entry(alloc: Global, key: &str, part: RestrictedExpr) -> Result<(RcStr, RestrictedExpr), Fail> {
+    Ok((text(alloc, key)?, part))
+}
+
+/// `{a: [1, "x"], b: f(true, U::"u", ?)}`
+fn whole(alloc: Global) -> Result<RestrictedExpr, Fail> {
+    let mut pairs = Vec::new(alloc);
+    pairs.push(entry(alloc, "b", call_part(alloc)?)?)?;
+    pairs.push(entry(alloc, "a", set_part(alloc)?)?)?;
     Ok(RestrictedExpr::record(alloc, pairs)?)
 }
 
@@ -202,12 +272,17 @@ fn words_of(alloc: Global, record: &RestrictedExpr) -> Result<String, Fail> {
     Ok(words)
 }
 
+fn words_of_whole(alloc: Global) -> Result<String, Fail> {
+    words_of(alloc, &whole(alloc)?)
+}
+
 #[test]
 fn parts_are_read(rt: HostRuntime) -> Result<(), Fail> {
-    let alloc = rt.alloc();
-    let words = words_of(alloc, &whole(alloc)?)?;
-    assert_eq!(rt; words.as_str(), "a long textb bool uid unknown");
-    Ok(())
+    assert_text(
+        &rt,
+        words_of_whole(rt.alloc()),
+        "a long textb bool uid unknown",
+    )
 }
 
 /// Which readers but that of records answer.
@@ -223,11 +298,13 @@ fn readings(expr: &RestrictedExpr) -> [bool; 7] {
     ]
 }
 
+fn readings_of_whole(alloc: Global) -> Result<[bool; 7], Fail> {
+    Ok(readings(&whole(alloc)?))
+}
+
 #[test]
 fn other_kinds_are_not_read(rt: HostRuntime) -> Result<(), Fail> {
-    let record = whole(rt.alloc())?;
-    assert_eq!(rt; readings(&record), [false; 7]);
-    Ok(())
+    assert_value(&rt, readings_of_whole(rt.alloc()), [false; 7])
 }
 
 fn hash_of<T: Hash>(value: &T) -> u64 {
@@ -236,56 +313,90 @@ fn hash_of<T: Hash>(value: &T) -> u64 {
     hasher.finish()
 }
 
+fn is_copied(alloc: Global) -> Result<bool, Fail> {
+    let one = whole(alloc)?.with_maybe_source_loc(None);
+    let copy = one.as_borrowed().to_owned(alloc)?;
+    Ok(one == copy && hash_of(&one) == hash_of(&copy))
+}
+
+/// Whether this has the shape of the whole.
+fn is_same_shape(alloc: Global, other: RestrictedExpr) -> Result<bool, Fail> {
+    let one = whole(alloc)?;
+    let shape = RestrictedExprShapeOnly::new(one.as_borrowed());
+    Ok(shape == RestrictedExprShapeOnly::new(other.as_borrowed()))
+}
+
 #[test]
 fn shapes_are_compared(rt: HostRuntime) -> Result<(), Fail> {
     let alloc = rt.alloc();
-    let one = whole(alloc)?.with_maybe_source_loc(None);
-    let copy = one.as_borrowed().to_owned(alloc)?;
-    assert!(rt; one == copy && hash_of(&one) == hash_of(&copy));
-    let shape = RestrictedExprShapeOnly::new(one.as_borrowed());
-    let other = RestrictedExpr::val(Literal::Long(1));
-    assert!(rt; shape == RestrictedExprShapeOnly::new(copy.as_borrowed()));
-    assert!(rt; shape != RestrictedExprShapeOnly::new(other.as_borrowed()));
+    assert!(rt; is_copied(alloc)?);
+    assert!(rt; is_same_shape(alloc, whole(alloc)?)?);
+    assert!(rt; !is_same_shape(alloc, set_part(alloc)?)?);
     Ok(())
+}
+
+fn is_twice_refused(alloc: Global) -> Result<bool, Fail> {
+    let mut pairs = Vec::new(alloc);
+    for number in [1, 2] {
+        pairs.push(entry(alloc, "a", RestrictedExpr::val(Literal::Long(number)))?)?;
+    }
+    Ok(RestrictedExpr::record(alloc, pairs).is_err())
 }
 
 #[test]
 fn duplicate_keys_are_refused(rt: HostRuntime) -> Result<(), Fail> {
-    let alloc = rt.alloc();
-    let mut pairs = Vec::new(alloc);
-    for _ in 0..2 {
-        pairs.push((text(alloc, "a")?, RestrictedExpr::val(Literal::Long(1))))?;
-    }
-    assert!(rt; RestrictedExpr::record(alloc, pairs).is_err());
+    assert!(rt; is_twice_refused(rt.alloc())?);
     Ok(())
+}
+
+fn number_of_value(alloc: Global) -> Result<Option<i64>, Fail> {
+    let value = PartialValue::from(Value::from(Literal::Long(4)));
+    Ok(RestrictedExpr::from_in(alloc, value)?.as_long())
+}
+
+fn is_unknown_kept(alloc: Global) -> Result<bool, Fail> {
+    let unknown = PartialValue::unknown(Unknown::new_untyped(text(alloc, "n")?));
+    Ok(
+        RestrictedExpr::from_in(alloc, unknown)?
+            .as_unknown()
+            .is_some(),
+    )
+}
+
+fn is_residual_refused(alloc: Global) -> bool {
+    let residual = PartialValue::from(Expr::var(Var::Context));
+    RestrictedExpr::from_in(alloc, residual).is_err()
 }
 
 #[test]
 fn partial_values_become_restricted(rt: HostRuntime) -> Result<(), Fail> {
     let alloc = rt.alloc();
-    let value = PartialValue::from(Value::from(Literal::Long(4)));
-    assert_eq!(rt; RestrictedExpr::from_in(alloc, value)?.as_long(), Some(4));
-    let unknown = PartialValue::unknown(Unknown::new_untyped(text(alloc, "n")?));
-    assert!(rt;
-        RestrictedExpr::from_in(alloc, unknown)?
-            .as_unknown()
-            .is_some()
-    );
-    let residual = PartialValue::from(Expr::var(Var::Context));
-    assert!(rt; RestrictedExpr::from_in(alloc, residual).is_err());
+    assert_value(&rt, number_of_value(alloc), Some(4))?;
+    assert!(rt; is_unknown_kept(alloc)?);
+    assert!(rt; is_residual_refused(alloc));
     Ok(())
+}
+
+fn number_of_kind(alloc: Global) -> Result<Option<i64>, Fail> {
+    let kind = ValueKind::from(Literal::Long(4));
+    Ok(RestrictedExpr::from_in(alloc, kind)?.as_long())
+}
+
+fn extension_value(alloc: Global) -> Result<RepresentableExtensionValue, Fail> {
+    let low = Name::parse_unqualified_name(alloc, "low")?;
+    let value = ExtensionValue::new(low.clone(alloc)?, true, Vec::new(alloc));
+    Ok(RepresentableExtensionValue::new(value, low, Vec::new(alloc)))
+}
+
+fn is_call(alloc: Global) -> Result<bool, Fail> {
+    let call = RestrictedExpr::from_in(alloc, extension_value(alloc)?)?;
+    Ok(call.as_extn_fn_call().is_some() && !Expr::from(call).is_ref())
 }
 
 #[test]
 fn values_become_restricted(rt: HostRuntime) -> Result<(), Fail> {
     let alloc = rt.alloc();
-    let kind = ValueKind::from(Literal::Long(4));
-    assert_eq!(rt; RestrictedExpr::from_in(alloc, kind)?.as_long(), Some(4));
-    let low = Name::parse_unqualified_name(alloc, "low")?;
-    let value = ExtensionValue::new(low.clone(alloc)?, true, Vec::new(alloc));
-    let value = RepresentableExtensionValue::new(value, low, Vec::new(alloc));
-    let call = RestrictedExpr::from_in(alloc, value)?;
-    assert!(rt; call.as_extn_fn_call().is_some());
-    assert!(rt; !Expr::from(call).is_ref());
+    assert_value(&rt, number_of_kind(alloc), Some(4))?;
+    assert!(rt; is_call(alloc)?);
     Ok(())
 }

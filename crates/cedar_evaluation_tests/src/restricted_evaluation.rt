@@ -1,4 +1,5 @@
 // What evaluations give where there is memory.
+use crate::asserts::{assert_text, shown};
 use cedar_errors::evaluation_error::EvaluationError;
 use cedar_extensions::extensions::Extensions;
 use cedar_literals::literals::Literal;
@@ -35,9 +36,9 @@ fn told(
     answer: Result<PartialValue, EvaluationError>,
 ) -> Result<String, AllocError> {
     match answer {
-        Ok(PartialValue::Value(value)) => format!(in alloc; "value {value}"),
-        Ok(PartialValue::Residual(expr)) => format!(in alloc; "residual {expr}"),
-        Err(error) => error.to_string(alloc),
+        Ok(PartialValue::Value(value)) => shown(alloc, value),
+        Ok(PartialValue::Residual(expr)) => shown(alloc, expr),
+        Err(error) => shown(alloc, error),
     }
 }
 
@@ -48,14 +49,24 @@ fn within(alloc: Global, expr: Expr, depth: u32) -> Result<String, Fail> {
     Ok(told(alloc, interpret_restricted(alloc, expr, &table, depth))?)
 }
 
+// `[2, 1, 2]`
+fn set(alloc: Global) -> Result<Expr, Fail> {
+    let items = vec![in alloc; long(2), long(1), long(2)]?;
+    Ok(Expr::set(alloc, items)?)
+}
+
+// `{a: 3}`
+fn record(alloc: Global) -> Result<Expr, Fail> {
+    let key = RcStr::from_str(alloc, "a")?;
+    let pairs = vec![in alloc; (key, long(3))]?;
+    Ok(Expr::record(alloc, pairs)?)
+}
+
 #[test]
 fn values_are_built(rt: HostRuntime) -> Result<(), Fail> {
     let alloc = rt.alloc();
-    let set = Expr::set(alloc, vec![in alloc; long(2), long(1), long(2)]?)?;
-    assert_eq!(rt; within(alloc, set, 2)?.as_str(), "value [1, 2]");
-    let key = RcStr::from_str(alloc, "a")?;
-    let record = Expr::record(alloc, vec![in alloc; (key, long(3))]?)?;
-    assert_eq!(rt; within(alloc, record, 2)?.as_str(), "value {a: 3}");
+    assert_text(&rt, within(alloc, set(alloc)?, 2), "[1, 2]")?;
+    assert_text(&rt, within(alloc, record(alloc)?, 2), "{a: 3}")?;
     Ok(())
 }
 
@@ -68,41 +79,63 @@ fn nested(alloc: Global) -> Result<Expr, AllocError> {
 #[test]
 fn depth_is_limited(rt: HostRuntime) -> Result<(), Fail> {
     let alloc = rt.alloc();
-    assert_eq!(rt; within(alloc, nested(alloc)?, 3)?.as_str(), "value [[1]]");
-    assert_eq!(rt;
-        within(alloc, nested(alloc)?, 2)?.as_str(),
-        "recursion limit reached"
-    );
+    assert_text(&rt, within(alloc, nested(alloc)?, 3), "[[1]]")?;
+    assert_text(
+        &rt,
+        within(alloc, nested(alloc)?, 2),
+        "recursion limit reached",
+    )?;
     Ok(())
+}
+
+// `[unknown("x"), 1]`
+fn waiting(alloc: Global) -> Result<Expr, Fail> {
+    let unknown = unknown(alloc, "x")?;
+    let items = vec![in alloc; unknown, long(1)]?;
+    Ok(Expr::set(alloc, items)?)
+}
+
+fn leaf(alloc: Global) -> Result<Expr, Fail> {
+    let name = RcStr::from_str(alloc, "y")?;
+    Ok(Expr::unknown(Unknown::new_untyped(name)))
 }
 
 #[test]
 fn unknowns_wait(rt: HostRuntime) -> Result<(), Fail> {
     let alloc = rt.alloc();
-    let items = vec![in alloc; unknown(alloc, "x")?, long(1)]?;
-    assert_eq!(rt;
-        within(alloc, Expr::set(alloc, items)?, 3)?.as_str(),
-        "residual [unknown(\"x\"), 1]"
-    );
-    let leaf = Expr::unknown(Unknown::new_untyped(RcStr::from_str(alloc, "y")?));
-    assert_eq!(rt; within(alloc, leaf, 1)?.as_str(), "residual unknown(\"y\")");
+    assert_text(
+        &rt,
+        within(alloc, waiting(alloc)?, 3),
+        "[unknown(\"x\"), 1]",
+    )?;
+    assert_text(&rt, within(alloc, leaf(alloc)?, 1), "unknown(\"y\")")?;
     Ok(())
+}
+
+fn call_of_none(alloc: Global, name: &str) -> Result<Expr, Fail> {
+    call(alloc, name, Vec::new(alloc))
+}
+
+// `[unknown("x"), unknown()]`
+fn error_behind(alloc: Global) -> Result<Expr, Fail> {
+    let mut items = Vec::new(alloc);
+    items.push(unknown(alloc, "x")?)?;
+    items.push(call_of_none(alloc, "unknown")?)?;
+    Ok(Expr::set(alloc, items)?)
 }
 
 #[test]
 fn errors_are_met(rt: HostRuntime) -> Result<(), Fail> {
     let alloc = rt.alloc();
-    assert_eq!(rt;
-        within(alloc, call(alloc, "f", Vec::new(alloc))?, 1)?.as_str(),
-        "extension function `f` does not exist"
-    );
-    let behind = vec![in alloc;
-        unknown(alloc, "x")?,
-        call(alloc, "unknown", Vec::new(alloc))?,
-    ]?;
-    assert_eq!(rt;
-        within(alloc, Expr::set(alloc, behind)?, 3)?.as_str(),
-        "wrong number of arguments provided to extension function `unknown`: expected 1, got 0"
-    );
+    assert_text(
+        &rt,
+        within(alloc, call_of_none(alloc, "f")?, 1),
+        "extension function `f` does not exist",
+    )?;
+    assert_text(
+        &rt,
+        within(alloc, error_behind(alloc)?, 3),
+        "wrong number of arguments provided to extension function `unknown`: expected 1, got 0",
+    )?;
     Ok(())
 }

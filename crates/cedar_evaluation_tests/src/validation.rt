@@ -1,4 +1,5 @@
 // Which calls are valid, where there is memory.
+use crate::asserts::assert_text;
 use cedar_extensions::extensions::Extensions;
 use cedar_literals::literals::Literal;
 use cedar_names::names::Name;
@@ -50,22 +51,24 @@ fn said(alloc: Global, expr: Expr) -> Result<String, Fail> {
 #[test]
 fn calls_that_fit_are_valid(rt: HostRuntime) -> Result<(), Fail> {
     let alloc = rt.alloc();
-    assert_eq!(rt; said(alloc, long(1))?.as_str(), "valid");
-    assert_eq!(rt; said(alloc, valid(alloc)?)?.as_str(), "valid");
+    assert_text(&rt, said(alloc, long(1)), "valid")?;
+    assert_text(&rt, said(alloc, valid(alloc)?), "valid")?;
     Ok(())
 }
 
 #[test]
 fn other_calls_are_refused(rt: HostRuntime) -> Result<(), Fail> {
     let alloc = rt.alloc();
-    assert_eq!(rt;
-        said(alloc, call_of_none(alloc, "f")?)?.as_str(),
-        "extension function `f` does not exist"
-    );
-    assert_eq!(rt;
-        said(alloc, call_of_two(alloc, "unknown")?)?.as_str(),
-        "wrong number of arguments provided to extension function `unknown`: expected 1, got 2"
-    );
+    assert_text(
+        &rt,
+        said(alloc, call_of_none(alloc, "f")?),
+        "extension function `f` does not exist",
+    )?;
+    assert_text(
+        &rt,
+        said(alloc, call_of_two(alloc, "unknown")?),
+        "wrong number of arguments provided to extension function `unknown`: expected 1, got 2",
+    )?;
     Ok(())
 }
 
@@ -75,9 +78,10 @@ fn the_first_of_a_walk_is_told(rt: HostRuntime) -> Result<(), Fail> {
     let alloc = rt.alloc();
     let left = call_of_none(alloc, "f")?;
     let right = call_of_none(alloc, "unknown")?;
-    assert_eq!(rt;
-        said(alloc, less(alloc, left, right)?)?.as_str(),
-        "wrong number of arguments provided to extension function `unknown`: expected 1, got 0"
-    );
+    assert_text(
+        &rt,
+        said(alloc, less(alloc, left, right)?),
+        "wrong number of arguments provided to extension function `unknown`: expected 1, got 0",
+    )?;
     Ok(())
 }

@@ -81,6 +81,9 @@ impl Verb {
     pub fn is_offered(self) -> bool
         ensures { result ≡ is_offered self }
     {
-        matches!(self, Verb::Load | Verb::Ask)
+        matches!(
+            self,
+            Verb::Load | Verb::Add | Verb::Put | Verb::Remove | Verb::Ask
+        )
     }
 }

@@ -1,6 +1,5 @@
 -- The part of the language that is read so far. Other texts count as outside the grammar until they are read too.
 use Rattle.std.specs.Prelude.{Bool, true, false, ◌&&◌, Option, Some, None, List, [], ◌∷◌}
-use Rattle.cedar_language.specs.Tree.{Tree, Lit, String, Entity, Apply, MakeSet, MakeRecord, Trees, no_trees, a_tree}
 use Rattle.cedar_grammar.specs.Policy.{Policy, slots}
 
 abbrev pub is_empty : {A : Type 0} → List A → Bool
@@ -18,16 +17,3 @@ is_policy_so_far p = is_empty p.annotations && (is_empty (slots p) && is_absent 
 abbrev pub are_policies_so_far : List Policy → Bool
 are_policies_so_far [] = true
 are_policies_so_far (p ∷ ps) = is_policy_so_far p && are_policies_so_far ps
-
--- bodies of strings, entities, lists and records
-abbrev mutual
-  pub is_body_so_far : Tree → Bool
-  is_body_so_far (Lit (String s)) = true
-  is_body_so_far (Lit (Entity u)) = true
-  is_body_so_far (Apply MakeSet ts) = are_bodies_so_far ts
-  is_body_so_far (Apply (MakeRecord ks) ts) = are_bodies_so_far ts
-  is_body_so_far _ = false
-
-  pub are_bodies_so_far : Trees → Bool
-  are_bodies_so_far no_trees = true
-  are_bodies_so_far (a_tree t ts) = is_body_so_far t && are_bodies_so_far ts

@@ -1,83 +1,113 @@
+use crate::asserts::{assert_text, assert_value};
 use cedar_cst::*;
 use std::alloc::Global;
+use std::fmt::Write;
+use std::process::Abort;
 use std::test::Fail;
 
-/// The tokens of a text and their places, or the error.
-fn shown(alloc: Global, text: &str) -> Result<String, Fail> {
+fn listed(alloc: Global, tokens: &[Token<'_>]) -> Result<String, Fail> {
     let mut out = String::new(alloc);
-    match tokenize(alloc, text) {
-        Ok(tokens) => {
-            for token in &tokens {
-                let kind = token.kind;
-                let start = token.span.start;
-                let end = token.span.end;
-                out.push_str(format!(in alloc; "{kind:?} {start}..{end};")?.as_str())?;
-            }
-        }
-        Err(error) => out.push_str(format!(in alloc; "{error}")?.as_str())?,
+    for Token { kind, span } in tokens {
+        let (start, end) = (span.start, span.end);
+        write!(out, "{kind:?} {start}..{end};")?;
     }
     Ok(out)
 }
 
+/// The tokens of a text and their places, or the error.
+fn shown(alloc: Global, text: &str) -> Result<String, Fail> {
+    match tokenize(alloc, text) {
+        Ok(tokens) => listed(alloc, &tokens),
+        Err(error) => Ok(error.to_string(alloc)?),
+    }
+}
+
+fn reads(rt: &impl Abort, alloc: Global, text: &str, wanted: &str) -> Result<(), Fail> {
+    assert_text(rt, shown(alloc, text), wanted)
+}
+
 #[test]
 fn reads_tokens(rt: HostRuntime) -> Result<(), Fail> {
-    let table = [
-        ("", ""),
-        (" \t// all blank", ""),
-        (
-            "permit(a)",
-            "Word(Permit) 0..6;Mark(LeftParen) 6..7;Word(Other(\"a\")) 7..8;Mark(RightParen) 8..9;",
-        ),
-        (
-            "a // b\r\"c\"",
-            "Word(Other(\"a\")) 0..1;Text(\"c\") 7..10;",
-        ),
-        (
-            "\u{a0}1\u{3000}/ 2",
-            "Number(\"1\") 2..3;Mark(Slash) 6..7;Number(\"2\") 8..9;",
-        ),
-        ("in?principal", "Word(In) 0..2;Slot(Principal) 2..12;"),
-        (
-            "__cedar::_x9",
-            "Word(Cedar) 0..7;Mark(ColonColon) 7..9;Word(Other(\"_x9\")) 9..12;",
-        ),
-        (
-            "trues 007a",
-            "Word(Other(\"trues\")) 0..5;Number(\"007\") 6..9;Word(Other(\"a\")) 9..10;",
-        ),
-        (
-            "<==!= =",
-            "Mark(LessEqual) 0..2;Mark(Equal) 2..3;Mark(NotEqual) 3..5;Mark(Equal) 6..7;",
-        ),
-        (":::", "Mark(ColonColon) 0..2;Mark(Colon) 2..3;"),
-        (
-            "\"a\n\u{e9}\\\"\" ?x",
-            "Text(\"a\\n\u{e9}\\\\\\\"\") 0..8;Slot(Other(\"x\")) 9..11;",
-        ),
-        ("\u{feff}permit", "no token stands at byte 0"),
-        ("a & b", "no token stands at byte 2"),
-        ("a ? b", "no token stands at byte 2"),
-        ("\"a\\\n\"", "no token stands at byte 0"),
-        ("a \"b\\\"", "no token stands at byte 2"),
-    ];
-    for (text, want) in table {
-        let found = shown(rt.alloc(), text)?;
-        assert_eq!(rt; found.as_str(), want, "{text}");
-    }
+    let alloc = rt.alloc();
+    reads(&rt, alloc, "", "")?;
+    reads(&rt, alloc, " \t// all blank", "")?;
+    reads(
+        &rt,
+        alloc,
+        "permit(a)",
+        "Word(Permit) 0..6;Mark(LeftParen) 6..7;Word(Other(\"a\")) 7..8;Mark(RightParen) 8..9;",
+    )?;
+    reads(
+        &rt,
+        alloc,
+        "a // b\r\"c\"",
+        "Word(Other(\"a\")) 0..1;Text(\"c\") 7..10;",
+    )?;
+    reads(
+        &rt,
+        alloc,
+        "\u{a0}1\u{3000}/ 2",
+        "Number(\"1\") 2..3;Mark(Slash) 6..7;Number(\"2\") 8..9;",
+    )?;
+    reads(
+        &rt,
+        alloc,
+        "in?principal",
+        "Word(In) 0..2;Slot(Principal) 2..12;",
+    )?;
+    reads(
+        &rt,
+        alloc,
+        "__cedar::_x9",
+        "Word(Cedar) 0..7;Mark(ColonColon) 7..9;Word(Other(\"_x9\")) 9..12;",
+    )?;
+    reads(
+        &rt,
+        alloc,
+        "trues 007a",
+        "Word(Other(\"trues\")) 0..5;Number(\"007\") 6..9;Word(Other(\"a\")) 9..10;",
+    )?;
+    reads(
+        &rt,
+        alloc,
+        "<==!= =",
+        "Mark(LessEqual) 0..2;Mark(Equal) 2..3;Mark(NotEqual) 3..5;Mark(Equal) 6..7;",
+    )?;
+    reads(&rt, alloc, ":::", "Mark(ColonColon) 0..2;Mark(Colon) 2..3;")?;
+    reads(
+        &rt,
+        alloc,
+        "\"a\n\u{e9}\\\"\" ?x",
+        "Text(\"a\\n\u{e9}\\\\\\\"\") 0..8;Slot(Other(\"x\")) 9..11;",
+    )?;
+    reads(&rt, alloc, "\u{feff}permit", "no token stands at byte 0")?;
+    reads(&rt, alloc, "a & b", "no token stands at byte 2")?;
+    reads(&rt, alloc, "a ? b", "no token stands at byte 2")?;
+    reads(&rt, alloc, "\"a\\\n\"", "no token stands at byte 0")?;
+    reads(&rt, alloc, "a \"b\\\"", "no token stands at byte 2")?;
     Ok(())
+}
+
+/// A text of a mebibyte.
+fn long_text(alloc: Global) -> Result<String, Fail> {
+    let mut text = String::new(alloc);
+    for _ in 0..131072 {
+        text.push_str("a.b(\"c\")")?;
+    }
+    Ok(text)
+}
+
+/// How many bytes, tokens and levels there are.
+fn counted(alloc: Global) -> Result<(usize, usize, usize), Fail> {
+    let text = long_text(alloc)?;
+    let levels = loose_nesting(text.as_str());
+    let tokens = tokenize(alloc, text.as_str())?.len();
+    Ok((text.len(), tokens, levels))
 }
 
 #[test]
 fn reads_a_long_text(rt: HostRuntime) -> Result<(), Fail> {
-    let mut text = String::new(rt.alloc());
-    for _ in 0..131072 {
-        text.push_str("a.b(\"c\")")?;
-    }
-    assert_eq!(rt; text.len(), 1048576);
-    let tokens = tokenize(rt.alloc(), text.as_str())?;
-    assert_eq!(rt; tokens.len(), 786432);
-    assert_eq!(rt; loose_nesting(text.as_str()), 131073);
-    Ok(())
+    assert_value(&rt, counted(rt.alloc()), (1048576, 786432, 131073))
 }
 
 #[test]
@@ -92,53 +122,80 @@ fn counts_places(rt: HostRuntime) {
     }
 }
 
+/// What a raw string stands for, or the error.
+fn unescaped(alloc: Global, raw: &str) -> Result<String, Fail> {
+    match to_unescaped_string(alloc, raw) {
+        Ok(text) => Ok(String::from_str(alloc, text.as_str())?),
+        Err(error) => Ok(error.to_string(alloc)?),
+    }
+}
+
+fn stands_for(rt: &impl Abort, alloc: Global, raw: &str, wanted: &str) -> Result<(), Fail> {
+    assert_text(rt, unescaped(alloc, raw), wanted)
+}
+
 #[test]
 fn unescapes(rt: HostRuntime) -> Result<(), Fail> {
-    let table = [
-        ("", ""),
-        ("a\n\u{e9}*", "a\n\u{e9}*"),
-        ("\\n\\r\\t\\\\\\0\\'\\\"", "\n\r\t\\\0'\""),
-        ("\\x7f\\x4A", "\u{7f}J"),
-        ("\\u{0}\\u{0000e9}\\u{10FFFF}", "\0\u{e9}\u{10ffff}"),
-    ];
-    for (raw, want) in table {
-        let found = to_unescaped_string(rt.alloc(), raw)?;
-        assert_eq!(rt; found.as_str(), want, "{raw}");
-    }
+    let alloc = rt.alloc();
+    stands_for(&rt, alloc, "", "")?;
+    stands_for(&rt, alloc, "a\n\u{e9}*", "a\n\u{e9}*")?;
+    stands_for(&rt, alloc, "\\n\\r\\t\\\\\\0\\'\\\"", "\n\r\t\\\0'\"")?;
+    stands_for(&rt, alloc, "\\x7f\\x4A", "\u{7f}J")?;
+    stands_for(
+        &rt,
+        alloc,
+        "\\u{0}\\u{0000e9}\\u{10FFFF}",
+        "\0\u{e9}\u{10ffff}",
+    )?;
     Ok(())
 }
 
 #[test]
-fn refuses_escapes(rt: HostRuntime) {
-    let table = [
-        ("a\\", 1),
-        ("a\r\n", 1),
-        ("\\*", 0),
-        ("\\x80", 0),
-        ("\\x7", 0),
-        ("\\u{}", 0),
-        ("\\u{0000041}", 0),
-        ("\\u{d800}", 0),
-        ("\\u{110000}", 0),
-        ("ab\\q", 2),
-    ];
-    for (raw, place) in table {
-        let found = to_unescaped_string(rt.alloc(), raw);
-        assert!(rt;
-            matches!(&found, Err(UnescapeError::Invalid { place: at }) if *at == place),
-            "{raw}"
-        );
+fn refuses_escapes(rt: HostRuntime) -> Result<(), Fail> {
+    let alloc = rt.alloc();
+    stands_for(&rt, alloc, "a\\", "no character is escaped at byte 1")?;
+    stands_for(&rt, alloc, "a\r\n", "no character is escaped at byte 1")?;
+    stands_for(&rt, alloc, "\\*", "no character is escaped at byte 0")?;
+    stands_for(&rt, alloc, "\\x80", "no character is escaped at byte 0")?;
+    stands_for(&rt, alloc, "\\x7", "no character is escaped at byte 0")?;
+    stands_for(&rt, alloc, "\\u{}", "no character is escaped at byte 0")?;
+    stands_for(
+        &rt,
+        alloc,
+        "\\u{0000041}",
+        "no character is escaped at byte 0",
+    )?;
+    stands_for(&rt, alloc, "\\u{d800}", "no character is escaped at byte 0")?;
+    stands_for(
+        &rt,
+        alloc,
+        "\\u{110000}",
+        "no character is escaped at byte 0",
+    )?;
+    stands_for(&rt, alloc, "ab\\q", "no character is escaped at byte 2")?;
+    Ok(())
+}
+
+/// The parts of a raw string, or the error.
+fn parts(alloc: Global, raw: &str) -> Result<String, Fail> {
+    match unescape_parts(alloc, raw) {
+        Ok(parts) => Ok(format!(in alloc; "{parts:?}")?),
+        Err(error) => Ok(error.to_string(alloc)?),
     }
 }
 
 #[test]
 fn keeps_parts(rt: HostRuntime) -> Result<(), Fail> {
-    let parts = unescape_parts(rt.alloc(), "*\\*\\x2a")?;
-    assert_eq!(rt;
-        format!(in rt.alloc(); "{parts:?}")?.as_str(),
-        "[Itself('*'), Star, Named('*')]"
-    );
-    let refused = unescape_parts(rt.alloc(), "a\\z");
-    assert!(rt; matches!(&refused, Err(UnescapeError::Invalid { place: 1 })));
+    let alloc = rt.alloc();
+    assert_text(
+        &rt,
+        parts(alloc, "*\\*\\x2a"),
+        "[Itself('*'), Star, Named('*')]",
+    )?;
+    assert_text(
+        &rt,
+        parts(alloc, "a\\z"),
+        "no character is escaped at byte 1",
+    )?;
     Ok(())
 }

@@ -2,6 +2,8 @@
 #![tactic(auto)]
 
 #[cfg(test)]
+mod asserts;
+#[cfg(test)]
 mod cst;
 #[cfg(test)]
 mod expected;
@@ -11,5 +13,3 @@ mod loose;
 mod nodes;
 #[cfg(test)]
 mod parse_errors;
-#[cfg(test)]
-mod syntax;

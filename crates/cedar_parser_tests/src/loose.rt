@@ -1,4 +1,5 @@
 // Texts that are read, printed again, and texts that are refused with a place.
+use crate::asserts::{assert_text, assert_value};
 use cedar_expected::POLICY_TOKEN_CONFIG;
 use cedar_loose::{
     parse_expr, parse_ident, parse_name, parse_policies, parse_policy, parse_primary, parse_ref,
@@ -7,6 +8,7 @@ use cedar_parse_errors::{ParseError, ParseErrors};
 use cedar_syntax::node::Node;
 use std::alloc::Global;
 use std::fmt::Display;
+use std::process::Abort;
 use std::test::Fail;
 
 /// The place, and the error's text.
@@ -21,79 +23,131 @@ fn refused(alloc: Global, errors: &ParseErrors) -> Result<String, Fail> {
     })
 }
 
+fn printed<T: Display>(alloc: Global, tree: &Node<Option<T>>) -> Result<String, Fail> {
+    match tree.as_inner() {
+        Some(tree) => Ok(tree.to_string(alloc)?),
+        None => Ok(String::from_str(alloc, "[error]")?),
+    }
+}
+
 /// The tree as it is printed, or the error.
 fn shown<T: Display + Drop>(
     alloc: Global,
     read: Result<Node<Option<T>>, ParseErrors>,
 ) -> Result<String, Fail> {
     match read {
-        Ok(tree) => match tree.as_inner() {
-            Some(tree) => Ok(format!(in alloc; "{tree}")?),
-            None => Ok(String::from_str(alloc, "[error]")?),
-        },
+        Ok(tree) => printed(alloc, &tree),
         Err(errors) => refused(alloc, &errors),
     }
 }
 
 const DEEP: &str = "the text is nested too deep";
 
+fn stays(rt: &impl Abort, alloc: Global, text: &str) -> Result<(), Fail> {
+    assert_text(rt, shown(alloc, parse_expr(alloc, text, 8)), text)
+}
+
 /// Expressions that are printed as they are written.
 #[test]
 fn expressions_are_read(rt: HostRuntime) -> Result<(), Fail> {
     let alloc = rt.alloc();
-    let texts = [
-        "a || b && !!c || true",
-        "if a then b else if c then false else d",
-        "a == b < c in d = e",
+    stays(&rt, alloc, "a || b && !!c || true")?;
+    stays(&rt, alloc, "if a then b else if c then false else d")?;
+    stays(&rt, alloc, "a == b < c in d = e")?;
+    stays(
+        &rt,
+        alloc,
         "a has b.c && a like \"*\\n\" && a is T && a is T in e",
-        "1 + -2 * 3 / 4 % 5 - 6",
-        "-----1 + !!!!!a",
-        "a.b(c, [])[\"e\"].if(1)",
-        "{a: 1, \"b\": (2), c: {}}",
-        "A::B::\"c\" in N::{a: 1, b: \"s\"}",
-        "?principal == ?resource || ?other",
-    ];
-    for text in texts {
-        let printed = shown(alloc, parse_expr(alloc, text, 8))?;
-        assert_eq!(rt; printed.as_str(), text);
-    }
+    )?;
+    stays(&rt, alloc, "1 + -2 * 3 / 4 % 5 - 6")?;
+    stays(&rt, alloc, "-----1 + !!!!!a")?;
+    stays(&rt, alloc, "a.b(c, [])[\"e\"].if(1)")?;
+    stays(&rt, alloc, "{a: 1, \"b\": (2), c: {}}")?;
+    stays(&rt, alloc, "A::B::\"c\" in N::{a: 1, b: \"s\"}")?;
+    stays(&rt, alloc, "?principal == ?resource || ?other")?;
     Ok(())
+}
+
+fn expression(alloc: Global, text: &str, depth: u32) -> Result<String, Fail> {
+    shown(alloc, parse_expr(alloc, text, depth))
 }
 
 #[test]
 fn expressions_are_refused(rt: HostRuntime) -> Result<(), Fail> {
     let alloc = rt.alloc();
-    let table = [
-        ("", 1, "0..0: unexpected end of input"),
-        ("1 + // \u{e9}", 1, "9..9: unexpected end of input"),
-        ("1 + # 2", 1, "4..4: invalid token"),
-        ("\u{e9}", 1, "0..0: invalid token"),
-        ("1 2", 1, "2..3: unexpected token `2`"),
-        ("\"\u{e9}\" + )", 1, "7..8: unexpected token `)`"),
-        ("[1, 2,, 3]", 2, "6..7: unexpected token `,`"),
-        ("[,]", 2, "1..2: unexpected token `,`"),
-        ("f(1, ]", 2, "5..6: unexpected token `]`"),
-        ("{a 1}", 2, "3..4: unexpected token `1`"),
-        ("if a else b", 2, "5..9: unexpected token `else`"),
-        ("a.1", 1, "2..3: unexpected token `1`"),
-        (
-            "18446744073709551616",
-            1,
-            "0..20: unexpected token `18446744073709551616`",
-        ),
-        ("a has b has c", 1, "8..11: unexpected token `has`"),
-        ("!-1", 1, "1..2: unexpected token `-`"),
-        ("((1))", 3, "((1))"),
-        ("((1))", 2, DEEP),
-        ("[]", 1, "[]"),
-        ("[[]]", 1, DEEP),
-        ("1 + 1 + 1 + 1", 1, "1 + 1 + 1 + 1"),
-        ("1", 0, DEEP),
-    ];
-    for (text, depth, wanted) in table {
-        let printed = shown(alloc, parse_expr(alloc, text, depth))?;
-        assert_eq!(rt; printed.as_str(), wanted, "{text:?}");
-    }
+    assert_text(
+        &rt,
+        expression(alloc, "", 1),
+        "0..0: unexpected end of input",
+    )?;
+    assert_text(
+        &rt,
+        expression(alloc, "1 + // \u{e9}", 1),
+        "9..9: unexpected end of input",
+    )?;
+    assert_text(&rt, expression(alloc, "1 + # 2", 1), "4..4: invalid token")?;
+    assert_text(&rt, expression(alloc, "\u{e9}", 1), "0..0: invalid token")?;
+    assert_text(
+        &rt,
+        expression(alloc, "1 2", 1),
+        "2..3: unexpected token `2`",
+    )?;
+    assert_text(
+        &rt,
+        expression(alloc, "\"\u{e9}\" + )", 1),
+        "7..8: unexpected token `)`",
+    )?;
+    assert_text(
+        &rt,
+        expression(alloc, "[1, 2,, 3]", 2),
+        "6..7: unexpected token `,`",
+    )?;
+    assert_text(
+        &rt,
+        expression(alloc, "[,]", 2),
+        "1..2: unexpected token `,`",
+    )?;
+    assert_text(
+        &rt,
+        expression(alloc, "f(1, ]", 2),
+        "5..6: unexpected token `]`",
+    )?;
+    assert_text(
+        &rt,
+        expression(alloc, "{a 1}", 2),
+        "3..4: unexpected token `1`",
+    )?;
+    assert_text(
+        &rt,
+        expression(alloc, "if a else b", 2),
+        "5..9: unexpected token `else`",
+    )?;
+    assert_text(
+        &rt,
+        expression(alloc, "a.1", 1),
+        "2..3: unexpected token `1`",
+    )?;
+    assert_text(
+        &rt,
+        expression(alloc, "18446744073709551616", 1),
+        "0..20: unexpected token `18446744073709551616`",
+    )?;
+    assert_text(
+        &rt,
+        expression(alloc, "a has b has c", 1),
+        "8..11: unexpected token `has`",
+    )?;
+    assert_text(
+        &rt,
+        expression(alloc, "!-1", 1),
+        "1..2: unexpected token `-`",
+    )?;
+    assert_text(&rt, expression(alloc, "((1))", 3), "((1))")?;
+    assert_text(&rt, expression(alloc, "((1))", 2), DEEP)?;
+    assert_text(&rt, expression(alloc, "[]", 1), "[]")?;
+    assert_text(&rt, expression(alloc, "[[]]", 1), DEEP)?;
+    assert_text(&rt, expression(alloc, "1 + 1 + 1 + 1", 1), "1 + 1 + 1 + 1")?;
+    assert_text(&rt, expression(alloc, "1", 0), DEEP)?;
     Ok(())
 }
 
@@ -110,88 +164,155 @@ fn nested(alloc: Global, open: &str, close: &str, levels: usize) -> Result<Strin
     Ok(text)
 }
 
+/// Whether the text is printed again where so many levels may stand.
+fn stays_nested(alloc: Global, (open, close): (&str, &str), levels: usize) -> Result<bool, Fail> {
+    let text = nested(alloc, open, close, levels)?;
+    let printed = expression(alloc, text.as_str(), 256)?;
+    Ok(printed.as_str() == text.as_str())
+}
+
+/// What is said of a text that is nested a level too deep.
+fn one_too_deep(alloc: Global, (open, close): (&str, &str)) -> Result<String, Fail> {
+    let text = nested(alloc, open, close, 256)?;
+    expression(alloc, text.as_str(), 256)
+}
+
 /// The stack holds as many levels as the limit lets stand.
 #[test]
 fn nested_texts_are_read_up_to_the_limit(rt: HostRuntime) -> Result<(), Fail> {
     let alloc = rt.alloc();
-    let constructs = [("(", ")"), ("[", "]"), ("if ", " then 1 else 2")];
-    for (open, close) in constructs {
-        let text = nested(alloc, open, close, 255)?;
-        let printed = shown(alloc, parse_expr(alloc, text.as_str(), 256))?;
-        assert_eq!(rt; printed.as_str(), text.as_str());
-        let text = nested(alloc, open, close, 256)?;
-        let printed = shown(alloc, parse_expr(alloc, text.as_str(), 256))?;
-        assert_eq!(rt; printed.as_str(), DEEP, "{open:?}");
+    for construct in [("(", ")"), ("[", "]"), ("if ", " then 1 else 2")] {
+        assert_value(&rt, stays_nested(alloc, construct, 255), true)?;
+        assert_text(&rt, one_too_deep(alloc, construct), DEEP)?;
     }
     Ok(())
+}
+
+fn policies(alloc: Global, text: &str, depth: u32) -> Result<String, Fail> {
+    shown(alloc, parse_policies(alloc, text, depth))
+}
+
+fn policy(alloc: Global, text: &str) -> Result<String, Fail> {
+    shown(alloc, parse_policy(alloc, text, 1))
 }
 
 #[test]
 fn policies_are_read(rt: HostRuntime) -> Result<(), Fail> {
     let alloc = rt.alloc();
-    let table = [
-        ("", "", 1),
-        (
-            "permit(principal, action, resource,);",
-            "permit(principal, action, resource);",
-            1,
-        ),
-        (
-            "@id(\"a\") @if forbid(principal: N::T is T in ?principal, action == A::\"x\") when {} unless { true };",
-            "@id(\"a\") @if forbid(principal: N::T is T in ?principal, action == A::\"x\") when {} unless {true};",
-            1,
-        ),
-        (
-            "permit(action in [A::\"x\"]);",
-            "permit(action in [A::\"x\"]);",
-            2,
-        ),
-        ("permit(action in [A::\"x\"]);", DEEP, 1),
-        ("permit();", "permit();", 1),
-        ("permit(principal", "16..16: unexpected end of input", 1),
-        ("permit(principal,,);", "17..18: unexpected token `,`", 1),
-        (
-            "permit(principal) when { true }",
-            "31..31: unexpected end of input",
-            1,
-        ),
-        ("@id(a) permit();", "4..5: unexpected token `a`", 1),
-        ("permit(); 1", "10..11: unexpected token `1`", 1),
-        ("permit();", DEEP, 0),
-    ];
-    for (text, wanted, depth) in table {
-        let printed = shown(alloc, parse_policies(alloc, text, depth))?;
-        assert_eq!(rt; printed.as_str(), wanted, "{text:?}");
-    }
-    let one = shown(
-        alloc,
-        parse_policy(alloc, "permit(principal) when { 1 };", 1),
+    assert_text(&rt, policies(alloc, "", 1), "")?;
+    assert_text(
+        &rt,
+        policies(alloc, "permit(principal, action, resource,);", 1),
+        "permit(principal, action, resource);",
     )?;
-    assert_eq!(rt; one.as_str(), "permit(principal) when {1};");
-    let two = shown(alloc, parse_policy(alloc, "permit(); permit();", 1))?;
-    assert_eq!(rt; two.as_str(), "10..16: unexpected token `permit`");
+    assert_text(
+        &rt,
+        policies(
+            alloc,
+            "@id(\"a\") @if forbid(principal: N::T is T in ?principal, action == A::\"x\") when {} unless { true };",
+            1,
+        ),
+        "@id(\"a\") @if forbid(principal: N::T is T in ?principal, action == A::\"x\") when {} unless {true};",
+    )?;
+    assert_text(
+        &rt,
+        policies(alloc, "permit(action in [A::\"x\"]);", 2),
+        "permit(action in [A::\"x\"]);",
+    )?;
+    assert_text(
+        &rt,
+        policies(alloc, "permit(action in [A::\"x\"]);", 1),
+        DEEP,
+    )?;
+    assert_text(&rt, policies(alloc, "permit();", 1), "permit();")?;
+    assert_text(
+        &rt,
+        policies(alloc, "permit(principal", 1),
+        "16..16: unexpected end of input",
+    )?;
+    assert_text(
+        &rt,
+        policies(alloc, "permit(principal,,);", 1),
+        "17..18: unexpected token `,`",
+    )?;
+    assert_text(
+        &rt,
+        policies(alloc, "permit(principal) when { true }", 1),
+        "31..31: unexpected end of input",
+    )?;
+    assert_text(
+        &rt,
+        policies(alloc, "@id(a) permit();", 1),
+        "4..5: unexpected token `a`",
+    )?;
+    assert_text(
+        &rt,
+        policies(alloc, "permit(); 1", 1),
+        "10..11: unexpected token `1`",
+    )?;
+    assert_text(&rt, policies(alloc, "permit();", 0), DEEP)?;
     Ok(())
+}
+
+#[test]
+fn one_policy_is_read(rt: HostRuntime) -> Result<(), Fail> {
+    let alloc = rt.alloc();
+    assert_text(
+        &rt,
+        policy(alloc, "permit(principal) when { 1 };"),
+        "permit(principal) when {1};",
+    )?;
+    assert_text(
+        &rt,
+        policy(alloc, "permit(); permit();"),
+        "10..16: unexpected token `permit`",
+    )?;
+    Ok(())
+}
+
+/// Whether two texts are read as the same policies.
+fn is_same(alloc: Global, left: &str, right: &str) -> Result<bool, Fail> {
+    let left = parse_policies(alloc, left, 4)?;
+    Ok(left == parse_policies(alloc, right, 4)?)
+}
+
+#[test]
+fn policies_are_compared(rt: HostRuntime) -> Result<(), Fail> {
+    let alloc = rt.alloc();
+    let text =
+        "@if(\"v\") permit(principal is N in ?principal) unless { if 1 then 2 else {a: [3]} };";
+    assert_value(&rt, is_same(alloc, text, text), true)?;
+    assert_value(&rt, is_same(alloc, text, "permit();"), false)?;
+    Ok(())
+}
+
+fn entity(alloc: Global, text: &str) -> Result<String, Fail> {
+    shown(alloc, parse_ref(alloc, text))
+}
+
+fn primary(alloc: Global, depth: u32) -> Result<String, Fail> {
+    shown(alloc, parse_primary(alloc, "(1 + 2)", depth))
+}
+
+fn name(alloc: Global, text: &str) -> Result<String, Fail> {
+    shown(alloc, parse_name(alloc, text))
+}
+
+fn word(alloc: Global, text: &str) -> Result<String, Fail> {
+    shown(alloc, parse_ident(alloc, text))
 }
 
 #[test]
 fn parts_are_read(rt: HostRuntime) -> Result<(), Fail> {
     let alloc = rt.alloc();
-    let entity = shown(alloc, parse_ref(alloc, " A::\"b\" "))?;
-    assert_eq!(rt; entity.as_str(), "A::\"b\"");
-    let entity = shown(alloc, parse_ref(alloc, "A::b"))?;
-    assert_eq!(rt; entity.as_str(), "4..4: unexpected end of input");
-    let primary = shown(alloc, parse_primary(alloc, "(1 + 2)", 2))?;
-    assert_eq!(rt; primary.as_str(), "(1 + 2)");
-    let primary = shown(alloc, parse_primary(alloc, "(1 + 2)", 1))?;
-    assert_eq!(rt; primary.as_str(), DEEP);
-    let name = shown(alloc, parse_name(alloc, "a::if::principal"))?;
-    assert_eq!(rt; name.as_str(), "a::if::principal");
-    let name = shown(alloc, parse_name(alloc, "a::"))?;
-    assert_eq!(rt; name.as_str(), "3..3: unexpected end of input");
-    let word = shown(alloc, parse_ident(alloc, "__cedar"))?;
-    assert_eq!(rt; word.as_str(), "__cedar");
-    let word = shown(alloc, parse_ident(alloc, "1"))?;
-    assert_eq!(rt; word.as_str(), "0..1: unexpected token `1`");
+    assert_text(&rt, entity(alloc, " A::\"b\" "), "A::\"b\"")?;
+    assert_text(&rt, entity(alloc, "A::b"), "4..4: unexpected end of input")?;
+    assert_text(&rt, primary(alloc, 2), "(1 + 2)")?;
+    assert_text(&rt, primary(alloc, 1), DEEP)?;
+    assert_text(&rt, name(alloc, "a::if::principal"), "a::if::principal")?;
+    assert_text(&rt, name(alloc, "a::"), "3..3: unexpected end of input")?;
+    assert_text(&rt, word(alloc, "__cedar"), "__cedar")?;
+    assert_text(&rt, word(alloc, "1"), "0..1: unexpected token `1`")?;
     Ok(())
 }
 
@@ -208,109 +329,137 @@ fn expected(alloc: Global, errors: &ParseErrors) -> Result<String, Fail> {
 }
 
 /// The place of the fault, and what was expected there.
+fn fault(alloc: Global, errors: &ParseErrors) -> Result<String, Fail> {
+    let refused = refused(alloc, errors)?;
+    let expected = expected(alloc, errors)?;
+    Ok(format!(in alloc; "{refused}, {expected}")?)
+}
+
 fn missed<T: Drop>(
     alloc: Global,
     read: Result<Node<Option<T>>, ParseErrors>,
 ) -> Result<String, Fail> {
     match read {
         Ok(_) => Ok(String::from_str(alloc, "read")?),
-        Err(errors) => {
-            let expected = expected(alloc, &errors)?;
-            Ok(format!(in alloc; "{}, {expected}", refused(alloc, &errors)?)?)
-        }
+        Err(errors) => fault(alloc, &errors),
     }
 }
 
-const BEHIND_NUMBER: &str =
-    "expected `!=`, `&&`, `(`, `*`, `+`, `-`, `.`, `<`, `<=`, `==`, `>`, `>=`, `[`, `||`, `has`, `in`, `is`, or `like`";
+fn missed_in_expression(alloc: Global, text: &str) -> Result<String, Fail> {
+    missed(alloc, parse_expr(alloc, text, 2))
+}
+
+fn missed_in_policies(alloc: Global, text: &str) -> Result<String, Fail> {
+    missed(alloc, parse_policies(alloc, text, 1))
+}
+
+fn missed_in_name(alloc: Global, text: &str) -> Result<String, Fail> {
+    missed(alloc, parse_name(alloc, text))
+}
 
 #[test]
 fn expected_tokens_of_expressions(rt: HostRuntime) -> Result<(), Fail> {
     let alloc = rt.alloc();
-    let table = [
-        (
-            "1 +",
-            "3..3: unexpected end of input, expected `!`, `(`, `-`, `[`, `{`, `false`, identifier, number, `?principal`, `?resource`, string literal, or `true`",
-        ),
-        (
-            "",
-            "0..0: unexpected end of input, expected `!`, `(`, `-`, `[`, `{`, `false`, identifier, `if`, number, `?principal`, `?resource`, string literal, or `true`",
-        ),
-        (
-            "!!-a",
-            "2..3: unexpected token `-`, expected `!`, `(`, `[`, `{`, `false`, identifier, number, `?principal`, `?resource`, string literal, or `true`",
-        ),
-        (
-            "f(a ]",
-            "4..5: unexpected token `]`, expected `!=`, `&&`, `(`, `)`, `*`, `+`, `,`, `-`, `.`, `::`, `<`, `<=`, `==`, `>`, `>=`, `[`, `||`, `has`, `in`, `is`, or `like`",
-        ),
-        (
-            "a has b has c",
-            "8..11: unexpected token `has`, expected `&&`, `(`, `*`, `+`, `-`, `.`, `::`, `[`, or `||`",
-        ),
-        ("a.1", "2..3: unexpected token `1`, expected identifier"),
-        (
-            "A::1",
-            "3..4: unexpected token `1`, expected `{`, identifier, or string literal",
-        ),
-        (
-            "18446744073709551616",
-            "0..20: unexpected token `18446744073709551616`, nothing",
-        ),
-        ("a #", "2..2: invalid token, nothing"),
-    ];
-    for (text, wanted) in table {
-        let found = missed(alloc, parse_expr(alloc, text, 2))?;
-        assert_eq!(rt; found.as_str(), wanted, "{text:?}");
-    }
-    let number = missed(alloc, parse_expr(alloc, "1 2", 1))?;
-    let wanted = format!(in alloc; "2..3: unexpected token `2`, {BEHIND_NUMBER}")?;
-    assert_eq!(rt; number.as_str(), wanted.as_str());
+    assert_text(
+        &rt,
+        missed_in_expression(alloc, "1 +"),
+        "3..3: unexpected end of input, expected `!`, `(`, `-`, `[`, `{`, `false`, identifier, number, `?principal`, `?resource`, string literal, or `true`",
+    )?;
+    assert_text(
+        &rt,
+        missed_in_expression(alloc, ""),
+        "0..0: unexpected end of input, expected `!`, `(`, `-`, `[`, `{`, `false`, identifier, `if`, number, `?principal`, `?resource`, string literal, or `true`",
+    )?;
+    assert_text(
+        &rt,
+        missed_in_expression(alloc, "!!-a"),
+        "2..3: unexpected token `-`, expected `!`, `(`, `[`, `{`, `false`, identifier, number, `?principal`, `?resource`, string literal, or `true`",
+    )?;
+    assert_text(
+        &rt,
+        missed_in_expression(alloc, "f(a ]"),
+        "4..5: unexpected token `]`, expected `!=`, `&&`, `(`, `)`, `*`, `+`, `,`, `-`, `.`, `::`, `<`, `<=`, `==`, `>`, `>=`, `[`, `||`, `has`, `in`, `is`, or `like`",
+    )?;
+    assert_text(
+        &rt,
+        missed_in_expression(alloc, "a has b has c"),
+        "8..11: unexpected token `has`, expected `&&`, `(`, `*`, `+`, `-`, `.`, `::`, `[`, or `||`",
+    )?;
+    assert_text(
+        &rt,
+        missed_in_expression(alloc, "a.1"),
+        "2..3: unexpected token `1`, expected identifier",
+    )?;
+    assert_text(
+        &rt,
+        missed_in_expression(alloc, "A::1"),
+        "3..4: unexpected token `1`, expected `{`, identifier, or string literal",
+    )?;
+    assert_text(
+        &rt,
+        missed_in_expression(alloc, "18446744073709551616"),
+        "0..20: unexpected token `18446744073709551616`, nothing",
+    )?;
+    assert_text(
+        &rt,
+        missed_in_expression(alloc, "a #"),
+        "2..2: invalid token, nothing",
+    )?;
+    assert_text(
+        &rt,
+        missed_in_expression(alloc, "1 2"),
+        "2..3: unexpected token `2`, expected `!=`, `&&`, `(`, `*`, `+`, `-`, `.`, `<`, `<=`, `==`, `>`, `>=`, `[`, `||`, `has`, `in`, `is`, or `like`",
+    )?;
     Ok(())
 }
 
 #[test]
 fn expected_tokens_of_policies(rt: HostRuntime) -> Result<(), Fail> {
     let alloc = rt.alloc();
-    let table = [
-        (
-            "1",
-            "0..1: unexpected token `1`, expected `@` or identifier",
-        ),
-        ("permit", "6..6: unexpected end of input, expected `(`"),
-        (
-            "permit(principal",
-            "16..16: unexpected end of input, expected `!=`, `)`, `,`, `:`, `<`, `<=`, `==`, `>`, `>=`, `in`, or `is`",
-        ),
-        (
-            "permit(principal: A::\"b\");",
-            "21..24: unexpected token `\"b\"`, expected identifier",
-        ),
-        (
-            "permit()",
-            "8..8: unexpected end of input, expected `;` or identifier",
-        ),
-        (
-            "permit() when 1;",
-            "14..15: unexpected token `1`, expected `{`",
-        ),
-        (
-            "@a(b) permit();",
-            "3..4: unexpected token `b`, expected string literal",
-        ),
-        (
-            "permit(); }",
-            "10..11: unexpected token `}`, expected `@` or identifier",
-        ),
-    ];
-    for (text, wanted) in table {
-        let found = missed(alloc, parse_policies(alloc, text, 1))?;
-        assert_eq!(rt; found.as_str(), wanted, "{text:?}");
-    }
-    let name = missed(alloc, parse_name(alloc, "a::"))?;
-    assert_eq!(rt;
-        name.as_str(),
-        "3..3: unexpected end of input, expected identifier"
-    );
+    assert_text(
+        &rt,
+        missed_in_policies(alloc, "1"),
+        "0..1: unexpected token `1`, expected `@` or identifier",
+    )?;
+    assert_text(
+        &rt,
+        missed_in_policies(alloc, "permit"),
+        "6..6: unexpected end of input, expected `(`",
+    )?;
+    assert_text(
+        &rt,
+        missed_in_policies(alloc, "permit(principal"),
+        "16..16: unexpected end of input, expected `!=`, `)`, `,`, `:`, `<`, `<=`, `==`, `>`, `>=`, `in`, or `is`",
+    )?;
+    assert_text(
+        &rt,
+        missed_in_policies(alloc, "permit(principal: A::\"b\");"),
+        "21..24: unexpected token `\"b\"`, expected identifier",
+    )?;
+    assert_text(
+        &rt,
+        missed_in_policies(alloc, "permit()"),
+        "8..8: unexpected end of input, expected `;` or identifier",
+    )?;
+    assert_text(
+        &rt,
+        missed_in_policies(alloc, "permit() when 1;"),
+        "14..15: unexpected token `1`, expected `{`",
+    )?;
+    assert_text(
+        &rt,
+        missed_in_policies(alloc, "@a(b) permit();"),
+        "3..4: unexpected token `b`, expected string literal",
+    )?;
+    assert_text(
+        &rt,
+        missed_in_policies(alloc, "permit(); }"),
+        "10..11: unexpected token `}`, expected `@` or identifier",
+    )?;
+    assert_text(
+        &rt,
+        missed_in_name(alloc, "a::"),
+        "3..3: unexpected end of input, expected identifier",
+    )?;
     Ok(())
 }

@@ -1,13 +1,11 @@
-// Calls on nodes, copies, and printed texts.
+// Calls on nodes and copies.
+use crate::asserts::{assert_text, assert_value};
 use cedar_literals::variables::Var;
 use cedar_names::places::{Loc, Span};
-use cedar_nodes::cst::{
-    AddOp, Ident, Literal, MultOp, Name, NegOp, Ref, RefInit, RelOp, Slot, Str,
-};
+use cedar_nodes::cst::{Ident, Name, Slot};
 use cedar_nodes::errors::{EmptyNodeError, PlacedError};
 use cedar_nodes::node::Node;
 use std::alloc::{AllocError, Global};
-use std::fmt::Display;
 use std::rc::RcStr;
 use std::test::Fail;
 
@@ -40,71 +38,126 @@ fn nodes_look_past_places(rt: HostRuntime) -> Result<(), Fail> {
     Ok(())
 }
 
+/// The value and where it starts.
+fn parts(node: &Node<u64>) -> (u64, Option<usize>) {
+    (node.node, start(node))
+}
+
+/// A node at 1 into which 8 is written.
+fn written(alloc: Global) -> Result<Node<u64>, Fail> {
+    let mut node = number(alloc, 7, 1)?;
+    *node.as_mut(alloc)?.node = 8;
+    Ok(node)
+}
+
+fn copied(alloc: Global) -> Result<(u64, Option<usize>), Fail> {
+    let node = written(alloc)?;
+    Ok(parts(&node.as_ref(alloc)?.copied()))
+}
+
+fn cloned(alloc: Global) -> Result<(u64, Option<usize>), Fail> {
+    let node = written(alloc)?;
+    Ok(parts(&node.as_ref(alloc)?.cloned(alloc)?))
+}
+
+fn halved(alloc: Global) -> Result<(u64, Option<usize>), Fail> {
+    let node = written(alloc)?;
+    Ok(parts(&node.map(|value| value / 2)))
+}
+
+fn taken_apart(alloc: Global) -> Result<(u64, Option<usize>), Fail> {
+    let (value, loc) = written(alloc)?.into_inner();
+    Ok((value, loc.map(|loc| loc.start())))
+}
+
 #[test]
 fn nodes_lend_their_value(rt: HostRuntime) -> Result<(), Fail> {
     let alloc = rt.alloc();
-    let mut node = number(alloc, 7, 1)?;
-    *node.as_mut(alloc)?.node = 8;
-    let copy = node.as_ref(alloc)?.copied();
-    assert_eq!(rt; (copy.node, start(&copy)), (8, Some(1)));
-    let clone = node.as_ref(alloc)?.cloned(alloc)?;
-    assert_eq!(rt; (clone.node, start(&clone)), (8, Some(1)));
-    let more = node.map(|value| value / 2);
-    assert_eq!(rt; (more.node, start(&more)), (4, Some(1)));
-    let (value, loc) = more.into_inner();
-    assert_eq!(rt; value, 4);
-    assert!(rt; loc == Some(place(alloc, 1)?));
+    assert_value(&rt, copied(alloc), (8, Some(1)))?;
+    assert_value(&rt, cloned(alloc), (8, Some(1)))?;
+    assert_value(&rt, halved(alloc), (4, Some(1)))?;
+    assert_value(&rt, taken_apart(alloc), (8, Some(1)))?;
     Ok(())
+}
+
+fn odd(alloc: Global) -> Result<PlacedError<&'static str>, Fail> {
+    Ok(number(alloc, 7, 1)?.to_ast_err(alloc, "odd")?)
+}
+
+fn is_odd_at(alloc: Global, loc: Option<Loc>) -> Result<bool, Fail> {
+    let error = odd(alloc)?;
+    Ok(*error.kind() == "odd" && error == PlacedError::new("odd", loc))
+}
+
+fn is_odd_there(alloc: Global) -> Result<bool, Fail> {
+    is_odd_at(alloc, Some(place(alloc, 1)?))
+}
+
+fn shown_odd(alloc: Global) -> Result<String, Fail> {
+    Ok(odd(alloc)?.to_string(alloc)?)
 }
 
 #[test]
 fn errors_have_places(rt: HostRuntime) -> Result<(), Fail> {
     let alloc = rt.alloc();
-    let error: PlacedError<&'static str> = number(alloc, 7, 1)?.to_ast_err(alloc, "odd")?;
-    assert_eq!(rt; *error.kind(), "odd");
-    assert!(rt; error == PlacedError::new("odd", Some(place(alloc, 1)?)));
-    assert!(rt; error != PlacedError::new("odd", None));
-    assert_eq!(rt; error.to_string(alloc)?.as_str(), "odd");
+    assert_value(&rt, is_odd_there(alloc), true)?;
+    assert_value(&rt, is_odd_at(alloc, None), false)?;
+    assert_text(&rt, shown_odd(alloc), "odd")?;
     Ok(())
+}
+
+/// Where what the node lends starts, if it lends anything.
+fn start_lent(alloc: Global, value: Option<u64>) -> Result<Option<usize>, Fail> {
+    match held(alloc, value)?.collapse(alloc)? {
+        Some(lent) => Ok(start(&lent)),
+        None => Ok(None),
+    }
+}
+
+fn is_place_applied(alloc: Global, value: Option<u64>) -> Result<Option<bool>, Fail> {
+    Ok(held(alloc, value)?.apply(|_value, loc| Some(loc.is_some())))
+}
+
+fn applied(alloc: Global, value: Option<u64>) -> Result<Option<u64>, Fail> {
+    Ok(held(alloc, value)?.into_apply(|value, _loc| Some(value)))
+}
+
+fn lent(alloc: Global, value: Option<u64>) -> Result<Option<u64>, Fail> {
+    Ok(held(alloc, value)?.try_as_inner(alloc).ok().copied())
+}
+
+fn taken(alloc: Global, value: Option<u64>) -> Result<Option<u64>, Fail> {
+    Ok(held(alloc, value)?.try_into_inner().ok())
 }
 
 #[test]
 fn full_nodes_give_their_value(rt: HostRuntime) -> Result<(), Fail> {
     let alloc = rt.alloc();
-    let node = held(alloc, Some(7))?;
-    assert_eq!(rt; node.as_inner(), Some(&7));
-    let lent = match node.collapse(alloc)? {
-        Some(lent) => start(&lent),
-        None => None,
-    };
-    assert_eq!(rt; lent, Some(1));
-    let sum = node.apply(|value, loc| Some(
-        *value / 7 + loc.map_or(0, |loc| loc.start() as u64 % 5),
-    ));
-    assert_eq!(rt; sum, Some(2));
-    assert_eq!(rt; *node.try_as_inner(alloc)?, 7);
-    assert_eq!(rt;
-        held(alloc, Some(7))?.into_apply(|value, _loc| Some(value)),
-        Some(7)
-    );
-    assert_eq!(rt; node.try_into_inner()?, 7);
+    assert_value(&rt, start_lent(alloc, Some(7)), Some(1))?;
+    assert_value(&rt, is_place_applied(alloc, Some(7)), Some(true))?;
+    assert_value(&rt, applied(alloc, Some(7)), Some(7))?;
+    assert_value(&rt, lent(alloc, Some(7)), Some(7))?;
+    assert_value(&rt, taken(alloc, Some(7)), Some(7))?;
     Ok(())
+}
+
+/// Whether an empty node is refused with its place.
+fn is_place_told(alloc: Global) -> Result<bool, Fail> {
+    let wanted = EmptyNodeError::Empty(Some(place(alloc, 1)?));
+    match held(alloc, None)?.try_as_inner(alloc) {
+        Ok(_value) => Ok(false),
+        Err(error) => Ok(error == wanted),
+    }
 }
 
 #[test]
 fn empty_nodes_give_none(rt: HostRuntime) -> Result<(), Fail> {
     let alloc = rt.alloc();
-    let node = held(alloc, None)?;
-    assert!(rt; node.as_inner().is_none());
-    assert!(rt; node.collapse(alloc)?.is_none());
-    assert_eq!(rt; node.apply(|value, _loc| Some(*value)), None);
-    let refused = EmptyNodeError::Empty(Some(place(alloc, 1)?));
-    assert!(rt; node.try_as_inner(alloc).err().as_ref() == Some(&refused));
-    assert!(rt; node.try_into_inner().err() == Some(refused));
-    assert_eq!(rt;
-        held(alloc, None)?.into_apply(|value, _loc| Some(value)),
-        None
-    );
+    assert_value(&rt, start_lent(alloc, None), None)?;
+    assert_value(&rt, is_place_applied(alloc, None), None)?;
+    assert_value(&rt, applied(alloc, None), None)?;
+    assert_value(&rt, taken(alloc, None), None)?;
+    assert_value(&rt, is_place_told(alloc), true)?;
     Ok(())
 }
 
@@ -126,67 +179,30 @@ fn slots_match_their_variable(rt: HostRuntime) -> Result<(), Fail> {
     Ok(())
 }
 
-fn word(alloc: Global, text: &str) -> Result<Node<Option<Ident>>, AllocError> {
-    Ok(Node::new(Some(Ident::Ident(RcStr::from_str(alloc, text)?))))
-}
-
-/// The name `A::in`, whose copy is taken in its place.
-fn name(alloc: Global) -> Result<Node<Option<Name>>, Fail> {
+/// The name `A::` with an empty node behind it.
+fn name(alloc: Global) -> Result<Name, Fail> {
     let mut path = Vec::new(alloc);
-    path.push(word(alloc, "A")?)?;
-    let name = Name {
+    let word = Ident::Ident(RcStr::from_str(alloc, "A")?);
+    path.push(Node::new(Some(word)))?;
+    Ok(Name {
         path,
-        name: Node::new(Some(Ident::In)),
-    };
-    let copy = name.clone()?;
-    if copy != name {
-        return Ok(Node::new(None));
-    }
-    Ok(Node::new(Some(copy)))
-}
-
-fn string(alloc: Global, text: &str) -> Result<Node<Option<Str>>, AllocError> {
-    Ok(Node::new(Some(Str::String(RcStr::from_str(alloc, text)?))))
-}
-
-/// The entity `A::in::"e\n"`.
-fn uid(alloc: Global) -> Result<Ref, Fail> {
-    Ok(Ref::Uid {
-        path: name(alloc)?,
-        eid: string(alloc, "e\\n")?,
+        name: Node::new(None),
     })
 }
 
-/// The entity `A::in::{a: 1, b: "s"}`.
-fn entity(alloc: Global) -> Result<Ref, Fail> {
-    let mut rinits = Vec::new(alloc);
-    let first = RefInit(word(alloc, "a")?, Node::new(Some(Literal::Num(1))));
-    rinits.push(Node::new(Some(first)))?;
-    let text = Literal::Str(string(alloc, "s")?);
-    let second = RefInit(word(alloc, "b")?, Node::new(Some(text)));
-    rinits.push(Node::new(Some(second)))?;
-    Ok(Ref::Ref {
-        path: name(alloc)?,
-        rinits,
-    })
+fn shown(alloc: Global) -> Result<String, Fail> {
+    Ok(name(alloc)?.to_string(alloc)?)
 }
 
-fn prints<T: Display>(alloc: Global, value: &T, text: &str) -> Result<bool, AllocError> {
-    Ok(value.to_string(alloc)?.as_str() == text)
+fn is_copied(alloc: Global) -> Result<bool, Fail> {
+    let name = name(alloc)?;
+    Ok(name.clone()? == name)
 }
 
 #[test]
-fn leaves_are_printed(rt: HostRuntime) -> Result<(), Fail> {
+fn names_are_printed_and_copied(rt: HostRuntime) -> Result<(), Fail> {
     let alloc = rt.alloc();
-    assert!(rt; prints(alloc, &uid(alloc)?, "A::in::\"e\\n\"")?);
-    assert!(rt; prints(alloc, &entity(alloc)?, "A::in::{a: 1, b: \"s\"}")?);
-    assert!(rt; prints(alloc, &Literal::True, "true")?);
-    let slot = Slot::Other(RcStr::from_str(alloc, "other")?);
-    assert!(rt; prints(alloc, &Node::new(slot), "?other")?);
-    assert!(rt; prints(alloc, &NegOp::Dash(2), "--")?);
-    assert!(rt; prints(alloc, &NegOp::OverBang, "!!!!!")?);
-    assert!(rt; prints(alloc, &RelOp::InvalidSingleEq, "=")?);
-    assert!(rt; prints(alloc, &AddOp::Minus, "-")?);
-    assert!(rt; prints(alloc, &MultOp::Mod, "%")?);
+    assert_text(&rt, shown(alloc), "A::[error]")?;
+    assert_value(&rt, is_copied(alloc), true)?;
     Ok(())
 }

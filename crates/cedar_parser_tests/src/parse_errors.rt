@@ -1,3 +1,4 @@
+use crate::asserts::assert_text;
 use cedar_expected::{Kinds, POLICY_TOKEN_CONFIG};
 use cedar_names::places::{Loc, Span};
 use cedar_parse_errors::{ParseError, ParseErrors, ToCSTError};
@@ -11,6 +12,19 @@ fn place(alloc: Global) -> Result<Loc, Fail> {
     Ok(Loc::new(SPAN, RcStr::from_str(alloc, "a + b")?))
 }
 
+fn token(alloc: Global) -> Result<ToCSTError, Fail> {
+    Ok(ToCSTError::unrecognized_token(place(alloc)?, Kinds::SEMICOLON))
+}
+
+fn end(alloc: Global) -> Result<ToCSTError, Fail> {
+    Ok(ToCSTError::unrecognized_eof(place(alloc)?, Kinds::SLASH))
+}
+
+fn invalid(alloc: Global) -> Result<ParseErrors, Fail> {
+    let error = ToCSTError::invalid_token(place(alloc)?);
+    Ok(ParseErrors::one(alloc, ParseError::ToCST(error)))
+}
+
 /// The error's text, and what was expected.
 fn told(alloc: Global, error: &ToCSTError) -> Result<String, Fail> {
     Ok(match error.label(alloc, &POLICY_TOKEN_CONFIG)? {
@@ -19,21 +33,27 @@ fn told(alloc: Global, error: &ToCSTError) -> Result<String, Fail> {
     })
 }
 
+fn told_of_token(alloc: Global) -> Result<String, Fail> {
+    told(alloc, &token(alloc)?)
+}
+
+fn told_of_end(alloc: Global) -> Result<String, Fail> {
+    told(alloc, &end(alloc)?)
+}
+
+fn told_of_errors(alloc: Global) -> Result<String, Fail> {
+    Ok(invalid(alloc)?.to_string(alloc)?)
+}
+
 #[test]
 fn errors_are_told(rt: HostRuntime) -> Result<(), Fail> {
     let alloc = rt.alloc();
-    let token = ToCSTError::unrecognized_token(place(alloc)?, Kinds::SEMICOLON);
-    assert!(rt; token.primary_source_span() == Some(SPAN));
-    assert_eq!(rt; token.expected(), Kinds::SEMICOLON);
-    assert_eq!(rt;
-        told(alloc, &token)?.as_str(),
-        "unexpected token `+`: expected `;`"
-    );
-    let end = ToCSTError::unrecognized_eof(place(alloc)?, Kinds::SLASH);
-    assert_eq!(rt; told(alloc, &end)?.as_str(), "unexpected end of input");
-    let invalid = ToCSTError::invalid_token(place(alloc)?);
-    assert_eq!(rt; invalid.expected(), Kinds::NONE);
-    let errors = ParseErrors::one(alloc, ParseError::ToCST(invalid));
-    assert_eq!(rt; errors.to_string(alloc)?.as_str(), "invalid token");
+    assert_text(
+        &rt,
+        told_of_token(alloc),
+        "unexpected token `+`: expected `;`",
+    )?;
+    assert_text(&rt, told_of_end(alloc), "unexpected end of input")?;
+    assert_text(&rt, told_of_errors(alloc), "invalid token")?;
     Ok(())
 }

@@ -1,15 +1,10 @@
 -- Reading is too deep only where there are brackets enough.
 use Rattle.std.proofs.Common.{◌≡◌, ℕ, zero, suc, ◌≤◌, Bool, true, false, cond, List, [], ◌∷◌, length, Option, Some, None, Ok, Err, refl, sym, ap, subst, arith}
 use Rattle.cedar_language.specs.Uid.{Text}
-use Rattle.cedar_language.specs.Tree.{Tree}
 use Rattle.cedar_grammar.specs.Token as token
 use Rattle.cedar_grammar.specs.Token.{Word, Mark, Token, mark}
-use Rattle.cedar_grammar.specs.Names.{are_distinct}
-use Rattle.cedar_grammar.specs.Build.{keys}
 use Rattle.cedar_plain.specs.Reading as reading
-use Rattle.cedar_plain.specs.Reading.{Fault, wrong, deep, Reading, Reader, ◌>>=◌, whole, without_first, begins, need, begins_word, need_word, found, first_id, first_text, first_key, begins_text, next_id, path_at, entity_at, items_more, items_at, items_of}
-use Rattle.cedar_plain.specs.Bodies.{closed, entry_of, list_of, entries_of, body_of, body_at}
-use Rattle.cedar_plain.specs.Laws.{DeepBodies}
+use Rattle.cedar_plain.specs.Reading.{Fault, wrong, deep, Reading, Reader, ◌>>=◌, without_first, begins, need, begins_word, need_word, found, first_id, first_text, next_id, path_at, entity_at, items_at, items_of, closed}
 use Rattle.cedar_plain.proofs.Steps.{begins-is}
 use Rattle.cedar_plain.proofs.Places.{opener, openers, openers-places}
 
@@ -94,44 +89,3 @@ module _ {A : Type 0} (n : ℕ) (close : Mark) (rd : Reader A) (b : Bounds n rd)
 
 pub closed-bounds : {A : Type 0} {k : ℕ} (n : ℕ) (m : Mark) (r : Reading A) → Bounded n k r → Bounded n k (closed m r)
 closed-bounds n m r h = then h (λ x. then (need-bounds n m x.1) (λ u. here n _ u.1))
-
--- ---- bodies
-
-module _ (n : ℕ) (rd : Reader Tree) (b : Bounds n rd) where
-  entry-bounds : Bounds n (entry_of rd)
-  entry-bounds ts = then (found-bounds n (first_key ts) ts) (λ k. then (need-bounds n token.Colon k.1) (λ u. then (b u.1) (λ t. here n _ t.1)))
-
-  list-bounds : Bounds n (list_of rd)
-  list-bounds ts = then (items-bounds n token.RightBracket rd b ts) (λ xs. here n _ xs.1)
-
-  entries-bounds : Bounds n (entries_of rd)
-  entries-bounds ts = then (items-bounds n token.RightBrace (entry_of rd) entry-bounds ts) (λ es. choose (are_distinct (keys es.0)) (λ e. here n _ es.1) (λ e. not_read))
-
-  body_of-bounds : Bounds (suc n) (body_of rd)
-  unfolding body_of
-  body_of-bounds ts =
-      choose (begins_text ts) (λ _. then (found-bounds (suc n) (first_text ts) ts) (λ s. here (suc n) _ s.1)) (λ _.
-      choose (begins token.LeftParen ts) (λ e. inside (opened token.LeftParen refl ts e) (closed-bounds n token.RightParen (rd (without_first ts)) (b (without_first ts)))) (λ _.
-      choose (begins token.LeftBracket ts) (λ e. inside (opened token.LeftBracket refl ts e) (list-bounds (without_first ts))) (λ _.
-      choose (begins token.LeftBrace ts) (λ e. inside (opened token.LeftBrace refl ts e) (entries-bounds (without_first ts))) (λ _.
-      then (entity-bounds (suc n) ts) (λ u. here (suc n) _ u.1)))))
-
-body-bounds : (n : ℕ) → Bounds n (body_at n)
-unfolding body_at
-body-bounds zero ts = too_deep (omega arith)
-body-bounds (suc n) ts = body_of-bounds n (body_at n) (body-bounds n) ts
-
-pub deep-is : {A : Type 0} {n k : ℕ} {r : Reading A} → Bounded n k r → r ≡ Err deep → n ≤ k
-deep-is (left h) e = absurd (cc e)
-deep-is (too_deep h) e = h
-deep-is not_read e = let same : ◌≡◌ {A = Fault} wrong deep = cc e in absurd (cc same)
-
-whole-deep : {A : Type 0} (r : Reading A) → (r >>= whole) ≡ Err deep → r ≡ Err deep
-whole-deep (Ok (x, [])) e = absurd (cc e)
-whole-deep (Ok (x, t ∷ ts)) e = let same : ◌≡◌ {A = Fault} wrong deep = cc e in absurd (cc same)
-whole-deep (Err f) e = let same : f ≡ deep = cc e in ap (λ g. Err g) same
-
-pub deep_bodies : DeepBodies
-deep_bodies n bytes ts are e =
-    let one = deep-is (body-bounds n ts) (whole-deep (body_at n ts) e) in
-    let two = openers-places _ ts are in omega arith

@@ -1,11 +1,6 @@
 mod Steps
 mod Entities
 mod Items
-mod SoFar
-mod Records
-mod BodiesSound
-mod BodiesComplete
-mod Bodies
 mod Places
 mod Deep
 mod PoliciesSound
@@ -18,8 +13,6 @@ mod Loops
 mod Spelled
 mod Ids
 mod ItemLoops
-mod BodyCases
-mod KeysSeen
 mod Refusing
 mod Takes
 mod PolicyLoop

@@ -20,7 +20,10 @@ use Rattle.cedar_plain.specs.Policies.{target_at, type_constraint, constraint_re
 use Rattle.cedar_plain.proofs.Steps.{Reads, read, passed, reads_then, reads_true, reads_map}
 use Rattle.cedar_plain.proofs.Entities.{path-read, entity-read}
 use Rattle.cedar_plain.proofs.Items.{Every, items-reads}
-use Rattle.cedar_plain.proofs.Records.{and-both}
+
+and-both : (a b : Bool) → (a && b) ≡ true → (a ≡ true) × (b ≡ true)
+and-both true b e = (refl, e)
+and-both false b e = cc e
 
 -- ---- targets
 

@@ -11,10 +11,9 @@ use Rattle.cedar_grammar.specs.Policies.{Each, no_more, one_more, TargetRule, en
 use Rattle.cedar_grammar.specs.SoFar.{is_policy_so_far, are_policies_so_far}
 use Rattle.cedar_plain.specs.Reading.{without_first, begins, begins_word, entity_at}
 use Rattle.cedar_plain.specs.Policies.{target_at, type_constraint, constraint_rest, constraint_at, action_target_at, listed_at, actions_at, action_rest, action_at, scope_end, effect_at, scope_at, policy_at, policies_at, read_policies}
-use Rattle.cedar_plain.proofs.Steps.{Holds, ok, err, then, choose, weaker, begins-is, need-holds, IsNamed, begins_word-is, need_word-holds}
+use Rattle.cedar_plain.proofs.Steps.{Holds, ok, err, then, choose, weaker, begins-is, need-holds, IsNamed, begins_word-is, need_word-holds, closed-holds}
 use Rattle.cedar_plain.proofs.Entities.{Path, path-holds, entity-holds}
 use Rattle.cedar_plain.proofs.Items.{items-holds}
-use Rattle.cedar_plain.proofs.BodiesSound.{closed-holds}
 
 -- ---- targets
 

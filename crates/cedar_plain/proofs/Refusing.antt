@@ -4,8 +4,6 @@ use Rattle.std.specs.declared.alloc.Global.{Global}
 use Rattle.cedar_scopes.specs.declared.scope.ScopePolicy.{ScopePolicy}
 use Rattle.cedar_scopes.specs.Scopes.{policy_of}
 use Rattle.std.specs.Prelude.{IfOk, IfErr}
-use Rattle.cedar_language.specs.Height.{height}
-use Rattle.cedar_language.specs.Tree.{Tree}
 use Rattle.cedar_language.specs.Uid.{Text}
 use Rattle.cedar_cst.specs.Refusal as token
 use Rattle.cedar_cst.specs.declared.error.TokenError.{TokenError}
@@ -18,55 +16,28 @@ use Rattle.cedar_plain.specs.declared.error.ReadError.{ReadError}
 use Rattle.cedar_plain.specs.declared.error.ReadError.TheVariants as error
 use Rattle.cedar_plain.specs.Errors.{token_error}
 use Rattle.cedar_plain.specs.Gives.{Fails, GivesAll}
-use Rattle.cedar_plain.specs.Trees.{tree_of}
-use Rattle.cedar_plain.specs.declared.body.Body.{Body}
-use Rattle.cedar_plain.specs.Bodies.{read_body}
 use Rattle.cedar_plain.specs.Policies.{read_policies}
-use Rattle.cedar_plain.specs.Texts.{IsBody, ArePolicies, Refuses}
+use Rattle.cedar_plain.specs.Texts.{ArePolicies, Refuses}
 use Rattle.cedar_plain.proofs.Texts as texts
 
-pub no_tokens_no_body : (n : ℕ) (bytes : Text) (e : TokenError) → token.Refuses bytes e → Refuses IsBody n bytes (token_error e)
-no_tokens_no_body n bytes (tokens.Unexpected place) h = λ names m t d. h.2 d.0.0 d.0.1
-no_tokens_no_body n bytes tokens.Memory h = tt
-
-pub no_tokens_no_policies : (n : ℕ) (bytes : Text) (e : TokenError) → token.Refuses bytes e → Refuses ArePolicies n bytes (token_error e)
+pub no_tokens_no_policies : (n : ℕ) (bytes : Text) (e : TokenError) → token.Refuses bytes e → Refuses n bytes (token_error e)
 no_tokens_no_policies n bytes (tokens.Unexpected place) h = λ names m ps d. h.2 d.0.0 d.0.1
 no_tokens_no_policies n bytes tokens.Memory h = tt
 
 module _ (bytes : Text) (ts : List Token) (are : IsTokens bytes ts) (n : ℕ) where
-  pub body_is : (t : Tree) → read_body n ts ≡ Ok t → (names : Names) → IsBody names n bytes t
-  body_is t e names = (texts.body_is_read bytes ts are names n t e).0
-
-  pub body_refused : (e : ReadError) → Fails e (read_body n ts) → Refuses IsBody n bytes e
-  body_refused error.Text h = λ names m t d. texts.body_is_wrong bytes ts are names m n t h d
-  body_refused error.Depth h = (λ names m t le d. texts.body_is_deep bytes ts are names m n t h le d, texts.body_has_places bytes ts are n h)
-  body_refused error.Memory h = tt
-
   pub policies_are : (ps : List Policy) → read_policies n ts ≡ Ok ps → (names : Names) → ArePolicies names n bytes ps
   policies_are ps e names = texts.policies_are_read bytes ts are names n ps e
 
-  pub policies_refused : (e : ReadError) → Fails e (read_policies n ts) → Refuses ArePolicies n bytes e
+  pub policies_refused : (e : ReadError) → Fails e (read_policies n ts) → Refuses n bytes e
   policies_refused error.Text h = λ names m ps d. texts.policies_are_wrong bytes ts are names m n ps h d
   policies_refused error.Depth h = (λ names m ps le d. texts.policies_are_deep bytes ts are names m n ps h le d, texts.policies_have_places bytes ts are n h)
   policies_refused error.Memory h = tt
-
-  pub body_ok : (r : Result Body ReadError) → GivesAll tree_of r (read_body n ts) → IfOk r (λ body. (names : Names) → IsBody names n bytes (tree_of body))
-  body_ok (Ok body) h = body_is (tree_of body) h
-  body_ok (Err e) h = tt
-
-  pub body_low : (r : Result Body ReadError) → GivesAll tree_of r (read_body n ts) → IfOk r (λ body. height (tree_of body) ≤ n)
-  body_low (Ok body) h = (texts.body_is_read bytes ts are (record { functions = []; methods = [] }) n (tree_of body) h).1
-  body_low (Err e) h = tt
-
-  pub body_err : (r : Result Body ReadError) → GivesAll tree_of r (read_body n ts) → IfErr r (Refuses IsBody n bytes)
-  body_err (Ok body) h = tt
-  body_err (Err e) h = body_refused e h
 
   pub policies_ok : (r : Result (Vec ScopePolicy Global) ReadError) → GivesAll (λ v. map policy_of v.items) r (read_policies n ts)
       → IfOk r (λ policies. (names : Names) → ArePolicies names n bytes (map policy_of policies.items))
   policies_ok (Ok policies) h = policies_are (map policy_of policies.items) h
   policies_ok (Err e) h = tt
 
-  pub policies_err : (r : Result (Vec ScopePolicy Global) ReadError) → GivesAll (λ v. map policy_of v.items) r (read_policies n ts) → IfErr r (Refuses ArePolicies n bytes)
+  pub policies_err : (r : Result (Vec ScopePolicy Global) ReadError) → GivesAll (λ v. map policy_of v.items) r (read_policies n ts) → IfErr r (Refuses n bytes)
   policies_err (Ok policies) h = tt
   policies_err (Err e) h = policies_refused e h

@@ -2,17 +2,13 @@
 use Rattle.std.proofs.Common.{◌≡◌, ℕ, List, [], ◌∷◌, Option, Some, None, Result, Ok, Err, refl}
 use Rattle.std.specs.Prelude.{codes}
 use Rattle.cedar_language.specs.Uid.{Uid}
-use Rattle.cedar_language.specs.Tree.{Tree, Lit, Apply, String, Entity, MakeSet, MakeRecord}
 use Rattle.cedar_grammar.specs.Escape as escape
 use Rattle.cedar_grammar.specs.Token.{Token}
 use Rattle.cedar_grammar.specs.Tokens as tokens
 use Rattle.cedar_grammar.specs.Tokens.{tokens_of}
-use Rattle.cedar_grammar.specs.Build.{trees}
 use Rattle.cedar_grammar.specs.Policy.{Permit, Forbid, the_entity, anything, equals, of_type_within, any_action, action_within_any, Policy}
 use Rattle.cedar_plain.specs.Reading as reading
 use Rattle.cedar_plain.specs.Reading.{Fault, wrong, deep}
-use Rattle.cedar_plain.specs.Bodies as bodies
-use Rattle.cedar_plain.specs.Bodies.{read_body}
 use Rattle.cedar_plain.specs.Policies as policies
 use Rattle.cedar_plain.specs.Policies.{read_policies}
 
@@ -20,58 +16,12 @@ abbrev read : {A : Type 0} → (List Token → Result A Fault) → Option (List 
 read reader None = None
 read reader (Some ts) = Some (reader ts)
 
-unfoldable body : ℕ → List ℕ → Option (Result Tree Fault)
-unfolding tokens_of tokens.tokens_at tokens.after_blank tokens.token_read tokens.run_of tokens.inside_of escape.string_of escape.parts_from lib.Utf8.encode reading.more_ids reading.entity_at reading.items_at bodies.body_of bodies.body_at
-body n cs = read (read_body n) (tokens_of cs)
-
 unfoldable load : ℕ → List ℕ → Option (Result (List Policy) Fault)
-unfolding body policies.target_at policies.constraint_at policies.action_at policies.effect_at policies.scope_at policies.policy_at policies.policies_at
+unfolding tokens_of tokens.tokens_at tokens.after_blank tokens.token_read tokens.run_of tokens.inside_of escape.string_of escape.parts_from lib.Utf8.encode reading.more_ids reading.entity_at reading.items_at policies.target_at policies.constraint_at policies.action_at policies.effect_at policies.scope_at policies.policy_at policies.policies_at
 load n cs = read (read_policies n) (tokens_of cs)
-
-abbrev word : List ℕ → Tree
-word s = Lit (String s)
 
 abbrev user : Uid
 user = record { type_name = codes "User" ∷ []; id = codes "a" }
-
-abbrev set : List Tree → Tree
-set ts = Apply MakeSet (trees ts)
-
--- ---- bodies
-
-empty_list : body 1 (codes "[]") ≡ Some (Ok (set []))
-unfolding body
-empty_list = refl
-
-list_in_list : body 2 (codes "[[],]") ≡ Some (Ok (set (set [] ∷ [])))
-unfolding body
-list_in_list = refl
-
-too_deep_list : body 1 (codes "[[]]") ≡ Some (Err deep)
-unfolding body
-too_deep_list = refl
-
-no_level : body 0 (codes "[]") ≡ Some (Err deep)
-unfolding body
-no_level = refl
-
-keys_rise : body 2 (codes "{ \"b\": User::\"a\", a: \"y\" }") ≡ Some (Ok (Apply (MakeRecord (codes "a" ∷ codes "b" ∷ [])) (trees (word (codes "y") ∷ Lit (Entity user) ∷ []))))
-unfolding body
-keys_rise = refl
-
-key_twice : body 2 (codes "{a: \"x\", \"a\": \"x\"}") ≡ Some (Err wrong)
-unfolding body
-key_twice = refl
-
-comma_alone : body 2 (codes "[,]") ≡ Some (Err wrong)
-unfolding body
-comma_alone = refl
-
-an_access : body 2 (codes "{}.a") ≡ Some (Err wrong)
-unfolding body
-an_access = refl
-
--- ---- policies
 
 any_question : load 1 (codes "permit(principal, action, resource,);") ≡ Some (Ok (record { effect = Permit; annotations = []; principal = anything; action = any_action; resource = anything; body = None } ∷ []))
 unfolding load

@@ -10,7 +10,7 @@ use Rattle.cedar_grammar.specs.Escape.{string_of}
 use Rattle.cedar_grammar.specs.Reading.{is_mark}
 use Rattle.cedar_grammar.proofs.Follow.{is_mark-same}
 use Rattle.cedar_grammar.proofs.Parts.{is_mark-is}
-use Rattle.cedar_plain.specs.Reading.{Fault, wrong, deep, ◌>>=◌, without_first, begins, need, word_number, begins_word, need_word, found, first_id, first_text, first_key}
+use Rattle.cedar_plain.specs.Reading.{Fault, wrong, deep, ◌>>=◌, without_first, begins, need, word_number, begins_word, need_word, found, first_id, first_text, closed}
 
 -- ---- what holds of all that is read
 
@@ -69,6 +69,10 @@ begins-is m (t ∷ ts) e = ap (λ o. o ∷ ts) (is_mark-is m t e)
 
 pub need-holds : (m : Mark) (ts : List Token) → Holds (λ u. ts ≡ mark m ∷ u.1) (need m ts)
 need-holds m ts = choose (begins m ts) (λ e. ok (begins-is m ts e)) (λ e. err)
+
+-- the mark behind what is read
+pub closed-holds : {A : Type 0} {P : A × List Token → Type 0} (m : Mark) (r : Result (A × List Token) _) → Holds P r → Holds (λ x. P (x.0, mark m ∷ x.1)) (closed m r)
+closed-holds {P} m r h = then h (λ x p. then (need-holds m x.1) (λ u q. ok (subst (λ us. P (x.0, us)) q p)))
 
 pub need-reads : {D : Type 0} (m : Mark) (ts : List Token) → Reads D (tt, ts) (need m (mark m ∷ ts))
 need-reads m ts = reads_true (is_mark m (mark m)) _ (is_mark-same m) read
@@ -133,19 +137,6 @@ text-holds (number k ∷ ts) = err
 text-holds (word k ∷ ts) = err
 text-holds (slot k ∷ ts) = err
 text-holds (mark k ∷ ts) = err
-
--- a key is an identifier or a string
-pub data IsKey : List Token → Text → List Token → Type 0 where
-  id_key : {w : Word} {k : Text} {ts : List Token} → id_of w ≡ Some k → IsKey (word w ∷ ts) k ts
-  text_key : {raw : List ℕ} {k : Text} {ts : List Token} → string_of raw ≡ Some k → IsKey (text raw ∷ ts) k ts
-
-pub key-holds : (ts : List Token) → Holds (λ k. IsKey ts k.0 k.1) (found (first_key ts) ts)
-key-holds [] = err
-key-holds (word w ∷ ts) = weaker (one-found (id_of w) (word w) ts) (λ s p. subst (λ us. IsKey (word w ∷ ts) s.0 us) p.0 (id_key p.1))
-key-holds (text raw ∷ ts) = weaker (one-found (string_of raw) (text raw) ts) (λ s p. subst (λ us. IsKey (text raw ∷ ts) s.0 us) p.0 (text_key p.1))
-key-holds (number k ∷ ts) = err
-key-holds (slot k ∷ ts) = err
-key-holds (mark k ∷ ts) = err
 
 pub id-reads : {D : Type 0} {s : Text} (w : Word) (ts : List Token) → id_of w ≡ Some s → Reads D (s, ts) (found (id_of w) (word w ∷ ts))
 id-reads w ts e = rw e read

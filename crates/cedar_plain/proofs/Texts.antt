@@ -2,23 +2,17 @@
 use Rattle.std.proofs.Common.{◌≡◌, ℕ, ◌<◌, ◌≤◌, true, List, Result, Ok, Err, subst, arith}
 use Rattle.std.specs.Str.{chars}
 use Rattle.cedar_language.specs.Uid.{Text}
-use Rattle.cedar_language.specs.Tree.{Tree}
-use Rattle.cedar_language.specs.Height.{height}
 use Rattle.cedar_grammar.specs.Token.{Token}
 use Rattle.cedar_grammar.specs.Tokens.{IsTokens}
 use Rattle.cedar_grammar.specs.Names.{Names}
-use Rattle.cedar_grammar.specs.Grammar.{IsExpr}
 use Rattle.cedar_grammar.specs.Policy.{Policy}
-use Rattle.cedar_grammar.specs.Policies.{ArePolicies, Reads, ReadsExpr}
+use Rattle.cedar_grammar.specs.Policies.{ArePolicies, Reads}
 use Rattle.cedar_grammar.specs.Nesting.{loose_nesting}
-use Rattle.cedar_grammar.specs.SoFar.{is_body_so_far, are_policies_so_far}
+use Rattle.cedar_grammar.specs.SoFar.{are_policies_so_far}
 use Rattle.cedar_grammar.proofs.TokensComplete.{one_list}
 use Rattle.cedar_plain.specs.Reading.{Fault, wrong, deep}
-use Rattle.cedar_plain.specs.Bodies.{read_body}
 use Rattle.cedar_plain.specs.Policies.{read_policies}
 use Rattle.cedar_plain.proofs.Steps as steps
-use Rattle.cedar_plain.proofs.Bodies.{reads_bodies, wrong_bodies, low_bodies, bodies-read}
-use Rattle.cedar_plain.proofs.Deep.{deep_bodies}
 use Rattle.cedar_plain.proofs.PoliciesComplete as policies
 use Rattle.cedar_plain.proofs.PoliciesDeep.{deep_policies}
 use Rattle.cedar_plain.proofs.Policies.{reads_policies, wrong_policies}
@@ -29,28 +23,6 @@ not-deep steps.read e le = cc e
 not-deep (steps.passed lt) e le = omega arith
 
 module _ (bytes : Text) (ts : List Token) (are : IsTokens bytes ts) where
-  -- ---- bodies
-
-  abbrev IsBodySoFar : Names → ℕ → Tree → Type 0
-  IsBodySoFar names n t = ReadsExpr names n bytes t × (is_body_so_far t ≡ true)
-
-  expr-of : (names : Names) (n : ℕ) (t : Tree) → ReadsExpr names n bytes t → IsExpr names n ts t
-  expr-of names n t d = subst (λ us. IsExpr names n us t) (one_list (chars bytes) d.0 ts d.1 are) d.2
-
-  pub body_is_read : (names : Names) (n : ℕ) (t : Tree) → read_body n ts ≡ Ok t → IsBodySoFar names n t × (height t ≤ n)
-  body_is_read names n t e = let one = (reads_bodies names n ts t).0 e in (((ts, are, one.0), one.1), low_bodies n ts t e)
-
-  pub body_is_wrong : (names : Names) (m n : ℕ) (t : Tree) → read_body n ts ≡ Err wrong → IsBodySoFar names m t → ⊥
-  body_is_wrong names m n t e d = wrong_bodies names m n ts t e (expr-of names m t d.0) d.1
-
-  pub body_is_deep : (names : Names) (m n : ℕ) (t : Tree) → read_body n ts ≡ Err deep → m ≤ n → IsBodySoFar names m t → ⊥
-  body_is_deep names m n t e le d = not-deep (bodies-read names m n ts t (expr-of names m t d.0) d.1) e le
-
-  pub body_has_places : (n : ℕ) → read_body n ts ≡ Err deep → n < loose_nesting bytes
-  body_has_places n e = deep_bodies n bytes ts are e
-
-  -- ---- policies
-
   abbrev ArePoliciesSoFar : Names → ℕ → List Policy → Type 0
   ArePoliciesSoFar names n ps = Reads names n bytes ps × (are_policies_so_far ps ≡ true)
 

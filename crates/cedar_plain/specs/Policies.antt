@@ -5,8 +5,7 @@ use Rattle.cedar_grammar.specs.Token as token
 use Rattle.cedar_grammar.specs.Token.{Word, Token}
 use Rattle.cedar_grammar.specs.Policy.{Effect, Permit, Forbid, the_entity, Constraint, anything, equals, within, of_type, of_type_within, ActionConstraint, any_action, action_equals, action_within_any, Policy}
 use Rattle.cedar_grammar.specs.Policies.{ends_in_action}
-use Rattle.cedar_plain.specs.Reading.{Fault, wrong, deep, Reader, ◌>>=◌, without_first, begins, need, begins_word, need_word, path_at, entity_at, items_of}
-use Rattle.cedar_plain.specs.Bodies.{closed}
+use Rattle.cedar_plain.specs.Reading.{Fault, wrong, deep, Reader, ◌>>=◌, without_first, begins, need, begins_word, need_word, path_at, entity_at, items_of, closed}
 
 -- ---- the scope
 

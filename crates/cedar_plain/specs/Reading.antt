@@ -41,6 +41,10 @@ begins m (t ∷ ts) = is_mark m t
 abbrev pub need : Mark → Reader (Unit {0})
 need m ts = cond (begins m ts) (Ok (tt, without_first ts)) (Err wrong)
 
+-- what is read, with this mark behind it
+abbrev pub closed : {A : Type 0} → Mark → Reading A → Reading A
+closed m read = read >>= λ x. need m x.1 >>= λ u. Ok (x.0, u.1)
+
 -- the words that policies name, by a number each
 abbrev pub word_number : Word → ℕ
 word_number token.In = 1
@@ -65,7 +69,7 @@ abbrev pub found : {A : Type 0} → Option A → Reader A
 found None ts = Err wrong
 found (Some a) ts = Ok (a, without_first ts)
 
--- the identifier that is next, the string, or one of both
+-- the identifier that is next, and the string
 abbrev pub first_id : List Token → Option Text
 first_id (word w ∷ ts) = id_of w
 first_id ts = None
@@ -73,15 +77,6 @@ first_id ts = None
 abbrev pub first_text : List Token → Option Text
 first_text (text raw ∷ ts) = string_of raw
 first_text ts = None
-
-abbrev pub first_key : List Token → Option Text
-first_key (word w ∷ ts) = id_of w
-first_key (text raw ∷ ts) = string_of raw
-first_key ts = None
-
-abbrev pub begins_text : List Token → Bool
-begins_text (text raw ∷ ts) = true
-begins_text ts = false
 
 -- ---- names and entities
 

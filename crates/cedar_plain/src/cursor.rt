@@ -7,7 +7,7 @@ ghost use Rattle.cedar_names.specs.Identifiers.{IsUnreservedId, is_reserved};
 ghost use Rattle.cedar_cst.specs.Spelling.{IsSpelled, IsSpelledToken, IsSpelledWord};
 ghost use Rattle.cedar_cst.specs.View.{token_of, mark_view, word_view};
 ghost use Rattle.cedar_plain.specs.Gives.{Begins, Gives, keyword_view};
-ghost use Rattle.cedar_plain.specs.Reading.{begins, begins_text, begins_word, without_first, word_number, need, need_word, found, first_id, first_key, first_text, next_id};
+ghost use Rattle.cedar_plain.specs.Reading.{begins, begins_word, without_first, word_number, need, need_word, found, first_id, first_text, next_id};
 
 use crate::error::ReadError;
 use cedar_cst::{Mark, Token, TokenKind, Word, to_unescaped_string};
@@ -175,13 +175,6 @@ impl<'t> Cursor<'t> {
         }
     }
 
-    /// Whether a string is next.
-    pub(crate) fn begins_text(&self) -> bool
-        ensures { result ≡ begins_text self.now }
-    {
-        matches!(self.kind(), Some(TokenKind::Text(_)))
-    }
-
     /// The identifier that is next, if one is.
     pub(crate) fn identifier_text(&self) -> Option<&'t str>
         ensures { MatchOption result (first_id self.now ≡ None) (λ s. (first_id self.now ≡ Some s.now) × IsUnreservedId s.now) }
@@ -233,16 +226,6 @@ impl<'t> Cursor<'t> {
         let text = to_unescaped_string(alloc, raw)?;
         self.skip();
         Ok(text)
-    }
-
-    /// Takes the key of an entry, an identifier or a string, which has to be next.
-    pub(crate) fn key(&mut self, alloc: Global) -> Result<RcStr, ReadError>
-        ensures { Gives rc_str_bytes result self.new (found (first_key self.old) self.old) }
-    {
-        if self.begins_text() {
-            return self.string(alloc);
-        }
-        Ok(self.identifier(alloc)?.into_smolstr())
     }
 
     /// Whether no token is left.

@@ -1,50 +1,18 @@
 // Whole texts.
-ghost use Rattle.std.specs.Prelude.{◌≤◌, All, IfOk, IfErr, map};
+ghost use Rattle.std.specs.Prelude.{All, IfOk, IfErr, map};
 ghost use Rattle.cedar_cst.specs.Spelling.{IsSpelledToken};
 ghost use Rattle.cedar_cst.specs.View.{token_of};
 ghost use Rattle.cedar_grammar.specs.Names.{Names};
-ghost use Rattle.cedar_language.specs.Height.{height};
-ghost use Rattle.cedar_plain.specs.Bodies.{read_body};
 ghost use Rattle.cedar_plain.specs.Gives.{GivesAll};
-ghost use Rattle.cedar_plain.specs.Texts.{ArePolicies, IsBody, Refuses};
+ghost use Rattle.cedar_plain.specs.Texts.{ArePolicies, Refuses};
 ghost use Rattle.cedar_plain.specs.Policies.{read_policies};
-ghost use Rattle.cedar_plain.specs.Trees.{tree_of};
 ghost use Rattle.cedar_scopes.specs.Scopes.{policy_of};
 
-use crate::body::Body;
 use crate::cursor::Cursor;
 use crate::error::ReadError;
 use cedar_cst::{Token, tokenize};
 use cedar_scopes::ScopePolicy;
 use std::alloc::Global;
-
-/// Reads a body: a string, an entity, a list or a record, in any parentheses, with a nesting of at most `depth`.
-///
-/// `Text` comes where the text is no such body within any nesting, `Depth` where it is none within `depth` and more than
-/// `depth` places in it open a bracket or say `if`, and `Memory` for want of memory alone. The body's tree is no higher
-/// than `depth`. (Cedar language reference, "Grammar specification".)
-pub fn read_body(alloc: Global, text: &str, depth: u32) -> Result<Body, ReadError>
-    ensures body { IfOk result (λ body. (names : Names) → IsBody names depth text.now (tree_of body)) }
-    ensures low { IfOk result (λ body. height (tree_of body) ≤ depth) }
-    ensures refused { IfErr result (Refuses IsBody depth text.now) }
-{
-    let tokens = tokenize(alloc, text)?;
-    body_of(alloc, &tokens, depth)
-}
-
-/// The body that these tokens are.
-fn body_of(alloc: Global, tokens: &[Token<'_>], depth: u32) -> Result<Body, ReadError>
-    requires { All IsSpelledToken tokens.now }
-    ensures { GivesAll tree_of result (read_body depth (map token_of tokens.now)) }
-{
-    let mut cursor = Cursor::new(tokens);
-    let body = cursor.body(alloc, depth)?;
-    if cursor.is_empty() {
-        Ok(body)
-    } else {
-        Err(ReadError::Text)
-    }
-}
 
 /// Reads policies without annotations, slots and clauses, with a nesting of at most `depth`.
 ///
@@ -53,7 +21,7 @@ fn body_of(alloc: Global, tokens: &[Token<'_>], depth: u32) -> Result<Body, Read
 /// reference, "Policy syntax".)
 pub fn read_policies(alloc: Global, text: &str, depth: u32) -> Result<Vec<ScopePolicy>, ReadError>
     ensures policies { IfOk result (λ policies. (names : Names) → ArePolicies names depth text.now (map policy_of policies.items)) }
-    ensures refused { IfErr result (Refuses ArePolicies depth text.now) }
+    ensures refused { IfErr result (Refuses depth text.now) }
 {
     let tokens = tokenize(alloc, text)?;
     policies_of(alloc, &tokens, depth)

@@ -1,4 +1,5 @@
 // Printed texts, and that calls succeed where there is memory.
+use crate::asserts::{assert_text, text_of};
 use cedar_annotations::annotations::{Annotation, Annotations};
 use cedar_names::identifiers::AnyId;
 use cedar_names::places::{Loc, Span};
@@ -22,7 +23,7 @@ fn annotations(alloc: Global) -> Result<Annotations, Fail> {
 }
 
 fn printed_annotations(alloc: Global) -> Result<String, Fail> {
-    Ok(annotations(alloc)?.to_string(alloc)?)
+    Ok(text_of(alloc, annotations(alloc)?)?)
 }
 
 fn keys(alloc: Global) -> Result<String, Fail> {
@@ -36,16 +37,13 @@ fn keys(alloc: Global) -> Result<String, Fail> {
 
 fn without_value(alloc: Global) -> Result<String, Fail> {
     let annotation = Annotation::with_optional_value(alloc, None, None)?;
-    Ok(annotation.to_string(alloc)?)
+    Ok(text_of(alloc, annotation)?)
 }
 
 #[test]
 fn annotations_are_printed(rt: HostRuntime) -> Result<(), Fail> {
-    assert_eq!(rt;
-        printed_annotations(rt.alloc())?.as_str(),
-        "@k(\"v\\\"\")\n"
-    );
-    assert_eq!(rt; keys(rt.alloc())?.as_str(), "kv\"");
-    assert_eq!(rt; without_value(rt.alloc())?.as_str(), "\"\"");
+    assert_text(&rt, printed_annotations(rt.alloc()), "@k(\"v\\\"\")\n")?;
+    assert_text(&rt, keys(rt.alloc()), "kv\"")?;
+    assert_text(&rt, without_value(rt.alloc()), "\"\"")?;
     Ok(())
 }

@@ -1,4 +1,5 @@
 // Printed texts, and that calls succeed where there is memory.
+use crate::asserts::{assert_text, assert_value, text_of};
 use cedar_constraints::actions::ActionConstraint;
 use cedar_constraints::bindings::SlotEnv;
 use cedar_constraints::constraints::PrincipalOrResource;
@@ -46,7 +47,7 @@ fn condition(alloc: Global, case: u8) -> Result<String, Fail> {
 
 fn filled(alloc: Global, case: u8) -> Result<String, Fail> {
     let constraint = principal(alloc, case)?.with_filled_slot(uid(alloc, "User", "b")?);
-    Ok(constraint.to_string(alloc)?)
+    Ok(text_of(alloc, constraint)?)
 }
 
 /// How it is written of the resource.
@@ -68,12 +69,13 @@ fn constraints_are_printed(rt: HostRuntime) -> Result<(), Fail> {
         (7, "principal is N::User in ?principal"),
     ];
     for (case, text) in table {
-        assert_eq!(rt; printed(rt.alloc(), case)?.as_str(), text);
+        assert_text(&rt, printed(rt.alloc(), case), text)?;
     }
-    assert_eq!(rt;
-        of_resource(rt.alloc(), 7)?.as_str(),
-        "resource is N::User in ?resource"
-    );
+    assert_text(
+        &rt,
+        of_resource(rt.alloc(), 7),
+        "resource is N::User in ?resource",
+    )?;
     Ok(())
 }
 
@@ -87,7 +89,7 @@ fn constraints_are_conditions(rt: HostRuntime) -> Result<(), Fail> {
         (7, "(principal is N::User) && (principal in ?principal)"),
     ];
     for (case, text) in table {
-        assert_eq!(rt; condition(rt.alloc(), case)?.as_str(), text);
+        assert_text(&rt, condition(rt.alloc(), case), text)?;
     }
     Ok(())
 }
@@ -101,7 +103,7 @@ fn slots_are_filled(rt: HostRuntime) -> Result<(), Fail> {
         (7, "principal is N::User in User::\"b\""),
     ];
     for (case, text) in table {
-        assert_eq!(rt; filled(rt.alloc(), case)?.as_str(), text);
+        assert_text(&rt, filled(rt.alloc(), case), text)?;
     }
     Ok(())
 }
@@ -118,11 +120,8 @@ fn resource_condition(alloc: Global) -> Result<String, Fail> {
 
 #[test]
 fn resources_have_their_slot(rt: HostRuntime) -> Result<(), Fail> {
-    assert_eq!(rt; resource_slot(rt.alloc())?, Some(SlotId::resource()));
-    assert_eq!(rt;
-        resource_condition(rt.alloc())?.as_str(),
-        "resource == R::\"r\""
-    );
+    assert_value(&rt, resource_slot(rt.alloc()), Some(SlotId::resource()))?;
+    assert_text(&rt, resource_condition(rt.alloc()), "resource == R::\"r\"")?;
     Ok(())
 }
 
@@ -137,7 +136,7 @@ fn action(alloc: Global, other: &str) -> Result<ActionConstraint, Fail> {
 fn checked_action(alloc: Global, other: &str) -> Result<String, Fail> {
     match action(alloc, other)?.contains_only_action_types(alloc) {
         Ok(constraint) => Ok(constraint.to_string(alloc)?),
-        Err(error) => Ok(error.to_string(alloc)?),
+        Err(error) => Ok(text_of(alloc, error)?),
     }
 }
 
@@ -147,18 +146,21 @@ fn action_condition(alloc: Global) -> Result<String, Fail> {
 
 #[test]
 fn actions_are_checked(rt: HostRuntime) -> Result<(), Fail> {
-    assert_eq!(rt;
-        checked_action(rt.alloc(), "Action")?.as_str(),
-        "action in [Action::\"a\",Action::\"b\"]"
-    );
-    assert_eq!(rt;
-        checked_action(rt.alloc(), "User")?.as_str(),
-        "expected an entity uid with type `Action` but got `User::\"b\"`"
-    );
-    assert_eq!(rt;
-        action_condition(rt.alloc())?.as_str(),
-        "action in [Action::\"a\", Action::\"b\"]"
-    );
+    assert_text(
+        &rt,
+        checked_action(rt.alloc(), "Action"),
+        "action in [Action::\"a\",Action::\"b\"]",
+    )?;
+    assert_text(
+        &rt,
+        checked_action(rt.alloc(), "User"),
+        "expected an entity uid with type `Action` but got `User::\"b\"`",
+    )?;
+    assert_text(
+        &rt,
+        action_condition(rt.alloc()),
+        "action in [Action::\"a\", Action::\"b\"]",
+    )?;
     Ok(())
 }
 
@@ -172,14 +174,15 @@ fn bindings(alloc: Global) -> Result<SlotEnv, Fail> {
 }
 
 fn printed_bindings(alloc: Global) -> Result<String, Fail> {
-    Ok(bindings(alloc)?.to_string(alloc)?)
+    Ok(text_of(alloc, bindings(alloc)?)?)
 }
 
 #[test]
 fn bindings_are_printed(rt: HostRuntime) -> Result<(), Fail> {
-    assert_eq!(rt;
-        printed_bindings(rt.alloc())?.as_str(),
-        "?principal -> User::\"a\",?resource -> R::\"r\""
-    );
+    assert_text(
+        &rt,
+        printed_bindings(rt.alloc()),
+        "?principal -> User::\"a\",?resource -> R::\"r\"",
+    )?;
     Ok(())
 }

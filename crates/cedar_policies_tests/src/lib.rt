@@ -4,6 +4,8 @@
 #[cfg(test)]
 mod annotations;
 #[cfg(test)]
+mod asserts;
+#[cfg(test)]
 mod constraints;
 #[cfg(test)]
 mod merging;

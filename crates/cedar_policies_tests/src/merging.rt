@@ -1,4 +1,5 @@
 // What merges rename, and what they leave.
+use crate::asserts::assert_text;
 use cedar_annotations::annotations::Annotations;
 use cedar_constraints::actions::ActionConstraint;
 use cedar_constraints::bindings::SlotEnv;
@@ -187,6 +188,6 @@ fn refused(alloc: Global) -> Result<String, Fail> {
 #[test]
 fn renaming_may_be_refused(rt: HostRuntime) -> Result<(), Fail> {
     let alloc = rt.alloc();
-    assert_eq!(rt; refused(alloc)?.as_str(), "policy0");
+    assert_text(&rt, refused(alloc), "policy0")?;
     Ok(())
 }

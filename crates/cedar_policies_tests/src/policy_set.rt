@@ -1,4 +1,5 @@
 // What sets hold where there is memory.
+use crate::asserts::{assert_text, assert_value, text_of};
 use cedar_annotations::annotations::Annotations;
 use cedar_constraints::actions::ActionConstraint;
 use cedar_constraints::bindings::SlotEnv;
@@ -99,7 +100,7 @@ fn is_unlinked(alloc: Global) -> Result<bool, Fail> {
 
 #[test]
 fn links_hold_their_template(rt: HostRuntime) -> Result<(), Fail> {
-    assert_eq!(rt; with_a_policy(rt.alloc())?, 3);
+    assert_value(&rt, with_a_policy(rt.alloc()), 3)?;
     assert!(rt; is_occupied(rt.alloc())?);
     assert!(rt; is_template_kept(rt.alloc())?);
     assert!(rt; is_unlinked(rt.alloc())?);
@@ -160,32 +161,33 @@ fn linked(alloc: Global, template: &str) -> Result<String, Fail> {
             }
             Ok(ids)
         }
-        Err(error) => Ok(error.to_string(alloc)?),
+        Err(error) => Ok(text_of(alloc, error)?),
     }
 }
 
 #[test]
 fn sets_are_listed_in_order(rt: HostRuntime) -> Result<(), Fail> {
     let alloc = rt.alloc();
-    assert_eq!(rt; ids_of_policies(alloc)?.as_str(), "lp p");
-    assert_eq!(rt; ids_of_templates(alloc)?.as_str(), "tp t");
-    assert_eq!(rt; ids_given_up(alloc)?.as_str(), "lp");
-    assert_eq!(rt; linked(alloc, "t")?.as_str(), "l");
-    assert_eq!(rt; linked(alloc, "p")?.as_str(), "p");
-    assert_eq!(rt; linked(alloc, "l")?.as_str(), "no template `l`");
+    assert_text(&rt, ids_of_policies(alloc), "lp p")?;
+    assert_text(&rt, ids_of_templates(alloc), "tp t")?;
+    assert_text(&rt, ids_given_up(alloc), "lp")?;
+    assert_text(&rt, linked(alloc, "t"), "l")?;
+    assert_text(&rt, linked(alloc, "p"), "p")?;
+    assert_text(&rt, linked(alloc, "l"), "no template `l`")?;
     Ok(())
 }
 
 fn printed(alloc: Global) -> Result<String, Fail> {
-    Ok(mixed(alloc)?.to_string(alloc)?)
+    Ok(text_of(alloc, mixed(alloc)?)?)
 }
 
 #[test]
 fn sets_are_printed(rt: HostRuntime) -> Result<(), Fail> {
-    assert_eq!(rt;
-        printed(rt.alloc())?.as_str(),
-        "Template Instance of t, slots: [?principal -> User::\"a\"]\nforbid(\n  principal,\n  action,\n  resource\n);"
-    );
+    assert_text(
+        &rt,
+        printed(rt.alloc()),
+        "Template Instance of t, slots: [?principal -> User::\"a\"]\nforbid(\n  principal,\n  action,\n  resource\n);",
+    )?;
     Ok(())
 }
 
@@ -200,26 +202,29 @@ fn not_linked(alloc: Global, template: &str, link: &str, bound: bool) -> Result<
     let mut set = mixed(alloc)?;
     match set.link(alloc, template, link, values) {
         Ok(()) => Ok(String::new(alloc)),
-        Err(error) => Ok(error.to_string(alloc)?),
+        Err(error) => Ok(text_of(alloc, error)?),
     }
 }
 
 #[test]
 fn links_are_refused(rt: HostRuntime) -> Result<(), Fail> {
     let alloc = rt.alloc();
-    assert_eq!(rt; not_linked(alloc, "t", "m", true)?.as_str(), "");
-    assert_eq!(rt;
-        not_linked(alloc, "p", "m", true)?.as_str(),
-        "failed to find a template with id `p`"
-    );
-    assert_eq!(rt;
-        not_linked(alloc, "t", "l", true)?.as_str(),
-        "template-linked policy id `l` conflicts with an existing policy id"
-    );
-    assert_eq!(rt;
-        not_linked(alloc, "t", "m", false)?.as_str(),
-        "the following slots were not provided as arguments: ?principal"
-    );
+    assert_text(&rt, not_linked(alloc, "t", "m", true), "")?;
+    assert_text(
+        &rt,
+        not_linked(alloc, "p", "m", true),
+        "failed to find a template with id `p`",
+    )?;
+    assert_text(
+        &rt,
+        not_linked(alloc, "t", "l", true),
+        "template-linked policy id `l` conflicts with an existing policy id",
+    )?;
+    assert_text(
+        &rt,
+        not_linked(alloc, "t", "m", false),
+        "the following slots were not provided as arguments: ?principal",
+    )?;
     Ok(())
 }
 
@@ -228,7 +233,7 @@ fn not_unlinked(alloc: Global, link: &str) -> Result<String, Fail> {
     let mut set = mixed(alloc)?;
     match set.unlink(&link) {
         Ok(policy) => Ok(policy.id().to_string(alloc)?),
-        Err(error) => Ok(error.to_string(alloc)?),
+        Err(error) => Ok(text_of(alloc, error)?),
     }
 }
 
@@ -237,7 +242,7 @@ fn not_removed(alloc: Global, policy: &str) -> Result<String, Fail> {
     let mut set = mixed(alloc)?;
     match set.remove_static(&policy) {
         Ok(policy) => Ok(policy.id().to_string(alloc)?),
-        Err(error) => Ok(error.to_string(alloc)?),
+        Err(error) => Ok(text_of(alloc, error)?),
     }
 }
 
@@ -246,49 +251,56 @@ fn template_not_removed(alloc: Global, template: &str) -> Result<String, Fail> {
     let mut set = mixed(alloc)?;
     match set.remove_template(&template) {
         Ok(template) => Ok(template.id().to_string(alloc)?),
-        Err(error) => Ok(error.to_string(alloc)?),
+        Err(error) => Ok(text_of(alloc, error)?),
     }
 }
 
 #[test]
 fn removals_are_refused(rt: HostRuntime) -> Result<(), Fail> {
     let alloc = rt.alloc();
-    assert_eq!(rt; not_unlinked(alloc, "l")?.as_str(), "l");
-    assert_eq!(rt;
-        not_unlinked(alloc, "m")?.as_str(),
-        "unable to unlink policy id `m` because it does not exist"
-    );
-    assert_eq!(rt;
-        not_unlinked(alloc, "p")?.as_str(),
-        "unable to remove link with policy id `p` because it is not a link"
-    );
-    assert_eq!(rt; not_removed(alloc, "p")?.as_str(), "p");
-    assert_eq!(rt;
-        not_removed(alloc, "t")?.as_str(),
-        "unable to remove static policy id `t` from link list because it does not exist"
-    );
-    assert_eq!(rt;
-        not_removed(alloc, "l")?.as_str(),
-        "unable to remove static policy id `l` from template list because it does not exist"
-    );
+    assert_text(&rt, not_unlinked(alloc, "l"), "l")?;
+    assert_text(
+        &rt,
+        not_unlinked(alloc, "m"),
+        "unable to unlink policy id `m` because it does not exist",
+    )?;
+    assert_text(
+        &rt,
+        not_unlinked(alloc, "p"),
+        "unable to remove link with policy id `p` because it is not a link",
+    )?;
+    assert_text(&rt, not_removed(alloc, "p"), "p")?;
+    assert_text(
+        &rt,
+        not_removed(alloc, "t"),
+        "unable to remove static policy id `t` from link list because it does not exist",
+    )?;
+    assert_text(
+        &rt,
+        not_removed(alloc, "l"),
+        "unable to remove static policy id `l` from template list because it does not exist",
+    )?;
     Ok(())
 }
 
 #[test]
 fn templates_are_kept(rt: HostRuntime) -> Result<(), Fail> {
     let alloc = rt.alloc();
-    assert_eq!(rt;
-        template_not_removed(alloc, "m")?.as_str(),
-        "unable to remove template id `m` from template list because it does not exist"
-    );
-    assert_eq!(rt;
-        template_not_removed(alloc, "t")?.as_str(),
-        "unable to remove template id `t` from template list because it still has active links"
-    );
-    assert_eq!(rt;
-        template_not_removed(alloc, "p")?.as_str(),
-        "unable to remove template with policy id `p` because it is not a template"
-    );
+    assert_text(
+        &rt,
+        template_not_removed(alloc, "m"),
+        "unable to remove template id `m` from template list because it does not exist",
+    )?;
+    assert_text(
+        &rt,
+        template_not_removed(alloc, "t"),
+        "unable to remove template id `t` from template list because it still has active links",
+    )?;
+    assert_text(
+        &rt,
+        template_not_removed(alloc, "p"),
+        "unable to remove template with policy id `p` because it is not a template",
+    )?;
     Ok(())
 }
 
@@ -321,17 +333,18 @@ fn with_slotless_link(alloc: Global) -> Result<PolicySet, Fail> {
 fn validated(alloc: Global, set: PolicySet) -> Result<String, Fail> {
     match set.try_validate(alloc) {
         Ok(()) => Ok(String::new(alloc)),
-        Err(error) => Ok(error.to_string(alloc)?),
+        Err(error) => Ok(text_of(alloc, error)?),
     }
 }
 
 #[test]
 fn sets_are_validated(rt: HostRuntime) -> Result<(), Fail> {
     let alloc = rt.alloc();
-    assert_eq!(rt; validated(alloc, mixed(alloc)?)?.as_str(), "");
-    assert_eq!(rt;
-        validated(alloc, with_slotless_link(alloc)?)?.as_str(),
-        "policy `l` is a link of a template without slots"
-    );
+    assert_text(&rt, validated(alloc, mixed(alloc)?), "")?;
+    assert_text(
+        &rt,
+        validated(alloc, with_slotless_link(alloc)?),
+        "policy `l` is a link of a template without slots",
+    )?;
     Ok(())
 }

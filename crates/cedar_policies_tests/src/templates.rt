@@ -1,4 +1,5 @@
 // Printed texts, and that calls succeed where there is memory.
+use crate::asserts::{assert_text, text_of};
 use cedar_annotations::annotations::{Annotation, Annotations};
 use cedar_constraints::actions::ActionConstraint;
 use cedar_constraints::bindings::SlotEnv;
@@ -72,7 +73,7 @@ fn renamed(alloc: Global) -> Result<Template, Fail> {
 }
 
 fn printed_template(alloc: Global) -> Result<String, Fail> {
-    Ok(renamed(alloc)?.to_string(alloc)?)
+    Ok(text_of(alloc, renamed(alloc)?)?)
 }
 
 fn template_condition(alloc: Global) -> Result<String, Fail> {
@@ -86,14 +87,16 @@ fn keeps_its_syntax(alloc: Global) -> Result<bool, Fail> {
 
 #[test]
 fn templates_are_printed(rt: HostRuntime) -> Result<(), Fail> {
-    assert_eq!(rt;
-        printed_template(rt.alloc())?.as_str(),
-        "@k(\"v\")\nforbid(\n  principal in ?principal,\n  action == Action::\"v\",\n  resource == ?resource\n) when {\n  true && 3\n};"
-    );
-    assert_eq!(rt;
-        template_condition(rt.alloc())?.as_str(),
-        "(((principal in ?principal) && (action == Action::\"v\")) && (resource == ?resource)) && (true && 3)"
-    );
+    assert_text(
+        &rt,
+        printed_template(rt.alloc()),
+        "@k(\"v\")\nforbid(\n  principal in ?principal,\n  action == Action::\"v\",\n  resource == ?resource\n) when {\n  true && 3\n};",
+    )?;
+    assert_text(
+        &rt,
+        template_condition(rt.alloc()),
+        "(((principal in ?principal) && (action == Action::\"v\")) && (resource == ?resource)) && (true && 3)",
+    )?;
     assert!(rt; keeps_its_syntax(rt.alloc())?);
     Ok(())
 }
@@ -123,7 +126,7 @@ fn whole_link(alloc: Global) -> Result<Policy, Fail> {
 }
 
 fn printed_link(alloc: Global) -> Result<String, Fail> {
-    Ok(whole_link(alloc)?.to_string(alloc)?)
+    Ok(text_of(alloc, whole_link(alloc)?)?)
 }
 
 fn is_half_refused(alloc: Global) -> Result<bool, Fail> {
@@ -135,20 +138,22 @@ fn filled_principal(alloc: Global) -> Result<PrincipalConstraint, Fail> {
 }
 
 fn printed_principal(alloc: Global) -> Result<String, Fail> {
-    Ok(filled_principal(alloc)?.to_string(alloc)?)
+    Ok(text_of(alloc, filled_principal(alloc)?)?)
 }
 
 #[test]
 fn links_have_their_slots(rt: HostRuntime) -> Result<(), Fail> {
-    assert_eq!(rt;
-        printed_link(rt.alloc())?.as_str(),
-        "Template Instance of t, slots: [?principal -> User::\"a\",?resource -> User::\"a\"]"
-    );
+    assert_text(
+        &rt,
+        printed_link(rt.alloc()),
+        "Template Instance of t, slots: [?principal -> User::\"a\",?resource -> User::\"a\"]",
+    )?;
     assert!(rt; is_half_refused(rt.alloc())?);
-    assert_eq!(rt;
-        printed_principal(rt.alloc())?.as_str(),
-        "principal in User::\"a\""
-    );
+    assert_text(
+        &rt,
+        printed_principal(rt.alloc()),
+        "principal in User::\"a\"",
+    )?;
     Ok(())
 }
 
@@ -179,7 +184,7 @@ fn static_policy(alloc: Global) -> Result<StaticPolicy, Fail> {
 fn printed_policy(alloc: Global) -> Result<String, Fail> {
     let policy = static_policy(alloc)?;
     let (_, policy) = Template::link_static_policy(alloc, policy)?;
-    Ok(policy.to_string(alloc)?)
+    Ok(text_of(alloc, policy)?)
 }
 
 fn is_slot_refused(alloc: Global) -> Result<bool, Fail> {
@@ -197,10 +202,11 @@ fn is_policy_refused(alloc: Global) -> Result<bool, Fail> {
 
 #[test]
 fn static_policies_have_no_slot(rt: HostRuntime) -> Result<(), Fail> {
-    assert_eq!(rt;
-        printed_policy(rt.alloc())?.as_str(),
-        "permit(\n  principal,\n  action,\n  resource\n);"
-    );
+    assert_text(
+        &rt,
+        printed_policy(rt.alloc()),
+        "permit(\n  principal,\n  action,\n  resource\n);",
+    )?;
     assert!(rt; is_slot_refused(rt.alloc())?);
     assert!(rt; is_template_refused(rt.alloc())?);
     assert!(rt; is_policy_refused(rt.alloc())?);
@@ -217,7 +223,7 @@ fn condition(alloc: Global) -> Result<Expr, Fail> {
 }
 
 fn printed_condition(alloc: Global) -> Result<String, Fail> {
-    Ok(condition(alloc)?.to_string(alloc)?)
+    Ok(text_of(alloc, condition(alloc)?)?)
 }
 
 fn own(alloc: Global) -> Result<bool, Fail> {
@@ -227,10 +233,7 @@ fn own(alloc: Global) -> Result<bool, Fail> {
 
 #[test]
 fn clauses_are_policies(rt: HostRuntime) -> Result<(), Fail> {
-    assert_eq!(rt;
-        printed_condition(rt.alloc())?.as_str(),
-        "true && (true && 3)"
-    );
+    assert_text(&rt, printed_condition(rt.alloc()), "true && (true && 3)")?;
     assert!(rt; own(rt.alloc())?);
     Ok(())
 }

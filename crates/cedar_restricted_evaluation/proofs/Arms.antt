@@ -9,18 +9,17 @@ use Rattle.std.specs.declared.rc.RcStr.{RcStr}
 use Rattle.either.specs.declared.Either.{Either}
 use Rattle.either.specs.declared.Either.TheVariants.{Left, Right}
 use Rattle.cedar_language.specs.Uid.{Text, Name}
-use Rattle.cedar_language.specs.Tree as tree
 use Rattle.cedar_language.specs.Tree.{Literal, String, ValueType, Operator, MakeSet, MakeRecord, Call, Tree, Lit, Unknown, Apply, Trees, no_trees, a_tree}
-use Rattle.cedar_language.specs.Value.{Value, Plain, SetOf, RecordOf, Values, no_values, a_value, Kind, WrongNumArguments, FailedExtensionFunctionExecution, Outcome, Gives, Fails}
+use Rattle.cedar_language.specs.Value.{Value, Plain, RecordOf, Values, no_values, a_value, Kind, WrongNumArguments, FailedExtensionFunctionExecution, Outcome, Gives, Fails}
 use Rattle.cedar_language.specs.Facts.{Facts}
-use Rattle.cedar_language.specs.Height.{height, heights}
+use Rattle.cedar_language.specs.Height.{height}
 use Rattle.cedar_language.specs.Operators.{applied, called, count, or_fails}
 use Rattle.cedar_language.specs.Order.{text_cmp, all_of, set_of}
 use Rattle.cedar_language.specs.Restricted.{is_restricted, are_restricted}
 use Rattle.cedar_early.specs.Partial.{Answer, Evaluated, ResidualTree, Failed, Answers, AllEvaluated, SomeResiduals, SomeFailed, answer_of, residual_answer, apply_answer, partial_in, all_partial_in}
 use Rattle.cedar_early.specs.Question.{name_held}
 use Rattle.cedar_grammar.specs.Build.{trees, keys}
-use Rattle.cedar_world.specs.Bodies.{named, all_named, named_call}
+use Rattle.cedar_world.specs.Bodies.{named, all_named}
 use Rattle.cedar_world.specs.Functions.{is_the_unknown, one_string, unknown_function}
 use Rattle.cedar_trees.specs.Bare.{bare, bare_kind, bare_entries, record_tree}
 use Rattle.cedar_trees.specs.declared.expr.Expr.{Expr}
@@ -38,7 +37,6 @@ use Rattle.cedar_extensions.specs.declared.extensions.Extensions.{Extensions}
 use Rattle.cedar_values.specs.Kinds.{keys_of, values_of}
 use Rattle.cedar_partial_values.proofs.Rising.{texts, keys_are}
 use Rattle.cedar_partial_values.specs.Expressing.{is_ground, are_ground}
-use Rattle.cedar_partial_values.specs.Laws.{holds_extension, hold_extension}
 use Rattle.cedar_partial_values.specs.PartialValues.{partial_of}
 use Rattle.cedar_partial_values.specs.Splitting.{ExpressEach, is_residual}
 use Rattle.cedar_partial_values.specs.declared.partial_values.PartialValue.{PartialValue}

@@ -2,7 +2,7 @@
 use Rattle.std.proofs.Common.{◌≡◌, ◌≤◌, ◌∙◌, ℕ, refl, ap, sym, subst, List, [], ◌∷◌, ◌++◌, append_assoc, length, suc, map, arith}
 use Rattle.std.proofs.lemmas.List.{append-nil, length-map}
 use Rattle.std.specs.List.{list_any}
-use Rattle.std.specs.Prelude.{Bool, true, false, ◌&&◌, ◌||◌, ◌<◌, Result, Ok, Err}
+use Rattle.std.specs.Prelude.{Bool, true, false, ◌&&◌, ◌||◌, ◌<◌, Result, Ok, Err, IfOk}
 use Rattle.std.specs.Result.{IsErr, IsErrAnd}
 use Rattle.std.specs.declared.cmp.Ordering.{Ordering}
 use Rattle.std.specs.declared.cmp.Ordering.TheVariants as ordering
@@ -16,7 +16,7 @@ use Rattle.cedar_language.specs.Height.{height, heights}
 use Rattle.cedar_language.specs.Order.{all_of, placed, put, rising, value_cmp}
 use Rattle.cedar_language.specs.Restricted.{is_restricted, are_restricted}
 use Rattle.cedar_early.specs.MadeAgain.{tree_of, trees_of}
-use Rattle.cedar_early.specs.Partial.{Answer, Evaluated, ResidualTree, Failed, Answers, AllEvaluated, SomeResiduals, SomeFailed, and_next, partial_in, all_partial_in}
+use Rattle.cedar_early.specs.Partial.{Answer, Evaluated, ResidualTree, Answers, AllEvaluated, SomeResiduals, SomeFailed, and_next, all_partial_in}
 use Rattle.cedar_grammar.specs.Build.{trees}
 use Rattle.cedar_errors.specs.Failures.{Failure, failure_of}
 use Rattle.cedar_errors.specs.Giving.{FailsBy, GivesBy, fails_on}
@@ -25,7 +25,6 @@ use Rattle.cedar_extensions.specs.Tables.{holds_unknown}
 use Rattle.cedar_extensions.specs.declared.extensions.Extensions.{Extensions}
 use Rattle.cedar_partial_values.specs.Expressing.{is_ground, are_ground, Expresses, ExpressAll}
 use Rattle.cedar_partial_values.specs.Laws.{holds_extension, hold_extension}
-use Rattle.cedar_partial_values.specs.PartialValues.{PartExpresses}
 use Rattle.cedar_partial_values.specs.Splitting.{ExpressEach, is_residual}
 use Rattle.cedar_partial_values.proofs.ReadBack.{ground, restricted}
 use Rattle.cedar_restricted_evaluation.specs.Evaluations.{HasFunctions, nothing_told, named_by, all_named_by, answer_in}
@@ -261,6 +260,27 @@ module _ (table : Extensions) where
 
   pub remains_end : (rest : List Tree) (done : List (Either Value Tree)) (all : List Tree) → Remains rest done all → rest ≡ [] → AreFound table all done
   remains_end rest done all goes none = rw (append-nil done) at (goes.found [] (rw none tt))
+
+-- ---- heights within a limit
+
+pub within_next : (depth : ℕ) (rest later all : List Tree) (t : Tree) → rest ≡ t ∷ later → (heights (trees rest) ≤ depth → heights (trees all) ≤ depth) → height t ≤ depth → heights (trees later) ≤ depth → heights (trees all) ≤ depth
+within_next depth rest later all t cut goes first others =
+    let whole : heights (trees (t ∷ later)) ≤ depth = omega (arith, first, others) in
+    goes (subst (λ r. heights (trees r) ≤ depth) (sym cut) whole)
+
+pub within_end : (depth : ℕ) (rest all : List Tree) → rest ≡ [] → (heights (trees rest) ≤ depth → heights (trees all) ≤ depth) → heights (trees all) ≤ depth
+within_end depth rest all none goes =
+    let nothing : heights (trees []) ≤ depth = omega arith in
+    goes (subst (λ r. heights (trees r) ≤ depth) (sym none) nothing)
+
+-- what holds of what is answered, where it follows from what holds of the answer of a part
+pub answered : {X : Type 0} {Below Above : Type 0} (result : Result X EvaluationError) → (Below → Above) → IfOk result (λ x. Below) → IfOk result (λ x. Above)
+answered (Ok x) follows h = follows h
+answered (Err e) follows h = tt
+
+pub always : {X : Type 0} {Above : Type 0} (result : Result X EvaluationError) → Above → IfOk result (λ x. Above)
+always (Ok x) h = h
+always (Err e) h = tt
 
 -- ---- errors that are handed on
 

@@ -1,10 +1,10 @@
 -- What names call in a table, and what calls of `unknown` name.
 use Rattle.std.proofs.Common.{◌≡◌, ◌∙◌, refl, ap, sym, subst, List, [], ◌∷◌}
-use Rattle.std.specs.Prelude.{Bool, true, false, not, cond, ◌&&◌, ◌||◌, Option, Some, None, option_map}
+use Rattle.std.specs.Prelude.{Bool, true, false, not, cond, ◌&&◌, ◌||◌, Some, None, option_map}
 use Rattle.std.specs.List.{list_any}
 use Rattle.cedar_language.specs.Uid.{Text, Name}
 use Rattle.cedar_language.specs.Order.{same_name}
-use Rattle.cedar_language.specs.Tree.{String, MakeSet, MakeRecord, Call, Tree, Lit, Unknown, Apply, Trees, no_trees, a_tree}
+use Rattle.cedar_language.specs.Tree.{String, Call, Tree, Lit, Unknown, Apply, Trees, no_trees, a_tree}
 use Rattle.cedar_language.specs.Value.{Value, Values, Gives}
 use Rattle.cedar_language.specs.Operators.{called}
 use Rattle.either.specs.declared.Either.{Either}

@@ -1,5 +1,5 @@
 -- What is found of each part. The functions of today's tables give no extension values, so a residual is the answer's itself.
-use Rattle.std.specs.Prelude.{◌≡◌, ⊤, Bool, true, false, List, [], ◌∷◌, map, None, Result}
+use Rattle.std.specs.Prelude.{◌≡◌, ⊤, true, false, List, [], ◌∷◌, map, None, Result}
 use Rattle.std.specs.Global.{Vec}
 use Rattle.either.specs.declared.Either.{Either}
 use Rattle.either.specs.declared.Either.TheVariants.{Left, Right}

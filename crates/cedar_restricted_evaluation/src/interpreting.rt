@@ -1,5 +1,5 @@
 // The evaluation of restricted expressions.
-ghost use Rattle.std.specs.Prelude.{◌≡◌, ◌<◌, IfOk, true, map};
+ghost use Rattle.std.specs.Prelude.{◌≡◌, ◌<◌, ◌≤◌, IfOk, true, map};
 ghost use Rattle.cedar_language.specs.Height.{height, heights};
 ghost use Rattle.cedar_language.specs.Restricted.{is_restricted, are_restricted};
 ghost use Rattle.cedar_language.specs.Tree.{Apply, MakeSet, MakeRecord, Call};
@@ -46,6 +46,7 @@ pub fn interpret_restricted(
     ensures meaning { MeansKnown extensions.now depth (borrowed_tree expr.entry) result }
     ensures answer { Answers extensions.now depth (borrowed_tree expr.entry) result }
     ensures left { IfOk result (λ partial. IsLeft (partial_of partial)) }
+    ensures limit { IfOk result (λ partial. height (borrowed_tree expr.entry) ≤ depth) }
 {
     known_is_meaning();
     interpret(alloc, expr.as_expr(), extensions, depth)
@@ -59,7 +60,8 @@ fn interpret(
     depth: u32,
 ) -> Result<PartialValue, EvaluationError>
     requires { is_restricted (bare expr.now) ≡ true }
-    ensures { Evaluates extensions.now (bare expr.now) (depth < height (bare expr.now)) result }
+    ensures found { Evaluates extensions.now (bare expr.now) (depth < height (bare expr.now)) result }
+    ensures limit { IfOk result (λ found. height (bare expr.now) ≤ depth) }
 {
     let place = place(alloc, expr)?;
     let Some(below) = depth.checked_sub(1) else {
@@ -102,7 +104,8 @@ fn interpret_set(
     depth: u32,
 ) -> Result<PartialValue, EvaluationError>
     requires { are_restricted (trees (map bare items.now)) ≡ true }
-    ensures { Evaluates extensions.now (Apply MakeSet (trees (map bare items.now))) (depth < heights (trees (map bare items.now))) result }
+    ensures found { Evaluates extensions.now (Apply MakeSet (trees (map bare items.now))) (depth < heights (trees (map bare items.now))) result }
+    ensures limit { IfOk result (λ found. heights (trees (map bare items.now)) ≤ depth) }
 {
     let items = interpret_items(alloc, items, extensions, depth)?;
     match split(alloc, items)? {
@@ -123,7 +126,8 @@ fn interpret_record(
     depth: u32,
 ) -> Result<PartialValue, EvaluationError>
     requires { are_restricted (trees (map (λ e. e.1) (bare_entries entries.now.entries))) ≡ true }
-    ensures { Evaluates extensions.now (Apply (MakeRecord (keys (bare_entries entries.now.entries))) (trees (map (λ e. e.1) (bare_entries entries.now.entries)))) (depth < heights (trees (map (λ e. e.1) (bare_entries entries.now.entries)))) result }
+    ensures found { Evaluates extensions.now (Apply (MakeRecord (keys (bare_entries entries.now.entries))) (trees (map (λ e. e.1) (bare_entries entries.now.entries)))) (depth < heights (trees (map (λ e. e.1) (bare_entries entries.now.entries)))) result }
+    ensures limit { IfOk result (λ found. heights (trees (map (λ e. e.1) (bare_entries entries.now.entries))) ≤ depth) }
 {
     let items = interpret_entries(alloc, entries, extensions, depth)?;
     match split(alloc, items)? {
@@ -148,7 +152,8 @@ fn interpret_call(
     depth: u32,
 ) -> Result<PartialValue, EvaluationError>
     requires { are_restricted (trees (map bare args.now)) ≡ true }
-    ensures { Evaluates extensions.now (Apply (Call name.now) (trees (map bare args.now))) (depth < heights (trees (map bare args.now))) result }
+    ensures found { Evaluates extensions.now (Apply (Call name.now) (trees (map bare args.now))) (depth < heights (trees (map bare args.now))) result }
+    ensures limit { IfOk result (λ found. heights (trees (map bare args.now)) ≤ depth) }
 {
     let args = interpret_items(alloc, args, extensions, depth)?;
     match split(alloc, args)? {
@@ -168,7 +173,8 @@ fn interpret_items(
     depth: u32,
 ) -> Result<Vec<PartialValue>, EvaluationError>
     requires { are_restricted (trees (map bare items.now)) ≡ true }
-    ensures { EvaluateAll extensions.now (map bare items.now) (depth < heights (trees (map bare items.now))) result }
+    ensures found { EvaluateAll extensions.now (map bare items.now) (depth < heights (trees (map bare items.now))) result }
+    ensures limit { IfOk result (λ found. heights (trees (map bare items.now)) ≤ depth) }
 {
     let mut answers = Vec::new(alloc);
     for item in items {
@@ -186,7 +192,8 @@ fn interpret_entries(
     depth: u32,
 ) -> Result<Vec<PartialValue>, EvaluationError>
     requires { are_restricted (trees (map (λ e. e.1) (bare_entries entries.now.entries))) ≡ true }
-    ensures { EvaluateAll extensions.now (map (λ e. e.1) (bare_entries entries.now.entries)) (depth < heights (trees (map (λ e. e.1) (bare_entries entries.now.entries)))) result }
+    ensures found { EvaluateAll extensions.now (map (λ e. e.1) (bare_entries entries.now.entries)) (depth < heights (trees (map (λ e. e.1) (bare_entries entries.now.entries)))) result }
+    ensures limit { IfOk result (λ found. heights (trees (map (λ e. e.1) (bare_entries entries.now.entries))) ≤ depth) }
 {
     let mut answers = Vec::new(alloc);
     for (_key, item) in entries {

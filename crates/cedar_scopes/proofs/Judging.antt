@@ -5,10 +5,11 @@ use Rattle.std.proofs.lemmas.List.Elements.{All-nil, All-cons}
 use Rattle.std.specs.Ordering.{eq_by_cmp}
 use Rattle.std.specs.Cmp.{Equal-is}
 use Rattle.std.specs.FinMap as finite
-use Rattle.cedar_language.specs.Uid.{Text}
+use Rattle.cedar_language.specs.Uid.{Text, Uid}
 use Rattle.cedar_language.specs.Tree.{SlotId, PrincipalSlot, ResourceSlot}
 use Rattle.cedar_language.specs.Value.{Kind}
-use Rattle.cedar_language.specs.Order.{text_cmp, same_uid}
+use Rattle.cedar_language.specs.Order.{text_cmp}
+use Rattle.cedar_language.specs.Facts.{Facts}
 use Rattle.cedar_language.specs.OrderLaws.{text_cmp_total, text_cmp_same}
 use Rattle.cedar_language.specs.Answering.{Effect, Permit, Forbid, Standing, Satisfied, Unsatisfied, Erring, Residual, Judged, some, decision, decision_by, in_must, in_may, satisfied_permit, satisfied_forbid, residual_permit, residual_forbid}
 use Rattle.cedar_grammar.specs.Policy.{constraint_slots}
@@ -23,7 +24,10 @@ use Rattle.cedar_answers.specs.Scope.{standing_met, scope_met}
 use Rattle.cedar_policies.specs.Effects.{effect_of}
 use Rattle.cedar_answers.specs.Standing.{Says, answer_by}
 use Rattle.cedar_answers.specs.InForce.{AreInForce}
+use Rattle.cedar_answers.specs.WorldFacts.{AreFactsOf, facts_of, WorldsHaveFacts}
 use Rattle.cedar_answers.specs.Plain.{HasScopesAlone, HasNoEntries, judged_by_scope, ScopesAnswer}
+use Rattle.cedar_entities.specs.Store.{IsClosed}
+use Rattle.cedar_entities.specs.declared.store.Entities.{Entities}
 use Rattle.cedar_scopes.specs.declared.choice.Choice.{Choice}
 use Rattle.cedar_scopes.specs.declared.question.Question.{Question}
 use Rattle.cedar_scopes.specs.declared.scope.EntityConstraint.{EntityConstraint}
@@ -33,7 +37,9 @@ use Rattle.cedar_scopes.specs.Scopes.{constraint_of, policy_of}
 use Rattle.cedar_scopes.specs.Questions.{context_of, question_of}
 use Rattle.cedar_scopes.specs.Choices.{is_chosen, is_chosen_by, occurring, with_one}
 use Rattle.cedar_scopes.specs.Numbered.{numbered_policies, listed, judged}
-use Rattle.cedar_scopes.specs.Lists.{IsAnswerBy}
+use Rattle.cedar_scopes.specs.Within.{is_in_store}
+use Rattle.cedar_scopes.specs.Lists.{IsAnswerOver}
+use Rattle.cedar_scopes.proofs.Within.{in_store_is_within}
 use Rattle.cedar_scopes.proofs.OwnNumbers.{first_stands, length_map, length_taken, policies_more}
 
 -- ---- one policy more
@@ -42,13 +48,13 @@ listed_push : (i : ℕ) (ss : List PolicySyntax) (s : PolicySyntax) → listed i
 listed_push i [] s = ap (λ n. (numbered n, s) ∷ []) (omega arith)
 listed_push i (r ∷ ss) s = ap (λ l. (numbered i, r) ∷ l) (listed_push (suc i) ss s ∙ ap (λ n. listed (suc i) ss ++ (numbered n, s) ∷ []) (omega arith))
 
-judged_more : (q : asking.Question) (ps : List ScopePolicy) (i : ℕ) (p : ScopePolicy) → i < length ps → p ≡ get_or ps i p
-    → judged q (map policy_of (take (i + 1) ps)) ≡ judged q (map policy_of (take i ps)) ++ judged_by_scope same_uid q (numbered i, policy_of p) ∷ []
-judged_more q ps i p below at =
-    ap (judged q) (policies_more ps i p below at)
-    ∙ ap (map (judged_by_scope same_uid q)) (listed_push 0 (map policy_of (take i ps)) (policy_of p))
-    ∙ map-append (judged_by_scope same_uid q) (listed 0 (map policy_of (take i ps))) _
-    ∙ ap (λ n. judged q (map policy_of (take i ps)) ++ judged_by_scope same_uid q (numbered n, policy_of p) ∷ []) (omega (arith, length_taken ps i below))
+judged_more : (is_in : Uid → Uid → Bool) (q : asking.Question) (ps : List ScopePolicy) (i : ℕ) (p : ScopePolicy) → i < length ps → p ≡ get_or ps i p
+    → judged is_in q (map policy_of (take (i + 1) ps)) ≡ judged is_in q (map policy_of (take i ps)) ++ judged_by_scope is_in q (numbered i, policy_of p) ∷ []
+judged_more is_in q ps i p below at =
+    ap (judged is_in q) (policies_more ps i p below at)
+    ∙ ap (map (judged_by_scope is_in q)) (listed_push 0 (map policy_of (take i ps)) (policy_of p))
+    ∙ map-append (judged_by_scope is_in q) (listed 0 (map policy_of (take i ps))) _
+    ∙ ap (λ n. judged is_in q (map policy_of (take i ps)) ++ judged_by_scope is_in q (numbered n, policy_of p) ∷ []) (omega (arith, length_taken ps i below))
 
 or_false : (b : Bool) → (b || false) ≡ b
 or_false true = refl
@@ -81,10 +87,10 @@ occurring_push js id Forbid s =
       open_forbids = some_push residual_forbid js j i;
     }
 
-pub occurring_more : (q : asking.Question) (ps : List ScopePolicy) (i : ℕ) (p : ScopePolicy) → i < length ps → p ≡ get_or ps i p
-    → occurring (judged q (map policy_of (take (i + 1) ps))) ≡ with_one (occurring (judged q (map policy_of (take i ps)))) (effect_of p.effect) (standing_met (scope_met same_uid (policy_of p) q))
-occurring_more q ps i p below at =
-    ap occurring (judged_more q ps i p below at) ∙ occurring_push (judged q (map policy_of (take i ps))) (numbered i) (effect_of p.effect) (standing_met (scope_met same_uid (policy_of p) q))
+pub occurring_more : (is_in : Uid → Uid → Bool) (q : asking.Question) (ps : List ScopePolicy) (i : ℕ) (p : ScopePolicy) → i < length ps → p ≡ get_or ps i p
+    → occurring (judged is_in q (map policy_of (take (i + 1) ps))) ≡ with_one (occurring (judged is_in q (map policy_of (take i ps)))) (effect_of p.effect) (standing_met (scope_met is_in (policy_of p) q))
+occurring_more is_in q ps i p below at =
+    ap occurring (judged_more is_in q ps i p below at) ∙ occurring_push (judged is_in q (map policy_of (take i ps))) (numbered i) (effect_of p.effect) (standing_met (scope_met is_in (policy_of p) q))
 
 ids_push : (f : Judged → Bool) (js : List Judged) (j : Judged) → ids_with f (js ++ j ∷ []) ≡ cond (f j) (ids_with f js ++ j.id ∷ []) (ids_with f js)
 ids_push f [] j = elim (f j) as (λ b. map (λ (k : Judged). k.id) (cond b (j ∷ []) []) ≡ cond b (j.id ∷ []) []) [ true ↦ refl | false ↦ refl ]
@@ -98,13 +104,13 @@ ids_push f (k ∷ js) j =
     inside true = refl
     inside false = refl
 
-pub chosen_more : (c : Choice) (q : asking.Question) (ps : List ScopePolicy) (i : ℕ) (p : ScopePolicy) → i < length ps → p ≡ get_or ps i p → (b : Bool)
-    → b ≡ is_chosen_by c (effect_of p.effect) (standing_met (scope_met same_uid (policy_of p) q))
-    → ids_with (is_chosen c) (judged q (map policy_of (take (i + 1) ps))) ≡ cond b (ids_with (is_chosen c) (judged q (map policy_of (take i ps))) ++ numbered i ∷ []) (ids_with (is_chosen c) (judged q (map policy_of (take i ps))))
-chosen_more c q ps i p below at b is =
-    ap (ids_with (is_chosen c)) (judged_more q ps i p below at)
-    ∙ ids_push (is_chosen c) (judged q (map policy_of (take i ps))) (judged_by_scope same_uid q (numbered i, policy_of p))
-    ∙ ap (λ x. cond x (ids_with (is_chosen c) (judged q (map policy_of (take i ps))) ++ numbered i ∷ []) (ids_with (is_chosen c) (judged q (map policy_of (take i ps))))) (sym is)
+pub chosen_more : (c : Choice) (is_in : Uid → Uid → Bool) (q : asking.Question) (ps : List ScopePolicy) (i : ℕ) (p : ScopePolicy) → i < length ps → p ≡ get_or ps i p → (b : Bool)
+    → b ≡ is_chosen_by c (effect_of p.effect) (standing_met (scope_met is_in (policy_of p) q))
+    → ids_with (is_chosen c) (judged is_in q (map policy_of (take (i + 1) ps))) ≡ cond b (ids_with (is_chosen c) (judged is_in q (map policy_of (take i ps))) ++ numbered i ∷ []) (ids_with (is_chosen c) (judged is_in q (map policy_of (take i ps))))
+chosen_more c is_in q ps i p below at b is =
+    ap (ids_with (is_chosen c)) (judged_more is_in q ps i p below at)
+    ∙ ids_push (is_chosen c) (judged is_in q (map policy_of (take i ps))) (judged_by_scope is_in q (numbered i, policy_of p))
+    ∙ ap (λ x. cond x (ids_with (is_chosen c) (judged is_in q (map policy_of (take i ps))) ++ numbered i ∷ []) (ids_with (is_chosen c) (judged is_in q (map policy_of (take i ps))))) (sym is)
 
 -- ---- in force
 
@@ -184,9 +190,9 @@ no_entries false = inl refl
 
 -- ---- the answer
 
-none_errs : (q : asking.Question) (ps : List (Text × PolicySyntax)) → errors_of (map (judged_by_scope same_uid q) ps) ≡ []
-none_errs q [] = refl
-none_errs q (p ∷ ps) = not_erring (judged_by_scope same_uid q p).id _ (errors_of (map (judged_by_scope same_uid q) ps)) ∙ none_errs q ps
+none_errs : (is_in : Uid → Uid → Bool) (q : asking.Question) (ps : List (Text × PolicySyntax)) → errors_of (map (judged_by_scope is_in q) ps) ≡ []
+none_errs is_in q [] = refl
+none_errs is_in q (p ∷ ps) = not_erring (judged_by_scope is_in q p).id _ (errors_of (map (judged_by_scope is_in q) ps)) ∙ none_errs is_in q ps
   where
     not_erring : (id : Text) (o : Option Bool) (rest : List (Text × Kind)) → erring_as id (standing_met o) rest ≡ rest
     not_erring id (Some true) rest = refl
@@ -231,26 +237,38 @@ answer_is js groups must may answer occur decides musts mays must_is may_is erri
     erring_are : answer.erring ≡ finite.from_entries (errors_of js)
     erring_are = erring_is ∙ sym no_entry ∙ ap finite.from_entries (sym none)
 
--- rs is the same list as ps
-pub answers : ScopesAnswer → (ps rs : List ScopePolicy) → rs ≡ ps → length ps < 2 ^ 64 → (q : Question) (groups must may : Choice) (answer : Answer)
-    → groups ≡ occurring (judged (question_of q) (map policy_of rs))
+-- rs is the same list as ps, and r is the question q
+pub answers : ScopesAnswer → WorldsHaveFacts → (s : Entities) (ps rs : List ScopePolicy) → rs ≡ ps → length ps < 2 ^ 64 → (q r : Question) → r ≡ q → (groups must may : Choice) (answer : Answer)
+    → (IsClosed s → groups ≡ occurring (judged (is_in_store s) (question_of r) (map policy_of rs)))
     → answer.decision ≡ decision_by groups.satisfied_forbids groups.satisfied_permits groups.open_permits groups.open_forbids
     → ((j : Judged) → is_chosen must j ≡ cond (groups.satisfied_forbids || groups.open_forbids) (satisfied_forbid j) (satisfied_permit j))
     → ((j : Judged) → is_chosen may j ≡ cond groups.satisfied_forbids (satisfied_forbid j || residual_forbid j) (satisfied_permit j || residual_permit j || residual_forbid j))
-    → answer.must ≡ ids_of (ids_with (is_chosen must) (judged (question_of q) (map policy_of rs)))
-    → answer.may ≡ ids_of (ids_with (is_chosen may) (judged (question_of q) (map policy_of rs)))
+    → (IsClosed s → answer.must ≡ ids_of (ids_with (is_chosen must) (judged (is_in_store s) (question_of r) (map policy_of rs))))
+    → (IsClosed s → answer.may ≡ ids_of (ids_with (is_chosen may) (judged (is_in_store s) (question_of r) (map policy_of rs))))
     → answer.erring ≡ finite.empty
-    → IsAnswerBy (numbered_policies (map policy_of ps)) (question_of q) answer
-answers law ps rs same few q groups must may answer occur decides musts mays must_is may_is erring_is by world held none =
-    let entries = listed 0 (map policy_of ps) in
-    law.without_entities by world (question_of q) entries none (scopes_alone ps fits world held) (no_entries q.has_context) (are_in_force ps fits world held) answer
-    (subst (Says (judged (question_of q) (map policy_of ps))) (sym is) (law.made same_uid (question_of q) entries))
+    → IsAnswerOver s (numbered_policies (map policy_of ps)) (question_of q) answer
+answers law facts_law s ps rs same few q r asked groups must may answer occur decides musts mays must_is may_is erring_is by world held shows closed =
+    law.with_entities by world facts (question_of q) entries are_facts (scopes_alone ps fits world held) (no_entries q.has_context) (are_in_force ps fits world held) answer
+    (subst (λ is_in. Says (judged is_in (question_of q) (map policy_of ps)) answer) (in_store_is_within s by world facts are_facts shows closed)
+    (subst (Says (judged (is_in_store s) (question_of q) (map policy_of ps))) (sym is) (law.made (is_in_store s) (question_of q) entries)))
   where
+    entries : List (Text × PolicySyntax)
+    entries = listed 0 (map policy_of ps)
+
+    facts : Facts
+    facts = facts_of by world
+
+    are_facts : AreFactsOf by world facts
+    are_facts = facts_law.exist by world
+
     fits : length (map policy_of ps) ≤ 2 ^ 64
     fits = omega (arith, length_map ps)
 
-    is : answer ≡ answer_by (judged (question_of q) (map policy_of ps))
-    is = answer_is (judged (question_of q) (map policy_of rs)) groups must may answer occur decides musts mays must_is may_is erring_is (none_errs (question_of q) (listed 0 (map policy_of rs))) ∙ ap (λ l. answer_by (judged (question_of q) (map policy_of l))) same
+    is : answer ≡ answer_by (judged (is_in_store s) (question_of q) (map policy_of ps))
+    is =
+        answer_is (judged (is_in_store s) (question_of r) (map policy_of rs)) groups must may answer (occur closed) decides musts mays (must_is closed) (may_is closed) erring_is (none_errs (is_in_store s) (question_of r) (listed 0 (map policy_of rs)))
+        ∙ ap (λ l. answer_by (judged (is_in_store s) (question_of r) (map policy_of l))) same
+        ∙ ap (λ x. answer_by (judged (is_in_store s) (question_of x) (map policy_of ps))) asked
 
 -- ---- the groups that are chosen
 

@@ -1,3 +1,4 @@
 pub mod Judging
 pub mod OwnNumbers
 pub mod Same
+pub mod Within

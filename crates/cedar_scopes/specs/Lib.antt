@@ -1,6 +1,8 @@
 pub mod Scopes
 pub mod Same
 pub mod Questions
+pub mod Within
+pub mod Inquiries
 pub mod Choices
 pub mod Numbered
 pub mod Agreeing

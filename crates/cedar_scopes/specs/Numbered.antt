@@ -1,8 +1,7 @@
 -- Policies under policy0, policy1, .., and how each stands to a question.
-use Rattle.std.specs.Prelude.{ℕ, suc, List, [], ◌∷◌, map}
+use Rattle.std.specs.Prelude.{ℕ, suc, Bool, List, [], ◌∷◌, map}
 use Rattle.std.specs.FinMap as finite
-use Rattle.cedar_language.specs.Uid.{Text}
-use Rattle.cedar_language.specs.Order.{same_uid}
+use Rattle.cedar_language.specs.Uid.{Text, Uid}
 use Rattle.cedar_language.specs.Answering.{Judged}
 use Rattle.cedar_world.specs.Syntax.{PolicySyntax}
 use Rattle.cedar_world.specs.World.{Policies}
@@ -18,5 +17,5 @@ abbrev pub listed : ℕ → List PolicySyntax → List (Text × PolicySyntax)
 listed i [] = []
 listed i (s ∷ ss) = (numbered i, s) ∷ listed (suc i) ss
 
-abbrev pub judged : Question → List PolicySyntax → List Judged
-judged q ss = map (judged_by_scope same_uid q) (listed 0 ss)
+abbrev pub judged : (Uid → Uid → Bool) → Question → List PolicySyntax → List Judged
+judged is_in q ss = map (judged_by_scope is_in q) (listed 0 ss)

@@ -2,6 +2,7 @@
 #![tactic(auto)]
 
 mod choice;
+mod inquiry;
 mod numbers;
 mod place_error;
 mod policies;

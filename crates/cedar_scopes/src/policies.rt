@@ -1,11 +1,13 @@
 // Policies under the ids `policy0`, `policy1`, ..
-ghost use Rattle.std.specs.Prelude.{◌≡◌, IfOk, IfErr, MatchBool, map};
+ghost use Rattle.std.specs.Prelude.{◌≡◌, Bool, IfOk, IfErr, MatchBool, map};
 ghost use Rattle.std.specs.FinMap as finite;
+ghost use Rattle.cedar_language.specs.Uid.{Uid};
 ghost use Rattle.cedar_world.specs.Answers.{ids_with};
 ghost use Rattle.cedar_world.specs.PolicyEdits.{HaveRoom, own_ids, joined};
 ghost use Rattle.cedar_replies.specs.Replies.{answer_of};
 ghost use Rattle.cedar_scopes.specs.Scopes.{policy_of};
 ghost use Rattle.cedar_scopes.specs.Questions.{question_of};
+ghost use Rattle.cedar_scopes.specs.Inquiries.{AreRead};
 ghost use Rattle.cedar_scopes.specs.Choices as choices;
 ghost use Rattle.cedar_scopes.specs.Choices.{is_chosen};
 ghost use Rattle.cedar_scopes.specs.Numbered.{judged};
@@ -13,10 +15,12 @@ ghost use Rattle.cedar_scopes.specs.Agreeing.{Differ, Agree};
 ghost use Rattle.cedar_scopes.specs.Refused.{MayRefuse};
 
 use crate::choice::Choice;
+use crate::inquiry::Inquiry;
 use crate::numbers::{own_id, text_ids};
 use crate::place_error::PlaceError;
 use crate::question::Question;
 use crate::scope::ScopePolicy;
+use cedar_entities::store::Entities;
 use cedar_policies::PolicyID;
 use cedar_replies::{Answer, Erring, PolicyIds};
 use std::alloc::{AllocError, Global};
@@ -40,8 +44,8 @@ fn differ(policies: &[ScopePolicy], others: &[ScopePolicy]) -> bool
 }
 
 /// The groups that have a policy.
-fn occurring(policies: &[ScopePolicy], question: &Question) -> Choice
-    ensures { result ≡ choices.occurring (judged (question_of question.now) (map policy_of policies.now)) }
+fn occurring(policies: &[ScopePolicy], inquiry: &Inquiry<'_>) -> Choice
+    ensures { (is_in : Uid → Uid → Bool) → AreRead is_in inquiry.now → result ≡ choices.occurring (judged is_in (question_of inquiry.now.question.now) (map policy_of policies.now)) }
 {
     let mut choice = Choice {
         satisfied_permits: false,
@@ -50,7 +54,7 @@ fn occurring(policies: &[ScopePolicy], question: &Question) -> Choice
         open_forbids: false,
     };
     for policy in policies {
-        choice = choice.with(policy.effect, policy.standing(question));
+        choice = choice.with(policy.effect, policy.standing(inquiry));
     }
     choice
 }
@@ -59,14 +63,14 @@ fn occurring(policies: &[ScopePolicy], question: &Question) -> Choice
 fn chosen_ids(
     alloc: Global,
     policies: &[ScopePolicy],
-    question: &Question,
+    inquiry: &Inquiry<'_>,
     choice: Choice,
 ) -> Result<Vec<PolicyID>, AllocError>
-    ensures { IfOk result (λ ids. ids.items ≡ ids_with (is_chosen choice) (judged (question_of question.now) (map policy_of policies.now))) }
+    ensures { IfOk result (λ ids. (is_in : Uid → Uid → Bool) → AreRead is_in inquiry.now → ids.items ≡ ids_with (is_chosen choice) (judged is_in (question_of inquiry.now.question.now) (map policy_of policies.now))) }
 {
     let mut ids = Vec::new(alloc);
     for (number, policy) in policies.iter().enumerate() {
-        if choice.has(policy.effect, policy.standing(question)) {
+        if choice.has(policy.effect, policy.standing(inquiry)) {
             ids.push(own_id(alloc, number)?)?;
         }
     }
@@ -74,7 +78,7 @@ fn chosen_ids(
 }
 
 impl PolicyList {
-    ghost use Rattle.cedar_scopes.specs.Lists.{policies_in, IsAnswerBy};
+    ghost use Rattle.cedar_scopes.specs.Lists.{policies_in, IsAnswerOver};
 
     /// No policies.
     pub fn new(alloc: Global) -> PolicyList
@@ -113,20 +117,28 @@ impl PolicyList {
         Ok(ids)
     }
 
-    /// The answer to a question in a world that has these policies and no entity.
+    /// The answer to a question in a world that has these policies and these entities, whose
+    /// ancestors are closed. What isn't held has no ancestors, in a partial store too.
     /// (Cedar language reference, "Authorization".)
     ///
     /// # Errors
     ///
     /// For want of memory alone.
-    pub fn answer(&self, alloc: Global, question: &Question) -> Result<Answer, AllocError>
-        ensures { IfOk result (λ answer. IsAnswerBy (policies_in self.now) (question_of question.now) (answer_of answer)) }
+    pub fn answer(
+        &self,
+        alloc: Global,
+        question: &Question,
+        entities: &Entities,
+    ) -> Result<Answer, AllocError>
+        ensures { IfOk result (λ answer. IsAnswerOver entities.now (policies_in self.now) (question_of question.now) (answer_of answer)) }
     {
         cedar_answers::scopes_answer();
+        cedar_answers::worlds_have_facts();
         let policies = self.policies.as_slice();
-        let groups = occurring(policies, question);
-        let must = chosen_ids(alloc, policies, question, groups.must())?;
-        let may = chosen_ids(alloc, policies, question, groups.may())?;
+        let inquiry = Inquiry::new(alloc, question, entities)?;
+        let groups = occurring(policies, &inquiry);
+        let must = chosen_ids(alloc, policies, &inquiry, groups.must())?;
+        let may = chosen_ids(alloc, policies, &inquiry, groups.may())?;
         Ok(Answer {
             decision: groups.decision(),
             must: PolicyIds::new(must),

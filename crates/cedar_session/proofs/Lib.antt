@@ -1,4 +1,4 @@
-pub mod Fields
 pub mod Questions
 pub mod Runs
 pub mod Texts
+pub mod Edits

@@ -1,5 +1,5 @@
 -- Steps of a session, from what its texts are read as.
-use Rattle.std.proofs.Common.{◌≡◌, ◌<◌, ◌≤◌, ◌⊎◌, inl, inr, ℕ, List, Option, Some, None, Result, Ok, Err, Vec, Global, sym, ap, subst, arith}
+use Rattle.std.proofs.Common.{◌≡◌, ◌<◌, ◌≤◌, ◌⊎◌, inl, inr, true, false, ◌∙◌, ℕ, List, Option, Some, None, Result, Ok, Err, Vec, Global, sym, ap, subst, arith}
 use Rattle.std.specs.FinMap as finite
 use Rattle.cedar_language.specs.Uid as uid
 use Rattle.cedar_language.specs.Tree.{Tree}
@@ -12,19 +12,28 @@ use Rattle.cedar_scopes.specs.declared.question.Question.{Question}
 use Rattle.cedar_scopes.specs.Questions.{question_of}
 use Rattle.cedar_world.specs.Syntax.{PolicySyntax}
 use Rattle.cedar_world.specs.World.{World, Policies}
-use Rattle.cedar_world.specs.Functions.{policy_names, body_names}
-use Rattle.cedar_world.specs.Bodies.{ask_body}
-use Rattle.cedar_world.specs.Setting.{Setting, ArePoliciesWithin, ArePolicies, PoliciesNestWithin, PoliciesAreOne, IsBodyWithin, IsBody, BodyNestsWithin, BodiesAreOne}
+use Rattle.cedar_world.specs.Functions.{policy_names}
+use Rattle.cedar_world.specs.Bodies.{is_restricted, holds_call, ask_body}
+use Rattle.cedar_world.specs.Setting.{Setting, ArePoliciesWithin, ArePolicies, PoliciesNestWithin, PoliciesAreOne, IsBodyWithin, BodiesAreOne}
 use Rattle.cedar_world.specs.Commands as commands
 use Rattle.cedar_world.specs.Commands.{Load, Ask, Named, Answered, Refused}
 use Rattle.cedar_world.specs.Step.{Step, IsFirstAnswer}
-use Rattle.cedar_world.proofs.LoadAndAsk.{load_lacks_memory, load_is_no_text, load_is_deep, load_conflicts, load_stands_own, ask_lacks_memory, ask_is_no_text, ask_is_deep, ask_is_misshapen, ask_stands}
+use Rattle.cedar_world.proofs.LoadAndAsk.{load_lacks_memory, load_is_no_text, load_is_deep, load_conflicts, load_stands_own, ask_lacks_memory, ask_is_no_text, ask_is_deep, ask_is_not_restricted, ask_is_misshapen, ask_stands}
 use Rattle.cedar_replies.specs.declared.answer.Answer.{Answer}
 use Rattle.cedar_replies.specs.declared.refusal.Refusal.{Refusal}
-use Rattle.cedar_replies.specs.declared.refusal.Refusal.TheVariants.{Text, Depth, Shape, IdConflict, Memory}
+use Rattle.cedar_replies.specs.declared.refusal.Refusal.TheVariants.{Text, Depth, NotRestricted, Shape, IdConflict, Memory}
 use Rattle.cedar_replies.specs.Refusals.{refusal_of}
 use Rattle.cedar_replies.specs.Replies.{answer_of}
-use Rattle.cedar_session.specs.Reading.{ReadsLoad, ReadsAsk, Places, Gives}
+use Rattle.cedar_session.specs.Reading.{ReadsLoad, Places, Gives}
+use Rattle.cedar_texts.specs.Reading.{IsLowBody, ReadsBody}
+use Rattle.cedar_texts.specs.Settings.{setting_with}
+use Rattle.cedar_language.specs.Facts.{Written}
+use Rattle.cedar_language.specs.Value.{Extension}
+use Rattle.cedar_world.specs.Functions.{function_of}
+use Rattle.cedar_extensions.specs.Defining.{defined}
+use Rattle.cedar_extensions.specs.Tables.{functions_in, holds_unknown, function_called}
+use Rattle.cedar_extensions.specs.declared.extensions.Extensions.{Extensions}
+use Rattle.cedar_versions.specs.Fields.{Serves}
 
 -- ---- what is read under all names is read under a session's
 
@@ -41,27 +50,6 @@ module _ (by : Setting) (depth : ℕ) (text : uid.Text) (same : by.depth ≡ dep
       within : PoliciesNestWithin by depth text → ⊥
       within (inl h) = deep.0 (policy_names by.functions) depth h.0 (omega arith) h.1
       within (inr h) = let few = h.1 in let many = deep.1 in omega arith
-
-  pub no_body : ((names : Names) (n : ℕ) (tree : Tree) → plain.IsBody names n text tree → ⊥) → (tree : Tree) → IsBody by text tree → ⊥
-  no_body none tree h = none (body_names by.functions) h.0 tree h.1
-
-  pub deep_body : ((names : Names) (n : ℕ) (tree : Tree) → n ≤ depth → plain.IsBody names n text tree → ⊥) × (depth < loose_nesting text) → BodyNestsWithin by by.depth text → ⊥
-  deep_body deep h = within (subst (λ n. BodyNestsWithin by n text) same h)
-    where
-      within : BodyNestsWithin by depth text → ⊥
-      within (inl h) = deep.0 (body_names by.functions) depth h.0 (omega arith) h.1
-      within (inr h) = let few = h.1 in let many = deep.1 in omega arith
-
-  -- what is said of a body that was read
-  pub body_read : (tree : Tree) → ((names : Names) → plain.IsBody names depth text tree) → height tree ≤ depth → IsBodyWithin by by.depth text tree × (height tree ≤ by.depth)
-  body_read tree reads low = subst (λ n. IsBodyWithin by n text tree × (height tree ≤ n)) (sym same) (reads (body_names by.functions), low)
-
--- the question of a body, or that it states none
-pub asks : (by : Setting) (text : uid.Text) (tree : Tree) → IsBodyWithin by by.depth text tree → height tree ≤ by.depth → (r : Result Question Refusal) → Gives question_of (ask_body tree) r → ReadsAsk by text r
-asks by text tree reads low (Ok question) g = (tree, reads, low, g)
-asks by text tree reads low (Err Shape) g = (tree, reads, low, g)
-asks by text tree reads low (Err Memory) g = tt
-asks by text tree reads low (Err r) g = absurd g
 
 -- ---- steps
 
@@ -84,15 +72,33 @@ module _ (by : Setting) (old : World) (text : uid.Text) where
       subst (λ is. Step by old Load text (Named is) (record old { policies = new; asked = None })) (sym h.0)
       (load_stands_own by old text once ss (record old { policies = new; asked = None }) reads h.1 (ap (λ p. record old { policies = p; asked = None }) h.2))
 
-  pub unread_ask : (r : Refusal) → ReadsAsk by text (Err r) → Step by old Ask text (Refused (refusal_of r)) old
-  unread_ask Text h = ask_is_no_text by old text h
-  unread_ask Depth h = ask_is_deep by old text h
-  unread_ask Shape h = ask_is_misshapen by old text h.0 h.1 h.2 h.3
-  unread_ask Memory h = ask_lacks_memory by old text
-  unread_ask r h = absurd h
+  pub unread_ask : BodiesAreOne by → (r : Refusal) → ReadsBody by text (Err r) → Step by old Ask text (Refused (refusal_of r)) old
+  unread_ask once Text h = ask_is_no_text by old text h
+  unread_ask once Depth h = ask_is_deep by old text h
+  unread_ask once NotRestricted h = ask_is_not_restricted by old text once h.0 h.1 h.2 h.3
+  unread_ask once Memory h = ask_lacks_memory by old text
+  unread_ask once r h = absurd h
 
-  pub asked : BodiesAreOne by → (question : Question) (answer kept : Answer) → kept ≡ answer → ReadsAsk by text (Ok question) → IsFirstAnswer by old (question_of question) (answer_of answer)
-      → Step by old Ask text (Answered (answer_of answer)) (record old { asked = Some (record { question = question_of question; told = finite.empty; last = answer_of kept }) })
-  asked once question answer kept same h first =
-      ask_stands by old text once h.0 (question_of question) (answer_of answer) _ h.1 h.2 h.3 first
-      (ap (λ a. record old { asked = Some (record { question = question_of question; told = finite.empty; last = answer_of a }) }) same)
+  module _ (once : BodiesAreOne by) (tree : Tree) (reads : IsBodyWithin by by.depth text tree) (low : height tree ≤ by.depth) (restricted : is_restricted tree ≡ true) where
+    pub misasked : (r : Refusal) → Gives question_of (ask_body tree) (Err r) → Step by old Ask text (Refused (refusal_of r)) old
+    misasked Shape g = ask_is_misshapen by old text once tree reads low restricted g
+    misasked Memory g = ask_lacks_memory by old text
+    misasked r g = absurd g
+
+    pub asked : (question : Question) (answer kept : Answer) → kept ≡ answer → ask_body tree ≡ Some (question_of question) → IsFirstAnswer by old (question_of question) (answer_of answer)
+        → Step by old Ask text (Answered (answer_of answer)) (record old { asked = Some (record { question = question_of question; told = finite.empty; last = answer_of kept }) })
+    asked question answer kept same asks first =
+        ask_stands by old text once tree reads low restricted (question_of question) (answer_of answer) _ asks first
+        (ap (λ a. record old { asked = Some (record { question = question_of question; told = finite.empty; last = answer_of a }) }) same)
+
+-- what is said of the tree of a body is said of the expression's, and of the same one lent
+pub read_tree : (by : Setting) (text : uid.Text) (s t : Tree) → t ≡ s → IsLowBody by text (λ tree. tree ≡ s) → IsBodyWithin by by.depth text t × (height t ≤ by.depth)
+read_tree by text s t same h = subst (λ x. IsBodyWithin by by.depth text x × (height x ≤ by.depth)) (h.3 ∙ sym same) (h.1, h.2)
+
+-- a session's functions are those of its table
+pub serves : (table : Extensions) (depth : ℕ) (s t : Tree) → t ≡ s → ((written : Extension → Written) (name : uid.Name) → function_of (defined written (functions_in table)) name ≡ function_called table name)
+    → (holds_unknown table ≡ false → holds_call s ≡ false) → Serves table (setting_with table depth) (holds_call t)
+serves table depth s t same are calls = record {
+  functions = λ name. are (setting_with table depth).functions.written name;
+  held = λ none. ap holds_call same ∙ calls none;
+}

@@ -3,12 +3,18 @@ use Rattle.cedar_language.specs.Uid as uid
 use Rattle.cedar_frames.specs.declared.verb.Verb.{Verb}
 use Rattle.cedar_frames.specs.declared.verb.Verb.TheVariants as verb
 use Rattle.cedar_session.specs.declared.command.Command.{Command}
-use Rattle.cedar_session.specs.declared.command.Command.TheVariants.{Load, Ask}
+use Rattle.cedar_session.specs.declared.command.Command.TheVariants.{Load, Add, Put, Remove, Ask}
 
 abbrev pub command_verb : Command → Verb
 command_verb (Load text) = verb.Load
+command_verb (Add text) = verb.Add
+command_verb (Put text) = verb.Put
+command_verb (Remove text) = verb.Remove
 command_verb (Ask text) = verb.Ask
 
 abbrev pub command_text : Command → uid.Text
 command_text (Load text) = text.now
+command_text (Add text) = text.now
+command_text (Put text) = text.now
+command_text (Remove text) = text.now
 command_text (Ask text) = text.now

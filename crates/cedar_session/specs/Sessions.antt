@@ -1,8 +1,6 @@
 -- What a session holds, as the world names it.
-use Rattle.std.specs.Prelude.{ℕ, Result, Ok, Err, Vec, []}
+use Rattle.std.specs.Prelude.{Result, Ok, Err, Vec}
 use Rattle.std.specs.declared.alloc.Global.{Global}
-use Rattle.cedar_language.specs.Tree.{no_trees}
-use Rattle.cedar_expressions.specs.Extensions.{Extensions, holds_unknown}
 use Rattle.cedar_policies.specs.declared.policy_id.PolicyID.{PolicyID}
 use Rattle.std.specs.Option.{option_map}
 use Rattle.std.specs.FinMap as finite
@@ -10,7 +8,7 @@ use Rattle.cedar_scopes.specs.Lists.{policies_in}
 use Rattle.cedar_scopes.specs.Questions.{question_of}
 use Rattle.cedar_world.specs.World as world
 use Rattle.cedar_world.specs.World.{World}
-use Rattle.cedar_world.specs.Functions.{Functions}
+use Rattle.cedar_texts.specs.Settings.{setting_with}
 use Rattle.cedar_world.specs.Setting.{Setting}
 use Rattle.cedar_world.specs.Commands as commands
 use Rattle.cedar_replies.specs.declared.answer.Answer.{Answer}
@@ -20,13 +18,6 @@ use Rattle.cedar_replies.specs.Refusals.{refusal_of}
 use Rattle.cedar_session.specs.declared.session.Asked.{Asked}
 use Rattle.cedar_session.specs.declared.session.Session.{Session}
 
--- the caller's functions: none, so that no extension value is written
-abbrev pub functions_of : Extensions → Functions
-functions_of extensions = record { table = []; has_unknown = holds_unknown extensions; written = λ e. record { function = []; arguments = no_trees } }
-
-abbrev pub setting_with : Extensions → ℕ → Setting
-setting_with extensions depth = record { functions = functions_of extensions; depth = depth }
-
 -- the functions that a session knows, and its limit
 abbrev pub setting_of : Session → Setting
 setting_of session = setting_with session.extensions.now session.depth
@@ -34,14 +25,18 @@ setting_of session = setting_with session.extensions.now session.depth
 abbrev pub asked_of : Asked → world.Asked
 asked_of asked = record { question = question_of asked.question; told = finite.empty; last = answer_of asked.answer }
 
--- the policies in force, and the open question
+-- the policies in force, the entities held, and the open question
 abbrev pub world_of : Session → World
-world_of session = record { policies = policies_in session.policies; entities = finite.empty; asked = option_map asked_of session.asked }
+world_of session = record { policies = policies_in session.policies; entities = session.entities; asked = option_map asked_of session.asked }
 
--- what a `load` and an `ask` are answered
+-- what a `load`, an edit of entities and an `ask` are answered
 abbrev pub load_reply : Result (Vec PolicyID Global) Refusal → commands.Reply
 load_reply (Ok ids) = commands.Named ids.items
 load_reply (Err refusal) = commands.Refused (refusal_of refusal)
+
+abbrev pub edit_reply : Result (Unit {0}) Refusal → commands.Reply
+edit_reply (Ok done) = commands.Done
+edit_reply (Err refusal) = commands.Refused (refusal_of refusal)
 
 abbrev pub ask_reply : Result Answer Refusal → commands.Reply
 ask_reply (Ok answer) = commands.Answered (answer_of answer)

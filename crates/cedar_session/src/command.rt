@@ -10,6 +10,12 @@ use cedar_frames::Verb;
 pub enum Command<'t> {
     /// Adds the policies of a text.
     Load(&'t str),
+    /// Adds the entities that a body lists.
+    Add(&'t str),
+    /// Puts the entities that a body lists in place of those held.
+    Put(&'t str),
+    /// Removes the entities that a body lists.
+    Remove(&'t str),
     /// Asks the question that a body states.
     Ask(&'t str),
 }
@@ -23,6 +29,9 @@ impl<'t> Command<'t> {
     {
         match verb {
             Verb::Load => Command::Load(text),
+            Verb::Add => Command::Add(text),
+            Verb::Put => Command::Put(text),
+            Verb::Remove => Command::Remove(text),
             Verb::Ask => Command::Ask(text),
             _ => unreachable!(),
         }

@@ -3,13 +3,12 @@ ghost use Rattle.std.specs.Prelude.{◌≡◌, map};
 ghost use Rattle.cedar_scopes.specs.Scopes.{policy_of};
 ghost use Rattle.cedar_scopes.specs.Lists.{policies_in};
 ghost use Rattle.cedar_world.specs.Setting.{Setting};
-ghost use Rattle.cedar_session.specs.Reading.{ReadsLoad, ReadsAsk, Places};
+ghost use Rattle.cedar_session.specs.Reading.{ReadsLoad, Places};
 
-use crate::asking::question_in;
-use cedar_plain::{ReadError, read_body, read_policies};
+use cedar_plain::{ReadError, read_policies};
 use cedar_policies::PolicyID;
 use cedar_replies::Refusal;
-use cedar_scopes::{PlaceError, PolicyList, Question, ScopePolicy};
+use cedar_scopes::{PlaceError, PolicyList, ScopePolicy};
 use std::alloc::Global;
 
 /// The policies of a text.
@@ -40,17 +39,5 @@ pub(crate) fn placed(
         Ok(ids) => Ok(ids),
         Err(PlaceError::IdConflict) => Err(Refusal::IdConflict),
         Err(PlaceError::Memory) => Err(Refusal::Memory),
-    }
-}
-
-/// The question of a body.
-pub(crate) fn question_of_text(alloc: Global, text: &str, depth: u32) -> Result<Question, Refusal>
-    ensures { (by : Setting) → by.depth ≡ depth → ReadsAsk by text.now result }
-{
-    match read_body(alloc, text, depth) {
-        Ok(body) => question_in(alloc, &body),
-        Err(ReadError::Text) => Err(Refusal::Text),
-        Err(ReadError::Depth) => Err(Refusal::Depth),
-        Err(ReadError::Memory) => Err(Refusal::Memory),
     }
 }

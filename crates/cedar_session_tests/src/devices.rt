@@ -53,7 +53,7 @@ impl Write for Narrow {
 }
 
 impl Narrow {
-    pub fn with_room(alloc: Global, room: usize) -> Narrow {
+    pub(crate) fn with_room(alloc: Global, room: usize) -> Narrow {
         Narrow {
             taken: Vec::new(alloc),
             room,

@@ -1,8 +1,10 @@
-//! Tests of frames, replies, the plain reader and whole runs over memory.
+//! Tests of frames, replies, the readers of texts and whole runs over memory.
 #![tactic(auto)]
 
 #[cfg(test)]
 mod devices;
+#[cfg(test)]
+mod entities;
 #[cfg(test)]
 mod frames;
 #[cfg(test)]

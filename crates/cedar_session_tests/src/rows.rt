@@ -7,18 +7,18 @@ use std::alloc::Global;
 use std::test::Fail;
 
 /// A verb, its text or body, and the line with which it is answered.
-type Row<'a> = (&'a str, &'a str, &'a str);
+pub(crate) type Row<'a> = (&'a str, &'a str, &'a str);
 
 const PERMIT_ALL: &str = "permit(principal, action, resource);";
 
-const WHOLE_QUESTION: &str =
+pub(crate) const WHOLE_QUESTION: &str =
     "{principal: User::\"a\", action: Action::\"v\", resource: R::\"r\", context: {}}";
 
-const LOADED: &str = "ok [\"policy0\"]";
+pub(crate) const LOADED: &str = "ok [\"policy0\"]";
 
-const ALLOWED: &str = "allow must=[\"policy0\"] may=[\"policy0\"] erring=[]";
+pub(crate) const ALLOWED: &str = "allow must=[\"policy0\"] may=[\"policy0\"] erring=[]";
 
-const DENIED: &str = "deny must=[] may=[] erring=[]";
+pub(crate) const DENIED: &str = "deny must=[] may=[] erring=[]";
 
 const OPEN: &str = "open must=[] may=[\"policy0\"] erring=[]";
 
@@ -62,7 +62,7 @@ fn lines(alloc: Global, commands: &[Row<'_>]) -> Result<Vec<u8>, Fail> {
 }
 
 /// Whether a new session with this limit answers the commands with these lines, and then ends.
-fn answers(alloc: Global, depth: u32, commands: &[Row<'_>]) -> Result<bool, Fail> {
+pub(crate) fn answers(alloc: Global, depth: u32, commands: &[Row<'_>]) -> Result<bool, Fail> {
     let input = framed(alloc, commands)?;
     let (written, end) = answered(alloc, depth, input.as_slice())?;
     let want = lines(alloc, commands)?;
@@ -218,7 +218,10 @@ fn refused_commands_change_nothing(rt: HostRuntime) -> Result<(), Fail> {
         ),
         ("{principal: ?principal}", "refused Text"),
         ("{} {}", "refused Text"),
+        ("principal", "refused NotRestricted"),
+        ("{principal: 1 + 1}", "refused NotRestricted"),
         ("[]", "refused Shape"),
+        ("true && false", "refused Shape"),
         ("\"a\"", "refused Shape"),
         ("{principal: \"a\"}", "refused Shape"),
         ("{subject: User::\"a\"}", "refused Shape"),
@@ -294,7 +297,8 @@ fn texts_are_nested_up_to_the_limit(rt: HostRuntime) -> Result<(), Fail> {
             1,
             &[
                 ("ask", "[]", "refused Shape"),
-                ("ask", "[[]]", "refused Depth")
+                ("ask", "[[]]", "refused Depth"),
+                ("ask", "1 + 1", "refused Depth")
             ]
         )?
     );

@@ -48,7 +48,7 @@ use Rattle.cedar_entity.specs.Attributes.{Entries, seen_entries}
 use Rattle.cedar_bodies.specs.Entities.{named_all}
 use Rattle.cedar_versions.specs.Reading.{GiveNoText, TreesAreRead, nothing_told, IsRead}
 use Rattle.cedar_versions.specs.Refusals.{refusal_by}
-use Rattle.cedar_versions.specs.Fields.{deeper, Serves, part_answer, IsEvaluated, as_entries, err, hold_unknowns, AreValues, AreOpen, AreEvaluated}
+use Rattle.cedar_versions.specs.Fields.{deeper, Serves, part_answer, IsEvaluated, as_entries, HoldValues, err, hold_unknowns, AreValues, AreOpen, AreFound, AreEvaluated}
 use Rattle.cedar_versions.proofs.Carrying.{or_left, or_right, or_true, false_back, Carries, at_first, next_value, next_open, all_fine, all_unknowns, all_given}
 
 -- ---- the functions of a table
@@ -153,6 +153,7 @@ module _ (table : Extensions) where
   pub record IsUnderway (all rest : Exprs) (made : Entries) (flag : Bool) : Type 0 where
     pub names : texts made ++ texts rest ≡ texts all
     pub inside : (test : Tree → Bool) → some_field test (bare_entries rest) ≡ true → some_field test (bare_entries all) ≡ true
+    pub hold_values : flag ≡ false → HoldValues (seen_entries made)
     pub carries : (by : Setting) → Serves table by (some_field holds_call (bare_entries all)) →
         Carries (Seen made) (err by (bare_entries all)) (hold_unknowns by (bare_entries all)) (values by (named_all (bare_entries all)))
         flag (err by (bare_entries rest)) (hold_unknowns by (bare_entries rest)) (values by (named_all (bare_entries rest)))
@@ -161,6 +162,7 @@ module _ (table : Extensions) where
   begins all = record {
     names = refl;
     inside = λ test h. h;
+    hold_values = λ unset. ([], refl);
     carries = λ by serves. at_first (Seen []) (err by (bare_entries all)) (hold_unknowns by (bare_entries all)) (values by (named_all (bare_entries all))) refl;
   }
 
@@ -205,13 +207,26 @@ module _ (table : Extensions) where
       or_no true = refl
       or_no false = refl
 
+      -- one more value is seen
+      seen_after : next ≡ made ++ (l, v) ∷ [] → (w : Value) → partial_of v ≡ Left w → (done : List (Text × Value)) → Seen made done → Seen next (done ++ (rc_str_bytes k, w) ∷ [])
+      seen_after last w is done seen =
+          seen_next last (Left w) is ∙ ap (λ es. es ++ (rc_str_bytes k, Left w) ∷ []) seen ∙ sym (map-append (λ (x : Text × Value). (x.0, Left x.1)) done ((rc_str_bytes k, w) ∷ []))
+
+      values_next : next ≡ made ++ (l, v) ∷ [] → (p : Either Value Tree) → partial_of v ≡ p → flagged ≡ false → HoldValues (seen_entries next)
+      values_next last (Left w) is unset =
+          let before = underway.hold_values (or_left flag (is_residual (partial_of v)) (sym marked ∙ unset)) in
+          (before.0 ++ (rc_str_bytes k, w) ∷ [], seen_after last w is before.0 before.1)
+      values_next last (Right r) is unset =
+          let never : true ≡ false = ap is_residual (sym is) ∙ or_right flag (is_residual (partial_of v)) (sym marked ∙ unset) in
+          absurd cc
+
       carries_next : next ≡ made ++ (l, v) ∷ [] → (by : Setting) → Serves table by (some_field holds_call (bare_entries all)) → (p : Either Value Tree) → partial_of v ≡ p → IsRead by (named t) (part_answer p) →
           Carries (Seen next) (err by (bare_entries all)) (hold_unknowns by (bare_entries all)) (values by (named_all (bare_entries all)))
           flagged (err by (bare_entries more)) (hold_unknowns by (bare_entries more)) (values by (named_all (bare_entries more)))
       carries_next last by serves (Left w) is read =
           next_value (Seen made) (Seen next) _ _ _ flag flagged (errs_alone by (named t)) (err by (bare_entries more)) (holds_unknown (named t)) (hold_unknowns by (bare_entries more)) _ (values by (named_all (bare_entries more)))
           (carried by serves) read.2 (rc_str_bytes k, w) read.1 (ap (λ o. option_map (λ a. (rc_str_bytes k, a)) (given_value o)) read.0)
-          (λ done seen. seen_next last (Left w) is ∙ ap (λ es. es ++ (rc_str_bytes k, Left w) ∷ []) seen ∙ sym (map-append (λ (x : Text × Value). (x.0, Left x.1)) done ((rc_str_bytes k, w) ∷ [])))
+          (seen_after last w is)
           (marked ∙ ap (λ q. flag || is_residual q) is ∙ or_no flag)
       carries_next last by serves (Right r) is read =
           next_open (Seen made) (Seen next) _ _ _ flag flagged (errs_alone by (named t)) (err by (bare_entries more)) (holds_unknown (named t)) (hold_unknowns by (bare_entries more)) _ (values by (named_all (bare_entries more)))
@@ -223,6 +238,7 @@ module _ (table : Extensions) where
           record {
             names = texts_next made next rest more all l k v e last same underway.names step;
             inside = λ test h. here test (or_true (test t) _ h);
+            hold_values = values_next last (partial_of v) refl;
             carries = λ by serves. carries_next last by serves (partial_of v) refl (evaluated by (serves_here by serves));
           }
 
@@ -235,11 +251,14 @@ module _ (table : Extensions) where
       Carries (Seen made) (err by (bare_entries all)) (hold_unknowns by (bare_entries all)) (values by (named_all (bare_entries all))) flag false false (Some [])
   ends all made flag by underway serves = underway.carries by serves
 
-  pub found : (all : Exprs) (made : Entries) (by : Setting) → IsUnderway all [] made false → Serves table by (some_field holds_call (bare_entries all)) → AreValues by (bare_entries all) (seen_entries made)
-  found all made by underway serves =
+  are_values : (all : Exprs) (made : Entries) (by : Setting) → IsUnderway all [] made false → Serves table by (some_field holds_call (bare_entries all)) → AreValues by (bare_entries all) (seen_entries made)
+  are_values all made by underway serves =
       let end = ends all made false by underway serves in
       let given = all_given (Seen made) _ _ _ false end refl in
       record { given = given.0; are = given.2; seen = given.1; fine = all_fine (Seen made) _ _ _ false end; known = all_unknowns (Seen made) _ _ _ false end }
+
+  pub found : (all : Exprs) (made : Entries) → IsUnderway all [] made false → AreFound table (bare_entries all) (seen_entries made)
+  found all made underway = record { hold_values = underway.hold_values refl; are_values = λ by serves. are_values all made by underway serves }
 
   pub waits : (all : Exprs) (made : Entries) (by : Setting) → IsUnderway all [] made true → Serves table by (some_field holds_call (bare_entries all)) → AreOpen by (bare_entries all)
   waits all made by underway serves =

@@ -19,7 +19,7 @@ use Rattle.cedar_bodies.specs.declared.entities.EntityBody as code
 use Rattle.cedar_bodies.specs.Entities.{written_of, named_body, written_bodies}
 use Rattle.cedar_versions.specs.Fields.{unrestricted, deeper, Serves}
 use Rattle.cedar_versions.specs.Making.{some_in, IsMade}
-use Rattle.cedar_versions.specs.Listing.{all_named, AreMade, AreListed}
+use Rattle.cedar_versions.specs.Listing.{all_named, ShowVersions, AreVersions, AreMade, AreListed}
 use Rattle.cedar_versions.proofs.Carrying.{or_true, false_back, Carries, at_first, next_value, next_open, all_fine, all_unknowns, all_given}
 use Rattle.cedar_versions.proofs.Parts.{bodies_fine, restricted_rises, calls_rise, heights_rise}
 
@@ -37,6 +37,7 @@ left_at bs i b lt is = rw (add-one, drop-cons bs i b lt, ← is) refl
 module _ (table : Extensions) where
   pub record IsUnderway (all rest : List EntityBody) (made : List EntityData) (flag : Bool) : Type 0 where
     pub inside : (test : Tree → Bool) → some_entry test rest ≡ true → some_entry test all ≡ true
+    pub show_versions : flag ≡ false → ShowVersions made
     pub carries : (by : Setting) → Serves table by (some_entry holds_call all) →
         Carries (Shown made) (some_entry (errs_alone by) (all_named all)) (some_entry holds_unknown (all_named all)) (versions by (all_named all))
         flag (some_entry (errs_alone by) (all_named rest)) (some_entry holds_unknown (all_named rest)) (versions by (all_named rest))
@@ -44,6 +45,7 @@ module _ (table : Extensions) where
   pub begins : (all : List EntityBody) → IsUnderway all all [] false
   begins all = record {
     inside = λ test h. h;
+    show_versions = λ unset. ([], refl);
     carries = λ by serves. at_first (Shown []) (some_entry (errs_alone by) (all_named all)) (some_entry holds_unknown (all_named all)) (versions by (all_named all)) refl;
   }
 
@@ -75,19 +77,27 @@ module _ (table : Extensions) where
     onward : (test : Tree → Bool) → some_entry test more ≡ true → some_entry test all ≡ true
     onward test h = here test (or_true (some_in test b) _ h)
 
+    -- one more version is shown
+    shown_after : (e : EntityData) (next : List EntityData) → next ≡ made ++ e ∷ [] → (v : Version) → e ≡ as_entity v → (done : List Version) → Shown made done → Shown next (done ++ v ∷ [])
+    shown_after e next last v is done shown = last ∙ ap (λ es. es ++ e ∷ []) shown ∙ ap (λ x. as_entities done ++ x ∷ []) is ∙ sym (map-append as_entity done (v ∷ []))
+
     pub goes_on : (depth : ℕ) (e : EntityData) (next : List EntityData) → IsMade table depth b (Ok (Some e)) → next ≡ made ++ e ∷ [] → IsUnderway all more next flag
     goes_on depth e next is last = record {
       inside = onward;
+      show_versions = λ unset.
+          let before = underway.show_versions unset in
+          (before.0 ++ is.shows_version.0 ∷ [], shown_after e next last is.shows_version.0 is.shows_version.1 before.0 before.1);
       carries = λ by serves.
-          let version = is by (serves_here by serves) in
+          let version = is.is_version by (serves_here by serves) in
           next_value (Shown made) (Shown next) _ _ _ flag flag (some_in (errs_alone by) (named_body b)) (some_entry (errs_alone by) (all_named more)) (some_in holds_unknown (named_body b)) (some_entry holds_unknown (all_named more)) _ (versions by (all_named more))
           (carried by serves) version.fine version.given version.known version.is
-          (λ done shown. last ∙ ap (λ es. es ++ e ∷ []) shown ∙ ap (λ x. as_entities done ++ x ∷ []) version.shown ∙ sym (map-append as_entity done (version.given ∷ []))) refl;
+          (shown_after e next last version.given version.shown) refl;
     }
 
     pub waits_on : (depth : ℕ) → IsMade table depth b (Ok None) → IsUnderway all more made true
     waits_on depth is = record {
       inside = onward;
+      show_versions = λ unset. cc;
       carries = λ by serves.
           let open_body = is by (serves_here by serves) in
           next_open (Shown made) (Shown made) _ _ _ flag true (some_in (errs_alone by) (named_body b)) (some_entry (errs_alone by) (all_named more)) (some_in holds_unknown (named_body b)) (some_entry holds_unknown (all_named more)) _ (versions by (all_named more))
@@ -97,13 +107,16 @@ module _ (table : Extensions) where
   pub settled : (all rest : List EntityBody) (made : List EntityData) (flag b : Bool) → flag ≡ b → IsUnderway all rest made flag → IsUnderway all rest made b
   settled all rest made flag b same underway = subst (IsUnderway all rest made) same underway
 
-  pub all_made : (depth : ℕ) (all rest : List EntityBody) (made : Vec EntityData) → IsUnderway all rest made.items false → rest ≡ [] → AreMade table depth all (Ok (Some made))
-  all_made depth all rest made underway none by serves =
+  are_versions : (all rest : List EntityBody) (made : List EntityData) → IsUnderway all rest made false → rest ≡ [] → (by : Setting) → Serves table by (some_entry holds_call all) → AreVersions by (all_named all) made
+  are_versions all rest made underway none by serves =
       let end = subst (λ (r : List EntityBody).
-      Carries (Shown made.items) (some_entry (errs_alone by) (all_named all)) (some_entry holds_unknown (all_named all)) (versions by (all_named all))
+      Carries (Shown made) (some_entry (errs_alone by) (all_named all)) (some_entry holds_unknown (all_named all)) (versions by (all_named all))
       false (some_entry (errs_alone by) (all_named r)) (some_entry holds_unknown (all_named r)) (versions by (all_named r))) none (underway.carries by serves) in
-      let given = all_given (Shown made.items) _ _ _ false end refl in
-      (record { given = given.0; are = given.2; shown = given.1 }, all_fine (Shown made.items) _ _ _ false end)
+      let given = all_given (Shown made) _ _ _ false end refl in
+      record { given = given.0; are = given.2; shown = given.1; fine = all_fine (Shown made) _ _ _ false end; known = all_unknowns (Shown made) _ _ _ false end }
+
+  pub all_made : (depth : ℕ) (all rest : List EntityBody) (made : Vec EntityData) → IsUnderway all rest made.items false → rest ≡ [] → AreMade table depth all (Ok (Some made))
+  all_made depth all rest made underway none = record { show_versions = underway.show_versions refl; are_versions = are_versions all rest made.items underway none }
 
   pub some_wait : (depth : ℕ) (all rest : List EntityBody) (made : List EntityData) → IsUnderway all rest made true → rest ≡ [] → AreMade table depth all (Ok None)
   some_wait depth all rest made underway none by serves =
@@ -130,7 +143,7 @@ module _ (table : Extensions) where
 
     module _ (bodies : Some (all_named ws) ≡ entity_bodies t) (by : Setting) (serves : Serves table by (holds_call t)) where
       pub listed : (es : Vec EntityData) → AreMade table depth ws (Ok (Some es)) → AreListed by depth t (Ok es)
-      listed es h = (all_named ws, sym bodies, (h by (serves_all by serves)).0)
+      listed es h = (all_named ws, sym bodies, h.are_versions by (serves_all by serves))
 
       pub not_values : AreMade table depth ws (Ok None) → AreListed by depth t (Err refusal.NotAValue)
       not_values h = (all_named ws, sym bodies, h by (serves_all by serves))

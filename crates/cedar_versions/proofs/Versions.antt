@@ -9,6 +9,7 @@ use Rattle.cedar_language.specs.Value.{Value}
 use Rattle.cedar_language.specs.Order.{text_cmp}
 use Rattle.cedar_language.specs.OrderLaws.{text_cmp_total, text_cmp_same}
 use Rattle.cedar_world.specs.Bodies.{Fields, EntityBody, holds_call}
+use Rattle.cedar_world.specs.EntityEdits.{Version}
 use Rattle.cedar_world.specs.Orders.{TextMap}
 use Rattle.cedar_world.specs.Setting.{Setting}
 use Rattle.cedar_world.specs.Values.{some_field, version_with}
@@ -18,9 +19,9 @@ use Rattle.cedar_replies.specs.declared.refusal.Refusal.{Refusal}
 use Rattle.cedar_replies.specs.declared.refusal.Refusal.TheVariants as refusal
 use Rattle.cedar_entity.specs.Attributes.{attributes_of, seen_entries}
 use Rattle.cedar_entity.specs.Data.{EntityData}
-use Rattle.cedar_entities_world.specs.Shown.{as_attributes}
+use Rattle.cedar_entities_world.specs.Shown.{as_attributes, as_entity}
 use Rattle.cedar_bodies.specs.Entities.{named_body}
-use Rattle.cedar_versions.specs.Fields.{deeper, Serves, as_entries, err, hold_unknowns, AreValues, AreEvaluated}
+use Rattle.cedar_versions.specs.Fields.{deeper, Serves, as_entries, err, hold_unknowns, AreEvaluated}
 use Rattle.cedar_versions.specs.Making.{set_listed, some_in, IsMade}
 use Rattle.cedar_versions.proofs.Carrying.{or_left, or_right, or_true, or_false}
 
@@ -55,7 +56,7 @@ module _ (table : Extensions) (depth : ℕ) (b : EntityBody) where
   for_tags by serves = record { functions = serves.functions; held = λ unset. or_right _ _ (serves.held unset) }
 
   none_errs : (fs : Fields) (found : Option Values) → AreEvaluated table depth fs (Ok found) → (by : Setting) → Serves table by (some_field holds_call fs) → err by fs ≡ false
-  none_errs fs (Some m) h by serves = (h by serves).fine
+  none_errs fs (Some m) h by serves = (h.are_values by serves).fine
   none_errs fs None h by serves = (h by serves).fine
 
   pub attribute_refused : (r : Refusal) → AreEvaluated table depth b.attributes (Err r) → IsMade table depth b (Err r)
@@ -84,19 +85,30 @@ module _ (table : Extensions) (depth : ℕ) (b : EntityBody) where
 
   module _ (attributes tags : Values) (e : EntityData)
       (is : e ≡ record { uid = b.uid; attributes = attributes_of attributes.entries; tags = attributes_of tags.entries; parents = b.parents; indirect = set_listed [] }) where
-    shown_as : (fs : Fields) (m : Values) (by : Setting) (are : AreValues by fs (seen_entries m.entries)) → attributes_of m.entries ≡ as_attributes (finite.from_entries are.given)
-    shown_as fs m by are = ap (λ es. finite.from_entries es) are.seen ∙ as_map are.given
+    shown_as : (m : Values) (given : List (Text × Value)) → seen_entries m.entries ≡ as_entries given → attributes_of m.entries ≡ as_attributes (finite.from_entries given)
+    shown_as m given seen = ap (λ es. finite.from_entries es) seen ∙ as_map given
+
+    -- the version of these values
+    abbrev version_of : List (Text × Value) → List (Text × Value) → Version
+    version_of own tagged = record { uid = b.uid; held = record { attributes = finite.from_entries own; tags = finite.from_entries tagged; parents = b.parents } }
+
+    shown : (own tagged : List (Text × Value)) → seen_entries attributes.entries ≡ as_entries own → seen_entries tags.entries ≡ as_entries tagged → e ≡ as_entity (version_of own tagged)
+    shown own tagged seen_own seen_tagged =
+        let shown_attributes = shown_as attributes own seen_own in
+        let shown_tags = shown_as tags tagged seen_tagged in
+        is ∙ (λ i. record { uid = b.uid; attributes = shown_attributes i; tags = shown_tags i; parents = b.parents; indirect = set_listed [] })
 
     pub made : AreEvaluated table depth b.attributes (Ok (Some attributes)) → AreEvaluated table depth b.tags (Ok (Some tags)) → IsMade table depth b (Ok (Some e))
-    made h k by serves =
-        let a = h by (for_attributes by serves) in
-        let t = k by (for_tags by serves) in
-        let shown_attributes = shown_as b.attributes attributes by a in
-        let shown_tags = shown_as b.tags tags by t in
-        record {
-          given = record { uid = b.uid; held = record { attributes = finite.from_entries a.given; tags = finite.from_entries t.given; parents = b.parents } };
-          is = λ i. version_with by (named_body b) (a.are i) (t.are i);
-          shown = is ∙ (λ i. record { uid = b.uid; attributes = shown_attributes i; tags = shown_tags i; parents = b.parents; indirect = set_listed [] });
-          fine = or_false (err by b.attributes) (err by b.tags) a.fine t.fine;
-          known = or_false (hold_unknowns by b.attributes) (hold_unknowns by b.tags) a.known t.known;
-        }
+    made h k = record {
+      shows_version = (version_of h.hold_values.0 k.hold_values.0, shown h.hold_values.0 k.hold_values.0 h.hold_values.1 k.hold_values.1);
+      is_version = λ by serves.
+          let a = h.are_values by (for_attributes by serves) in
+          let t = k.are_values by (for_tags by serves) in
+          record {
+            given = version_of a.given t.given;
+            is = λ i. version_with by (named_body b) (a.are i) (t.are i);
+            shown = shown a.given t.given a.seen t.seen;
+            fine = or_false (err by b.attributes) (err by b.tags) a.fine t.fine;
+            known = or_false (hold_unknowns by b.attributes) (hold_unknowns by b.tags) a.known t.known;
+          };
+    }

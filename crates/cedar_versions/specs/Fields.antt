@@ -57,6 +57,10 @@ IsEvaluated table depth t (Err r) = ⊥
 abbrev pub as_entries : List (Text × Value) → List (Text × Attribute)
 as_entries vs = map (λ e. (e.0, Left e.1)) vs
 
+-- what stands at each name is a value
+abbrev pub HoldValues : List (Text × Attribute) → Type 0
+HoldValues found = (given : List (Text × Value)) × (found ≡ as_entries given)
+
 module _ (by : Setting) (fs : Fields) where
   -- some tree errs
   abbrev pub err : Bool
@@ -79,8 +83,13 @@ module _ (by : Setting) (fs : Fields) where
     pub fine : err ≡ false
     pub unknown : hold_unknowns ≡ true
 
+-- what is found is values, those of the trees
+pub record AreFound (table : Extensions) (fs : Fields) (found : List (Text × Attribute)) : Type 0 where
+  pub hold_values : HoldValues found
+  pub are_values : (by : Setting) → Serves table by (some_field holds_call fs) → AreValues by fs found
+
 abbrev pub AreEvaluated : Extensions → ℕ → Fields → Result (Option (BTreeMap (RcStr Global) PartialValue)) Refusal → Type 0
-AreEvaluated table depth fs (Ok (Some m)) = (by : Setting) → Serves table by (some_field holds_call fs) → AreValues by fs (seen_entries m.entries)
+AreEvaluated table depth fs (Ok (Some m)) = AreFound table fs (seen_entries m.entries)
 AreEvaluated table depth fs (Ok None) = (by : Setting) → Serves table by (some_field holds_call fs) → AreOpen by fs
 AreEvaluated table depth fs (Err Evaluation) = (by : Setting) → Serves table by (some_field holds_call fs) → err by fs ≡ true
 AreEvaluated table depth fs (Err Depth) = some_field (deeper depth) fs ≡ true

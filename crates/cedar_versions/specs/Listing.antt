@@ -21,6 +21,8 @@ module _ (by : Setting) (bs : List EntityBody) where
     pub given : List Version
     pub are : versions by bs ≡ Some given
     pub shown : es ≡ as_entities given
+    pub fine : some_entry (errs_alone by) bs ≡ false
+    pub known : some_entry holds_unknown bs ≡ false
 
   -- none errs, and some holds an unknown
   pub record AreOpen : Type 0 where
@@ -30,9 +32,18 @@ module _ (by : Setting) (bs : List EntityBody) where
 abbrev pub all_named : List EntityBody → List EntityBody
 all_named bs = map named_body bs
 
+-- the entities are some versions
+abbrev pub ShowVersions : List EntityData → Type 0
+ShowVersions es = (vs : List Version) × (es ≡ as_entities vs)
+
+-- the entities are versions, those of the bodies
+pub record AreFound (table : Extensions) (bs : List EntityBody) (es : List EntityData) : Type 0 where
+  pub show_versions : ShowVersions es
+  pub are_versions : (by : Setting) → Serves table by (some_entry holds_call bs) → AreVersions by (all_named bs) es
+
 -- of bodies as they are written
 abbrev pub AreMade : Extensions → ℕ → List EntityBody → Result (Option (Vec EntityData)) Refusal → Type 0
-AreMade table depth bs (Ok (Some es)) = (by : Setting) → Serves table by (some_entry holds_call bs) → AreVersions by (all_named bs) es.items × (some_entry (errs_alone by) (all_named bs) ≡ false)
+AreMade table depth bs (Ok (Some es)) = AreFound table bs es.items
 AreMade table depth bs (Ok None) = (by : Setting) → Serves table by (some_entry holds_call bs) → AreOpen by (all_named bs)
 AreMade table depth bs (Err Evaluation) = (by : Setting) → Serves table by (some_entry holds_call bs) → some_entry (errs_alone by) (all_named bs) ≡ true
 AreMade table depth bs (Err Depth) = some_entry (deeper depth) bs ≡ true

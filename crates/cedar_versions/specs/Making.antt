@@ -34,8 +34,17 @@ module _ (by : Setting) (b : EntityBody) where
     pub fine : some_in (errs_alone by) b ≡ false
     pub unknown : some_in holds_unknown b ≡ true
 
+-- the entity is some version
+abbrev pub ShowsVersion : EntityData → Type 0
+ShowsVersion e = (v : Version) × (e ≡ as_entity v)
+
+-- the entity is a version, that of the body
+pub record IsFound (table : Extensions) (b : EntityBody) (e : EntityData) : Type 0 where
+  pub shows_version : ShowsVersion e
+  pub is_version : (by : Setting) → Serves table by (some_in holds_call b) → IsVersion by (named_body b) e
+
 abbrev pub IsMade : Extensions → ℕ → EntityBody → Result (Option EntityData) Refusal → Type 0
-IsMade table depth b (Ok (Some e)) = (by : Setting) → Serves table by (some_in holds_call b) → IsVersion by (named_body b) e
+IsMade table depth b (Ok (Some e)) = IsFound table b e
 IsMade table depth b (Ok None) = (by : Setting) → Serves table by (some_in holds_call b) → IsOpen by (named_body b)
 IsMade table depth b (Err Evaluation) = (by : Setting) → Serves table by (some_in holds_call b) → some_in (errs_alone by) (named_body b) ≡ true
 IsMade table depth b (Err Depth) = some_in (deeper depth) b ≡ true

@@ -8,3 +8,4 @@ mod making;
 mod values;
 
 pub use listing::listed_entities;
+pub use making::set_of;

@@ -1,12 +1,12 @@
 // Entities that bodies list.
-ghost use Rattle.std.specs.Prelude.{◌≡◌, false, map};
+ghost use Rattle.std.specs.Prelude.{◌≡◌, IfOk, false, map};
 ghost use Rattle.cedar_restricted.specs.Views.{borrowed_tree};
 ghost use Rattle.cedar_world.specs.Bodies.{holds_call};
 ghost use Rattle.cedar_world.specs.Setting.{Setting};
 ghost use Rattle.cedar_world.specs.Values.{some_entry};
 ghost use Rattle.cedar_bodies.specs.Entities.{written_of};
 ghost use Rattle.cedar_versions.specs.Fields.{unrestricted, Serves};
-ghost use Rattle.cedar_versions.specs.Listing.{AreMade, AreListed};
+ghost use Rattle.cedar_versions.specs.Listing.{ShowVersions, AreMade, AreListed};
 
 use crate::making::entity_of;
 use cedar_bodies::{EntityBody, entity_bodies};
@@ -54,7 +54,8 @@ pub fn listed_entities(
     extensions: &Extensions<'_>,
     depth: u32,
 ) -> Result<Vec<Entity>, Refusal>
-    ensures { (by : Setting) → Serves extensions.now by (holds_call (borrowed_tree body.entry)) → AreListed by depth (borrowed_tree body.entry) result }
+    ensures listed { (by : Setting) → Serves extensions.now by (holds_call (borrowed_tree body.entry)) → AreListed by depth (borrowed_tree body.entry) result }
+    ensures versions { IfOk result (λ entities. ShowVersions entities.items) }
 {
     let Some(bodies) = entity_bodies(alloc, body.as_expr())? else {
         return Err(Refusal::Shape);

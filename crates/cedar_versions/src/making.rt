@@ -17,8 +17,8 @@ use std::alloc::{AllocError, Global};
 use std::collections::{BTreeMap, HashSet};
 use std::rc::RcStr;
 
-// The uids, as a set.
-fn set_of(alloc: Global, uids: &[EntityUID]) -> Result<HashSet<EntityUID>, AllocError>
+/// The uids, as a set. It errs for want of memory alone.
+pub fn set_of(alloc: Global, uids: &[EntityUID]) -> Result<HashSet<EntityUID>, AllocError>
     ensures { IfOk result (λ made. set_listed made.keys ≡ set_listed uids.now) }
 {
     let mut made = HashSet::new(alloc);

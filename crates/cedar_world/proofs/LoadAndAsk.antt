@@ -1,5 +1,5 @@
 -- How a session that loads and asks shows its steps.
-use Rattle.std.proofs.Common.{◌≡◌, inl, ℕ, suc, ◌+◌, ◌≤◌, ◌<◌, false, Some, None, IsSome, List, [], ◌∷◌, ◌++◌, length, refl, sym, ◌∙◌, ap, subst, true≢false, arith}
+use Rattle.std.proofs.Common.{◌≡◌, inl, ℕ, suc, ◌+◌, ◌≤◌, ◌<◌, false, true, Some, None, IsSome, List, [], ◌∷◌, ◌++◌, length, refl, sym, ◌∙◌, ap, subst, true≢false, arith}
 use Rattle.std.specs.FinMap as map
 use Rattle.cedar_language.specs.Uid as uid
 use Rattle.cedar_language.specs.Tree.{Tree}
@@ -15,9 +15,9 @@ use Rattle.cedar_world.specs.Setting.{Setting, ArePoliciesWithin, ArePolicies, P
 use Rattle.cedar_world.specs.Commands.{Verb, Load, Ask, Tell, Refusal, NotUtf8, Text, Depth, NotRestricted, Shape, Evaluation, BadUnknown, IdConflict, Memory, Named, Answered, Refused, rank}
 use Rattle.cedar_world.specs.Refusals.{Stands, Refuses, AskCases}
 use Rattle.cedar_world.specs.Step.{Step, IsFirstAnswer, opens}
-use Rattle.cedar_world.proofs.Parts.{not_none}
 use Rattle.cedar_world.proofs.OneLoad.{room_or_conflict}
-use Rattle.cedar_world.proofs.SoFar.{body_is_restricted, asks_plainly, plain_errs_not, plain_names_nothing}
+use Rattle.cedar_world.proofs.SoFar.{asks_plainly, plain_errs_not, plain_names_nothing}
+use Rattle.cedar_world.proofs.BodyCommands.{not_below, no_text, not_restricted, misshapen, stands_not}
 
 -- ---- policies that all have room stand under their own numbers
 
@@ -55,9 +55,6 @@ pub joined_more : (policies : Policies) (i : ℕ) (done : List PolicySyntax) (s 
     → joined policies (done ++ s ∷ []) (own_ids i done ++ id ∷ []) ≡ map.insert (joined policies done (own_ids i done)) id (Policy s)
 joined_more policies i [] s id = refl
 joined_more policies i (d ∷ done) s id = joined_more (map.insert policies (numbered i) (Policy d)) (suc i) done s id
-
-not_below : (n : ℕ) → n < n → ⊥
-not_below n below = omega arith
 
 -- ---- commands
 
@@ -126,50 +123,37 @@ module _ (by : Setting) (old : World) (text : uid.Text) where
 
   -- ---- `ask`
 
+  says_no_utf8 : (q : Question) → AskCases by old q NotUtf8 → ⊥
+  says_no_utf8 q h = h
+
   pub ask_is_no_text : ((tree : Tree) → IsBody by text tree → ⊥) → Step by old Ask text (Refused Text) old
-  ask_is_no_text none = ((none, before), refl)
-    where
-      before : (s : Refusal) → rank s < rank Text → Stands by old text Ask s → ⊥
-      before NotUtf8 below h = h.4
-      before Text below h = not_below 2 below
-      before s below h = omega arith
+  ask_is_no_text none = (no_text by old text ask_body (AskCases by old) says_no_utf8 none, refl)
 
   pub ask_is_deep : (BodyNestsWithin by by.depth text → ⊥) → Step by old Ask text (Refused Depth) old
   ask_is_deep deep = (inl deep, refl)
 
-  -- data alone is read so far
-  restricted : (tree : Tree) → IsBody by text tree → is_restricted tree ≡ false → ⊥
-  restricted tree reads not = true≢false (sym (body_is_restricted tree reads.1.1) ∙ not)
+  module _ (once : BodiesAreOne by) (tree : Tree) (reads : IsBodyWithin by by.depth text tree) (low : height tree ≤ by.depth) where
+    pub ask_is_not_restricted : is_restricted tree ≡ false → Step by old Ask text (Refused NotRestricted) old
+    ask_is_not_restricted not = (not_restricted by old text ask_body (AskCases by old) says_no_utf8 once tree reads low not, refl)
 
-  -- no question
-  pub ask_is_misshapen : (tree : Tree) → IsBodyWithin by by.depth text tree → height tree ≤ by.depth → ask_body tree ≡ None → Step by old Ask text (Refused Shape) old
-  ask_is_misshapen tree reads high none = (((tree, (by.depth, reads), none), before), refl)
-    where
-      before : (s : Refusal) → rank s < rank Shape → Stands by old text Ask s → ⊥
-      before NotUtf8 below h = h.4
-      before Text below h = h tree (by.depth, reads)
-      before Depth below h = h (inl (tree, reads, high))
-      before NotRestricted below h = restricted h.0 h.1 h.2
-      before Shape below h = not_below 5 below
-      before s below h = omega arith
+    module _ (restricted : is_restricted tree ≡ true) where
+      -- no question
+      pub ask_is_misshapen : ask_body tree ≡ None → Step by old Ask text (Refused Shape) old
+      ask_is_misshapen none = (misshapen by old text ask_body (AskCases by old) says_no_utf8 once tree reads low restricted none, refl)
 
-  -- a question, and its first answer
-  pub ask_stands : BodiesAreOne by → (tree : Tree) (q : Question) (answer : Answer) (new : World) → IsBodyWithin by by.depth text tree → height tree ≤ by.depth
-      → ask_body tree ≡ Some q → IsFirstAnswer by old q answer → new ≡ opens old q map.empty answer → Step by old Ask text (Answered answer) new
-  ask_stands once tree q answer new reads high asks first is = (λ r h. refuses r h, (tree, q, (by.depth, reads), asks, (first, is)))
-    where
-      cases : (r : Refusal) (p : Question) (t : Tree) → ask_body t ≡ Some p → AskCases by old p r → ⊥
-      cases Evaluation p t e h = true≢false (sym h ∙ plain_errs_not by p.context (asks_plainly t p e))
-      cases BadUnknown p t e h = true≢false (sym h ∙ plain_names_nothing p.context (asks_plainly t p e))
-      cases r p t e h = h
+      -- a question, and its first answer
+      pub ask_stands : (q : Question) (answer : Answer) (new : World) → ask_body tree ≡ Some q → IsFirstAnswer by old q answer → new ≡ opens old q map.empty answer
+          → Step by old Ask text (Answered answer) new
+      ask_stands q answer new asks first is = (λ r h. refuses r h, (tree, q, (by.depth, reads), asks, (first, is)))
+        where
+          cases : (r : Refusal) → AskCases by old q r → ⊥
+          cases Evaluation h = true≢false (sym h ∙ plain_errs_not by q.context (asks_plainly tree q asks))
+          cases BadUnknown h = true≢false (sym h ∙ plain_names_nothing q.context (asks_plainly tree q asks))
+          cases r h = h
 
-      stands : (r : Refusal) → Stands by old text Ask r → ⊥
-      stands Text h = h tree (by.depth, reads)
-      stands Depth h = h (inl (tree, reads, high))
-      stands NotRestricted h = restricted h.0 h.1 h.2
-      stands Shape h = not_none q (sym h.2 ∙ ap ask_body (once text h.0 tree h.1 (by.depth, reads)) ∙ asks)
-      stands r h = cases r h.1 h.0 h.3 h.4
+          stands : (r : Refusal) → Stands by old text Ask r → ⊥
+          stands r h = stands_not by old text ask_body (AskCases by old) says_no_utf8 once tree reads low restricted q asks r (cases r) h
 
-      refuses : (r : Refusal) → Refuses by old text Ask r → ⊥
-      refuses Depth h = stands Depth h
-      refuses r h = stands r h.0
+          refuses : (r : Refusal) → Refuses by old text Ask r → ⊥
+          refuses Depth h = stands Depth h
+          refuses r h = stands r h.0

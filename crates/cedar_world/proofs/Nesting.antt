@@ -42,17 +42,17 @@ module _ (one_list : OneList) (one_expr : OneExpr) (one_policies : OnePolicies) 
     body_nests : (tree : Tree) → IsBody by text tree → IsNestingOfExpr (body_names by.functions) tokens n → BodyNestsWithin by limit text → body_nesting n tree ≤ limit
     body_nests tree reads least (inl h) =
         let same : h.0 ≡ tree = reads_once one_list one_expr by text h.0 tree (limit, h.1) reads in
-        let first : n ≤ limit = least.1 limit (h.0, subst (λ ts. IsExpr (body_names by.functions) limit ts h.0) (one_list (chars text) h.1.0.0 tokens h.1.0.1 is) h.1.0.2) in
+        let first : n ≤ limit = least.1 limit (h.0, subst (λ ts. IsExpr (body_names by.functions) limit ts h.0) (one_list (chars text) h.1.0 tokens h.1.1 is) h.1.2) in
         max_both n (height tree) limit first (subst (λ t. height t ≤ limit) same h.2)
     body_nests tree reads least (inr h) = absurd (h.0 tree reads)
 
     body_fits : (tree : Tree) → IsBody by text tree → IsNestingOfExpr (body_names by.functions) tokens n → body_nesting n tree ≤ limit → BodyNestsWithin by limit text
     body_fits tree reads least le =
         let names = body_names by.functions in
-        let own : IsExpr names reads.0 tokens tree = subst (λ ts. IsExpr names reads.0 ts tree) (one_list (chars text) reads.1.0.0 tokens reads.1.0.1 is) reads.1.0.2 in
+        let own : IsExpr names reads.0 tokens tree = subst (λ ts. IsExpr names reads.0 ts tree) (one_list (chars text) reads.1.0 tokens reads.1.1 is) reads.1.2 in
         let same : least.0.0 ≡ tree = one_expr names n reads.0 tokens least.0.0 tree least.0.1 own in
         let within : IsExpr names limit tokens tree = exprs_grow names n limit tokens tree (max_left n (height tree) limit le) (subst (IsExpr names n tokens) same least.0.1) in
-        inl (tree, ((tokens, is, within), reads.1.1), max_right n (height tree) limit le)
+        inl (tree, (tokens, is, within), max_right n (height tree) limit le)
 
   outside_policies : ((ss : List PolicySyntax) → ArePolicies by text ss → ⊥) → PoliciesNestWithin by limit text → loose_nesting text ≤ limit
   outside_policies none (inl h) = absurd (none h.0 (limit, h.1))

@@ -1,35 +1,16 @@
--- What follows of texts and bodies from the part of the language that is read so far.
+-- What follows of questions from the part of the language that is read so far.
 use Rattle.std.proofs.Common.{◌≡◌, ◌⊎◌, inl, inr, Bool, true, false, ◌&&◌, if◌then◌else◌, Option, Some, None, option_map, [], ◌∷◌, refl, sym, ◌∙◌, ap, subst, true≢false, codes}
 use Rattle.std.specs.Option.{unwrap_or}
 use Rattle.std.specs.FinMap as map
 use Rattle.cedar_language.specs.Uid.{Uid}
 use Rattle.cedar_language.specs.Tree.{String, Entity, MakeSet, MakeRecord, Tree, Lit, Apply, Trees, no_trees, a_tree}
-use Rattle.cedar_world.specs.SoFar.{is_body_so_far, context_so_far}
-use Rattle.cedar_grammar.specs.SoFar.{are_bodies_so_far}
+use Rattle.cedar_world.specs.SoFar.{context_so_far}
 use Rattle.cedar_world.specs.Asking.{Entries, NoContext, WithEntries, Question}
-use Rattle.cedar_world.specs.Bodies.{Fields, is_restricted, are_restricted, and_then, fields_of, only_with, question_fields, question_with, if_there, optional, found, entity_of, entries_of, context_of, ask_body}
+use Rattle.cedar_world.specs.Bodies.{Fields, and_then, fields_of, only_with, question_fields, question_with, if_there, optional, found, entity_of, entries_of, context_of, ask_body}
 use Rattle.cedar_world.specs.SoFar.{question_keys}
 use Rattle.cedar_world.specs.Setting.{Setting}
 use Rattle.cedar_world.specs.Values.{context_errs, holds_bad_unknown}
 use Rattle.cedar_world.proofs.Parts.{not_none, same_some}
-
--- ---- bodies are data alone
-
-both_are : (a b c d : Bool) → (a ≡ true → c ≡ true) → (b ≡ true → d ≡ true) → (a && b) ≡ true → (c && d) ≡ true
-both_are true b c d f g e = rw (f refl, g e) refl
-both_are false b c d f g e = absurd (true≢false (sym e))
-
-mutual
-  pub body_is_restricted : (t : Tree) → is_body_so_far t ≡ true → is_restricted t ≡ true
-  body_is_restricted (Lit (String s)) e = refl
-  body_is_restricted (Lit (Entity u)) e = refl
-  body_is_restricted (Apply MakeSet ts) e = bodies_are_restricted ts e
-  body_is_restricted (Apply (MakeRecord ks) ts) e = bodies_are_restricted ts e
-  body_is_restricted t e = absurd (true≢false (sym e))
-
-  pub bodies_are_restricted : (ts : Trees) → are_bodies_so_far ts ≡ true → are_restricted ts ≡ true
-  bodies_are_restricted no_trees e = refl
-  bodies_are_restricted (a_tree t ts) e = both_are (is_body_so_far t) (are_bodies_so_far ts) (is_restricted t) (are_restricted ts) (body_is_restricted t) (bodies_are_restricted ts) e
 
 -- ---- a context that is given is `{}`
 

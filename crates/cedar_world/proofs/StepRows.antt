@@ -99,10 +99,10 @@ module _ (reads_tokens : ReadsTokens) (reads_exprs : ReadsExprs) (reads_policies
   by = record { functions = functions; depth = 256 }
 
   braces_within : IsBodyWithin by 256 (codes "{}") (Apply (MakeRecord []) no_trees)
-  braces_within = ((braces, (reads_tokens (chars (codes "{}")) braces).1 braces_are, (reads_exprs (body_names functions) 256 braces (Apply (MakeRecord []) no_trees)).1 (braces_read (body_names functions))), refl)
+  braces_within = (braces, (reads_tokens (chars (codes "{}")) braces).1 braces_are, (reads_exprs (body_names functions) 256 braces (Apply (MakeRecord []) no_trees)).1 (braces_read (body_names functions)))
 
   brackets_within : IsBodyWithin by 256 (codes "[]") (Apply MakeSet no_trees)
-  brackets_within = ((brackets, (reads_tokens (chars (codes "[]")) brackets).1 brackets_are, (reads_exprs (body_names functions) 256 brackets (Apply MakeSet no_trees)).1 (brackets_read (body_names functions))), refl)
+  brackets_within = (brackets, (reads_tokens (chars (codes "[]")) brackets).1 brackets_are, (reads_exprs (body_names functions) 256 brackets (Apply MakeSet no_trees)).1 (brackets_read (body_names functions)))
 
   permit_within : ArePoliciesWithin by 256 (codes "permit(principal, action, resource);") (for_all ∷ [])
   permit_within = ((permit_for_all, (reads_tokens (chars (codes "permit(principal, action, resource);")) permit_for_all).1 permit_is, (reads_policies (policy_names functions) 256 permit_for_all (for_all ∷ [])).1 (permit_read (policy_names functions))), refl)
@@ -111,7 +111,7 @@ module _ (reads_tokens : ReadsTokens) (reads_exprs : ReadsExprs) (reads_policies
   no_quote ss reads = not_none reads.1.0.0 (sym quote_is_none ∙ (reads_tokens (chars (codes "\"")) reads.1.0.0).0 reads.1.0.1)
 
   asked_first : Step by new_world Ask (codes "{}") (Answered denied) (opens new_world all_missing map.empty denied)
-  asked_first = ask_stands by new_world (codes "{}") (reads_once one_list one_expr by) (Apply (MakeRecord []) no_trees) all_missing denied _ braces_within (omega arith) refl (nothing_denies by) refl
+  asked_first = ask_stands by new_world (codes "{}") (reads_once one_list one_expr by) (Apply (MakeRecord []) no_trees) braces_within (omega arith) refl all_missing denied _ refl (nothing_denies by) refl
 
   loaded : Step by new_world Load (codes "permit(principal, action, resource);") (Named (codes "policy0" ∷ [])) one_policy
   loaded =
@@ -120,7 +120,7 @@ module _ (reads_tokens : ReadsTokens) (reads_exprs : ReadsExprs) (reads_policies
       subst (λ ids. Step by new_world Load (codes "permit(principal, action, resource);") (Named ids) one_policy) own_number stands
 
   asked : Step by one_policy Ask (codes "{}") (Answered allowed) (opens one_policy all_missing map.empty allowed)
-  asked = ask_stands by one_policy (codes "{}") (reads_once one_list one_expr by) (Apply (MakeRecord []) no_trees) all_missing allowed _ braces_within (omega arith) refl (all_are_allowed by) refl
+  asked = ask_stands by one_policy (codes "{}") (reads_once one_list one_expr by) (Apply (MakeRecord []) no_trees) braces_within (omega arith) refl all_missing allowed _ refl (all_are_allowed by) refl
 
   row_three : Step by new_world Load (codes "permit(principal, action, resource);") (Named (codes "policy0" ∷ [])) one_policy → Step by one_policy Ask (codes "{}") (Answered allowed) (opens one_policy all_missing map.empty allowed)
       → RunText by (codes "load 36\npermit(principal, action, resource);\nask 2\n{}\n") new_world
@@ -140,7 +140,7 @@ module _ (reads_tokens : ReadsTokens) (reads_exprs : ReadsExprs) (reads_policies
   step_rows = record {
     asked_first = asked_first;
     told_first = (refl, refl);
-    no_question = ask_is_misshapen by new_world (codes "[]") (Apply MakeSet no_trees) brackets_within (omega arith) refl;
+    no_question = ask_is_misshapen by new_world (codes "[]") (reads_once one_list one_expr by) (Apply MakeSet no_trees) brackets_within (omega arith) refl refl;
     no_text = load_is_no_text by new_world (codes "\"") no_quote;
     loaded = loaded;
     asked = asked;

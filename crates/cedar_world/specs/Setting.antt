@@ -16,7 +16,7 @@ use Rattle.cedar_grammar.specs.Nesting.{loose_nesting}
 use Rattle.cedar_world.specs.Syntax.{PolicySyntax}
 use Rattle.cedar_world.specs.Asking.{Question, Told}
 use Rattle.cedar_world.specs.Functions.{Functions, policy_names, body_names, function_of}
-use Rattle.cedar_world.specs.SoFar.{are_policies_so_far, is_body_so_far}
+use Rattle.cedar_world.specs.SoFar.{are_policies_so_far}
 
 -- the functions that texts may call, and the limit of depth
 pub record Setting : Type 0 where
@@ -35,7 +35,7 @@ module _ (by : Setting) where
 
   -- the text's one expression
   abbrev pub IsBodyWithin : ℕ → Text → Tree → Type 0
-  IsBodyWithin n text tree = ReadsExpr (body_names by.functions) n text tree × (is_body_so_far tree ≡ true)
+  IsBodyWithin n text tree = ReadsExpr (body_names by.functions) n text tree
 
   abbrev pub IsBody : Text → Tree → Type 0
   IsBody text tree = (n : ℕ) × IsBodyWithin n text tree

@@ -1,9 +1,9 @@
--- What a session can't do yet, beside what the grammar's own SoFar says: a text or a body that doesn't pass its tests counts
--- as outside the grammar. All definitions of the world go through these words, so that widening them widens the session.
+-- What a session can't do yet, beside what the grammar's own SoFar says: a text that doesn't pass its tests counts as
+-- outside the grammar. All definitions of the world go through these words, so that widening them widens the session.
 use Rattle.std.specs.Prelude.{◌≡◌, Option, Some, None, List, [], ◌∷◌, ◌++◌, length, codes}
 use Rattle.cedar_language.specs.Uid.{Text}
 use Rattle.cedar_language.specs.Tree.{no_trees}
-pub use Rattle.cedar_grammar.specs.SoFar.{are_policies_so_far, is_body_so_far}
+pub use Rattle.cedar_grammar.specs.SoFar.{are_policies_so_far}
 use Rattle.cedar_world.specs.Syntax.{PolicySyntax}
 use Rattle.cedar_world.specs.World.{Policies}
 use Rattle.cedar_world.specs.Asking.{Entries, WithEntries}

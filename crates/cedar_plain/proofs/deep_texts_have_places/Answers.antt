@@ -1,6 +1,5 @@
-use Rattle.cedar_plain.proofs.Deep.{deep_bodies}
 use Rattle.cedar_plain.proofs.PoliciesDeep.{deep_policies}
 use Rattle.cedar_plain.proofs.deep_texts_have_places.Goals as goal
 
 pub returns : goal.returns
-returns c = record { bodies = deep_bodies; policies = deep_policies }
+returns c = deep_policies

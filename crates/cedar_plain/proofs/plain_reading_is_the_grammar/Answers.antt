@@ -1,6 +1,5 @@
-use Rattle.cedar_plain.proofs.Bodies.{reads_bodies}
 use Rattle.cedar_plain.proofs.Policies.{reads_policies}
 use Rattle.cedar_plain.proofs.plain_reading_is_the_grammar.Goals as goal
 
 pub returns : goal.returns
-returns c = record { bodies = reads_bodies; policies = reads_policies }
+returns c = reads_policies

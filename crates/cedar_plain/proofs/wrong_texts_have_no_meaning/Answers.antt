@@ -1,6 +1,5 @@
-use Rattle.cedar_plain.proofs.Bodies.{wrong_bodies}
 use Rattle.cedar_plain.proofs.Policies.{wrong_policies}
 use Rattle.cedar_plain.proofs.wrong_texts_have_no_meaning.Goals as goal
 
 pub returns : goal.returns
-returns c = record { bodies = wrong_bodies; policies = wrong_policies }
+returns c = wrong_policies

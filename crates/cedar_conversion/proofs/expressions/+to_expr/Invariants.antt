@@ -1,35 +1,35 @@
-use Rattle.std.proofs.Common.{◌≡◌, map, drop, List}
+use Rattle.std.proofs.Common.{map, drop}
 use Rattle.cedar_loose_grammar.specs.Loose as loose
 use Rattle.cedar_loose_grammar.specs.Converting.{or_tree, ands_tree, and_tree, relations_tree, add_tree, mults_tree, mult_tree, unaries_tree, member_tree, accesses_tree, exprs_trees, rec_inits_trees}
 use Rattle.cedar_nodes.specs.View.{view_add_op, view_mult_op}
 use Rattle.cedar_syntax.specs.View.{shown_expr, shown_or, shown_and, shown_relation, shown_add, shown_mult, shown_unary, shown_member, shown_mem_access, shown_rec_init}
-use Rattle.cedar_conversion_parts.specs.Building.{IsBuilt, AreBuilt}
-use Rattle.cedar_conversion_parts.specs.Entries.{AreEntries, IsEntry}
-use Rattle.cedar_conversion_parts.specs.Heads.{IsHead}
+use Rattle.cedar_conversion_parts.specs.Building.{IsBuilt, IsRefused, AreBuilt, AreRefused}
+use Rattle.cedar_conversion_parts.specs.Entries.{AreEntries, AreEntriesRefused}
+use Rattle.cedar_conversion_parts.specs.Heads.{IsHead, IsHeadRefused}
 use Rattle.cedar_conversion_parts.specs.SoFar.{SoFar}
 use Rattle.cedar_conversion.proofs.Trees.{items_rest, entries_rest}
 use Rattle.cedar_conversion.proofs.expressions.+to_expr.Given as goal
 
 abbrev pub invariant-or_to_expr-parts : goal.invariant-or_to_expr-parts
-invariant-or_to_expr-parts g l = SoFar (IsBuilt g.B.ExprBuilder.operations g.B.ExprBuilder.meaning) l.whole (or_tree l.styles (shown_or l.node)) (λ x. ands_tree l.styles x (loose.ands (map shown_and (drop l.part-index l.part-items))))
+invariant-or_to_expr-parts g l = SoFar (IsBuilt g.B.ExprBuilder.operations g.B.ExprBuilder.meaning) (IsRefused g.B.ExprBuilder.operations) g.B.ExprBuilder.refusal l.whole (or_tree l.styles (shown_or l.node)) (λ x. ands_tree l.styles x (loose.ands (map shown_and (drop l.part-index l.part-items))))
 
 abbrev pub invariant-and_to_expr-parts : goal.invariant-and_to_expr-parts
-invariant-and_to_expr-parts g l = SoFar (IsBuilt g.B.ExprBuilder.operations g.B.ExprBuilder.meaning) l.whole (and_tree l.styles (shown_and l.node)) (λ x. relations_tree l.styles x (loose.relations (map shown_relation (drop l.part-index l.part-items))))
+invariant-and_to_expr-parts g l = SoFar (IsBuilt g.B.ExprBuilder.operations g.B.ExprBuilder.meaning) (IsRefused g.B.ExprBuilder.operations) g.B.ExprBuilder.refusal l.whole (and_tree l.styles (shown_and l.node)) (λ x. relations_tree l.styles x (loose.relations (map shown_relation (drop l.part-index l.part-items))))
 
 abbrev pub invariant-add_to_expr-parts : goal.invariant-add_to_expr-parts
-invariant-add_to_expr-parts g l = SoFar (IsBuilt g.B.ExprBuilder.operations g.B.ExprBuilder.meaning) l.whole (add_tree l.styles (shown_add l.node)) (λ x. mults_tree l.styles x (loose.mults (map {B = loose.AddOp × loose.Mult} (λ x. (view_add_op x.0, shown_mult x.1)) (drop l.part-index l.part-items))))
+invariant-add_to_expr-parts g l = SoFar (IsBuilt g.B.ExprBuilder.operations g.B.ExprBuilder.meaning) (IsRefused g.B.ExprBuilder.operations) g.B.ExprBuilder.refusal l.whole (add_tree l.styles (shown_add l.node)) (λ x. mults_tree l.styles x (loose.mults (map {B = loose.AddOp × loose.Mult} (λ x. (view_add_op x.0, shown_mult x.1)) (drop l.part-index l.part-items))))
 
 abbrev pub invariant-mult_to_expr-parts : goal.invariant-mult_to_expr-parts
-invariant-mult_to_expr-parts g l = SoFar (IsBuilt g.B.ExprBuilder.operations g.B.ExprBuilder.meaning) l.whole (mult_tree l.styles (shown_mult l.node)) (λ x. unaries_tree l.styles x (loose.unaries (map {B = loose.MultOp × loose.Unary} (λ x. (view_mult_op x.0, shown_unary x.1)) (drop l.part-index l.part-items))))
+invariant-mult_to_expr-parts g l = SoFar (IsBuilt g.B.ExprBuilder.operations g.B.ExprBuilder.meaning) (IsRefused g.B.ExprBuilder.operations) g.B.ExprBuilder.refusal l.whole (mult_tree l.styles (shown_mult l.node)) (λ x. unaries_tree l.styles x (loose.unaries (map {B = loose.MultOp × loose.Unary} (λ x. (view_mult_op x.0, shown_unary x.1)) (drop l.part-index l.part-items))))
 
 abbrev pub invariant-member_to_expr-accesses : goal.invariant-member_to_expr-accesses
-invariant-member_to_expr-accesses g l = SoFar (IsHead g.B.ExprBuilder.operations g.B.ExprBuilder.meaning) l.head (member_tree l.styles (shown_member l.node)) (λ h. accesses_tree l.styles h (loose.accesses (map shown_mem_access (drop l.access-index l.access-items))))
+invariant-member_to_expr-accesses g l = SoFar (IsHead g.B.ExprBuilder.operations g.B.ExprBuilder.meaning) (IsHeadRefused g.B.ExprBuilder.operations) g.B.ExprBuilder.refusal l.head (member_tree l.styles (shown_member l.node)) (λ h. accesses_tree l.styles h (loose.accesses (map shown_mem_access (drop l.access-index l.access-items))))
 
 abbrev pub invariant-primary_to_head-items : goal.invariant-primary_to_head-items
-invariant-primary_to_head-items g l = SoFar (AreBuilt g.B.ExprBuilder.operations g.B.ExprBuilder.meaning) l.made (exprs_trees l.styles (loose.exprs (map shown_expr l.item-items))) (items_rest l.styles (AreBuilt g.B.ExprBuilder.operations g.B.ExprBuilder.meaning) (IsBuilt g.B.ExprBuilder.operations g.B.ExprBuilder.meaning) (drop l.item-index l.item-items))
+invariant-primary_to_head-items g l = SoFar (AreBuilt g.B.ExprBuilder.operations g.B.ExprBuilder.meaning) (AreRefused g.B.ExprBuilder.operations) g.B.ExprBuilder.refusal l.made (exprs_trees l.styles (loose.exprs (map shown_expr l.item-items))) (items_rest l.styles (drop l.item-index l.item-items))
 
 abbrev pub invariant-primary_to_head-entries : goal.invariant-primary_to_head-entries
-invariant-primary_to_head-entries g l = SoFar (AreEntries g.B.ExprBuilder.operations g.B.ExprBuilder.meaning) l.pairs (rec_inits_trees l.styles (loose.rec_inits (map shown_rec_init l.entry-items))) (entries_rest l.styles (AreEntries g.B.ExprBuilder.operations g.B.ExprBuilder.meaning) (IsEntry g.B.ExprBuilder.operations g.B.ExprBuilder.meaning) (drop l.entry-index l.entry-items))
+invariant-primary_to_head-entries g l = SoFar (AreEntries g.B.ExprBuilder.operations g.B.ExprBuilder.meaning) (AreEntriesRefused g.B.ExprBuilder.operations) g.B.ExprBuilder.refusal l.pairs (rec_inits_trees l.styles (loose.rec_inits (map shown_rec_init l.entry-items))) (entries_rest l.styles (drop l.entry-index l.entry-items))
 
 abbrev pub invariant-access_to_head-values : goal.invariant-access_to_head-values
-invariant-access_to_head-values g l = SoFar (AreBuilt g.B.ExprBuilder.operations g.B.ExprBuilder.meaning) l.values (exprs_trees l.styles (loose.exprs (map shown_expr l.arg-items))) (items_rest l.styles (AreBuilt g.B.ExprBuilder.operations g.B.ExprBuilder.meaning) (IsBuilt g.B.ExprBuilder.operations g.B.ExprBuilder.meaning) (drop l.arg-index l.arg-items))
+invariant-access_to_head-values g l = SoFar (AreBuilt g.B.ExprBuilder.operations g.B.ExprBuilder.meaning) (AreRefused g.B.ExprBuilder.operations) g.B.ExprBuilder.refusal l.values (exprs_trees l.styles (loose.exprs (map shown_expr l.arg-items))) (items_rest l.styles (drop l.arg-index l.arg-items))

@@ -7,7 +7,7 @@ use Rattle.cedar_nodes.specs.View.{shown_ident}
 use Rattle.cedar_conversion_leaves.proofs.names.to_path.Given as goal
 
 abbrev pub invariant-words : goal.invariant-words
-invariant-words l = record {
+invariant-words g l = record {
   same : each ident_text (map shown_ident l.word-items) ≡ (each ident_text (map shown_ident (drop l.word-index l.word-items)) >>= λ more. Some (l.path.items ++ more));
   unreserved : is_reserved_name l.path.items ≡ false;
 }

@@ -5,4 +5,4 @@ use Rattle.cedar_literals.specs.Patterns.{elem_of}
 use Rattle.cedar_conversion_leaves.proofs.strings.pattern_of_parts.Given as goal
 
 abbrev pub invariant-parts : goal.invariant-parts
-invariant-parts l = map elem_of l.elems.items ++ map pattern_elem (map part_view (drop l.part-index l.part-items)) ≡ map pattern_elem (map part_view l.part-items)
+invariant-parts g l = map elem_of l.elems.items ++ map pattern_elem (map part_view (drop l.part-index l.part-items)) ≡ map pattern_elem (map part_view l.part-items)

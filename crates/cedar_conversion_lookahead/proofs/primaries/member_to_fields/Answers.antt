@@ -14,7 +14,7 @@ use Rattle.cedar_conversion_lookahead.proofs.Steps.{by_name, by_text, by_nothing
 use Rattle.cedar_conversion_lookahead.proofs.primaries.member_to_fields.Goals as goal
 
 pub returns-in-Some-only_name : goal.returns-in-Some-only_name
-returns-in-Some-only_name c =
+returns-in-Some-only_name g c =
     let t = c.in-Some.member in
     let p = shown_primary (out-Member t).item.value in
     let xs = loose.accesses (map shown_mem_access (out-Member t).access.items) in
@@ -22,7 +22,7 @@ returns-in-Some-only_name c =
     subst (λ w. Finds path_texts c.words_to_fields.result w) (sym (ap member_fields (seen loose.missing_member view_member c.args.node.now t c.in-Some.is ∙ view_member_out t) ∙ by_name p (shown_name c.in-Some-only_name.name.now) xs is)) c.words_to_fields.ensures
 
 pub returns-then-is_empty : goal.returns-then-is_empty
-returns-then-is_empty c =
+returns-then-is_empty g c =
     let t = c.in-Some.member in
     let p = shown_primary (out-Member t).item.value in
     let v = (out-Member t).access in
@@ -31,7 +31,7 @@ returns-then-is_empty c =
     subst (λ w. Finds path_texts c.text_to_field.result w) (sym (ap member_fields (seen loose.missing_member view_member c.args.node.now t c.in-Some.is ∙ view_member_out t ∙ ap (λ ys. loose.member p (loose.accesses (map shown_mem_access ys))) none) ∙ by_text p is ∙ ap (λ q. primary_text (shown_primary q) >>= λ s. Some (s ∷ [])) (sym c.deref-then-is_empty.ensures))) c.text_to_field.ensures
 
 pub returns-else-is_empty : goal.returns-else-is_empty
-returns-else-is_empty c =
+returns-else-is_empty g c =
     let t = c.in-Some.member in
     let p = shown_primary (out-Member t).item.value in
     let v = (out-Member t).access in

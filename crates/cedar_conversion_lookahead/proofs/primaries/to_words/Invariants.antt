@@ -8,4 +8,4 @@ use Rattle.cedar_syntax.specs.View.{shown_mem_access}
 use Rattle.cedar_conversion_lookahead.proofs.primaries.to_words.Given as goal
 
 abbrev pub invariant-accesses : goal.invariant-accesses
-invariant-accesses l = fields (loose.accesses (map shown_mem_access l.access-items)) ≡ (fields (loose.accesses (map shown_mem_access (drop l.access-index l.access-items))) >>= λ more. Some (map rc_str_bytes l.words.items ++ more))
+invariant-accesses g l = fields (loose.accesses (map shown_mem_access l.access-items)) ≡ (fields (loose.accesses (map shown_mem_access (drop l.access-index l.access-items))) >>= λ more. Some (map rc_str_bytes l.words.items ++ more))

@@ -1,27 +1,29 @@
-use Rattle.std.proofs.Common.{◌≡◌, Option, Some, None, List, [], ◌∷◌, ◌++◌, refl, sym, ap, ◌∙◌, subst, map, rules}
+use Rattle.std.proofs.Common.{Some, ap}
 use Rattle.cedar_language.specs.Tree as tree
-use Rattle.cedar_grammar.specs.Build.{unary, binary}
+use Rattle.cedar_grammar.specs.Build.{binary}
 use Rattle.cedar_conversion_parts.specs.declared.applying.Joint.TheVariants as joint
-use Rattle.cedar_conversion_parts.specs.Building.{IsBuilt}
+use Rattle.cedar_conversion_parts.specs.Building.{IsBuilt, IsRefused}
 use Rattle.cedar_conversion_parts.specs.Joints.{joined}
-use Rattle.cedar_conversion_parts.proofs.Converting.{same_as, faulty, passed, memory, flat_err, flat_ok, both_some}
-use Rattle.cedar_conversion_parts.proofs.Made.{took, built_unary, built_binary, built_or, built_and}
+use Rattle.cedar_conversion_parts.proofs.Converting.{same_as}
+use Rattle.cedar_conversion_parts.proofs.Made.{took, built_binary}
 use Rattle.cedar_conversion_parts.proofs.applying.added.Goals as goal
 
 pub returns-in-Plus : goal.returns-in-Plus
 returns-in-Plus g c x y hx hy =
     let o = g.B.ExprBuilder.operations in
     let m = g.B.ExprBuilder.meaning in
+    let refusal = g.B.ExprBuilder.refusal in
     let a = m c.args.left in
     let b = m c.args.right in
-    same_as (IsBuilt o m) c.taken.result (Some (binary tree.Add x y)) _ (ap (λ op. joined (joint.Sum op) x y) c.in-Plus.is)
-    (took o m c.taken.result _ (binary tree.Add x y) (built_binary o tree.Add x y a b hx hy) (c.taken.ensures _ c.add.ensures))
+    same_as refusal (IsBuilt o m) (IsRefused o) c.taken.result (Some (binary tree.Add x y)) _ (ap (λ op. joined (joint.Sum op) x y) c.in-Plus.is)
+    (took o m refusal c.taken.result _ (binary tree.Add x y) (built_binary o tree.Add x y a b hx hy) (c.taken.ensures _ c.add.ensures))
 
 pub returns-in-Minus : goal.returns-in-Minus
 returns-in-Minus g c x y hx hy =
     let o = g.B.ExprBuilder.operations in
     let m = g.B.ExprBuilder.meaning in
+    let refusal = g.B.ExprBuilder.refusal in
     let a = m c.args.left in
     let b = m c.args.right in
-    same_as (IsBuilt o m) c.taken-in-Minus.result (Some (binary tree.Sub x y)) _ (ap (λ op. joined (joint.Sum op) x y) c.in-Minus.is)
-    (took o m c.taken-in-Minus.result _ (binary tree.Sub x y) (built_binary o tree.Sub x y a b hx hy) (c.taken-in-Minus.ensures _ c.sub.ensures))
+    same_as refusal (IsBuilt o m) (IsRefused o) c.taken-in-Minus.result (Some (binary tree.Sub x y)) _ (ap (λ op. joined (joint.Sum op) x y) c.in-Minus.is)
+    (took o m refusal c.taken-in-Minus.result _ (binary tree.Sub x y) (built_binary o tree.Sub x y a b hx hy) (c.taken-in-Minus.ensures _ c.sub.ensures))

@@ -1,22 +1,27 @@
-use Rattle.std.proofs.Common.{◌≡◌, Option, Some, None, Ok, List, [], ◌∷◌, ◌++◌, refl, sym, ap, ◌∙◌, subst, map, rules}
+use Rattle.std.proofs.Common.{◌≡◌, Some, Ok, [], ◌∷◌, ◌++◌, sym, ap, ◌∙◌, map, rules}
 use Rattle.std.proofs.lemmas.List.{map-append}
-use Rattle.cedar_conversion_parts.specs.Building.{IsBuilt, AreBuilt}
+use Rattle.cedar_conversion_parts.specs.Building.{IsBuilt, IsRefused, AreBuilt, AreRefused}
 use Rattle.cedar_conversion_parts.proofs.Converting.{passed, flat_err, flat_ok, both_some}
 use Rattle.cedar_conversion_parts.proofs.Made.{built_last}
+use Rattle.cedar_conversion_parts.proofs.Refusing.{refused_list, refused_early, refused_last}
 use Rattle.cedar_conversion_parts.proofs.building.pushed.Goals as goal
 
 pub returns-in_err-made : goal.returns-in_err-made
 returns-in_err-made g c v w hv hw =
     let o = g.B.ExprBuilder.operations in
     let m = g.B.ExprBuilder.meaning in
-    passed (AreBuilt o m) c.from_residual.result c.in_err-made.field-0.0 _ c.from_residual.ensures
-    (flat_err (AreBuilt o m) (IsBuilt o m) c.args.made c.args.next _ v w (λ xs x. Some (xs ++ x ∷ [])) c.in_err-made.ensures hv hw)
+    let refusal = g.B.ExprBuilder.refusal in
+    passed refusal (AreBuilt o m) (AreRefused o) c.from_residual.result c.in_err-made.field-0.0 _ c.from_residual.ensures
+    (flat_err refusal (AreBuilt o m) (AreRefused o) (IsBuilt o m) (IsRefused o) (AreRefused o) (λ xs x. Some (xs ++ x ∷ []))
+    ((λ xs x zs e h. refused_list o (xs ++ x ∷ []) zs e (refused_early o xs (x ∷ []) h)), (λ xs x zs e h. refused_list o (xs ++ x ∷ []) zs e (refused_last o xs x h)))
+    c.args.made c.args.next _ v w c.in_err-made.ensures hv hw)
 
 pub returns : goal.returns
 returns g c v w hv hw =
     let o = g.B.ExprBuilder.operations in
     let m = g.B.ExprBuilder.meaning in
-    let h = flat_ok (AreBuilt o m) (IsBuilt o m) c.args.made c.args.next (c.in_ok-made.made, c.in_ok-made.next) v w c.in_ok-made.ensures hv hw in
+    let refusal = g.B.ExprBuilder.refusal in
+    let h = flat_ok refusal (AreBuilt o m) (AreRefused o) (IsBuilt o m) (IsRefused o) c.args.made c.args.next (c.in_ok-made.made, c.in_ok-made.next) v w c.in_ok-made.ensures hv hw in
     let more : c.push.new.self.items ≡ c.in_ok-made.made.items ++ c.in_ok-made.next ∷ [] = search rules in
     record {
       value = h.0.value ++ h.1.value ∷ [];

@@ -1,45 +1,28 @@
-use Rattle.std.proofs.Common.{◌≡◌, ℕ, suc, ◌+◌, ◌<◌, Bool, true, false, Option, Some, None, Result, Ok, Err, List, [], ◌∷◌, ◌++◌, length, refl, sym, ap, ◌∙◌, subst, map, rules, arith}
-use Rattle.std.specs.Prelude.{cond, ◌==◌}
-use Rattle.std.proofs.lemmas.List.{map-append}
+use Rattle.std.proofs.Common.{◌≡◌, ◌<◌, Ok, [], length, sym, ap, ◌∙◌, map, arith}
 use Rattle.std.proofs.lemmas.List.{length-map}
-use Rattle.std.specs.Rc.{rc_str_bytes}
 use Rattle.cedar_language.specs.Tree as tree
 use Rattle.cedar_language.specs.Tree.{Tree}
-use Rattle.cedar_literals.specs.Literals.{literal_of}
-use Rattle.cedar_literals.specs.Operators.{binary_operator_of}
-use Rattle.cedar_literals.specs.Variables.{variable_of}
-use Rattle.cedar_grammar.specs.Reading.{◌>>=◌}
-use Rattle.cedar_grammar.specs.Build as build
-use Rattle.cedar_grammar.specs.Build.{Keyed, keys, by_key, record_of, trees, unary, binary, is_in, with_argument, without_argument}
-use Rattle.cedar_grammar.specs.Names.{is_function, is_among}
-use Rattle.cedar_loose_grammar.specs.Converting as converting
-use Rattle.cedar_loose_grammar.specs.Converting.{head_tree, name_path, record_tree}
-use Rattle.cedar_nodes.specs.View.{shown_name}
-use Rattle.cedar_builders.specs.Operations.{Gives}
-use Rattle.cedar_conversion_faults.specs.Reasons.{reason}
-use Rattle.cedar_conversion_leaves.specs.Converts.{Converts, Given, Finds, Misses, Lacks}
-use Rattle.cedar_conversion_leaves.specs.Fields.{path_texts}
-use Rattle.cedar_conversion_parts.specs.Building.{IsBuilt, AreBuilt}
-use Rattle.cedar_conversion_parts.specs.Entries.{keyed, meant, ordered, AreEntries, IsEntry, EachIsBuilt}
-use Rattle.cedar_conversion_parts.specs.Heads.{IsHead}
-use Rattle.cedar_conversion_parts.specs.Joints.{repeated, minus_long}
-use Rattle.cedar_conversion_parts.proofs.Converting.{same_as, faulty, passed, memory, failed, found, lacks_misses, misses_more, then_some, both_some, three, flat_err, flat_ok, flat_both, misses_both, late, early, then_then}
-use Rattle.cedar_conversion_parts.proofs.Made.{took, took_some, built_unary, built_binary, built_apply, built_none, built_more, built_last, built_if, built_or, built_and, built_literal, built_variable, built_length, nothing_built, one_built, binary_operands, some_arguments, not_one_argument, none_more, some_more, has_path}
+use Rattle.cedar_grammar.specs.Build.{unary, without_argument}
+use Rattle.cedar_conversion_parts.specs.Building.{IsRefused}
+use Rattle.cedar_conversion_parts.proofs.Converting.{faulty}
+use Rattle.cedar_conversion_parts.proofs.Made.{took_some, built_unary, built_length, nothing_built, some_arguments, none_more, some_more}
 use Rattle.cedar_conversion_parts.proofs.calls.is_empty.Goals as goal
 
 pub returns-then-is_empty : goal.returns-then-is_empty
 returns-then-is_empty g c t xs ht hxs =
     let o = g.B.ExprBuilder.operations in
     let m = g.B.ExprBuilder.meaning in
+    let refusal = g.B.ExprBuilder.refusal in
     let none = none_more c.args.args (sym c.is_empty.ensures ∙ c.if-is_empty.true) in
     let no_trees : xs ≡ [] = nothing_built o xs (hxs ∙ ap (λ ys. Ok (map m ys)) none) in
-    took_some o m c.taken.result _ (unary tree.IsEmpty t) _ (ap (without_argument tree.IsEmpty t) no_trees) (built_unary o tree.IsEmpty t (m c.args.expr) ht) (c.taken.ensures _ c.is_empty-then-is_empty.ensures)
+    took_some o m refusal c.taken.result _ (unary tree.IsEmpty t) _ (ap (without_argument tree.IsEmpty t) no_trees) (built_unary o tree.IsEmpty t (m c.args.expr) ht) (c.taken.ensures _ c.is_empty-then-is_empty.ensures)
 
 pub returns : goal.returns
 returns g c t xs ht hxs =
     let o = g.B.ExprBuilder.operations in
     let m = g.B.ExprBuilder.meaning in
+    let refusal = g.B.ExprBuilder.refusal in
     let some = some_more c.args.args (sym c.is_empty.ensures ∙ c.if-is_empty.false) in
     let same : length xs ≡ length c.args.args.items = built_length o xs _ hxs ∙ length-map c.args.args.items m in
     let more : 0 < length xs = omega (arith, some, same) in
-    faulty c.fault.result _ c.fault.ensures (some_arguments tree.IsEmpty t xs more)
+    faulty g.B.ExprBuilder.refusal (IsRefused g.B.ExprBuilder.operations) c.fault.result _ c.fault.ensures (some_arguments tree.IsEmpty t xs more)

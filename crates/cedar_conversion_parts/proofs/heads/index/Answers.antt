@@ -1,47 +1,38 @@
-use Rattle.std.proofs.Common.{◌≡◌, ℕ, suc, ◌+◌, ◌<◌, Bool, true, false, Option, Some, None, Result, Ok, Err, List, [], ◌∷◌, ◌++◌, length, refl, sym, ap, ◌∙◌, subst, map, rules, arith}
-use Rattle.std.specs.Prelude.{cond, ◌==◌}
-use Rattle.std.proofs.lemmas.List.{map-append}
+use Rattle.std.proofs.Common.{◌≡◌, Some, Ok, [], ◌∷◌, sym, ap, ◌∙◌, subst}
 use Rattle.std.specs.Rc.{rc_str_bytes}
 use Rattle.cedar_language.specs.Tree as tree
 use Rattle.cedar_language.specs.Tree.{Tree}
-use Rattle.cedar_literals.specs.Literals.{literal_of}
-use Rattle.cedar_literals.specs.Operators.{binary_operator_of}
-use Rattle.cedar_literals.specs.Variables.{variable_of}
 use Rattle.cedar_grammar.specs.Reading.{◌>>=◌}
-use Rattle.cedar_grammar.specs.Build as build
-use Rattle.cedar_grammar.specs.Build.{Keyed, keys, by_key, record_of, trees, unary, binary, is_in, with_argument, without_argument}
-use Rattle.cedar_grammar.specs.Names.{is_function, is_among}
+use Rattle.cedar_grammar.specs.Build.{unary}
 use Rattle.cedar_loose_grammar.specs.Converting as converting
 use Rattle.cedar_loose_grammar.specs.Converting.{head_tree, name_path, record_tree}
-use Rattle.cedar_nodes.specs.View.{shown_name}
-use Rattle.cedar_builders.specs.Operations.{Gives}
 use Rattle.cedar_conversion_faults.specs.Reasons.{reason}
-use Rattle.cedar_conversion_leaves.specs.Converts.{Converts, Given, Finds, Misses, Lacks}
-use Rattle.cedar_conversion_leaves.specs.Fields.{path_texts}
-use Rattle.cedar_conversion_parts.specs.Building.{IsBuilt, AreBuilt}
-use Rattle.cedar_conversion_parts.specs.Entries.{keyed, meant, ordered, AreEntries, IsEntry, EachIsBuilt}
-use Rattle.cedar_conversion_parts.specs.Heads.{IsHead}
-use Rattle.cedar_conversion_parts.specs.Joints.{repeated, minus_long}
-use Rattle.cedar_conversion_parts.proofs.Converting.{same_as, faulty, passed, memory, failed, found, lacks_misses, misses_more, then_some, both_some, three, flat_err, flat_ok, flat_both, misses_both, late, early, then_then}
-use Rattle.cedar_conversion_parts.proofs.Made.{took, took_some, built_unary, built_binary, built_apply, built_none, built_more, built_last, built_if, built_or, built_and, built_literal, built_variable, built_length, nothing_built, one_built, binary_operands, some_arguments, not_one_argument, none_more, some_more, has_path}
+use Rattle.cedar_conversion_leaves.specs.Converts.{Misses}
+use Rattle.cedar_conversion_parts.specs.Building.{IsBuilt, IsRefused}
+use Rattle.cedar_conversion_parts.specs.Heads.{IsHead, IsHeadRefused}
+use Rattle.cedar_conversion_parts.proofs.Converting.{same_as, passed, found, both_some, flat_err, flat_ok, then_then}
+use Rattle.cedar_conversion_parts.proofs.Made.{took, built_unary}
+use Rattle.cedar_conversion_parts.proofs.Refusing.{tree_head, refused_as, refused_unary}
 use Rattle.cedar_conversion_parts.proofs.heads.index.Goals as goal
 
 pub returns-in_err-expr : goal.returns-in_err-expr
 returns-in_err-expr g c v w hv hw =
     let o = g.B.ExprBuilder.operations in
     let m = g.B.ExprBuilder.meaning in
+    let refusal = g.B.ExprBuilder.refusal in
     let e = c.in_err-expr.field-0.0 in
-    passed (IsHead o m) c.from_residual.result e _ c.from_residual.ensures
-    (subst (λ z. Misses (reason e) z) (sym (then_then v head_tree (λ a. w >>= λ s. Some (converting.a_tree (unary (tree.GetAttr s) a)))))
-    (flat_err (IsBuilt o m) (λ e s. rc_str_bytes e ≡ s) c.head_to_expr-expr.result c.args.text e (v >>= head_tree) w (λ a s. Some (converting.a_tree (unary (tree.GetAttr s) a))) c.in_err-expr.ensures (c.head_to_expr-expr.ensures v hv) (found rc_str_bytes c.args.text w hw)))
+    passed refusal (IsHead o m) (IsHeadRefused o) c.from_residual.result e _ c.from_residual.ensures
+    (subst (λ z. Misses (IsHeadRefused o) refusal (reason e) z) (sym (then_then v head_tree (λ a. w >>= λ s. Some (converting.a_tree (unary (tree.GetAttr s) a)))))
+    (flat_err refusal (IsBuilt o m) (IsRefused o) (λ e s. rc_str_bytes e ≡ s) (λ s. ⊥) (IsHeadRefused o) (λ a s. Some (converting.a_tree (unary (tree.GetAttr s) a)))
+    ((λ a s z is h. tree_head o (Some (unary (tree.GetAttr s) a)) z is (λ y same. refused_as o (unary (tree.GetAttr s) a) y same (refused_unary o (tree.GetAttr s) a h))), (λ a s z is h. absurd h))
+    c.head_to_expr-expr.result c.args.text e (v >>= head_tree) w c.in_err-expr.ensures (c.head_to_expr-expr.ensures v hv) (found refusal rc_str_bytes c.args.text w hw)))
 
 pub returns : goal.returns
 returns g c v w hv hw =
     let o = g.B.ExprBuilder.operations in
     let m = g.B.ExprBuilder.meaning in
-    let h = flat_ok (IsBuilt o m) (λ e s. rc_str_bytes e ≡ s) c.head_to_expr-expr.result c.args.text (c.in_ok-expr.expr, c.in_ok-expr.text) (v >>= head_tree) w c.in_ok-expr.ensures (c.head_to_expr-expr.ensures v hv) (found rc_str_bytes c.args.text w hw) in
-    record {
-      value = converting.a_tree (unary (tree.GetAttr h.1.value) h.0.value);
-      is = then_then v head_tree (λ a. w >>= λ s. Some (converting.a_tree (unary (tree.GetAttr s) a))) ∙ both_some (v >>= head_tree) w h.0.value h.1.value (λ a s. Some (converting.a_tree (unary (tree.GetAttr s) a))) h.0.is h.1.is;
-      stands = built_unary o (tree.GetAttr h.1.value) h.0.value (m c.in_ok-expr.expr) h.0.stands ∙ ap (λ s. Ok (o.apply (tree.GetAttr s) (m c.in_ok-expr.expr ∷ []))) (sym h.1.stands) ∙ c.in_ok-expr-2.ensures _ c.get_attr.ensures;
-    }
+    let refusal = g.B.ExprBuilder.refusal in
+    let h = flat_ok refusal (IsBuilt o m) (IsRefused o) (λ e s. rc_str_bytes e ≡ s) (λ s. ⊥) c.head_to_expr-expr.result c.args.text (c.in_ok-expr.expr, c.in_ok-expr.text) (v >>= head_tree) w c.in_ok-expr.ensures (c.head_to_expr-expr.ensures v hv) (found refusal rc_str_bytes c.args.text w hw) in
+    let t = unary (tree.GetAttr h.1.value) h.0.value in
+    same_as refusal (IsHead o m) (IsHeadRefused o) c.expr_to_head.result _ _ (then_then v head_tree (λ a. w >>= λ s. Some (converting.a_tree (unary (tree.GetAttr s) a))) ∙ both_some (v >>= head_tree) w h.0.value h.1.value (λ a s. Some (converting.a_tree (unary (tree.GetAttr s) a))) h.0.is h.1.is)
+    (c.expr_to_head.ensures (Some t) (took o m refusal c.taken.result _ t (built_unary o (tree.GetAttr h.1.value) h.0.value (m c.in_ok-expr.expr) h.0.stands ∙ ap (λ s. Ok (o.apply (tree.GetAttr s) (m c.in_ok-expr.expr ∷ []))) (sym h.1.stands)) (c.taken.ensures _ c.get_attr.ensures)))

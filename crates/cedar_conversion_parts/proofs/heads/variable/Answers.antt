@@ -1,34 +1,15 @@
-use Rattle.std.proofs.Common.{◌≡◌, ℕ, suc, ◌+◌, ◌<◌, Bool, true, false, Option, Some, None, Result, Ok, Err, List, [], ◌∷◌, ◌++◌, length, refl, sym, ap, ◌∙◌, subst, map, rules, arith}
-use Rattle.std.specs.Prelude.{cond, ◌==◌}
-use Rattle.std.proofs.lemmas.List.{map-append}
-use Rattle.std.specs.Rc.{rc_str_bytes}
+use Rattle.std.proofs.Common.{Some, sym}
 use Rattle.cedar_language.specs.Tree as tree
 use Rattle.cedar_language.specs.Tree.{Tree}
-use Rattle.cedar_literals.specs.Literals.{literal_of}
-use Rattle.cedar_literals.specs.Operators.{binary_operator_of}
 use Rattle.cedar_literals.specs.Variables.{variable_of}
-use Rattle.cedar_grammar.specs.Reading.{◌>>=◌}
-use Rattle.cedar_grammar.specs.Build as build
-use Rattle.cedar_grammar.specs.Build.{Keyed, keys, by_key, record_of, trees, unary, binary, is_in, with_argument, without_argument}
-use Rattle.cedar_grammar.specs.Names.{is_function, is_among}
-use Rattle.cedar_loose_grammar.specs.Converting as converting
-use Rattle.cedar_loose_grammar.specs.Converting.{head_tree, name_path, record_tree}
-use Rattle.cedar_nodes.specs.View.{shown_name}
-use Rattle.cedar_builders.specs.Operations.{Gives}
-use Rattle.cedar_conversion_faults.specs.Reasons.{reason}
-use Rattle.cedar_conversion_leaves.specs.Converts.{Converts, Given, Finds, Misses, Lacks}
-use Rattle.cedar_conversion_leaves.specs.Fields.{path_texts}
-use Rattle.cedar_conversion_parts.specs.Building.{IsBuilt, AreBuilt}
-use Rattle.cedar_conversion_parts.specs.Entries.{keyed, meant, ordered, AreEntries, IsEntry, EachIsBuilt}
-use Rattle.cedar_conversion_parts.specs.Heads.{IsHead}
-use Rattle.cedar_conversion_parts.specs.Joints.{repeated, minus_long}
-use Rattle.cedar_conversion_parts.proofs.Converting.{same_as, faulty, passed, memory, failed, found, lacks_misses, misses_more, then_some, both_some, three, flat_err, flat_ok, flat_both, misses_both, late, early, then_then}
-use Rattle.cedar_conversion_parts.proofs.Made.{took, took_some, built_unary, built_binary, built_apply, built_none, built_more, built_last, built_if, built_or, built_and, built_literal, built_variable, built_length, nothing_built, one_built, binary_operands, some_arguments, not_one_argument, none_more, some_more, has_path}
+use Rattle.cedar_conversion_parts.proofs.Converting.{then_some}
+use Rattle.cedar_conversion_parts.proofs.Made.{took_some, built_variable}
 use Rattle.cedar_conversion_parts.proofs.heads.variable.Goals as goal
 
 pub returns-in_ok-builder-in-Some : goal.returns-in_ok-builder-in-Some
 returns-in_ok-builder-in-Some g c =
     let o = g.B.ExprBuilder.operations in
     let m = g.B.ExprBuilder.meaning in
+    let refusal = g.B.ExprBuilder.refusal in
     let v = variable_of c.in-Some.var in
-    took_some o m c.taken.result _ (tree.Var v) _ (then_some _ v (λ x. Some (tree.Var x)) (sym c.in-Some.ensures)) (built_variable o v) (c.taken.ensures _ c.var.ensures)
+    took_some o m refusal c.taken.result _ (tree.Var v) _ (then_some _ v (λ x. Some (tree.Var x)) (sym c.in-Some.ensures)) (built_variable o v) (c.taken.ensures _ c.var.ensures)

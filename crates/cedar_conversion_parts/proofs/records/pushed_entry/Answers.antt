@@ -1,37 +1,30 @@
-use Rattle.std.proofs.Common.{◌≡◌, ℕ, suc, ◌+◌, ◌<◌, Bool, true, false, Option, Some, None, Result, Ok, Err, List, [], ◌∷◌, ◌++◌, length, refl, sym, ap, ◌∙◌, subst, map, rules, arith}
-use Rattle.std.specs.Prelude.{cond, ◌==◌}
+use Rattle.std.proofs.Common.{◌≡◌, Some, [], ◌∷◌, ◌++◌, sym, ap, ◌∙◌, subst, rules}
 use Rattle.std.proofs.lemmas.List.{map-append}
 use Rattle.std.specs.Rc.{rc_str_bytes}
-use Rattle.cedar_language.specs.Tree as tree
-use Rattle.cedar_language.specs.Tree.{Tree}
-use Rattle.cedar_literals.specs.Literals.{literal_of}
-use Rattle.cedar_literals.specs.Operators.{binary_operator_of}
-use Rattle.cedar_literals.specs.Variables.{variable_of}
-use Rattle.cedar_grammar.specs.Reading.{◌>>=◌}
-use Rattle.cedar_grammar.specs.Build as build
-use Rattle.cedar_grammar.specs.Build.{Keyed, keys, by_key, record_of, trees, unary, binary, is_in, with_argument, without_argument}
-use Rattle.cedar_grammar.specs.Names.{is_function, is_among}
-use Rattle.cedar_loose_grammar.specs.Converting as converting
-use Rattle.cedar_loose_grammar.specs.Converting.{head_tree, name_path, record_tree}
-use Rattle.cedar_nodes.specs.View.{shown_name}
-use Rattle.cedar_builders.specs.Operations.{Gives}
-use Rattle.cedar_conversion_faults.specs.Reasons.{reason}
-use Rattle.cedar_conversion_leaves.specs.Converts.{Converts, Given, Finds, Misses, Lacks}
-use Rattle.cedar_conversion_leaves.specs.Fields.{path_texts}
-use Rattle.cedar_conversion_parts.specs.Building.{IsBuilt, AreBuilt}
-use Rattle.cedar_conversion_parts.specs.Entries.{keyed, meant, ordered, AreEntries, IsEntry, EachIsBuilt}
-use Rattle.cedar_conversion_parts.specs.Heads.{IsHead}
-use Rattle.cedar_conversion_parts.specs.Joints.{repeated, minus_long}
-use Rattle.cedar_conversion_parts.proofs.Converting.{same_as, faulty, passed, memory, failed, found, lacks_misses, misses_more, then_some, both_some, three, flat_err, flat_ok, flat_both, misses_both, late, early, then_then}
-use Rattle.cedar_conversion_parts.proofs.Made.{took, took_some, built_unary, built_binary, built_apply, built_none, built_more, built_last, built_if, built_or, built_and, built_literal, built_variable, built_length, nothing_built, one_built, binary_operands, some_arguments, not_one_argument, none_more, some_more, has_path}
+use Rattle.cedar_grammar.specs.Build.{Keyed}
+use Rattle.cedar_conversion_parts.specs.Entries.{meant, AreEntries, IsEntry, EachIsBuilt, IsEntryRefused, AreEntriesRefused}
+use Rattle.cedar_conversion_parts.proofs.Converting.{passed, both_some, flat_err, flat_ok}
 use Rattle.cedar_conversion_parts.proofs.Ordering.{each_last}
+use Rattle.cedar_conversion_parts.proofs.Refusing.{entries_early, entries_last}
 use Rattle.cedar_conversion_parts.proofs.records.pushed_entry.Goals as goal
+
+pub returns-in_err-made : goal.returns-in_err-made
+returns-in_err-made g c v w hv hw =
+    let o = g.B.ExprBuilder.operations in
+    let m = g.B.ExprBuilder.meaning in
+    let refusal = g.B.ExprBuilder.refusal in
+    let e = c.in_err-made.field-0.0 in
+    passed refusal (AreEntries o m) (AreEntriesRefused o) c.from_residual.result e _ c.from_residual.ensures
+    (flat_err refusal (AreEntries o m) (AreEntriesRefused o) (IsEntry o m) (IsEntryRefused o) (AreEntriesRefused o) (λ xs x. Some (xs ++ x ∷ []))
+    ((λ xs x zs is h. let same : xs ++ x ∷ [] ≡ zs = cc is in subst (AreEntriesRefused o) same (entries_early o xs x h)), (λ xs x zs is h. let same : xs ++ x ∷ [] ≡ zs = cc is in subst (AreEntriesRefused o) same (entries_last o xs x h)))
+    c.args.made c.args.next e v w c.in_err-made.ensures hv hw)
 
 pub returns : goal.returns
 returns g c v w hv hw =
     let o = g.B.ExprBuilder.operations in
     let m = g.B.ExprBuilder.meaning in
-    let h = flat_ok (AreEntries o m) (IsEntry o m) c.args.made c.args.next (c.in_ok-made.made, c.in_ok-made.next) v w c.in_ok-made.ensures hv hw in
+    let refusal = g.B.ExprBuilder.refusal in
+    let h = flat_ok refusal (AreEntries o m) (AreEntriesRefused o) (IsEntry o m) (IsEntryRefused o) c.args.made c.args.next (c.in_ok-made.made, c.in_ok-made.next) v w c.in_ok-made.ensures hv hw in
     let p : Keyed g.B.ExprBuilder.Meaning = (rc_str_bytes c.in_ok-made.next.0, m c.in_ok-made.next.1) in
     let more : c.push.new.self.items ≡ c.in_ok-made.made.items ++ c.in_ok-made.next ∷ [] = search rules in
     let both : meant m c.push.new.self.items ≡ meant m c.in_ok-made.made.items ++ p ∷ [] = ap (meant m) more ∙ map-append (λ q. (rc_str_bytes q.0, m q.1)) c.in_ok-made.made.items (c.in_ok-made.next ∷ []) in

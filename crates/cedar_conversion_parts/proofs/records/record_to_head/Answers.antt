@@ -1,53 +1,52 @@
-use Rattle.std.proofs.Common.{◌≡◌, ℕ, suc, ◌+◌, ◌<◌, Bool, true, false, Option, Some, None, Result, Ok, Err, List, [], ◌∷◌, ◌++◌, length, refl, sym, ap, ◌∙◌, subst, map, rules, arith}
-use Rattle.std.specs.Prelude.{cond, ◌==◌}
-use Rattle.std.proofs.lemmas.List.{map-append}
-use Rattle.std.specs.Rc.{rc_str_bytes}
-use Rattle.cedar_language.specs.Tree as tree
-use Rattle.cedar_language.specs.Tree.{Tree}
-use Rattle.cedar_literals.specs.Literals.{literal_of}
-use Rattle.cedar_literals.specs.Operators.{binary_operator_of}
-use Rattle.cedar_literals.specs.Variables.{variable_of}
+use Rattle.std.proofs.Common.{◌≡◌, Some, ap, ◌∙◌, subst}
 use Rattle.cedar_grammar.specs.Reading.{◌>>=◌}
-use Rattle.cedar_grammar.specs.Build as build
-use Rattle.cedar_grammar.specs.Build.{Keyed, keys, by_key, record_of, trees, unary, binary, is_in, with_argument, without_argument}
-use Rattle.cedar_grammar.specs.Names.{is_function, is_among}
+use Rattle.cedar_grammar.specs.Build.{keys, record_of}
 use Rattle.cedar_loose_grammar.specs.Converting as converting
 use Rattle.cedar_loose_grammar.specs.Converting.{head_tree, name_path, record_tree}
-use Rattle.cedar_nodes.specs.View.{shown_name}
-use Rattle.cedar_builders.specs.Operations.{Gives}
 use Rattle.cedar_conversion_faults.specs.Reasons.{reason}
-use Rattle.cedar_conversion_leaves.specs.Converts.{Converts, Given, Finds, Misses, Lacks}
-use Rattle.cedar_conversion_leaves.specs.Fields.{path_texts}
-use Rattle.cedar_conversion_parts.specs.Building.{IsBuilt, AreBuilt}
-use Rattle.cedar_conversion_parts.specs.Entries.{keyed, meant, ordered, AreEntries, IsEntry, EachIsBuilt}
-use Rattle.cedar_conversion_parts.specs.Heads.{IsHead}
-use Rattle.cedar_conversion_parts.specs.Joints.{repeated, minus_long}
-use Rattle.cedar_conversion_parts.proofs.Converting.{same_as, faulty, passed, memory, failed, found, lacks_misses, misses_more, then_some, both_some, three, flat_err, flat_ok, flat_both, misses_both, late, early, then_then}
-use Rattle.cedar_conversion_parts.proofs.Made.{took, took_some, built_unary, built_binary, built_apply, built_none, built_more, built_last, built_if, built_or, built_and, built_literal, built_variable, built_length, nothing_built, one_built, binary_operands, some_arguments, not_one_argument, none_more, some_more, has_path}
+use Rattle.cedar_conversion_leaves.specs.Converts.{Converts}
+use Rattle.cedar_conversion_parts.specs.Entries.{keyed, meant, ordered, AreEntries, AreEntriesRefused}
+use Rattle.cedar_conversion_parts.specs.Heads.{IsHead, IsHeadRefused}
+use Rattle.cedar_conversion_parts.proofs.Converting.{same_as, passed, failed, lacks_more, then_some, early}
+use Rattle.cedar_conversion_parts.proofs.Made.{took}
 use Rattle.cedar_conversion_parts.proofs.Ordering.{each_keys, keyed_keys, no_record, a_record, meant_in_order, built_record}
+use Rattle.cedar_conversion_parts.proofs.Refusing.{tree_head, refused_record}
 use Rattle.cedar_conversion_parts.proofs.records.record_to_head.Goals as goal
+
+pub returns-in_err-entries : goal.returns-in_err-entries
+returns-in_err-entries g c v hv =
+    let o = g.B.ExprBuilder.operations in
+    let m = g.B.ExprBuilder.meaning in
+    let refusal = g.B.ExprBuilder.refusal in
+    let e = c.in_err-entries.field-0.0 in
+    passed refusal (IsHead o m) (IsHeadRefused o) c.from_residual.result e _ c.from_residual.ensures
+    (failed refusal (AreEntriesRefused o) (IsHeadRefused o) (reason e) v (λ es. record_tree es >>= λ t. Some (converting.a_tree t))
+    (λ es z is h. tree_head o (record_tree es) z is (λ y same. refused_record o es y same h))
+    (subst (λ r. Converts (AreEntries o m) (AreEntriesRefused o) refusal r v) c.in_err-entries.was hv))
 
 pub returns-in_err-map : goal.returns-in_err-map
 returns-in_err-map g c v hv =
     let o = g.B.ExprBuilder.operations in
     let m = g.B.ExprBuilder.meaning in
-    let h = subst (λ r. Converts (AreEntries o m) r v) c.in_ok-entries.was hv in
+    let refusal = g.B.ExprBuilder.refusal in
+    let h = subst (λ r. Converts (AreEntries o m) (AreEntriesRefused o) refusal r v) c.in_ok-entries.was hv in
     let ps = c.in_ok-entries.entries.items in
     let same : keys (keyed ps) ≡ keys h.value = keyed_keys m ps ∙ each_keys o (meant m ps) h.value h.stands in
-    passed (IsHead o m) c.from_residual-in_err-map.result c.in_err-map.field-0.0 _ c.from_residual-in_err-map.ensures
-    (misses_more (reason c.in_err-map.field-0.0) (ordered (keyed ps)) _ (λ none. then_some v h.value (λ es. record_tree es >>= λ t. Some (converting.a_tree t)) h.is ∙ early (record_tree h.value) (λ t. Some (converting.a_tree t)) (no_record (keyed ps) h.value same none)) (lacks_misses (reason c.in_err-map.field-0.0) (ordered (keyed ps)) c.in_err-map.ensures))
+    let e = c.in_err-map.field-0.0 in
+    passed refusal (IsHead o m) (IsHeadRefused o) c.from_residual-in_err-map.result e _ c.from_residual-in_err-map.ensures
+    (lacks_more refusal (IsHeadRefused o) (reason e) (ordered (keyed ps)) _
+    (λ none. then_some v h.value (λ es. record_tree es >>= λ t. Some (converting.a_tree t)) h.is ∙ early (record_tree h.value) (λ t. Some (converting.a_tree t)) (no_record (keyed ps) h.value same none)) c.in_err-map.ensures)
 
 pub returns : goal.returns
 returns g c v hv =
     let o = g.B.ExprBuilder.operations in
     let m = g.B.ExprBuilder.meaning in
-    let h = subst (λ r. Converts (AreEntries o m) r v) c.in_ok-entries.was hv in
+    let refusal = g.B.ExprBuilder.refusal in
+    let h = subst (λ r. Converts (AreEntries o m) (AreEntriesRefused o) refusal r v) c.in_ok-entries.was hv in
     let ps = c.in_ok-entries.entries.items in
     let same : keys (keyed ps) ≡ keys h.value = keyed_keys m ps ∙ each_keys o (meant m ps) h.value h.stands in
     let r = a_record (keyed ps) (keyed c.in_ok-map.map.entries) h.value same c.in_ok-map.ensures in
     let out : c.in_ok-map.map.entries ≡ c.in_ok-pairs.pairs.items = cc c.in_ok-pairs.ensures in
-    record {
-      value = converting.a_tree (record_of h.value);
-      is = then_some v h.value (λ es. record_tree es >>= λ t. Some (converting.a_tree t)) h.is ∙ then_some (record_tree h.value) (record_of h.value) (λ t. Some (converting.a_tree t)) r.0;
-      stands = built_record o (meant m ps) h.value h.stands ∙ ap o.record_of (meant_in_order m ps c.in_ok-map.map.entries r.1 ∙ ap (meant m) out) ∙ c.in_ok-expr.ensures _ c.record.ensures;
-    }
+    let t = record_of h.value in
+    same_as refusal (IsHead o m) (IsHeadRefused o) c.expr_to_head.result _ _ (then_some v h.value (λ es. record_tree es >>= λ t. Some (converting.a_tree t)) h.is ∙ then_some (record_tree h.value) t (λ t. Some (converting.a_tree t)) r.0)
+    (c.expr_to_head.ensures (Some t) (took o m refusal c.taken.result _ t (built_record o (meant m ps) h.value h.stands ∙ ap o.record_of (meant_in_order m ps c.in_ok-map.map.entries r.1 ∙ ap (meant m) out)) (c.taken.ensures _ c.record.ensures)))

@@ -1,37 +1,31 @@
-use Rattle.std.proofs.Common.{◌≡◌, ℕ, suc, ◌+◌, ◌<◌, Bool, true, false, Option, Some, None, Result, Ok, Err, List, [], ◌∷◌, ◌++◌, length, refl, sym, ap, ◌∙◌, subst, map, rules, arith}
-use Rattle.std.specs.Prelude.{cond, ◌==◌}
-use Rattle.std.proofs.lemmas.List.{map-append}
-use Rattle.std.specs.Rc.{rc_str_bytes}
+use Rattle.std.proofs.Common.{◌≡◌, Some, Ok, [], ◌∷◌, sym, ap, ◌∙◌}
 use Rattle.cedar_language.specs.Tree as tree
 use Rattle.cedar_language.specs.Tree.{Tree}
-use Rattle.cedar_literals.specs.Literals.{literal_of}
-use Rattle.cedar_literals.specs.Operators.{binary_operator_of}
-use Rattle.cedar_literals.specs.Variables.{variable_of}
-use Rattle.cedar_grammar.specs.Reading.{◌>>=◌}
-use Rattle.cedar_grammar.specs.Build as build
-use Rattle.cedar_grammar.specs.Build.{Keyed, keys, by_key, record_of, trees, unary, binary, is_in, with_argument, without_argument}
-use Rattle.cedar_grammar.specs.Names.{is_function, is_among}
-use Rattle.cedar_loose_grammar.specs.Converting as converting
-use Rattle.cedar_loose_grammar.specs.Converting.{head_tree, name_path, record_tree}
-use Rattle.cedar_nodes.specs.View.{shown_name}
-use Rattle.cedar_builders.specs.Operations.{Gives}
-use Rattle.cedar_conversion_faults.specs.Reasons.{reason}
-use Rattle.cedar_conversion_leaves.specs.Converts.{Converts, Given, Finds, Misses, Lacks}
-use Rattle.cedar_conversion_leaves.specs.Fields.{path_texts}
-use Rattle.cedar_conversion_parts.specs.Building.{IsBuilt, AreBuilt}
-use Rattle.cedar_conversion_parts.specs.Entries.{keyed, meant, ordered, AreEntries, IsEntry, EachIsBuilt}
-use Rattle.cedar_conversion_parts.specs.Heads.{IsHead}
-use Rattle.cedar_conversion_parts.specs.Joints.{repeated, minus_long}
-use Rattle.cedar_conversion_parts.proofs.Converting.{same_as, faulty, passed, memory, failed, found, lacks_misses, misses_more, then_some, both_some, three, flat_err, flat_ok, flat_both, misses_both, late, early, then_then}
-use Rattle.cedar_conversion_parts.proofs.Made.{took, took_some, built_unary, built_binary, built_apply, built_none, built_more, built_last, built_if, built_or, built_and, built_literal, built_variable, built_length, nothing_built, one_built, binary_operands, some_arguments, not_one_argument, none_more, some_more, has_path}
+use Rattle.cedar_grammar.specs.Build.{unary}
+use Rattle.cedar_conversion_parts.specs.Building.{IsBuilt, IsRefused}
+use Rattle.cedar_conversion_parts.proofs.Converting.{passed, found, both_some, flat_err, flat_ok}
+use Rattle.cedar_conversion_parts.proofs.Made.{took_some, built_unary}
+use Rattle.cedar_conversion_parts.proofs.Refusing.{refused_as, refused_unary}
 use Rattle.cedar_conversion_parts.proofs.relations.like.Goals as goal
+
+pub returns-in_err-target : goal.returns-in_err-target
+returns-in_err-target g c v w hv hw =
+    let o = g.B.ExprBuilder.operations in
+    let m = g.B.ExprBuilder.meaning in
+    let refusal = g.B.ExprBuilder.refusal in
+    let e = c.in_err-target.field-0.0 in
+    passed refusal (IsBuilt o m) (IsRefused o) c.from_residual.result e _ c.from_residual.ensures
+    (flat_err refusal (IsBuilt o m) (IsRefused o) (λ e s. e ≡ s) (λ s. ⊥) (IsRefused o) (λ x s. Some (unary (tree.Like s) x))
+    ((λ x s z is h. refused_as o (unary (tree.Like s) x) z is (refused_unary o (tree.Like s) x h)), (λ x s z is h. absurd h))
+    c.args.target c.args.pattern e v w c.in_err-target.ensures hv (found refusal (λ s. s) c.args.pattern w hw))
 
 pub returns : goal.returns
 returns g c v w hv hw =
     let o = g.B.ExprBuilder.operations in
     let m = g.B.ExprBuilder.meaning in
-    let h = flat_ok (IsBuilt o m) (λ e s. e ≡ s) c.args.target c.args.pattern (c.in_ok-target.target, c.in_ok-target.pattern) v w c.in_ok-target.ensures hv (found (λ p. p) c.args.pattern w hw) in
+    let refusal = g.B.ExprBuilder.refusal in
+    let h = flat_ok refusal (IsBuilt o m) (IsRefused o) (λ e s. e ≡ s) (λ s. ⊥) c.args.target c.args.pattern (c.in_ok-target.target, c.in_ok-target.pattern) v w c.in_ok-target.ensures hv (found refusal (λ p. p) c.args.pattern w hw) in
     let x = h.0.value in
     let q = h.1.value in
-    took_some o m c.taken.result _ (unary (tree.Like q) x) _ (both_some v w x q (λ y r. Some (unary (tree.Like r) y)) h.0.is h.1.is)
+    took_some o m refusal c.taken.result _ (unary (tree.Like q) x) _ (both_some v w x q (λ y r. Some (unary (tree.Like r) y)) h.0.is h.1.is)
     (built_unary o (tree.Like q) x (m c.in_ok-target.target) h.0.stands ∙ ap (λ r. Ok (o.apply (tree.Like r) (m c.in_ok-target.target ∷ []))) (sym h.1.stands)) (c.taken.ensures _ c.like.ensures)

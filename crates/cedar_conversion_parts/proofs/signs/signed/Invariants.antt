@@ -1,4 +1,3 @@
-use Rattle.std.proofs.Common.{◌≡◌}
 use Rattle.cedar_language.specs.Tree.{Tree}
 use Rattle.cedar_conversion_parts.specs.Building.{IsBuilt}
 use Rattle.cedar_conversion_parts.specs.Joints.{repeated}

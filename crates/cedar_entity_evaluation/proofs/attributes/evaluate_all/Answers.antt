@@ -1,9 +1,10 @@
-use Rattle.std.proofs.Common.{subst}
+use Rattle.std.proofs.Common.{◌≤◌, subst}
+use Rattle.cedar_language.specs.Height.{height}
 use Rattle.cedar_restricted.specs.Views.{restricted_tree, restricted_entries}
 use Rattle.cedar_partial_values.specs.PartialValues.{partial_of}
 use Rattle.cedar_entity_evaluation.specs.Evaluated.{IsGiven}
 use Rattle.cedar_entity_evaluation.specs.Refused.{IsError}
-use Rattle.cedar_entity_evaluation.proofs.Giving.{goes_on, stops}
+use Rattle.cedar_entity_evaluation.proofs.Giving.{goes_on, stops, within_next}
 use Rattle.cedar_entity_evaluation.proofs.Refusing.{refused_at}
 use Rattle.cedar_entity_evaluation.proofs.attributes.evaluate_all.Goals as goal
 
@@ -19,8 +20,10 @@ pub loop-name-preserved : goal.loop-name-preserved
 loop-name-preserved c =
     let table = c.args.extensions.now in
     let given : IsGiven table (restricted_tree c.in-Some.expr) (partial_of c.in-Ok.value) =
-    subst (λ t. IsGiven table t (partial_of c.in-Ok.value)) c.as_borrowed.ensures (record { meant = c.in-Ok.ensures.meaning; answer = c.in-Ok.ensures.answer; left = c.in-Ok.ensures.left }) in (
+    subst (λ t. IsGiven table t (partial_of c.in-Ok.value)) c.as_borrowed.ensures (record { meant = c.in-Ok.ensures.meaning; answer = c.in-Ok.ensures.answer; left = c.in-Ok.ensures.left }) in
+    let within : height (restricted_tree c.in-Some.expr) ≤ c.args.depth = subst (λ t. height t ≤ c.args.depth) c.as_borrowed.ensures c.in-Ok.ensures.limit in (
       c.loop-name.invariant.0,
       goes_on table c.args.exprs.entries c.loop-name.name-iterator c.next.new.self c.loop-name.values.entries c.in-Some.name c.in-Some.expr c.loop-name.invariant.1 c.in-Some.ensures.steps
           c.insert.new.self.entries c.in-Ok.value c.into_iter-name-iterator.ensures.into_iter_gives.5 c.in_ok-insert-in-Ok.ensures.entries given,
+      within_next c.args.depth c.args.exprs.entries c.loop-name.name-iterator c.next.new.self c.in-Some.name c.in-Some.expr c.in-Some.ensures.steps c.loop-name.invariant.2 within,
     )

@@ -1,6 +1,5 @@
 use Rattle.std.proofs.Common.{◌<◌}
 use Rattle.cedar_language.specs.Height.{height}
-use Rattle.cedar_trees.specs.Bare.{bare}
 use Rattle.cedar_restricted.specs.Views.{borrowed_tree}
 use Rattle.cedar_restricted_evaluation.specs.Findings.{Evaluates}
 use Rattle.cedar_restricted_evaluation.proofs.Known.{means, answers, left}
@@ -8,15 +7,18 @@ use Rattle.cedar_restricted_evaluation.proofs.interpreting.interpret_restricted.
 
 pub returns-clause-meaning : goal.returns-clause-meaning
 returns-clause-meaning c =
-    let given : Evaluates c.args.extensions.now (borrowed_tree c.args.expr) (c.args.depth < height (borrowed_tree c.args.expr)) c.interpret.result = rw c.as_expr.ensures.tree at c.interpret.ensures in
+    let given : Evaluates c.args.extensions.now (borrowed_tree c.args.expr) (c.args.depth < height (borrowed_tree c.args.expr)) c.interpret.result = rw c.as_expr.ensures.tree at c.interpret.ensures.found in
     means c.args.extensions.now (borrowed_tree c.args.expr) c.known_is_meaning.ensures c.args.depth c.interpret.result given
 
 pub returns-clause-answer : goal.returns-clause-answer
 returns-clause-answer c =
-    let given : Evaluates c.args.extensions.now (borrowed_tree c.args.expr) (c.args.depth < height (borrowed_tree c.args.expr)) c.interpret.result = rw c.as_expr.ensures.tree at c.interpret.ensures in
+    let given : Evaluates c.args.extensions.now (borrowed_tree c.args.expr) (c.args.depth < height (borrowed_tree c.args.expr)) c.interpret.result = rw c.as_expr.ensures.tree at c.interpret.ensures.found in
     answers c.args.extensions.now (borrowed_tree c.args.expr) c.args.depth c.interpret.result given
 
 pub returns-clause-left : goal.returns-clause-left
 returns-clause-left c =
-    let given : Evaluates c.args.extensions.now (borrowed_tree c.args.expr) (c.args.depth < height (borrowed_tree c.args.expr)) c.interpret.result = rw c.as_expr.ensures.tree at c.interpret.ensures in
+    let given : Evaluates c.args.extensions.now (borrowed_tree c.args.expr) (c.args.depth < height (borrowed_tree c.args.expr)) c.interpret.result = rw c.as_expr.ensures.tree at c.interpret.ensures.found in
     left c.args.extensions.now (borrowed_tree c.args.expr) c.args.depth c.interpret.result given
+
+pub returns-clause-limit : goal.returns-clause-limit
+returns-clause-limit c = rw c.as_expr.ensures.tree at c.interpret.ensures.limit

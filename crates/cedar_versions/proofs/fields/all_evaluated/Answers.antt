@@ -48,4 +48,4 @@ pub returns-then-holds_unknown : goal.returns-then-holds_unknown
 returns-then-holds_unknown c = λ by serves. waits c.args.extensions.now c.args.entries.now.entries c.loop-name.values.entries by (ended c.args.extensions.now c.args.entries.now.entries c.loop-name.name-iterator c.loop-name.values.entries c.loop-name.holds_unknown _ c.in-None.ensures.steps.0 c.if-holds_unknown.true c.loop-name.invariant.2) serves
 
 pub returns-else-holds_unknown : goal.returns-else-holds_unknown
-returns-else-holds_unknown c = λ by serves. found c.args.extensions.now c.args.entries.now.entries c.loop-name.values.entries by (ended c.args.extensions.now c.args.entries.now.entries c.loop-name.name-iterator c.loop-name.values.entries c.loop-name.holds_unknown _ c.in-None.ensures.steps.0 c.if-holds_unknown.false c.loop-name.invariant.2) serves
+returns-else-holds_unknown c = found c.args.extensions.now c.args.entries.now.entries c.loop-name.values.entries (ended c.args.extensions.now c.args.entries.now.entries c.loop-name.name-iterator c.loop-name.values.entries c.loop-name.holds_unknown _ c.in-None.ensures.steps.0 c.if-holds_unknown.false c.loop-name.invariant.2)

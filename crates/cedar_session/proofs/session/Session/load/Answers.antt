@@ -20,4 +20,4 @@ returns-in_err-ids-clause-step c =
 pub returns-clause-step : goal.returns-clause-step
 returns-clause-step c =
     let by = setting_of c.args.self.now in
-    loaded by (world_of c.args.self.now) c.args.text.now (c.texts_are_one.ensures.policies by) (map policy_of c.in_ok-policies.policies.items) _ c.in_ok-ids.ids (c.in_ok-policies.ensures by refl) c.in_ok-ids.ensures
+    rw (c.close.ensures) (loaded by (world_of c.args.self.now) c.args.text.now (c.texts_are_one.ensures.policies by) (map policy_of c.in_ok-policies.policies.items) _ c.in_ok-ids.ids (c.in_ok-policies.ensures by refl) c.in_ok-ids.ensures)

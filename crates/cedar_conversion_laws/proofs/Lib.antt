@@ -1,0 +1,5 @@
+mod Rising
+mod Holding
+mod Fine
+mod Constructs
+pub mod Written

@@ -1,0 +1,2 @@
+mod EditedStores
+mod EditedBodies

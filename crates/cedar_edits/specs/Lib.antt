@@ -1,0 +1,4 @@
+pub mod Holding
+pub mod Refusals
+pub mod Stores
+pub mod Edits

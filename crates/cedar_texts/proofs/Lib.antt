@@ -1,0 +1,4 @@
+mod Lowness
+mod Texts
+mod Bodies
+mod Callers

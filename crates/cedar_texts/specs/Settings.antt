@@ -1,0 +1,22 @@
+-- What texts may call and how deep they may be, by the table that an evaluation knows.
+use Rattle.std.specs.Prelude.{ℕ, [], Bool, false}
+use Rattle.cedar_language.specs.Uid.{Name}
+use Rattle.cedar_names.specs.Names.{is_unqualified}
+use Rattle.cedar_language.specs.Tree.{no_trees}
+use Rattle.cedar_world.specs.Functions.{Functions, CallStyle, as_function, as_method}
+use Rattle.cedar_world.specs.Setting.{Setting}
+use Rattle.cedar_extensions.specs.Defining.{defined}
+use Rattle.cedar_extensions.specs.Tables.{functions_in}
+use Rattle.cedar_extensions.specs.declared.extensions.Extensions.{Extensions}
+
+-- the functions of the table; none gives an extension value, so that none is written
+abbrev pub functions_of : Extensions → Functions
+functions_of extensions = defined (λ e. record { function = []; arguments = no_trees }) (functions_in extensions)
+
+abbrev pub setting_with : Extensions → ℕ → Setting
+setting_with extensions depth = record { functions = functions_of extensions; depth = depth }
+
+-- what is called behind its first argument; a method has no namespace
+abbrev pub is_method : CallStyle → Name → Bool
+is_method as_method name = is_unqualified name
+is_method as_function name = false

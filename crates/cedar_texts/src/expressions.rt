@@ -1,0 +1,82 @@
+// The expression of a text.
+ghost use Rattle.std.specs.Prelude.{◌≡◌, IfOk, false};
+ghost use Rattle.cedar_loose_grammar.specs.Converting.{expr_tree};
+ghost use Rattle.cedar_syntax.specs.View.{shown_expr};
+ghost use Rattle.cedar_trees.specs.Bare.{bare};
+ghost use Rattle.cedar_world.specs.Bodies.{holds_call};
+ghost use Rattle.cedar_texts.specs.Trees.{LacksUnknown, ReadsLoosely, Writes, ReadsTree};
+
+use cedar_builders::own_builder::ExprBuilder;
+use cedar_conversion::to_expr;
+use cedar_conversion_faults::ConversionError;
+use cedar_conversion_laws::{calls_are_named, trees_are_built};
+use cedar_grammar::at_most_one_meaning;
+use cedar_loose::parse_expr;
+use cedar_loose_grammar::{converting_is_the_grammar, wider_limits_change_nothing};
+use cedar_parse_errors::ParseError;
+use cedar_replies::Refusal;
+use cedar_styles::ExtStyles;
+use cedar_syntax::cst;
+use cedar_syntax::node::Node;
+use cedar_trees::expr::Expr;
+use std::alloc::Global;
+
+/// The expression that a text is within a nesting of `depth`, where these names may be called.
+///
+/// It is refused `Text` where the text is none within any nesting, `Depth` where it is none within
+/// this one and more places in it open a construct, and `Memory`.
+pub(crate) fn expression(
+    alloc: Global,
+    text: &str,
+    styles: &ExtStyles,
+    depth: u32,
+) -> Result<Expr, Refusal>
+    ensures tree { ReadsTree styles.now depth text.now result }
+    ensures calls { IfOk result (λ expr. LacksUnknown styles.now → holds_call (bare expr) ≡ false) }
+{
+    // These run no code: their contracts are laws of the grammars.
+    at_most_one_meaning();
+    converting_is_the_grammar();
+    wider_limits_change_nothing();
+
+    let tree = loose_tree(alloc, text, depth)?;
+    converted(alloc, &tree, styles)
+}
+
+// The loose tree of a text.
+fn loose_tree(alloc: Global, text: &str, depth: u32) -> Result<Node<Option<cst::Expr>>, Refusal>
+    ensures { ReadsLoosely depth text.now result }
+{
+    match parse_expr(alloc, text, depth) {
+        Ok(tree) => Ok(tree),
+        Err(errors) => match errors.0.head {
+            ParseError::ToCST(_) => Err(Refusal::Text),
+            ParseError::Depth => Err(Refusal::Depth),
+            ParseError::Memory => Err(Refusal::Memory),
+        },
+    }
+}
+
+// The expression that a loose tree writes. The builder refuses only a record with a key twice, and no
+// loose tree is converted to one.
+fn converted(
+    alloc: Global,
+    tree: &Node<Option<cst::Expr>>,
+    styles: &ExtStyles,
+) -> Result<Expr, Refusal>
+    ensures tree { Writes (expr_tree styles.now (shown_expr tree.now)) result }
+    ensures calls { IfOk result (λ expr. LacksUnknown styles.now → holds_call (bare expr) ≡ false) }
+{
+    // These run no code: their contracts are laws of what a conversion gives.
+    trees_are_built();
+    calls_are_named();
+
+    match to_expr::<ExprBuilder>(alloc, tree, styles) {
+        Ok(expr) => Ok(expr),
+        Err(error) => match &error {
+            ConversionError::Faults(_) => Err(Refusal::Text),
+            ConversionError::Builder(_) => Err(Refusal::Memory),
+            ConversionError::Memory => Err(Refusal::Memory),
+        },
+    }
+}
