@@ -22,7 +22,7 @@ pub enum Edit {
 
 impl Edit {
     /// The edit of this name, or none.
-    pub fn named(name: &str) -> Edit {
+    pub(crate) fn named(name: &str) -> Edit {
         match name {
             "add" => Edit::Add,
             "put" => Edit::Put,
@@ -32,7 +32,7 @@ impl Edit {
     }
 
     /// The store that the edit leaves.
-    pub fn apply(self, alloc: Global, store: Entities) -> Result<Entities> {
+    pub(crate) fn apply(self, alloc: Global, store: Entities) -> Result<Entities> {
         match self {
             Edit::Nothing => Ok(store),
             Edit::Add => add(alloc, store),
@@ -67,7 +67,7 @@ fn remove(alloc: Global, store: Entities) -> Result<Entities> {
 }
 
 /// How many ancestors all entities have together.
-pub fn count_ancestors(store: &Entities) -> u64 {
+pub(crate) fn count_ancestors(store: &Entities) -> u64 {
     let mut count: u64 = 0;
     for entity in store {
         count = count.saturating_add(entity.ancestors().count() as u64);

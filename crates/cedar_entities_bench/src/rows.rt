@@ -16,7 +16,7 @@ const LEVELS: u16 = 5;
 const USERS_TO_A_GROUP: u16 = 50;
 
 /// The uid of the entity of this number in a level; users are level 0.
-pub fn uid(alloc: Global, level: u16, number: u32) -> Result<EntityUID> {
+pub(crate) fn uid(alloc: Global, level: u16, number: u32) -> Result<EntityUID> {
     let name = if level == 0 { "User" } else { "Group" };
     let entity_type = EntityType::from(Name::parse_unqualified_name(alloc, name)?);
     let id = format!(in alloc; "{level}.{number}")?;
@@ -37,7 +37,7 @@ fn entity(alloc: Global, level: u16, number: u32, groups: u32) -> Result<Entity>
 }
 
 /// The store of so many users, and their groups.
-pub fn build(alloc: Global, users: u16) -> Result<Entities> {
+pub(crate) fn build(alloc: Global, users: u16) -> Result<Entities> {
     let groups = u32::from((users / USERS_TO_A_GROUP).max(1));
     let mut entities = Vec::new(alloc);
     for number in 0..u32::from(users) {
