@@ -15,4 +15,5 @@ mod First
 mod Scope
 mod Plain
 mod Alike
+mod OnePut
 mod Unsatisfied

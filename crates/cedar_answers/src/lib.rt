@@ -3,6 +3,7 @@
 
 ghost use Rattle.cedar_answers.specs.First.{FirstAnswersStand};
 ghost use Rattle.cedar_answers.specs.InForce.{AnswersReadWhatIsInForce, LinksAreAnsweredAsWritten};
+ghost use Rattle.cedar_answers.specs.OnePut.{OnePutAnswersAlike};
 ghost use Rattle.cedar_answers.specs.Plain.{ScopesAnswer};
 ghost use Rattle.cedar_answers.specs.Scope.{ScopesSettle};
 ghost use Rattle.cedar_answers.specs.Standing.{AnswersAreMade, UnsatisfiedSayNothing};
@@ -52,4 +53,11 @@ pub fn links_are_answered_as_written()
     ensures { LinksAreAnsweredAsWritten }
 {
     cedar_world::link_laws();
+}
+
+/// Where nothing was held, a `put` of a list of what edits left elsewhere, each entity with its direct parents, gives the same answers as those edits.
+pub fn one_put_answers_alike()
+    ensures { OnePutAnswersAlike }
+{
+    cedar_world::put_makes_again();
 }

@@ -1,11 +1,7 @@
 // Why a constraint is refused.
-use cedar_trees::unknowns::NonEmpty;
+pub use cedar_policy_errors::InvalidActionType;
 use cedar_uids::slots::Slot;
-use cedar_uids::uids::EntityUID;
 use std::alloc::{AllocError, AllocFailed};
-use std::error::Error;
-use std::fmt;
-use std::rc::Rc;
 use thiserror::Error;
 
 /// A slot stands where none may.
@@ -40,37 +36,6 @@ impl<T: Drop> From<AllocFailed<T>> for UnexpectedSlotError {
         UnexpectedSlotError::Memory(AllocError)
     }
 }
-
-/// A scope names entities as actions that are none.
-#[derive(Debug, PartialEq, Eq, Drop)]
-pub struct InvalidActionType {
-    /// Those whose type's last identifier isn't `Action`.
-    pub euids: NonEmpty<Rc<EntityUID>>,
-}
-
-impl fmt::Display for InvalidActionType {
-    fn fmt<W: fmt::Write>(&self, f: &mut fmt::Formatter<W>) -> fmt::Result {
-        let first = &self.euids.head;
-        match self.euids.tail.split_last() {
-            None => write!(
-                f,
-                "expected an entity uid with type `Action` but got `{first}`"
-            ),
-            Some((last, between)) => {
-                write!(
-                    f,
-                    "expected entity uids with type `Action` but got `{first}`"
-                )?;
-                for euid in between {
-                    write!(f, ", `{euid}`")?;
-                }
-                write!(f, " and `{last}`")
-            }
-        }
-    }
-}
-
-impl Error for InvalidActionType {}
 
 /// Why the uids of a constraint aren't taken as actions.
 #[derive(Debug, PartialEq, Eq, Drop, Error)]

@@ -3,9 +3,14 @@ use cedar_cst::UnescapeError;
 use cedar_literals::operators::UnaryOp;
 use cedar_literals::variables::Var;
 use cedar_names::errors::ReservedNameError;
-use cedar_names::identifiers::UnreservedId;
+use cedar_names::identifiers::{AnyId, UnreservedId};
 use cedar_names::names::Name;
-use cedar_nodes::cst::Ident;
+use cedar_nodes::cst::{Ident, RelOp};
+use cedar_policies::PolicyID;
+use cedar_policy_errors::{
+    ExpectedStaticPolicy, ExpectedTemplate, InvalidActionType, SlotsInConditionClause,
+    WrongEntityArgument,
+};
 use cedar_trees::errors::ExpressionConstructionError;
 use std::error::Error;
 use std::fmt;
@@ -14,6 +19,55 @@ use std::rc::RcStr;
 /// Why a part of a loose tree means nothing.
 #[derive(Debug, PartialEq, Eq, Drop)]
 pub enum ToASTErrorKind {
+    /// A template has an id that another one has.
+    DuplicateTemplateId(PolicyID),
+    /// A policy has an id that another one has.
+    DuplicatePolicyId(PolicyID),
+    /// A template stands where a static policy should.
+    ExpectedStaticPolicy(ExpectedStaticPolicy),
+    /// A static policy stands where a template should.
+    ExpectedTemplate(ExpectedTemplate),
+    /// A key of an annotation stands twice.
+    DuplicateAnnotation(AnyId),
+    /// A slot stands in a clause.
+    SlotsInConditionClause(SlotsInConditionClause),
+    /// The scope lacks this variable.
+    MissingScopeVariable(Var),
+    /// The scope has more than three parts: this one.
+    ExtraScopeElement(RcStr),
+    /// What stands where `permit` or `forbid` should.
+    InvalidEffect(Ident),
+    /// What stands where `when` or `unless` should.
+    InvalidCondition(Ident),
+    /// What stands where a variable of the scope should.
+    InvalidScopeVariable(Ident),
+    /// Another variable of the scope should stand there.
+    IncorrectVariable {
+        /// The variable that should stand there.
+        expected: Var,
+        /// The variable that stands there.
+        got: Var,
+    },
+    /// The scope compares a principal or a resource by another operator than `==` and `in`.
+    InvalidScopeOperator(RelOp),
+    /// The scope compares the action by another operator than `==` and `in`.
+    InvalidActionScopeOperator(RelOp),
+    /// The scope asks for a type of the action.
+    IsInActionScope,
+    /// The scope compares by `==` behind `is`.
+    IsWithEq,
+    /// The scope names entities as actions that are none.
+    InvalidActionType(InvalidActionType),
+    /// A clause holds nothing; how it begins, where that is known.
+    EmptyClause(Option<Ident>),
+    /// A member is accessed in a way that the grammar has not.
+    MembershipInvariantViolation,
+    /// The scope has a name behind `:`.
+    TypeConstraints,
+    /// The scope compares its variable with what it can't be compared with.
+    WrongEntityArgument(WrongEntityArgument),
+    /// An `in` stands before the `is` that it should follow.
+    InvertedIsIn,
     /// A word that the grammar keeps for itself stands where an identifier should.
     ReservedIdentifier(Ident),
     /// What stands where an identifier should is none.
@@ -113,6 +167,80 @@ pub enum ToASTErrorKind {
 impl fmt::Display for ToASTErrorKind {
     fn fmt<W: fmt::Write>(&self, f: &mut fmt::Formatter<W>) -> fmt::Result {
         match self {
+            ToASTErrorKind::DuplicateTemplateId(id) => write!(f, "duplicate template id: {id}"),
+            ToASTErrorKind::DuplicatePolicyId(id) => write!(f, "duplicate policy id: {id}"),
+            ToASTErrorKind::ExpectedStaticPolicy(error) => write!(f, "{error}"),
+            ToASTErrorKind::ExpectedTemplate(error) => write!(f, "{error}"),
+            ToASTErrorKind::DuplicateAnnotation(key) => {
+                write!(f, "duplicate annotation: @{key}")
+            }
+            ToASTErrorKind::SlotsInConditionClause(error) => write!(f, "{error}"),
+            ToASTErrorKind::InvalidEffect(word) => write!(f, "invalid policy effect: {word}"),
+            ToASTErrorKind::InvalidCondition(word) => {
+                write!(f, "invalid policy condition: {word}")
+            }
+            ToASTErrorKind::EmptyClause(Some(word)) => {
+                write!(f, "`{word}` condition clause cannot be empty")
+            }
+            ToASTErrorKind::EmptyClause(None) => { write!(f, "condition clause cannot be empty") }
+            _ => self.fmt_scope(f),
+        }
+    }
+}
+
+impl Error for ToASTErrorKind {}
+
+impl ToASTErrorKind {
+    // The texts of faults of scopes.
+    fn fmt_scope<W: fmt::Write>(&self, f: &mut fmt::Formatter<W>) -> fmt::Result {
+        match self {
+            ToASTErrorKind::MissingScopeVariable(var) => write!(
+                f,
+                "this policy is missing the `{var}` variable in the scope"
+            ),
+            ToASTErrorKind::ExtraScopeElement(text) => write!(
+                f,
+                "this policy has an extra element in the scope: {text}"
+            ),
+            ToASTErrorKind::InvalidScopeVariable(word) => write!(
+                f,
+                "found an invalid variable in the policy scope: {word}"
+            ),
+            ToASTErrorKind::IncorrectVariable { expected, got } => write!(
+                f,
+                "found the variable `{got}` where the variable `{expected}` must be used"
+            ),
+            ToASTErrorKind::InvalidScopeOperator(op) => {
+                write!(f, "invalid operator in the policy scope: {op}")
+            }
+            ToASTErrorKind::InvalidActionScopeOperator(op) => write!(
+                f,
+                "invalid operator in the policy scope for the action: {op}"
+            ),
+            ToASTErrorKind::IsInActionScope => {
+                write!(
+                    f,
+                    "`is` cannot appear in the scope's constraint of the action"
+                )
+            }
+            ToASTErrorKind::IsWithEq => write!(f, "`is` cannot be used together with `==`"),
+            ToASTErrorKind::InvalidActionType(error) => write!(f, "{error}"),
+            ToASTErrorKind::TypeConstraints => write!(
+                f,
+                "type constraints using `:` are not supported"
+            ),
+            ToASTErrorKind::WrongEntityArgument(error) => write!(f, "{error}"),
+            ToASTErrorKind::InvertedIsIn => write!(
+                f,
+                "when `is` and `in` are used together, `is` must come first"
+            ),
+            _ => self.fmt_word(f),
+        }
+    }
+
+    // The texts of faults of words and names.
+    fn fmt_word<W: fmt::Write>(&self, f: &mut fmt::Formatter<W>) -> fmt::Result {
+        match self {
             ToASTErrorKind::ReservedIdentifier(word) => {
                 write!(f, "this identifier is reserved and cannot be used: {word}")
             }
@@ -137,11 +265,7 @@ impl fmt::Display for ToASTErrorKind {
             _ => self.fmt_operator(f),
         }
     }
-}
 
-impl Error for ToASTErrorKind {}
-
-impl ToASTErrorKind {
     // The texts of faults of operators and operands.
     fn fmt_operator<W: fmt::Write>(&self, f: &mut fmt::Formatter<W>) -> fmt::Result {
         match self {
@@ -214,6 +338,9 @@ impl ToASTErrorKind {
                 write!(f, "`{slot}` is not a valid template slot")
             }
             ToASTErrorKind::ReservedNamespace(error) => write!(f, "{error}"),
+            ToASTErrorKind::MembershipInvariantViolation => {
+                write!(f, "a member is accessed in an unknown way")
+            }
             _ => write!(f, "a part of the text was not read"),
         }
     }

@@ -6,5 +6,5 @@ mod flattening;
 mod kinds;
 
 pub use errors::{ConversionError, ToASTError};
-pub use flattening::flatten_tuple_2;
+pub use flattening::{flatten_tuple_2, flatten_tuple_3, flatten_tuple_4};
 pub use kinds::ToASTErrorKind;

@@ -9,7 +9,7 @@ use Rattle.cedar_grammar.specs.Token.{Word, Other, spelled, word_of, word_among,
 use Rattle.cedar_grammar.specs.Names.{variable_of}
 use Rattle.cedar_names.specs.Identifiers.{is_identifier, is_keyword, IsUnreservedId}
 use Rattle.cedar_loose_grammar.specs.Loose as loose
-use Rattle.cedar_loose_grammar.specs.Converting.{ident_text, name_variable}
+use Rattle.cedar_loose_grammar.specs.Converting.{ident_text, ident_spelling, name_variable}
 use Rattle.cedar_nodes.specs.View.{written_ident}
 use Rattle.cedar_conversion_leaves.specs.Words.{ident_variable}
 
@@ -99,6 +99,40 @@ written_not s none = by (is_identifier s) refl (id_of (word_of s)) refl
     by false i o e = ap (λ b. ident_text (cond b (loose.ident (word_of s)) (loose.invalid_ident s))) i
     by true i None e = ap (λ b. ident_text (cond b (loose.ident (word_of s)) (loose.invalid_ident s))) i ∙ e
     by true i (Some t) e = absurd (none (identified s t i e))
+
+-- ---- identifiers that may be reserved
+
+pub word_spelled : (s : Text) → spelled (word_of s) ≡ s
+word_spelled s =
+    let P : Word → Type 0 = λ w. spelled w ≡ s in
+    step P token.True (drop 1 named_words) s (λ e. e)
+    (step P token.False (drop 2 named_words) s (λ e. e)
+    (step P token.If (drop 3 named_words) s (λ e. e)
+    (step P token.Then (drop 4 named_words) s (λ e. e)
+    (step P token.Else (drop 5 named_words) s (λ e. e)
+    (step P token.In (drop 6 named_words) s (λ e. e)
+    (step P token.Like (drop 7 named_words) s (λ e. e)
+    (step P token.Has (drop 8 named_words) s (λ e. e)
+    (step P token.Is (drop 9 named_words) s (λ e. e)
+    (step P token.Cedar (drop 10 named_words) s (λ e. e)
+    (step P token.Permit (drop 11 named_words) s (λ e. e)
+    (step P token.Forbid (drop 12 named_words) s (λ e. e)
+    (step P token.When (drop 13 named_words) s (λ e. e)
+    (step P token.Unless (drop 14 named_words) s (λ e. e)
+    (step P token.Principal (drop 15 named_words) s (λ e. e)
+    (step P token.Action (drop 16 named_words) s (λ e. e)
+    (step P token.Resource (drop 17 named_words) s (λ e. e)
+    (step P token.Context (drop 18 named_words) s (λ e. e) refl)))))))))))))))))
+
+pub any_written : (s : Text) → is_identifier s ≡ true → ident_spelling (written_ident s) ≡ Some s
+any_written s i = ap (λ b. ident_spelling (cond b (loose.ident (word_of s)) (loose.invalid_ident s))) i ∙ ap Some (word_spelled s)
+
+pub none_written : (s : Text) → (is_identifier s ≡ true → ⊥) → ident_spelling (written_ident s) ≡ None
+none_written s none = by (is_identifier s) refl
+  where
+    by : (b : Bool) → is_identifier s ≡ b → ident_spelling (written_ident s) ≡ None
+    by true i = absurd (none i)
+    by false i = ap (λ b. ident_spelling (cond b (loose.ident (word_of s)) (loose.invalid_ident s))) i
 
 -- ---- variables
 

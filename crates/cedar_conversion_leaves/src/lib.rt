@@ -7,6 +7,6 @@ mod strings;
 mod variables;
 
 pub use literals::{to_literal, to_ref};
-pub use names::{to_name, to_unreserved_ident};
+pub use names::{spelling, to_any_ident, to_name, to_unreserved_ident};
 pub use strings::{to_pattern, to_text};
-pub use variables::to_variable;
+pub use variables::{to_variable, word_to_variable};

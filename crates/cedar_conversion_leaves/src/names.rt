@@ -1,15 +1,17 @@
 // Words and names.
 ghost use Rattle.std.specs.Prelude.{◌≡◌, MatchOption, IfOk, None, map, false};
-ghost use Rattle.cedar_loose_grammar.specs.Converting.{ident_text, name_path, each};
+ghost use Rattle.cedar_loose_grammar.specs.Converting.{ident_text, ident_spelling, name_path, each};
 ghost use Rattle.cedar_nodes.specs.View.{view_ident, shown_ident, shown_name, written_ident};
 ghost use Rattle.cedar_conversion_faults.specs.Reasons.{IsFault};
 ghost use Rattle.cedar_names.specs.Names.{is_reserved_name};
 ghost use Rattle.cedar_conversion_leaves.specs.Converts.{Finds};
 
 use cedar_conversion_faults::{ConversionError, ToASTErrorKind};
-use cedar_names::identifiers::{Id, UnreservedId, is_normalized_ident};
+use cedar_names::errors::ParseNameError;
+use cedar_names::identifiers::{AnyId, Id, UnreservedId, is_normalized_ident};
 use cedar_names::names::{InternalName, Name};
 use cedar_names::places::Loc;
+use cedar_names::reading::FromNormalizedStr;
 use cedar_nodes::cst;
 use cedar_nodes::cst::Ident;
 use cedar_nodes::node::Node;
@@ -17,8 +19,8 @@ use std::alloc::{AllocError, Global};
 use std::rc::RcStr;
 
 /// How a word is written; none where it is invalid.
-pub(crate) fn spelling(ident: &Ident) -> Option<&str>
-    ensures { MatchOption result (ident_text (view_ident ident.now) ≡ None)
+pub fn spelling(ident: &Ident) -> Option<&str>
+    ensures { MatchOption result ((ident_text (view_ident ident.now) ≡ None) × (ident_spelling (view_ident ident.now) ≡ None))
         (λ text. view_ident ident.now ≡ written_ident text.now) }
 {
     match ident {
@@ -92,6 +94,39 @@ pub fn to_unreserved_ident<E: Drop>(
         return Err(no_identifier(alloc, ident, node.loc()));
     };
     match unreserved(alloc, text)? {
+        Some(id) => Ok(id),
+        None => Err(no_identifier(alloc, ident, node.loc())),
+    }
+}
+
+// The identifier that is so written, reserved or not.
+#[tactic(auto, using(crate::proofs::Words::any_written, crate::proofs::Words::none_written))]
+fn any_identifier(alloc: Global, text: &str) -> Result<Option<AnyId>, AllocError>
+    ensures { IfOk result (λ id. id ≡ ident_spelling (written_ident text.now)) }
+{
+    match AnyId::from_normalized_str(alloc, text) {
+        Ok(id) => Ok(Some(id)),
+        Err(ParseNameError::NotNormalized) => Ok(None),
+        Err(ParseNameError::Reserved(_)) => unreachable!(),
+        Err(ParseNameError::Memory(error)) => Err(error),
+    }
+}
+
+/// The identifier of a word, which may be reserved, as the key of an annotation may; faults where the word
+/// is missing or invalid.
+pub fn to_any_ident<E: Drop>(
+    alloc: Global,
+    node: &Node<Option<Ident>>,
+) -> Result<AnyId, ConversionError<E>>
+    ensures { Finds (λ id. id) result (ident_spelling (shown_ident node.now)) }
+{
+    let Some(ident) = &node.node else {
+        return Err(ConversionError::missing(alloc, node.loc()));
+    };
+    let Some(text) = spelling(ident) else {
+        return Err(no_identifier(alloc, ident, node.loc()));
+    };
+    match any_identifier(alloc, text)? {
         Some(id) => Ok(id),
         None => Err(no_identifier(alloc, ident, node.loc())),
     }

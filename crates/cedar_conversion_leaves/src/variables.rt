@@ -24,8 +24,8 @@ fn variable_named(text: &str) -> Option<Var>
     }
 }
 
-// The variable that a word is.
-fn word_to_variable(node: &Node<Option<Ident>>) -> Option<Var>
+/// The variable that a word is, if it is one.
+pub fn word_to_variable(node: &Node<Option<Ident>>) -> Option<Var>
     ensures { option_map variable_of result ≡ ident_variable (shown_ident node.now) }
 {
     match &node.node {

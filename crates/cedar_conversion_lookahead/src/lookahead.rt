@@ -11,8 +11,8 @@ use cedar_syntax::cst::{
     Add, And, Expr, ExprData, Literal, Member, Mult, Name, Or, Primary, Relation, Unary,
 };
 
-// The chain of `||` that an expression is.
-fn only_or(node: &Node<Option<Expr>>) -> Option<&Node<Option<Or>>>
+/// The chain of `||` that an expression is, if it is one.
+pub fn only_or(node: &Node<Option<Expr>>) -> Option<&Node<Option<Or>>>
     ensures { option_map (λ n. shown_or n.now) result ≡ alone.only_or (shown_expr node.now) }
 {
     match &node.node {
@@ -26,8 +26,8 @@ fn only_or(node: &Node<Option<Expr>>) -> Option<&Node<Option<Or>>>
     }
 }
 
-// The lone operand of a chain of `||`.
-fn only_and(node: &Node<Option<Or>>) -> Option<&Node<Option<And>>>
+/// The lone operand of a chain of `||`.
+pub fn only_and(node: &Node<Option<Or>>) -> Option<&Node<Option<And>>>
     ensures { option_map (λ n. shown_and n.now) result ≡ alone.only_and (shown_or node.now) }
 {
     match &node.node {
@@ -42,8 +42,8 @@ fn only_and(node: &Node<Option<Or>>) -> Option<&Node<Option<And>>>
     }
 }
 
-// The lone operand of a chain of `&&`.
-fn only_relation(node: &Node<Option<And>>) -> Option<&Node<Option<Relation>>>
+/// The lone operand of a chain of `&&`.
+pub fn only_relation(node: &Node<Option<And>>) -> Option<&Node<Option<Relation>>>
     ensures { option_map (λ n. shown_relation n.now) result ≡ alone.only_relation (shown_and node.now) }
 {
     match &node.node {
@@ -58,8 +58,8 @@ fn only_relation(node: &Node<Option<And>>) -> Option<&Node<Option<Relation>>>
     }
 }
 
-// The lone operand of a relation.
-fn only_add(node: &Node<Option<Relation>>) -> Option<&Node<Option<Add>>>
+/// The lone operand of a relation.
+pub fn only_add(node: &Node<Option<Relation>>) -> Option<&Node<Option<Add>>>
     ensures { option_map (λ n. shown_add n.now) result ≡ alone.only_add (shown_relation node.now) }
 {
     match &node.node {
@@ -79,8 +79,8 @@ fn only_add(node: &Node<Option<Relation>>) -> Option<&Node<Option<Add>>>
     }
 }
 
-// The lone operand of a sum.
-fn only_mult(node: &Node<Option<Add>>) -> Option<&Node<Option<Mult>>>
+/// The lone operand of a sum.
+pub fn only_mult(node: &Node<Option<Add>>) -> Option<&Node<Option<Mult>>>
     ensures { option_map (λ n. shown_mult n.now) result ≡ alone.only_mult (shown_add node.now) }
 {
     match &node.node {
@@ -95,8 +95,8 @@ fn only_mult(node: &Node<Option<Add>>) -> Option<&Node<Option<Mult>>>
     }
 }
 
-// The lone operand of a product.
-fn only_unary(node: &Node<Option<Mult>>) -> Option<&Node<Option<Unary>>>
+/// The lone operand of a product.
+pub fn only_unary(node: &Node<Option<Mult>>) -> Option<&Node<Option<Unary>>>
     ensures { option_map (λ n. shown_unary n.now) result ≡ alone.only_unary (shown_mult node.now) }
 {
     match &node.node {
@@ -111,8 +111,8 @@ fn only_unary(node: &Node<Option<Mult>>) -> Option<&Node<Option<Unary>>>
     }
 }
 
-// The operand without signs.
-fn unsigned(node: &Node<Option<Unary>>) -> Option<&Node<Option<Member>>>
+/// The operand without signs.
+pub fn unsigned(node: &Node<Option<Unary>>) -> Option<&Node<Option<Member>>>
     ensures { option_map (λ n. shown_member n.now) result ≡ alone.unsigned (shown_unary node.now) }
 {
     match &node.node {

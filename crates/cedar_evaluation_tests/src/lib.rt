@@ -1,4 +1,4 @@
-//! Tests of restricted expressions, errors, extensions, restricted evaluation and validation.
+//! Tests of errors, extensions, restricted evaluation and validation.
 #![tactic(auto)]
 
 #[cfg(test)]
@@ -9,8 +9,6 @@ mod errors;
 mod expressions;
 #[cfg(test)]
 mod extensions;
-#[cfg(test)]
-mod restricted;
 #[cfg(test)]
 mod restricted_evaluation;
 #[cfg(test)]

@@ -81,9 +81,6 @@ impl Verb {
     pub fn is_offered(self) -> bool
         ensures { result ≡ is_offered self }
     {
-        matches!(
-            self,
-            Verb::Load | Verb::Add | Verb::Put | Verb::Remove | Verb::Ask
-        )
+        !matches!(self, Verb::Tell)
     }
 }

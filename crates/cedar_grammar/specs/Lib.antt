@@ -10,5 +10,4 @@ pub mod Nesting
 pub mod Gaps
 pub mod Reading
 pub mod ReadingPolicies
-pub mod SoFar
 pub mod Laws

@@ -49,6 +49,11 @@ pub record IsLink (t : Template) (new_id : Text) (b : Bindings) (p : Policy) : T
 
 -- the template as a policy of its own, where it has no slot; refused for its first slot otherwise, or for memory
 abbrev pub TakesOwn : Template → Result Policy UnexpectedSlotError → Type 0
-TakesOwn t (Ok p) = IsOwn (template_id t) (syntax_of t) p × (grammar.slots (syntax_of t) ≡ [])
+TakesOwn t (Ok p) = IsOwn (template_id t) (syntax_of t) p × (policy_template p ≡ t) × (grammar.slots (syntax_of t) ≡ [])
 TakesOwn t (Err (FoundSlot s)) = IsFirstSlot (grammar.slots (syntax_of t)) s.id
 TakesOwn t (Err (Memory e)) = ⊤
+
+-- a link, which has an id of its own, keeps its template
+abbrev pub KeepsTemplate : Option Text → Template → Template → Type 0
+KeepsTemplate None t u = ⊤
+KeepsTemplate (Some id) t u = u ≡ t

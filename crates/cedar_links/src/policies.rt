@@ -37,7 +37,7 @@ pub struct Policy {
 }
 
 impl Policy {
-    ghost use Rattle.cedar_links.specs.Policies.{policy_template, policy_syntax, policy_id, link_of, bindings_of, written, IsOwn, IsLink};
+    ghost use Rattle.cedar_links.specs.Policies.{KeepsTemplate, policy_template, policy_syntax, policy_id, link_of, bindings_of, written, IsOwn, IsLink};
 
     // The link of this template, or the static policy that it is.
     pub(crate) fn new(template: Rc<Template>, link: Option<PolicyID>, values: SlotEnv) -> Policy
@@ -146,6 +146,7 @@ impl Policy {
         ensures syntax { IfOk result (λ made. policy_syntax made ≡ policy_syntax self.now) }
         ensures bindings { IfOk result (λ made. bindings_of made ≡ bindings_of self.now) }
         ensures link { IfOk result (λ made. is_some (link_of made) ≡ is_some (link_of self.now)) }
+        ensures template { IfOk result (λ made. KeepsTemplate (link_of self.now) (policy_template self.now) (policy_template made)) }
     {
         let values = self.values.clone(alloc)?;
         match &self.link {

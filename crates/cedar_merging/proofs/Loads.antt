@@ -27,7 +27,8 @@ use Rattle.cedar_policy_set.proofs.WorldLaws.{ties_are, finds_as_worlds, binds_a
 use Rattle.cedar_merging.specs.Renaming as merging
 use Rattle.cedar_merging.specs.Renaming.{NewIds, is_taken, conflicts, conflicting, Numbers, IsRenaming, new_id, renamed}
 use Rattle.cedar_merging.specs.Merged.{renamed_entry, is_more, joining, joined}
-use Rattle.cedar_merging.specs.Loading.{text_entry, text_entries, HaveSlots, LoadsAsWorlds}
+use Rattle.cedar_policy_set.specs.Texts.{text_entry, text_entries, HaveSlots}
+use Rattle.cedar_merging.specs.Loading.{LoadsAsWorlds}
 use Rattle.cedar_merging.proofs.Joins.{member_of_filter}
 use Rattle.cedar_merging.proofs.Keeps.{false_unless, not_false, or_none, not_renamed}
 use Rattle.cedar_merging.proofs.Numbers.{id_apart, numbered_injective}

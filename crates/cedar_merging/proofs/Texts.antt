@@ -14,7 +14,7 @@ use Rattle.cedar_policy_set.specs.Entries.{Entry, static_policy, template, link,
 use Rattle.cedar_policy_set.specs.Worlds.{world_bound}
 use Rattle.cedar_policy_set.proofs.Finding.{same_id, id_itself}
 use Rattle.cedar_merging.specs.Renaming.{NewIds, renamed}
-use Rattle.cedar_merging.specs.Loading.{text_entry, text_entries}
+use Rattle.cedar_policy_set.specs.Texts.{text_entry, text_entries}
 use Rattle.cedar_merging.proofs.Numbers.{numbered_injective, numbered_apart}
 use Rattle.cedar_merging.proofs.Wholes.{of_all}
 

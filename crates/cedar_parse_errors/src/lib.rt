@@ -2,5 +2,7 @@
 #![tactic(auto)]
 
 mod errors;
+mod literals;
 
 pub use errors::{ParseError, ParseErrors, ToCSTError};
+pub use literals::LiteralParseError;

@@ -1,7 +1,9 @@
-use crate::asserts::assert_text;
 use cedar_expected::{Kinds, POLICY_TOKEN_CONFIG};
+use cedar_literals::variables::Var;
 use cedar_names::places::{Loc, Span};
-use cedar_parse_errors::{ParseError, ParseErrors, ToCSTError};
+use cedar_parse_errors::{LiteralParseError, ParseError, ParseErrors, ToCSTError};
+use cedar_test_asserts::{assert_text, text_of};
+use cedar_trees::expr::Expr;
 use std::alloc::Global;
 use std::rc::RcStr;
 use std::test::Fail;
@@ -42,18 +44,29 @@ fn told_of_end(alloc: Global) -> Result<String, Fail> {
 }
 
 fn told_of_errors(alloc: Global) -> Result<String, Fail> {
-    Ok(invalid(alloc)?.to_string(alloc)?)
+    Ok(text_of(alloc, invalid(alloc)?)?)
+}
+
+fn told_of_no_expression(alloc: Global) -> Result<String, Fail> {
+    Ok(text_of(alloc, LiteralParseError::from(invalid(alloc)?))?)
+}
+
+fn told_of_no_literal(alloc: Global) -> Result<String, Fail> {
+    let error = LiteralParseError::InvalidLiteral(Expr::var(Var::Principal));
+    Ok(text_of(alloc, error)?)
 }
 
 #[test]
 fn errors_are_told(rt: HostRuntime) -> Result<(), Fail> {
     let alloc = rt.alloc();
-    assert_text(
-        &rt,
-        told_of_token(alloc),
-        "unexpected token `+`: expected `;`",
-    )?;
-    assert_text(&rt, told_of_end(alloc), "unexpected end of input")?;
-    assert_text(&rt, told_of_errors(alloc), "invalid token")?;
-    Ok(())
+    assert_text(told_of_token(alloc), "unexpected token `+`: expected `;`")?;
+    assert_text(told_of_end(alloc), "unexpected end of input")?;
+    assert_text(told_of_errors(alloc), "invalid token")
+}
+
+#[test]
+fn errors_of_literals_are_told(rt: HostRuntime) -> Result<(), Fail> {
+    let alloc = rt.alloc();
+    assert_text(told_of_no_expression(alloc), "invalid token")?;
+    assert_text(told_of_no_literal(alloc), "invalid literal: `principal`")
 }

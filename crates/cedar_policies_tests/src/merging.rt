@@ -1,5 +1,4 @@
 // What merges rename, and what they leave.
-use crate::asserts::assert_text;
 use cedar_annotations::annotations::Annotations;
 use cedar_constraints::actions::ActionConstraint;
 use cedar_constraints::bindings::SlotEnv;
@@ -12,6 +11,7 @@ use cedar_policy_set::errors::PolicySetError;
 use cedar_policy_set::sets::PolicySet;
 use cedar_templates::static_policies::StaticPolicy;
 use cedar_templates::templates::Template;
+use cedar_test_asserts::assert_text;
 use cedar_uids::slots::SlotId;
 use cedar_uids::uids::EntityUID;
 use std::alloc::Global;
@@ -188,6 +188,6 @@ fn refused(alloc: Global) -> Result<String, Fail> {
 #[test]
 fn renaming_may_be_refused(rt: HostRuntime) -> Result<(), Fail> {
     let alloc = rt.alloc();
-    assert_text(&rt, refused(alloc), "policy0")?;
+    assert_text(refused(alloc), "policy0")?;
     Ok(())
 }

@@ -1,14 +1,18 @@
 // What sets hold where there is memory.
-use crate::asserts::{assert_text, assert_value, text_of};
 use cedar_annotations::annotations::Annotations;
 use cedar_constraints::actions::ActionConstraint;
 use cedar_constraints::bindings::SlotEnv;
 use cedar_constraints::principals::PrincipalConstraint;
 use cedar_constraints::resources::ResourceConstraint;
+use cedar_extensions::extensions::Extensions;
+use cedar_links::policies::Policy;
+use cedar_names::names::Name;
 use cedar_policies::{Effect, PolicyID};
 use cedar_policy_set::sets::PolicySet;
 use cedar_templates::static_policies::StaticPolicy;
 use cedar_templates::templates::Template;
+use cedar_test_asserts::{assert_text, assert_value, text_of};
+use cedar_trees::expr::Expr;
 use cedar_uids::slots::SlotId;
 use cedar_uids::uids::EntityUID;
 use std::alloc::Global;
@@ -100,7 +104,7 @@ fn is_unlinked(alloc: Global) -> Result<bool, Fail> {
 
 #[test]
 fn links_hold_their_template(rt: HostRuntime) -> Result<(), Fail> {
-    assert_value(&rt, with_a_policy(rt.alloc()), 3)?;
+    assert_value(with_a_policy(rt.alloc()), 3)?;
     assert!(rt; is_occupied(rt.alloc())?);
     assert!(rt; is_template_kept(rt.alloc())?);
     assert!(rt; is_unlinked(rt.alloc())?);
@@ -168,12 +172,12 @@ fn linked(alloc: Global, template: &str) -> Result<String, Fail> {
 #[test]
 fn sets_are_listed_in_order(rt: HostRuntime) -> Result<(), Fail> {
     let alloc = rt.alloc();
-    assert_text(&rt, ids_of_policies(alloc), "lp p")?;
-    assert_text(&rt, ids_of_templates(alloc), "tp t")?;
-    assert_text(&rt, ids_given_up(alloc), "lp")?;
-    assert_text(&rt, linked(alloc, "t"), "l")?;
-    assert_text(&rt, linked(alloc, "p"), "p")?;
-    assert_text(&rt, linked(alloc, "l"), "no template `l`")?;
+    assert_text(ids_of_policies(alloc), "lp p")?;
+    assert_text(ids_of_templates(alloc), "tp t")?;
+    assert_text(ids_given_up(alloc), "lp")?;
+    assert_text(linked(alloc, "t"), "l")?;
+    assert_text(linked(alloc, "p"), "p")?;
+    assert_text(linked(alloc, "l"), "no template `l`")?;
     Ok(())
 }
 
@@ -184,7 +188,6 @@ fn printed(alloc: Global) -> Result<String, Fail> {
 #[test]
 fn sets_are_printed(rt: HostRuntime) -> Result<(), Fail> {
     assert_text(
-        &rt,
         printed(rt.alloc()),
         "Template Instance of t, slots: [?principal -> User::\"a\"]\nforbid(\n  principal,\n  action,\n  resource\n);",
     )?;
@@ -209,19 +212,16 @@ fn not_linked(alloc: Global, template: &str, link: &str, bound: bool) -> Result<
 #[test]
 fn links_are_refused(rt: HostRuntime) -> Result<(), Fail> {
     let alloc = rt.alloc();
-    assert_text(&rt, not_linked(alloc, "t", "m", true), "")?;
+    assert_text(not_linked(alloc, "t", "m", true), "")?;
     assert_text(
-        &rt,
         not_linked(alloc, "p", "m", true),
         "failed to find a template with id `p`",
     )?;
     assert_text(
-        &rt,
         not_linked(alloc, "t", "l", true),
         "template-linked policy id `l` conflicts with an existing policy id",
     )?;
     assert_text(
-        &rt,
         not_linked(alloc, "t", "m", false),
         "the following slots were not provided as arguments: ?principal",
     )?;
@@ -258,25 +258,21 @@ fn template_not_removed(alloc: Global, template: &str) -> Result<String, Fail> {
 #[test]
 fn removals_are_refused(rt: HostRuntime) -> Result<(), Fail> {
     let alloc = rt.alloc();
-    assert_text(&rt, not_unlinked(alloc, "l"), "l")?;
+    assert_text(not_unlinked(alloc, "l"), "l")?;
     assert_text(
-        &rt,
         not_unlinked(alloc, "m"),
         "unable to unlink policy id `m` because it does not exist",
     )?;
     assert_text(
-        &rt,
         not_unlinked(alloc, "p"),
         "unable to remove link with policy id `p` because it is not a link",
     )?;
-    assert_text(&rt, not_removed(alloc, "p"), "p")?;
+    assert_text(not_removed(alloc, "p"), "p")?;
     assert_text(
-        &rt,
         not_removed(alloc, "t"),
         "unable to remove static policy id `t` from link list because it does not exist",
     )?;
     assert_text(
-        &rt,
         not_removed(alloc, "l"),
         "unable to remove static policy id `l` from template list because it does not exist",
     )?;
@@ -287,17 +283,14 @@ fn removals_are_refused(rt: HostRuntime) -> Result<(), Fail> {
 fn templates_are_kept(rt: HostRuntime) -> Result<(), Fail> {
     let alloc = rt.alloc();
     assert_text(
-        &rt,
         template_not_removed(alloc, "m"),
         "unable to remove template id `m` from template list because it does not exist",
     )?;
     assert_text(
-        &rt,
         template_not_removed(alloc, "t"),
         "unable to remove template id `t` from template list because it still has active links",
     )?;
     assert_text(
-        &rt,
         template_not_removed(alloc, "p"),
         "unable to remove template with policy id `p` because it is not a template",
     )?;
@@ -330,8 +323,20 @@ fn with_slotless_link(alloc: Global) -> Result<PolicySet, Fail> {
     Ok(set)
 }
 
+/// `permit(principal, action, resource) when { f() };`
+fn with_a_call(alloc: Global) -> Result<PolicySet, Fail> {
+    let name = Name::parse_unqualified_name(alloc, "f")?;
+    let call = Expr::call_extension_fn(alloc, name, Vec::new(alloc))?;
+    let id = id(alloc, "c")?;
+    let policy = Policy::from_when_clause(alloc, Effect::Permit, call, id, None)?;
+    let mut set = PolicySet::new(alloc);
+    set.add(alloc, policy)?;
+    Ok(set)
+}
+
 fn validated(alloc: Global, set: PolicySet) -> Result<String, Fail> {
-    match set.try_validate(alloc) {
+    let extensions = Extensions::all_available(alloc)?;
+    match set.try_validate(alloc, &extensions) {
         Ok(()) => Ok(String::new(alloc)),
         Err(error) => Ok(text_of(alloc, error)?),
     }
@@ -340,11 +345,14 @@ fn validated(alloc: Global, set: PolicySet) -> Result<String, Fail> {
 #[test]
 fn sets_are_validated(rt: HostRuntime) -> Result<(), Fail> {
     let alloc = rt.alloc();
-    assert_text(&rt, validated(alloc, mixed(alloc)?), "")?;
+    assert_text(validated(alloc, mixed(alloc)?), "")?;
     assert_text(
-        &rt,
         validated(alloc, with_slotless_link(alloc)?),
         "policy `l` is a link of a template without slots",
+    )?;
+    assert_text(
+        validated(alloc, with_a_call(alloc)?),
+        "invalid template `c`: extension function `f` does not exist",
     )?;
     Ok(())
 }

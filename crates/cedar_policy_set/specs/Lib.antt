@@ -5,3 +5,4 @@ pub mod Refused
 pub mod Validated
 pub mod BoundsLeft
 pub mod Worlds
+pub mod Texts

@@ -76,12 +76,12 @@ is_template_at (Some (static_policy s)) = false
 is_template_at (Some (template s)) = true
 is_template_at (Some (link t s b)) = false
 
--- Why an id isn't linked to a template: the template's id isn't bound to one, the slots given aren't exactly its slots,
--- or the id is bound. Or there is no memory.
+-- Why an id isn't linked to a template: the template's id isn't bound to one; or it is, and the slots given aren't exactly
+-- its slots; or they are, and the id is bound. Or there is no memory.
 abbrev pub IsLinkRefusal : Entries → Text → Text → Bindings → linking.LinkingError → Type 0
 IsLinkRefusal es t id b (NoSuchTemplate u) = (u ≡ t) × (is_template_at (bound_at es t) ≡ false)
 IsLinkRefusal es t id b (ArityError lack more) = (s : Policy) × (bound_at es t ≡ Some (template s)) × (binds_exactly b s ≡ false) × (lack.items ≡ lacking b s) × (more.items ≡ extra b s)
-IsLinkRefusal es t id b (PolicyIdConflict u) = (u ≡ id) × (is_bound es id ≡ true)
+IsLinkRefusal es t id b (PolicyIdConflict u) = (s : Policy) × (bound_at es t ≡ Some (template s)) × (binds_exactly b s ≡ true) × (u ≡ id) × (is_bound es id ≡ true)
 IsLinkRefusal es t id b (LinkingMemory e) = ⊤
 
 -- the id is linked to a template

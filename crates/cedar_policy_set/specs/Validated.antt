@@ -2,6 +2,7 @@
 use Rattle.std.specs.Prelude.{◌≡◌, ◌≢◌, ◌⊎◌, ⊤, [], ◌∷◌, Result, Ok, Err}
 use Rattle.cedar_language.specs.Uid.{Text}
 use Rattle.cedar_grammar.specs.Policy.{Policy, slots}
+use Rattle.cedar_extensions.specs.declared.extensions.Extensions.{Extensions}
 use Rattle.cedar_templates.specs.Validation.{Validates}
 use Rattle.cedar_templates.specs.declared.errors.TemplateValidationError.{TemplateValidationError}
 use Rattle.cedar_policy_set.specs.Entries.{Entry, static_policy, template, link, Entries}
@@ -19,11 +20,11 @@ abbrev pub accepted : Result Unit PolicySetValidationError
 accepted = Ok tt
 
 -- the template is valid, or is refused for why it isn't
-abbrev pub ValidatesTemplate : {A : Type 0} → Text → Policy → Result A PolicySetValidationError → Type 0
-ValidatesTemplate id s (Ok a) = Validates s (Ok a)
-ValidatesTemplate id s (Err (InvalidTemplate i error)) = (i ≡ id) × Validates s (refused_by error)
-ValidatesTemplate id s (Err (LinkToSlotlessTemplate i)) = ⊥
-ValidatesTemplate id s (Err (Memory e)) = ⊤
+abbrev pub ValidatesTemplate : {A : Type 0} → Extensions → Text → Policy → Result A PolicySetValidationError → Type 0
+ValidatesTemplate table id s (Ok a) = Validates table s (Ok a)
+ValidatesTemplate table id s (Err (InvalidTemplate i error)) = (i ≡ id) × Validates table s (refused_by error)
+ValidatesTemplate table id s (Err (LinkToSlotlessTemplate i)) = ⊥
+ValidatesTemplate table id s (Err (Memory e)) = ⊤
 
 -- the link is of a template with slots, or is refused
 abbrev pub ValidatesLink : {A : Type 0} → Text → Policy → Result A PolicySetValidationError → Type 0
@@ -32,17 +33,17 @@ ValidatesLink id s (Err (InvalidTemplate i error)) = ⊥
 ValidatesLink id s (Err (LinkToSlotlessTemplate i)) = (i ≡ id) × (slots s ≡ [])
 ValidatesLink id s (Err (Memory e)) = ⊤
 
-abbrev pub ValidatesOne : {A : Type 0} → Text → Entry → Result A PolicySetValidationError → Type 0
-ValidatesOne id (static_policy s) r = ValidatesTemplate id s r
-ValidatesOne id (template s) r = ValidatesTemplate id s r
-ValidatesOne id (link t s b) r = ValidatesLink id s r
+abbrev pub ValidatesOne : {A : Type 0} → Extensions → Text → Entry → Result A PolicySetValidationError → Type 0
+ValidatesOne table id (static_policy s) r = ValidatesTemplate table id s r
+ValidatesOne table id (template s) r = ValidatesTemplate table id s r
+ValidatesOne table id (link t s b) r = ValidatesLink id s r
 
-abbrev pub StopsAtInvalid : {A : Type 0} → Text × Entry → Result A PolicySetValidationError → Type 0
-StopsAtInvalid e (Ok a) = ⊥
-StopsAtInvalid e (Err error) = ValidatesOne e.0 e.1 (refused_for error)
+abbrev pub StopsAtInvalid : {A : Type 0} → Extensions → Text × Entry → Result A PolicySetValidationError → Type 0
+StopsAtInvalid table e (Ok a) = ⊥
+StopsAtInvalid table e (Err error) = ValidatesOne table e.0 e.1 (refused_for error)
 
 -- Each is valid in turn, up to the first that isn't, for which the set is refused.
-abbrev pub ValidatesAll : {A : Type 0} → Entries → Result A PolicySetValidationError → Type 0
-ValidatesAll [] (Ok a) = ⊤
-ValidatesAll [] (Err error) = ⊥
-ValidatesAll (e ∷ es) r = (ValidatesOne e.0 e.1 accepted × ValidatesAll es r) ⊎ StopsAtInvalid e r
+abbrev pub ValidatesAll : {A : Type 0} → Extensions → Entries → Result A PolicySetValidationError → Type 0
+ValidatesAll table [] (Ok a) = ⊤
+ValidatesAll table [] (Err error) = ⊥
+ValidatesAll table (e ∷ es) r = (ValidatesOne table e.0 e.1 accepted × ValidatesAll table es r) ⊎ StopsAtInvalid table e r

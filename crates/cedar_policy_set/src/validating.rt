@@ -1,5 +1,6 @@
 // Whether what a policy set binds is valid.
 ghost use Rattle.std.specs.Prelude.{◌≡◌, true};
+ghost use Rattle.cedar_extensions.specs.declared.extensions.Extensions.{Extensions};
 ghost use Rattle.cedar_templates.specs.Templates.{template_id, syntax_of};
 ghost use Rattle.cedar_links.specs.Policies.{policy_id};
 ghost use Rattle.cedar_policy_set.specs.Entries.{is_link};
@@ -9,40 +10,55 @@ ghost use Rattle.cedar_policy_set.specs.Validated.{ValidatesAll, ValidatesOne, V
 use crate::bounds::Bound;
 use crate::errors::PolicySetValidationError;
 use crate::sets::PolicySet;
+use cedar_extensions::extensions::Extensions;
 use cedar_links::policies::Policy;
 use cedar_templates::errors::TemplateValidationError;
 use cedar_templates::templates::Template;
 use std::alloc::Global;
 
 impl PolicySet {
-    /// Whether each template and static policy of the set is valid, and each link is of a template that
-    /// has slots; refused for the first that isn't, or for memory.
-    pub fn try_validate(&self, alloc: Global) -> Result<(), PolicySetValidationError>
-        ensures { ValidatesAll self.now result }
+    /// Whether each template and static policy of the set is valid against the table of extensions, and each
+    /// link is of a template that has slots; refused for the first that isn't, or for memory.
+    pub fn try_validate(
+        &self,
+        alloc: Global,
+        extensions: &Extensions<'_>,
+    ) -> Result<(), PolicySetValidationError>
+        ensures { ValidatesAll extensions.now self.now result }
     {
         for bound in self.values() {
-            validate(alloc, bound)?;
+            validate(alloc, bound, extensions)?;
         }
         Ok(())
     }
 }
 
 // Whether it is valid.
-fn validate(alloc: Global, bound: &Bound) -> Result<(), PolicySetValidationError>
-    ensures { ValidatesOne (bound_id bound.now) (entry_of bound.now) result }
+fn validate(
+    alloc: Global,
+    bound: &Bound,
+    extensions: &Extensions<'_>,
+) -> Result<(), PolicySetValidationError>
+    ensures { ValidatesOne extensions.now (bound_id bound.now) (entry_of bound.now) result }
 {
     match bound {
-        Bound::Template(template) => validate_template(alloc, template),
-        Bound::Policy(policy) if policy.is_static() => validate_template(alloc, policy.template()),
+        Bound::Template(template) => validate_template(alloc, template, extensions),
+        Bound::Policy(policy) if policy.is_static() => {
+            validate_template(alloc, policy.template(), extensions)
+        }
         Bound::Policy(link) => validate_link(link),
     }
 }
 
 // Whether the template is valid.
-fn validate_template(alloc: Global, template: &Template) -> Result<(), PolicySetValidationError>
-    ensures { ValidatesTemplate (template_id template.now) (syntax_of template.now) result }
+fn validate_template(
+    alloc: Global,
+    template: &Template,
+    extensions: &Extensions<'_>,
+) -> Result<(), PolicySetValidationError>
+    ensures { ValidatesTemplate extensions.now (template_id template.now) (syntax_of template.now) result }
 {
-    match template.try_validate(alloc) {
+    match template.try_validate(alloc, extensions) {
         Ok(()) => Ok(()),
         Err(TemplateValidationError::Memory(error)) => Err(PolicySetValidationError::Memory(error)),
         Err(error) => {
@@ -55,7 +71,7 @@ fn validate_template(alloc: Global, template: &Template) -> Result<(), PolicySet
 // Whether the link is of a template that has slots.
 fn validate_link(link: &Policy) -> Result<(), PolicySetValidationError>
     requires { is_link (policy_entry link.now) ≡ true }
-    ensures { ValidatesOne (policy_id link.now) (policy_entry link.now) result }
+    ensures { (table : Extensions) → ValidatesOne table (policy_id link.now) (policy_entry link.now) result }
 {
     if link.template().is_static() {
         let id = link.id().clone()?;

@@ -1,4 +1,5 @@
-pub mod Judging
-pub mod OwnNumbers
-pub mod Same
+pub mod Answering
+pub mod Choosing
+pub mod InForce
 pub mod Within
+pub mod Written

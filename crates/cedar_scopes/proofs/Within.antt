@@ -1,10 +1,12 @@
 -- `in` over a store: what its entities keep of their ancestors, what is held of one, and the world that it shows.
-use Rattle.std.proofs.Common.{◌≡◌, ◌↔◌, Bool, ◌&&◌, ◌||◌, Option, Some, None, List, refl, sym, ◌∙◌, ap}
+use Rattle.std.proofs.Common.{◌≡◌, ◌↔◌, Bool, ◌&&◌, ◌||◌, Option, Some, None, List, [], ◌∷◌, refl, sym, ◌∙◌, ap}
 use Rattle.std.specs.Prelude.{IsTrue}
 use Rattle.std.specs.Cmp.{both_ways}
 use Rattle.std.specs.Option.{option_map_or}
 use Rattle.std.specs.List.{list_any}
 use Rattle.std.specs.FinSet as set
+use Rattle.std.specs.declared.rc.Rc.{Rc}
+use Rattle.std.specs.declared.alloc.Global.{Global}
 use Rattle.cedar_language.specs.Uid.{Uid}
 use Rattle.cedar_language.specs.Order.{uid_cmp, same_uid, same_name}
 use Rattle.cedar_language.specs.Facts.{Facts}
@@ -14,6 +16,7 @@ use Rattle.cedar_world.specs.Setting.{Setting}
 use Rattle.cedar_world.specs.World.{World}
 use Rattle.cedar_answers.specs.Scope.{met, action_met, and_then_met}
 use Rattle.cedar_answers.specs.WorldFacts.{AreFactsOf}
+use Rattle.cedar_constraints.specs.Actions.{held_uids}
 use Rattle.cedar_entity.specs.Data.{EntityData, ancestors_of}
 use Rattle.cedar_entities.specs.Held.{IsAncestor}
 use Rattle.cedar_entities.specs.Store.{found_in, held_at, IsClosed}
@@ -46,6 +49,12 @@ in_store_is_within s by world facts are shows closed = λ i a b. same_uid a b ||
         both_ways (is_descendant (found_in s a) b) (facts.reaches a b)
         (λ h. (are.ancestors a b).1 (to_world (held_at s) world.entities shows a b ((descends s closed a b).0 h)))
         (λ h. (descends s closed a b).1 (to_store (held_at s) world.entities shows a b ((are.ancestors a b).0 h)))
+
+-- ---- uids that are shared
+
+pub any_held : (test : Uid → Bool) (us : List (Rc Uid Global)) → list_any (λ u. test u.value) us ≡ list_any test (held_uids us)
+any_held test [] = refl
+any_held test (u ∷ us) = ap (λ b. test u.value || b) (any_held test us)
 
 -- ---- what was found at the parts of a question
 

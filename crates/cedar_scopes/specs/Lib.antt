@@ -1,10 +1,7 @@
-pub mod Scopes
-pub mod Same
 pub mod Questions
 pub mod Within
 pub mod Inquiries
 pub mod Choices
-pub mod Numbered
-pub mod Agreeing
-pub mod Refused
-pub mod Lists
+pub mod Written
+pub mod Judged
+pub mod Answers

@@ -1,16 +1,12 @@
-//! Policies by their scopes alone: held under their numbers, compared, and asked.
+//! Questions over policy sets whose policies have scopes alone.
 #![tactic(auto)]
 
+mod answers;
 mod choice;
 mod inquiry;
-mod numbers;
-mod place_error;
-mod policies;
+mod judged;
 mod question;
-mod scope;
 mod standing;
 
-pub use place_error::PlaceError;
-pub use policies::PolicyList;
+pub use answers::answer;
 pub use question::Question;
-pub use scope::{ActionConstraint, EntityConstraint, ScopePolicy};

@@ -1,30 +1,27 @@
 -- Steps of a session, from what its texts are read as.
-use Rattle.std.proofs.Common.{◌≡◌, ◌<◌, ◌≤◌, ◌⊎◌, inl, inr, true, false, ◌∙◌, ℕ, List, Option, Some, None, Result, Ok, Err, Vec, Global, sym, ap, subst, arith}
+use Rattle.std.proofs.Common.{◌≡◌, ◌≤◌, true, false, ◌∙◌, ℕ, List, Some, None, Err, refl, sym, ap, subst}
 use Rattle.std.specs.FinMap as finite
 use Rattle.cedar_language.specs.Uid as uid
 use Rattle.cedar_language.specs.Tree.{Tree}
 use Rattle.cedar_language.specs.Height.{height}
-use Rattle.cedar_grammar.specs.Names.{Names}
-use Rattle.cedar_grammar.specs.Nesting.{loose_nesting}
-use Rattle.cedar_policies.specs.declared.policy_id.PolicyID.{PolicyID}
-use Rattle.cedar_plain.specs.Texts as plain
 use Rattle.cedar_scopes.specs.declared.question.Question.{Question}
 use Rattle.cedar_scopes.specs.Questions.{question_of}
 use Rattle.cedar_world.specs.Syntax.{PolicySyntax}
 use Rattle.cedar_world.specs.World.{World, Policies}
-use Rattle.cedar_world.specs.Functions.{policy_names}
+use Rattle.cedar_world.specs.PolicyEdits.{Loads}
 use Rattle.cedar_world.specs.Bodies.{is_restricted, holds_call, ask_body}
-use Rattle.cedar_world.specs.Setting.{Setting, ArePoliciesWithin, ArePolicies, PoliciesNestWithin, PoliciesAreOne, IsBodyWithin, BodiesAreOne}
+use Rattle.cedar_world.specs.Setting.{Setting, ArePoliciesWithin, PoliciesAreOne, IsBodyWithin, BodiesAreOne}
 use Rattle.cedar_world.specs.Commands as commands
 use Rattle.cedar_world.specs.Commands.{Load, Ask, Named, Answered, Refused}
 use Rattle.cedar_world.specs.Step.{Step, IsFirstAnswer}
-use Rattle.cedar_world.proofs.LoadAndAsk.{load_lacks_memory, load_is_no_text, load_is_deep, load_conflicts, load_stands_own, ask_lacks_memory, ask_is_no_text, ask_is_deep, ask_is_not_restricted, ask_is_misshapen, ask_stands}
+use Rattle.cedar_world.proofs.LoadAndAsk.{load_lacks_memory, load_is_no_text, load_is_deep, load_stands, ask_lacks_memory, ask_is_no_text, ask_is_deep, ask_is_not_restricted, ask_is_misshapen, ask_stands}
 use Rattle.cedar_replies.specs.declared.answer.Answer.{Answer}
 use Rattle.cedar_replies.specs.declared.refusal.Refusal.{Refusal}
-use Rattle.cedar_replies.specs.declared.refusal.Refusal.TheVariants.{Text, Depth, NotRestricted, Shape, IdConflict, Memory}
+use Rattle.cedar_replies.specs.declared.refusal.Refusal.TheVariants.{Text, Depth, NotRestricted, Shape, Memory}
 use Rattle.cedar_replies.specs.Refusals.{refusal_of}
 use Rattle.cedar_replies.specs.Replies.{answer_of}
-use Rattle.cedar_session.specs.Reading.{ReadsLoad, Places, Gives}
+use Rattle.cedar_session.specs.Reading.{Gives}
+use Rattle.cedar_policy_texts.specs.Reading.{ReadsPolicies}
 use Rattle.cedar_texts.specs.Reading.{IsLowBody, ReadsBody}
 use Rattle.cedar_texts.specs.Settings.{setting_with}
 use Rattle.cedar_language.specs.Facts.{Written}
@@ -35,42 +32,22 @@ use Rattle.cedar_extensions.specs.Tables.{functions_in, holds_unknown, function_
 use Rattle.cedar_extensions.specs.declared.extensions.Extensions.{Extensions}
 use Rattle.cedar_versions.specs.Fields.{Serves}
 
--- ---- what is read under all names is read under a session's
-
-module _ (by : Setting) (depth : ℕ) (text : uid.Text) (same : by.depth ≡ depth) where
-  pub policies_read : (ss : List PolicySyntax) → ((names : Names) → plain.ArePolicies names depth text ss) → ArePoliciesWithin by by.depth text ss
-  policies_read ss reads = subst (λ n. ArePoliciesWithin by n text ss) (sym same) (reads (policy_names by.functions))
-
-  pub no_policies : ((names : Names) (n : ℕ) (ss : List PolicySyntax) → plain.ArePolicies names n text ss → ⊥) → (ss : List PolicySyntax) → ArePolicies by text ss → ⊥
-  no_policies none ss h = none (policy_names by.functions) h.0 ss h.1
-
-  pub deep_policies : ((names : Names) (n : ℕ) (ss : List PolicySyntax) → n ≤ depth → plain.ArePolicies names n text ss → ⊥) × (depth < loose_nesting text) → PoliciesNestWithin by by.depth text → ⊥
-  deep_policies deep h = within (subst (λ n. PoliciesNestWithin by n text) same h)
-    where
-      within : PoliciesNestWithin by depth text → ⊥
-      within (inl h) = deep.0 (policy_names by.functions) depth h.0 (omega arith) h.1
-      within (inr h) = let few = h.1 in let many = deep.1 in omega arith
-
 -- ---- steps
 
 module _ (by : Setting) (old : World) (text : uid.Text) where
-  pub unread_load : (r : Refusal) → ReadsLoad by text (Err r) → Step by old Load text (Refused (refusal_of r)) old
+  pub unread_load : (r : Refusal) → ReadsPolicies by text (Err r) → Step by old Load text (Refused (refusal_of r)) old
   unread_load Text h = load_is_no_text by old text h
   unread_load Depth h = load_is_deep by old text h
   unread_load Memory h = load_lacks_memory by old text
   unread_load r h = absurd h
 
-  pub misplaced : (ss : List PolicySyntax) (new : Policies) (r : Refusal) → ArePoliciesWithin by by.depth text ss → Places old.policies ss (Err r) new
-      → Step by old Load text (Refused (refusal_of r)) (record old { policies = new })
-  misplaced ss new IdConflict reads h = subst (λ p. Step by old Load text (Refused commands.IdConflict) (record old { policies = p })) (sym h.1) (load_conflicts by old text ss reads h.0)
-  misplaced ss new Memory reads h = subst (λ p. Step by old Load text (Refused commands.Memory) (record old { policies = p })) (sym h) (load_lacks_memory by old text)
-  misplaced ss new r reads h = absurd h
+  -- what lacks memory changes nothing
+  pub unplaced : (new : Policies) → new ≡ old.policies → Step by old Load text (Refused commands.Memory) (record old { policies = new })
+  unplaced new same = subst (λ p. Step by old Load text (Refused commands.Memory) (record old { policies = p })) (sym same) (load_lacks_memory by old text)
 
-  pub loaded : PoliciesAreOne by → (ss : List PolicySyntax) (new : Policies) (ids : Vec PolicyID Global) → ArePoliciesWithin by by.depth text ss → Places old.policies ss (Ok ids) new
-      → Step by old Load text (Named ids.items) (record old { policies = new; asked = None })
-  loaded once ss new ids reads h =
-      subst (λ is. Step by old Load text (Named is) (record old { policies = new; asked = None })) (sym h.0)
-      (load_stands_own by old text once ss (record old { policies = new; asked = None }) reads h.1 (ap (λ p. record old { policies = p; asked = None }) h.2))
+  pub loaded : PoliciesAreOne by → (ss : List PolicySyntax) (ids : List uid.Text) (new : Policies) → ArePoliciesWithin by by.depth text ss → Loads old.policies ss ids new
+      → Step by old Load text (Named ids) (record old { policies = new; asked = None })
+  loaded once ss ids new reads loads = load_stands by old text once ss ids (record old { policies = new; asked = None }) reads loads refl
 
   pub unread_ask : BodiesAreOne by → (r : Refusal) → ReadsBody by text (Err r) → Step by old Ask text (Refused (refusal_of r)) old
   unread_ask once Text h = ask_is_no_text by old text h

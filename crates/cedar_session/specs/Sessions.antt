@@ -4,7 +4,6 @@ use Rattle.std.specs.declared.alloc.Global.{Global}
 use Rattle.cedar_policies.specs.declared.policy_id.PolicyID.{PolicyID}
 use Rattle.std.specs.Option.{option_map}
 use Rattle.std.specs.FinMap as finite
-use Rattle.cedar_scopes.specs.Lists.{policies_in}
 use Rattle.cedar_scopes.specs.Questions.{question_of}
 use Rattle.cedar_world.specs.World as world
 use Rattle.cedar_world.specs.World.{World}
@@ -25,11 +24,11 @@ setting_of session = setting_with session.extensions.now session.depth
 abbrev pub asked_of : Asked → world.Asked
 asked_of asked = record { question = question_of asked.question; told = finite.empty; last = answer_of asked.answer }
 
--- the policies in force, the entities held, and the open question
+-- the policies, templates and links, the entities held, and the open question
 abbrev pub world_of : Session → World
-world_of session = record { policies = policies_in session.policies; entities = session.entities; asked = option_map asked_of session.asked }
+world_of session = record { policies = session.policies; entities = session.entities; asked = option_map asked_of session.asked }
 
--- what a `load`, an edit of entities and an `ask` are answered
+-- what a `load`, an edit and an `ask` are answered
 abbrev pub load_reply : Result (Vec PolicyID Global) Refusal → commands.Reply
 load_reply (Ok ids) = commands.Named ids.items
 load_reply (Err refusal) = commands.Refused (refusal_of refusal)

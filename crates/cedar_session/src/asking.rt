@@ -6,9 +6,10 @@ ghost use Rattle.cedar_world.specs.Bodies as world;
 ghost use Rattle.cedar_session.specs.Reading.{Gives};
 
 use cedar_bodies::ask_body;
-use cedar_expressions::ast::{EntityUID, Expr};
 use cedar_replies::Refusal;
 use cedar_scopes::Question;
+use cedar_trees::expr::Expr;
+use cedar_uids::uids::EntityUID;
 use std::alloc::{AllocError, Global};
 
 // A copy of an entity, where one is given.

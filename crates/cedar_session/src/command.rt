@@ -10,6 +10,14 @@ use cedar_frames::Verb;
 pub enum Command<'t> {
     /// Adds the policies of a text.
     Load(&'t str),
+    /// Links a template, as a body says.
+    Link(&'t str),
+    /// Takes the link away whose id a body states.
+    Unlink(&'t str),
+    /// Takes the static policy away whose id a body states.
+    RemoveStatic(&'t str),
+    /// Takes the template away whose id a body states.
+    RemoveTemplate(&'t str),
     /// Adds the entities that a body lists.
     Add(&'t str),
     /// Puts the entities that a body lists in place of those held.
@@ -29,11 +37,15 @@ impl<'t> Command<'t> {
     {
         match verb {
             Verb::Load => Command::Load(text),
+            Verb::Link => Command::Link(text),
+            Verb::Unlink => Command::Unlink(text),
+            Verb::RemoveStatic => Command::RemoveStatic(text),
+            Verb::RemoveTemplate => Command::RemoveTemplate(text),
             Verb::Add => Command::Add(text),
             Verb::Put => Command::Put(text),
             Verb::Remove => Command::Remove(text),
             Verb::Ask => Command::Ask(text),
-            _ => unreachable!(),
+            Verb::Tell => unreachable!(),
         }
     }
 }

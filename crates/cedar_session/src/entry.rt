@@ -4,7 +4,7 @@ ghost use Rattle.cedar_frames.specs.Watching.{watched_failed};
 
 use crate::running::{End, run};
 use crate::session::Session;
-use cedar_expressions::Extensions;
+use cedar_extensions::extensions::Extensions;
 use cedar_frames::Watched;
 use std::alloc::Global;
 use std::io::{Read, Write};

@@ -5,7 +5,6 @@ mod asking;
 mod command;
 mod entry;
 mod finishing;
-mod reading;
 mod running;
 mod session;
 

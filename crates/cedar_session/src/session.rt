@@ -7,12 +7,14 @@ ghost use Rattle.cedar_session.specs.Commands.{command_verb, command_text};
 
 use crate::asking::question_in;
 use crate::command::Command;
-use crate::reading::{placed, policies_of_text};
+use cedar_bodies::{link_body, string_of};
 use cedar_edits::HeldEntities;
-use cedar_expressions::Extensions;
+use cedar_extensions::extensions::Extensions;
+use cedar_held_policies::HeldPolicies;
 use cedar_policies::PolicyID;
+use cedar_policy_texts::read_policies;
 use cedar_replies::{Answer, Refusal, Reply};
-use cedar_scopes::{PolicyList, Question};
+use cedar_scopes::{Question, answer};
 use cedar_texts::read_body;
 use std::alloc::Global;
 
@@ -30,19 +32,19 @@ fn close(asked: &mut Option<Asked>)
     *asked = None;
 }
 
-/// Policies that are in force, the entities that are held, and at most one open question.
+/// Policies, templates and links, the entities that are held, and at most one open question.
 #[derive(Drop)]
 pub struct Session<'e, 'f> {
     allocator: Global,
     extensions: &'e Extensions<'f>,
     depth: u32,
-    policies: PolicyList,
+    policies: HeldPolicies,
     entities: HeldEntities,
     asked: Option<Asked>,
 }
 
 impl<'e, 'f> Session<'e, 'f> {
-    ghost use Rattle.cedar_frames.specs.declared.verb.Verb.TheVariants.{Load as LoadVerb, Add as AddVerb, Put as PutVerb, Remove as RemoveVerb, Ask as AskVerb};
+    ghost use Rattle.cedar_frames.specs.declared.verb.Verb.TheVariants.{Load as LoadVerb, Link as LinkVerb, Unlink as UnlinkVerb, RemoveStatic as RemoveStaticVerb, RemoveTemplate as RemoveTemplateVerb, Add as AddVerb, Put as PutVerb, Remove as RemoveVerb, Ask as AskVerb};
     ghost use Rattle.cedar_world.specs.Step.{Step};
     ghost use Rattle.cedar_session.specs.Sessions.{world_of, setting_of, load_reply, edit_reply, ask_reply};
     ghost use Rattle.cedar_texts.specs.Settings.{setting_with};
@@ -61,7 +63,7 @@ impl<'e, 'f> Session<'e, 'f> {
             allocator,
             extensions,
             depth,
-            policies: PolicyList::new(allocator),
+            policies: HeldPolicies::new(allocator),
             entities: HeldEntities::new(allocator),
             asked: None,
         })
@@ -72,21 +74,101 @@ impl<'e, 'f> Session<'e, 'f> {
         self.allocator
     }
 
-    /// Loads the policies of a text, the i-th of them under `policy<i>`, and answers these ids in the
-    /// text's order. An open question is closed.
+    /// Loads the policies and templates of a text and answers the ids under which they now stand, in the
+    /// text's order: the i-th under `policy<i>` where that is free or bound to the same already, and else
+    /// under the next of `policy0`, `policy1`, .. that is neither bound nor one of the text's own. An open
+    /// question is closed.
     ///
-    /// It is refused `Text`, `Depth`, `IdConflict` where one of the ids is another policy's, and
-    /// `Memory`; then nothing changes.
+    /// It is refused `Text`, `Depth` and `Memory`; then nothing changes.
     pub fn load(&mut self, text: &str) -> Result<Vec<PolicyID>, Refusal>
         requires { length text.now ≤ body_limit }
         ensures step { Step (setting_of self.old) (world_of self.old) LoadVerb text.now (load_reply result) (world_of self.new) }
         ensures setting { setting_of self.new ≡ setting_of self.old }
     {
         cedar_world::texts_are_one();
-        let policies = policies_of_text(self.allocator, text, self.depth)?;
-        let ids = placed(self.allocator, &mut self.policies, policies)?;
+        let policies = read_policies(self.allocator, text, self.extensions, self.depth)?;
+        let ids = self.policies.load(self.allocator, policies)?;
         close(&mut self.asked);
         Ok(ids)
+    }
+
+    /// Links a template: the link stands under its own id, with the entities of its slots. An open question
+    /// is closed. (Cedar language reference, "Policy templates".)
+    ///
+    /// It is refused `Text`, `Depth`, `NotRestricted`, `Shape`, `NoSuchTemplate` where the template's id
+    /// isn't bound, `NotTemplate` where it is bound to something else, `Arity` where the entities aren't for
+    /// exactly its slots, `IdConflict` where the link's id is bound, and `Memory`; then nothing changes.
+    pub fn link(&mut self, text: &str) -> Result<(), Refusal>
+        requires { length text.now ≤ body_limit }
+        ensures step { Step (setting_of self.old) (world_of self.old) LinkVerb text.now (edit_reply result) (world_of self.new) }
+        ensures setting { setting_of self.new ≡ setting_of self.old }
+    {
+        cedar_world::texts_are_one();
+        let body = read_body(self.allocator, text, self.extensions, self.depth)?;
+        let Some(link) = link_body(body.as_ref()) else {
+            return Err(Refusal::Shape);
+        };
+        self.policies.link(self.allocator, &link)?;
+        close(&mut self.asked);
+        Ok(())
+    }
+
+    /// Takes a link away. An open question is closed.
+    ///
+    /// It is refused `Text`, `Depth`, `NotRestricted`, `Shape`, `NotLink` where the id is bound to something
+    /// else, `NoSuchPolicy` where it isn't bound, and `Memory`; then nothing changes.
+    pub fn unlink(&mut self, text: &str) -> Result<(), Refusal>
+        requires { length text.now ≤ body_limit }
+        ensures step { Step (setting_of self.old) (world_of self.old) UnlinkVerb text.now (edit_reply result) (world_of self.new) }
+        ensures setting { setting_of self.new ≡ setting_of self.old }
+    {
+        cedar_world::texts_are_one();
+        let body = read_body(self.allocator, text, self.extensions, self.depth)?;
+        let Some(id) = string_of(body.as_ref()) else {
+            return Err(Refusal::Shape);
+        };
+        self.policies.unlink(id)?;
+        close(&mut self.asked);
+        Ok(())
+    }
+
+    /// Takes a static policy away. An open question is closed.
+    ///
+    /// It is refused `Text`, `Depth`, `NotRestricted`, `Shape`, `NoSuchPolicy` where the id isn't bound,
+    /// `NotStatic` where it is bound to a template or a link, and `Memory`; then nothing changes.
+    pub fn remove_static(&mut self, text: &str) -> Result<(), Refusal>
+        requires { length text.now ≤ body_limit }
+        ensures step { Step (setting_of self.old) (world_of self.old) RemoveStaticVerb text.now (edit_reply result) (world_of self.new) }
+        ensures setting { setting_of self.new ≡ setting_of self.old }
+    {
+        cedar_world::texts_are_one();
+        let body = read_body(self.allocator, text, self.extensions, self.depth)?;
+        let Some(id) = string_of(body.as_ref()) else {
+            return Err(Refusal::Shape);
+        };
+        self.policies.remove_static(id)?;
+        close(&mut self.asked);
+        Ok(())
+    }
+
+    /// Takes a template away. An open question is closed.
+    ///
+    /// It is refused `Text`, `Depth`, `NotRestricted`, `Shape`, `NoSuchTemplate` where the id isn't bound,
+    /// `NotTemplate` where it is bound to something else, `HasLinks` where a link names the template, and
+    /// `Memory`; then nothing changes.
+    pub fn remove_template(&mut self, text: &str) -> Result<(), Refusal>
+        requires { length text.now ≤ body_limit }
+        ensures step { Step (setting_of self.old) (world_of self.old) RemoveTemplateVerb text.now (edit_reply result) (world_of self.new) }
+        ensures setting { setting_of self.new ≡ setting_of self.old }
+    {
+        cedar_world::texts_are_one();
+        let body = read_body(self.allocator, text, self.extensions, self.depth)?;
+        let Some(id) = string_of(body.as_ref()) else {
+            return Err(Refusal::Shape);
+        };
+        self.policies.remove_template(id)?;
+        close(&mut self.asked);
+        Ok(())
     }
 
     /// Adds the entities that a body lists. One that is held is taken without change where its attributes
@@ -161,7 +243,8 @@ impl<'e, 'f> Session<'e, 'f> {
         let body = read_body(self.allocator, text, self.extensions, self.depth)?;
         let question = question_in(self.allocator, body.as_ref())?;
         let entities = self.entities.store();
-        let answer = self.policies.answer(self.allocator, &question, entities)?;
+        let policies = self.policies.set();
+        let answer = answer(self.allocator, policies, &question, entities)?;
         let kept = answer.clone()?;
         self.asked = Some(Asked {
             question,
@@ -178,6 +261,22 @@ impl<'e, 'f> Session<'e, 'f> {
     {
         match *command {
             Command::Load(text) => Ok(Reply::Ids(self.load(text)?)),
+            Command::Link(text) => {
+                self.link(text)?;
+                Ok(Reply::Done)
+            }
+            Command::Unlink(text) => {
+                self.unlink(text)?;
+                Ok(Reply::Done)
+            }
+            Command::RemoveStatic(text) => {
+                self.remove_static(text)?;
+                Ok(Reply::Done)
+            }
+            Command::RemoveTemplate(text) => {
+                self.remove_template(text)?;
+                Ok(Reply::Done)
+            }
             Command::Add(text) => {
                 self.add(text)?;
                 Ok(Reply::Done)

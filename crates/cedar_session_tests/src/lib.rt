@@ -1,4 +1,4 @@
-//! Tests of frames, replies, the readers of texts and whole runs over memory.
+//! Tests of whole runs over memory.
 #![tactic(auto)]
 
 #[cfg(test)]
@@ -6,12 +6,10 @@ mod devices;
 #[cfg(test)]
 mod entities;
 #[cfg(test)]
-mod frames;
+mod policies;
 #[cfg(test)]
-mod plain;
+mod questions;
 #[cfg(test)]
-mod replies;
+mod scripts;
 #[cfg(test)]
-mod rows;
-#[cfg(test)]
-mod session;
+mod texts;

@@ -26,6 +26,7 @@ pub use Rattle.cedar_links.specs.Linking
 pub use Rattle.cedar_links.specs.Policies
 pub use Rattle.cedar_policy_set.specs.Bounds
 pub use Rattle.cedar_policy_set.specs.Entries
+pub use Rattle.cedar_policy_set.specs.Texts
 pub use Rattle.cedar_policy_set.specs.Validated
 pub use Rattle.cedar_policy_set.specs.Worlds
 pub use Rattle.cedar_merging.specs.Loading

@@ -1,18 +1,9 @@
 // Why a template is refused.
 use cedar_constraints::errors::{ActionTypeError, InvalidActionType};
-use cedar_uids::slots::Slot;
+pub use cedar_policy_errors::SlotsInConditionClause;
+use cedar_validation::errors::ExprValidationError;
 use std::alloc::AllocError;
 use thiserror::Error;
-
-/// A slot stands in a clause.
-#[derive(Debug, PartialEq, Eq, Drop, Error)]
-#[error("found template slot {} in a `{clause_type}` clause", .slot.id)]
-pub struct SlotsInConditionClause {
-    /// The slot.
-    pub slot: Slot,
-    /// How the clause begins.
-    pub clause_type: &'static str,
-}
 
 /// Why a template isn't taken.
 #[derive(Debug, PartialEq, Eq, Drop, Error)]
@@ -26,6 +17,9 @@ pub enum TemplateValidationError {
     /// The slots that the template lists aren't its own.
     #[error("the slots listed are not those of the template")]
     SlotCacheMismatch,
+    /// A call in a clause doesn't fit the table of extensions. Never for want of memory.
+    #[error(transparent)]
+    InvalidExpression(ExprValidationError),
     /// Memory ran out.
     #[error(transparent)]
     Memory(AllocError),
@@ -43,6 +37,20 @@ impl From<ActionTypeError> for TemplateValidationError {
                 TemplateValidationError::InvalidActionType(error)
             }
             ActionTypeError::Memory(error) => TemplateValidationError::Memory(error),
+        }
+    }
+}
+
+impl From<ExprValidationError> for TemplateValidationError {
+    ghost use Rattle.std.specs.Prelude.{◌≡◌};
+    ghost use Rattle.cedar_templates.specs.Validation.{by_expression};
+
+    ghost from_gives = { λ error made. made ≡ by_expression error };
+
+    fn from(error: ExprValidationError) -> TemplateValidationError {
+        match error {
+            ExprValidationError::Memory(error) => TemplateValidationError::Memory(error),
+            error => TemplateValidationError::InvalidExpression(error),
         }
     }
 }

@@ -1,26 +1,48 @@
 // What a template must fulfil to be taken.
 ghost use Rattle.cedar_trees.specs.Bare.{bare};
 ghost use Rattle.cedar_templates.specs.Templates.{syntax_of};
-ghost use Rattle.cedar_templates.specs.Validation.{Validates, HoldsNoSlot};
+ghost use Rattle.cedar_templates.specs.Validation.{Validates, ValidatesClauses, HoldsNoSlot};
 
 use crate::errors::{SlotsInConditionClause, TemplateValidationError};
 use crate::templates::Template;
+use cedar_extensions::extensions::Extensions;
 use cedar_shapes::readers::ExprReaders;
 use cedar_trees::expr::Expr;
+use cedar_validation::validation::ExprValidation;
 use std::alloc::Global;
 
 impl Template {
-    /// Whether each action that its scope names has a type whose last identifier is `Action`, and whether
-    /// its clauses hold no slot; refused with those that have another type, with a slot, or for memory.
-    pub fn try_validate(&self, alloc: Global) -> Result<(), TemplateValidationError>
-        ensures { Validates (syntax_of self.now) result }
+    /// Whether each action that its scope names has a type whose last identifier is `Action`, whether its
+    /// clauses hold no slot, and whether each call in them fits the table of extensions. Refused for the
+    /// first of these that isn't so: `InvalidActionType` with the entities that have another type,
+    /// `SlotsInConditionClause` with a slot, `InvalidExpression` with what is wrong with the first other
+    /// call of a walk; or for memory. (Cedar language reference, "Policy templates", "Extension functions".)
+    pub fn try_validate(
+        &self,
+        alloc: Global,
+        extensions: &Extensions<'_>,
+    ) -> Result<(), TemplateValidationError>
+        ensures { Validates extensions.now (syntax_of self.now) result }
     {
         self.action_constraint().check_action_types(alloc)?;
         match self.non_scope_constraints() {
             None => Ok(()),
-            Some(expr) => check_no_slot(alloc, expr),
+            Some(expr) => check_clauses(alloc, expr, extensions),
         }
     }
+}
+
+// Whether the expression holds no slot, and each call in it fits the table.
+fn check_clauses(
+    alloc: Global,
+    expr: &Expr,
+    extensions: &Extensions<'_>,
+) -> Result<(), TemplateValidationError>
+    ensures { ValidatesClauses extensions.now (bare expr.now) result }
+{
+    check_no_slot(alloc, expr)?;
+    expr.try_validate(alloc, extensions)?;
+    Ok(())
 }
 
 // Whether the expression holds no slot.

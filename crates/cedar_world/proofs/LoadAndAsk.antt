@@ -8,7 +8,6 @@ use Rattle.cedar_world.specs.Syntax.{PolicySyntax}
 use Rattle.cedar_world.specs.Answer.{Answer}
 use Rattle.cedar_world.specs.World.{World, Policy, Policies}
 use Rattle.cedar_world.specs.PolicyEdits.{numbered, HasRoom, HaveRoom, own_ids, Names, joined, Loads}
-use Rattle.cedar_world.specs.SoFar.{MustRename}
 use Rattle.cedar_world.specs.Asking.{Question}
 use Rattle.cedar_world.specs.Bodies.{is_restricted, ask_body}
 use Rattle.cedar_world.specs.Setting.{Setting, ArePoliciesWithin, ArePolicies, PoliciesNestWithin, PoliciesAreOne, IsBodyWithin, IsBody, BodyNestsWithin, BodiesAreOne}
@@ -27,34 +26,6 @@ names_own policies count i from (s ∷ ss) room = inl (room.0, refl, names_own p
 
 pub loads_own : (policies : Policies) (ss : List PolicySyntax) → HaveRoom policies 0 ss → Loads policies ss (own_ids 0 ss) (joined policies ss (own_ids 0 ss))
 loads_own policies ss room = record { names = names_own policies (length ss) 0 0 ss room; policies = refl }
-
--- a policy that has room conflicts with none
-room_for : (policies : Policies) (i : ℕ) (ss before after : List PolicySyntax) (s : PolicySyntax) → HaveRoom policies i ss → ss ≡ before ++ s ∷ after → HasRoom policies (numbered (i + length before)) s
-room_for policies i ss before after s room e = found i before (subst (HaveRoom policies i) e room)
-  where
-    found : (i : ℕ) (before : List PolicySyntax) → HaveRoom policies i (before ++ s ∷ after) → HasRoom policies (numbered (i + length before)) s
-    found i [] room = subst (λ n. HasRoom policies (numbered n) s) (omega arith) room.0
-    found i (b ∷ before) room = subst (λ n. HasRoom policies (numbered n) s) (omega arith) (found (suc i) before room.1)
-
-pub room_renames_none : (policies : Policies) (ss : List PolicySyntax) → HaveRoom policies 0 ss → MustRename policies ss → ⊥
-room_renames_none policies ss room h =
-    let has : HasRoom policies (numbered (length h.0)) h.2 = subst (λ n. HasRoom policies (numbered n) h.2) (omega arith) (room_for policies 0 ss h.0 h.1 h.2 room h.3) in
-    room_or_conflict policies (numbered (length h.0)) h.2 has h.4
-
--- ---- one policy more, for a loop over a text's policies
-
-pub room_more : (policies : Policies) (i : ℕ) (done : List PolicySyntax) (s : PolicySyntax) → HaveRoom policies i done → HasRoom policies (numbered (i + length done)) s → HaveRoom policies i (done ++ s ∷ [])
-room_more policies i [] s room has = (subst (λ n. HasRoom policies (numbered n) s) (omega arith) has, tt)
-room_more policies i (d ∷ done) s room has = (room.0, room_more policies (suc i) done s room.1 (subst (λ n. HasRoom policies (numbered n) s) (omega arith) has))
-
-pub own_ids_more : (i : ℕ) (done : List PolicySyntax) (s : PolicySyntax) → own_ids i (done ++ s ∷ []) ≡ own_ids i done ++ numbered (i + length done) ∷ []
-own_ids_more i [] s = ap (λ n. numbered n ∷ []) (omega arith)
-own_ids_more i (d ∷ done) s = ap (λ ids. numbered i ∷ ids) (own_ids_more (suc i) done s ∙ ap (λ n. own_ids (suc i) done ++ numbered n ∷ []) (omega arith))
-
-pub joined_more : (policies : Policies) (i : ℕ) (done : List PolicySyntax) (s : PolicySyntax) (id : uid.Text)
-    → joined policies (done ++ s ∷ []) (own_ids i done ++ id ∷ []) ≡ map.insert (joined policies done (own_ids i done)) id (Policy s)
-joined_more policies i [] s id = refl
-joined_more policies i (d ∷ done) s id = joined_more (map.insert policies (numbered i) (Policy d)) (suc i) done s id
 
 -- ---- commands
 
@@ -80,32 +51,20 @@ module _ (by : Setting) (old : World) (text : uid.Text) where
       before : (s : Refusal) → rank s < rank Text → Stands by old text Load s → ⊥
       before Text below h = not_below 2 below
       before Depth below h = omega arith
-      before IdConflict below h = omega arith
       before s below h = h
 
   -- nested too deep
   pub load_is_deep : (PoliciesNestWithin by by.depth text → ⊥) → Step by old Load text (Refused Depth) old
   load_is_deep deep = (inl deep, refl)
 
-  -- a policy's own number is bound to something else
-  pub load_conflicts : (ss : List PolicySyntax) → ArePoliciesWithin by by.depth text ss → MustRename old.policies ss → Step by old Load text (Refused IdConflict) old
-  load_conflicts ss reads renames = (((ss, (by.depth, reads), renames), before), refl)
-    where
-      before : (s : Refusal) → rank s < rank IdConflict → Stands by old text Load s → ⊥
-      before Text below h = h ss (by.depth, reads)
-      before Depth below h = h (inl (ss, reads))
-      before IdConflict below h = not_below 14 below
-      before s below h = h
-
-  -- the policies have room, and stand under these ids
-  pub load_stands : PoliciesAreOne by → (ss : List PolicySyntax) (ids : List uid.Text) (new : World) → ArePoliciesWithin by by.depth text ss → (MustRename old.policies ss → ⊥)
+  -- the policies stand under these ids
+  pub load_stands : PoliciesAreOne by → (ss : List PolicySyntax) (ids : List uid.Text) (new : World) → ArePoliciesWithin by by.depth text ss
       → Loads old.policies ss ids new.policies → new ≡ record old { policies = new.policies; asked = None } → Step by old Load text (Named ids) new
-  load_stands once ss ids new reads room loads is = (λ r h. refuses r h, (ss, (by.depth, reads), (loads, is)))
+  load_stands once ss ids new reads loads is = (λ r h. refuses r h, (ss, (by.depth, reads), (loads, is)))
     where
       stands : (r : Refusal) → Stands by old text Load r → ⊥
       stands Text h = h ss (by.depth, reads)
       stands Depth h = h (inl (ss, reads))
-      stands IdConflict h = room (subst (MustRename old.policies) (once text h.0 ss h.1 (by.depth, reads)) h.2)
       stands r h = h
 
       refuses : (r : Refusal) → Refuses by old text Load r → ⊥
@@ -117,7 +76,7 @@ module _ (by : Setting) (old : World) (text : uid.Text) where
       → new ≡ record old { policies = joined old.policies ss (own_ids 0 ss); asked = None } → Step by old Load text (Named (own_ids 0 ss)) new
   load_stands_own once ss new reads room is =
       let policies : new.policies ≡ joined old.policies ss (own_ids 0 ss) = ap (λ w. w.policies) is in
-      load_stands once ss (own_ids 0 ss) new reads (room_renames_none old.policies ss room)
+      load_stands once ss (own_ids 0 ss) new reads
       (subst (Loads old.policies ss (own_ids 0 ss)) (sym policies) (loads_own old.policies ss room))
       (is ∙ ap (λ p. record old { policies = p; asked = None }) (sym policies))
 

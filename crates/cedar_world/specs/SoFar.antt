@@ -1,18 +1,18 @@
 -- What a session can't do yet, beside what the grammar's own SoFar says: a text that doesn't pass its tests counts as
 -- outside the grammar. All definitions of the world go through these words, so that widening them widens the session.
-use Rattle.std.specs.Prelude.{◌≡◌, Option, Some, None, List, [], ◌∷◌, ◌++◌, length, codes}
+use Rattle.std.specs.Prelude.{Bool, Option, Some, None, is_none, List, [], ◌∷◌, codes}
+use Rattle.std.specs.List.{list_all}
 use Rattle.cedar_language.specs.Uid.{Text}
 use Rattle.cedar_language.specs.Tree.{no_trees}
-pub use Rattle.cedar_grammar.specs.SoFar.{are_policies_so_far}
 use Rattle.cedar_world.specs.Syntax.{PolicySyntax}
-use Rattle.cedar_world.specs.World.{Policies}
 use Rattle.cedar_world.specs.Asking.{Entries, WithEntries}
-use Rattle.cedar_world.specs.PolicyEdits.{numbered, Conflicts}
 
--- No policy is renamed: a text is refused where the own number of one of its policies is bound to something else.
-abbrev pub MustRename : Policies → List PolicySyntax → Type 0
-MustRename policies ss =
-    (before after : List PolicySyntax) × (s : PolicySyntax) × (ss ≡ before ++ s ∷ after) × Conflicts policies (numbered (length before)) s
+-- policies without clauses
+abbrev pub has_no_clauses : PolicySyntax → Bool
+has_no_clauses s = is_none s.body
+
+abbrev pub are_policies_so_far : List PolicySyntax → Bool
+are_policies_so_far ss = list_all has_no_clauses ss
 
 -- The keys of a question: no type of a missing principal or resource is stated.
 abbrev pub question_keys : List Text

@@ -6,4 +6,4 @@ use Rattle.cedar_policy_set.proofs.sets.PolicySet.try_validate.Given as goal
 
 -- what goes on from here answers the whole
 abbrev pub invariant-loop-bound : goal.invariant-loop-bound
-invariant-loop-bound l = (r : Result Unit PolicySetValidationError) → ValidatesAll (seen l.bound-iterator) r → ValidatesAll l.self r
+invariant-loop-bound l = (r : Result Unit PolicySetValidationError) → ValidatesAll l.extensions (seen l.bound-iterator) r → ValidatesAll l.extensions l.self r

@@ -1,4 +1,4 @@
-use Rattle.std.proofs.Common.{refl}
+use Rattle.std.proofs.Common.{sym}
 use Rattle.std.proofs.lemmas.Result.{err_from_is_err_and}
 use Rattle.cedar_restricted.specs.Views.{restricted_tree}
 use Rattle.cedar_trees.specs.Bare.{bare}
@@ -27,4 +27,4 @@ returns-clause-step c =
     let tree = bare c.as_ref.result.now in
     let read = read_tree by c.args.text.now (restricted_tree c.in_ok-body.body) tree c.as_ref.ensures.tree c.in_ok-body.ensures.body in
     asked by world c.args.text.now (c.texts_are_one.ensures.bodies by) tree read.0 read.1 c.as_ref.ensures.restricted c.in_ok-question.question c.in_ok-answer.answer c.in_ok-kept.kept c.in_ok-kept.ensures.cases c.in_ok-question.ensures
-    (c.in_ok-answer.ensures by world refl c.store-entities.ensures.shows c.store-entities.ensures.closed)
+    (c.in_ok-answer.ensures by world (sym c.set-policies.ensures.policies) c.store-entities.ensures.shows c.store-entities.ensures.closed)

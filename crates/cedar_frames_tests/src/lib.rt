@@ -1,0 +1,7 @@
+//! Tests of frames and of the lines that answer them.
+#![tactic(auto)]
+
+#[cfg(test)]
+mod frames;
+#[cfg(test)]
+mod replies;

@@ -1,0 +1,5 @@
+mod Keeping
+mod Refusing
+mod Linked
+mod Removed
+mod Loaded

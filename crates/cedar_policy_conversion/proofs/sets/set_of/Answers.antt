@@ -1,0 +1,27 @@
+use Rattle.std.proofs.Common.{map, take, refl, sym, ap, ◌∙◌, subst, arith}
+use Rattle.std.proofs.lemmas.List.{length-map, length-take-le}
+use Rattle.cedar_syntax.specs.View.{shown_policy}
+use Rattle.cedar_conversion_leaves.specs.Converts.{Finds}
+use Rattle.cedar_policy_conversion_parts.proofs.Gathering.{seen_more}
+use Rattle.cedar_policy_conversion.proofs.Numbering.{entries_more, entries_of, free_in}
+use Rattle.cedar_policy_conversion.proofs.sets.set_of.Goals as goal
+
+pub with_node-set-requires : goal.with_node-set-requires
+with_node-set-requires c small =
+    let nodes = c.args.nodes.now in
+    let n = c.loop-number.number in
+    let many = length-map (take n nodes) shown_policy ∙ length-take-le n nodes (omega (arith, c.loop-number-test.true)) in
+    free_in c.args.styles.now c.loop-number.set (map shown_policy (take n nodes)) n many small c.loop-number.invariant
+
+pub loop-number-preserved : goal.loop-number-preserved
+loop-number-preserved c =
+    let names = c.args.styles.now in
+    let nodes = c.args.nodes.now in
+    let n = c.loop-number.number in
+    let node = c.index-nodes-number.result in
+    let before = map shown_policy (take n nodes) in
+    let many = length-map (take n nodes) shown_policy ∙ length-take-le n nodes (omega (arith, c.loop-number-test.true)) in
+    let more = seen_more shown_policy nodes nodes n node refl c.loop-number-test.true c.index-nodes-number.is in
+    subst (Finds (λ set. set) c.with_node-set.result)
+    (sym (ap (entries_of names) more ∙ entries_more names before (shown_policy node) n many))
+    (c.with_node-set.ensures (entries_of names before) c.loop-number.invariant)

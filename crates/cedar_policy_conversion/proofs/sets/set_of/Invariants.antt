@@ -1,0 +1,9 @@
+use Rattle.std.proofs.Common.{map, take}
+use Rattle.cedar_syntax.specs.View.{shown_policy}
+use Rattle.cedar_conversion_leaves.specs.Converts.{Finds}
+use Rattle.cedar_policy_conversion.proofs.Numbering.{entries_of}
+use Rattle.cedar_policy_conversion.proofs.sets.set_of.Given as goal
+
+-- the set of the policies so far
+abbrev pub invariant-loop-number : goal.invariant-loop-number
+invariant-loop-number l = Finds (λ set. set) l.set (entries_of l.styles (map shown_policy (take l.number l.nodes)))

@@ -1,0 +1,41 @@
+use Rattle.std.proofs.Common.{◌≡◌, ◌<◌, ◌^◌, arith, [], ◌∷◌, ◌++◌, Some, None, Ok, Err, sym, ap, ◌∙◌, subst}
+use Rattle.std.specs.Prelude.{IfOk}
+use Rattle.std.specs.Option.{option_map}
+use Rattle.cedar_loose_grammar.specs.Converting.{policy_syntax}
+use Rattle.cedar_syntax.specs.View.{shown_policy}
+use Rattle.cedar_world.specs.PolicyEdits.{numbered}
+use Rattle.cedar_conversion_faults.specs.Reasons.{reason}
+use Rattle.cedar_conversion_leaves.specs.Converts.{Finds}
+use Rattle.cedar_policy_conversion_parts.proofs.Gathering.{a_pair, both_found, flat_ok, lacks_more, no_pair, paired, passed}
+use Rattle.cedar_policy_set.specs.Entries.{bound_at}
+use Rattle.cedar_policy_set.specs.Texts.{text_entry}
+use Rattle.cedar_policy_conversion.specs.Kinds.{entry_made, id_made}
+use Rattle.cedar_policy_conversion.proofs.sets.with_node.Goals as goal
+
+pub returns-in_err-set : goal.returns-in_err-set
+returns-in_err-set c before found =
+    let w = option_map text_entry (policy_syntax c.args.styles.now (shown_policy c.args.node.now)) in
+    let e = c.in_err-set.field-0.0 in
+    let none = both_found (λ set. set) entry_made c.args.earlier c.to_policy_or_template-next.result (Err e) before w c.in_err-set.ensures found c.to_policy_or_template-next.ensures.syntax in
+    passed (λ set. set) c.from_residual-in_err-set.result e _ c.from_residual-in_err-set.ensures
+    (lacks_more (reason e) (paired before w) _ (no_pair before w (λ es x. Some (es ++ (numbered c.args.number, x) ∷ []))) none)
+
+pub with_policy-requires : goal.with_policy-requires
+with_policy-requires c =
+    let o = c.in_ok-set in
+    let flat = flat_ok c.args.earlier c.to_policy_or_template-next.result (o.set, o.policy) o.ensures in
+    let small : c.args.number < 2 ^ 64 = omega (arith, c.ranges.number) in
+    let free : bound_at o.set (numbered c.args.number) ≡ None = subst (λ r. IfOk r (λ set. bound_at set (numbered c.args.number) ≡ None)) (flat.0) (c.requires small) in
+    let id = subst (λ r. IfOk r (λ x. id_made x ≡ c.in_ok-id.id)) (flat.1) c.to_policy_or_template-next.ensures.id in
+    ap (bound_at o.set) (id ∙ c.in_ok-id.ensures) ∙ free
+
+pub returns : goal.returns
+returns c before found =
+    let o = c.in_ok-set in
+    let w = option_map text_entry (policy_syntax c.args.styles.now (shown_policy c.args.node.now)) in
+    let flat = flat_ok c.args.earlier c.to_policy_or_template-next.result (o.set, o.policy) o.ensures in
+    let id = subst (λ r. IfOk r (λ x. id_made x ≡ c.in_ok-id.id)) (flat.1) c.to_policy_or_template-next.ensures.id in
+    let both = both_found (λ set. set) entry_made c.args.earlier c.to_policy_or_template-next.result (Ok (o.set, o.policy)) before w o.ensures found c.to_policy_or_template-next.ensures.syntax in
+    subst (Finds (λ set. set) c.with_policy.result)
+    (sym (a_pair before w (λ es x. Some (es ++ (numbered c.args.number, x) ∷ [])) (o.set, entry_made o.policy) both ∙ ap (λ k. Some (o.set ++ (k, entry_made o.policy) ∷ [])) (sym (id ∙ c.in_ok-id.ensures))))
+    c.with_policy.ensures

@@ -1,0 +1,105 @@
+// Policies by whether they have slots.
+ghost use Rattle.std.specs.Prelude.{◌≡◌, IfOk};
+ghost use Rattle.std.specs.Option.{option_map};
+ghost use Rattle.cedar_loose_grammar.specs.Converting.{policy_syntax};
+ghost use Rattle.cedar_syntax.specs.View.{shown_policy};
+ghost use Rattle.cedar_templates.specs.StaticPolicies.{static_id, static_syntax};
+ghost use Rattle.cedar_templates.specs.Templates.{template_id, syntax_of};
+ghost use Rattle.cedar_conversion_leaves.specs.Converts.{and_then, Finds};
+ghost use Rattle.cedar_policy_set.specs.Texts.{text_entry};
+ghost use Rattle.cedar_policy_conversion.specs.Kinds.{without_slots, with_slots, entry_made, id_made};
+
+use crate::templates::to_template;
+use cedar_constraints::errors::UnexpectedSlotError;
+use cedar_conversion_faults::{ConversionError, ToASTErrorKind};
+use cedar_names::places::Loc;
+use cedar_policies::PolicyID;
+use cedar_policy_conversion_parts::PolicyError;
+use cedar_policy_errors::{ExpectedStaticPolicy, ExpectedTemplate};
+use cedar_styles::ExtStyles;
+use cedar_syntax::cst;
+use cedar_syntax::node::Node;
+use cedar_templates::static_policies::StaticPolicy;
+use cedar_templates::templates::Template;
+use either::Either;
+use std::alloc::Global;
+
+// The policy that a template without slots is; a fault where it has one.
+fn as_static(
+    alloc: Global,
+    loc: Option<&Loc>,
+    template: Template,
+) -> Result<StaticPolicy, PolicyError>
+    ensures syntax { Finds static_syntax result (without_slots (syntax_of template)) }
+    ensures id { IfOk result (λ policy. static_id policy ≡ template_id template) }
+{
+    match StaticPolicy::from_template(template) {
+        Ok(policy) => Ok(policy),
+        Err(UnexpectedSlotError::FoundSlot(slot)) => {
+            let kind = ToASTErrorKind::ExpectedStaticPolicy(ExpectedStaticPolicy { slot });
+            Err(ConversionError::fault(alloc, kind, loc))
+        }
+        Err(UnexpectedSlotError::Memory(_)) => Err(ConversionError::Memory),
+    }
+}
+
+/// A static policy under an id; a fault where it has a slot. (Cedar language reference, "Policies".)
+pub fn to_policy(
+    alloc: Global,
+    node: &Node<Option<cst::Policy>>,
+    id: PolicyID,
+    styles: &ExtStyles,
+) -> Result<StaticPolicy, PolicyError>
+    ensures syntax { Finds static_syntax result (and_then (policy_syntax styles.now (shown_policy node.now)) without_slots) }
+    ensures id { IfOk result (λ policy. static_id policy ≡ id) }
+{
+    let template = to_template(alloc, node, id, styles)?;
+    as_static(alloc, node.loc(), template)
+}
+
+/// A template under an id; a fault where it has no slot. (Cedar language reference, "Policy templates".)
+pub fn to_policy_template(
+    alloc: Global,
+    node: &Node<Option<cst::Policy>>,
+    id: PolicyID,
+    styles: &ExtStyles,
+) -> Result<Template, PolicyError>
+    ensures syntax { Finds syntax_of result (and_then (policy_syntax styles.now (shown_policy node.now)) with_slots) }
+    ensures id { IfOk result (λ template. template_id template ≡ id) }
+{
+    let template = to_template(alloc, node, id, styles)?;
+    if template.is_static() {
+        let kind = ToASTErrorKind::ExpectedTemplate(ExpectedTemplate);
+        return Err(ConversionError::fault(alloc, kind, node.loc()));
+    }
+    Ok(template)
+}
+
+// The template as a static policy, where it has no slot.
+fn sorted(template: Template) -> Either<StaticPolicy, Template>
+    ensures entry { entry_made result ≡ text_entry (syntax_of template) }
+    ensures id { id_made result ≡ template_id template }
+{
+    if !template.is_static() {
+        return Either::Right(template);
+    }
+    match StaticPolicy::from_template(template) {
+        Ok(policy) => Either::Left(policy),
+        Err(_) => unreachable!(),
+    }
+}
+
+/// A static policy under an id where it has no slot, and a template where it has one. (Cedar language
+/// reference, "Policies" and "Policy templates".)
+pub fn to_policy_or_template(
+    alloc: Global,
+    node: &Node<Option<cst::Policy>>,
+    id: PolicyID,
+    styles: &ExtStyles,
+) -> Result<Either<StaticPolicy, Template>, PolicyError>
+    ensures syntax { Finds entry_made result (option_map text_entry (policy_syntax styles.now (shown_policy node.now))) }
+    ensures id { IfOk result (λ either. id_made either ≡ id) }
+{
+    let template = to_template(alloc, node, id, styles)?;
+    Ok(sorted(template))
+}

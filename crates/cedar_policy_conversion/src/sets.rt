@@ -1,0 +1,114 @@
+// The policies of a text.
+ghost use Rattle.std.specs.Prelude.{◌≡◌, ◌<◌, ◌^◌, [], ◌∷◌, ◌++◌, IfOk, IfErr, OnOk, map, None, Option, Some};
+ghost use Rattle.std.specs.Option.{option_map};
+ghost use Rattle.cedar_loose_grammar.specs.Converting.{each, policies_syntax, policy_syntax};
+ghost use Rattle.cedar_syntax.specs.View.{shown_policies, shown_policy};
+ghost use Rattle.cedar_world.specs.PolicyEdits.{numbered};
+ghost use Rattle.cedar_conversion_leaves.specs.Converts.{and_then, Finds};
+ghost use Rattle.cedar_policy_set.specs.Entries.{Entries, bound_at};
+ghost use Rattle.cedar_policy_set.specs.Refused.{IsOccupied, taken};
+ghost use Rattle.cedar_policy_set.specs.Texts.{text_entry, text_entries};
+ghost use Rattle.cedar_policy_conversion.specs.Kinds.{entry_made, id_made};
+
+use crate::policies::to_policy_or_template;
+use cedar_conversion_faults::{ConversionError, flatten_tuple_2};
+use cedar_policies::PolicyID;
+use cedar_policy_conversion_parts::PolicyError;
+use cedar_policy_set::errors::PolicySetError;
+use cedar_policy_set::sets::PolicySet;
+use cedar_styles::ExtStyles;
+use cedar_syntax::cst;
+use cedar_syntax::node::Node;
+use cedar_templates::static_policies::StaticPolicy;
+use cedar_templates::templates::Template;
+use either::Either;
+use std::alloc::{AllocError, Global};
+
+// The id of the policy with this number in its text.
+fn numbered_id(alloc: Global, number: usize) -> Result<PolicyID, AllocError>
+    ensures { IfOk result (λ id. id ≡ numbered number) }
+{
+    let text = format!(in alloc; "policy{number}")?;
+    PolicyID::from_string(alloc, text.as_str())
+}
+
+// Adds a static policy or a template to a set.
+fn add(
+    alloc: Global,
+    set: &mut PolicySet,
+    policy: Either<StaticPolicy, Template>,
+) -> Result<(), PolicySetError>
+    ensures added { OnOk result (set.new ≡ set.old ++ (id_made policy, entry_made policy) ∷ []) }
+    ensures refused { IfErr result (IsOccupied (taken set.old (id_made policy))) }
+{
+    match policy {
+        Either::Left(policy) => set.add_static(alloc, policy),
+        Either::Right(template) => set.add_template(alloc, template),
+    }
+}
+
+// The set with a static policy or a template of an id that isn't bound there; refused for memory alone.
+fn with_policy(
+    alloc: Global,
+    mut set: PolicySet,
+    policy: Either<StaticPolicy, Template>,
+) -> Result<PolicySet, PolicyError>
+    requires { bound_at set (id_made policy) ≡ None }
+    ensures { Finds (λ set. set) result (Some (set ++ (id_made policy, entry_made policy) ∷ [])) }
+{
+    match add(alloc, &mut set, policy) {
+        Ok(()) => Ok(set),
+        Err(PolicySetError::Occupied { .. }) => unreachable!(),
+        Err(PolicySetError::Memory(_)) => Err(ConversionError::Memory),
+    }
+}
+
+// The set with the policy of a node under its number, which isn't bound there; or the faults of all.
+fn with_node(
+    alloc: Global,
+    earlier: Result<PolicySet, PolicyError>,
+    number: usize,
+    node: &Node<Option<cst::Policy>>,
+    styles: &ExtStyles,
+) -> Result<PolicySet, PolicyError>
+    requires { number < 2 ^ 64 → IfOk earlier (λ set. bound_at set (numbered number) ≡ None) }
+    ensures { (before : Option Entries) → Finds (λ set. set) earlier before →
+        Finds (λ set. set) result (and_then before (λ es.
+        and_then (option_map text_entry (policy_syntax styles.now (shown_policy node.now))) (λ e. Some (es ++ (numbered number, e) ∷ [])))) }
+{
+    let id = numbered_id(alloc, number)?;
+    let next = to_policy_or_template(alloc, node, id, styles);
+    let (set, policy) = flatten_tuple_2(earlier, next)?;
+    with_policy(alloc, set, policy)
+}
+
+// The policy set of these policies, under their numbers.
+fn set_of(
+    alloc: Global,
+    nodes: &[Node<Option<cst::Policy>>],
+    styles: &ExtStyles,
+) -> Result<PolicySet, PolicyError>
+    ensures { Finds (λ set. set) result (option_map (text_entries 0) (each (policy_syntax styles.now) (map shown_policy nodes.now))) }
+{
+    let mut set = Ok(PolicySet::new(alloc));
+    for (number, node) in nodes.iter().enumerate() {
+        set = with_node(alloc, set, number, node, styles);
+    }
+    set
+}
+
+/// The policy set of a text: its static policies and templates in its order, under the ids `policy0`,
+/// `policy1` and so on. The faults of all policies are gathered. (Cedar language reference, "Policies".)
+#[tactic(auto, unfolding(cedar_loose_grammar::specs::Converting::policies_syntax))]
+pub fn to_policyset(
+    alloc: Global,
+    node: &Node<Option<cst::Policies>>,
+    styles: &ExtStyles,
+) -> Result<PolicySet, PolicyError>
+    ensures { Finds (λ set. set) result (option_map (text_entries 0) (policies_syntax styles.now (shown_policies node.now))) }
+{
+    let Some(policies) = &node.node else {
+        return Err(ConversionError::missing(alloc, node.loc()));
+    };
+    set_of(alloc, &policies.0, styles)
+}

@@ -1,0 +1,104 @@
+// Policies with or without slots.
+ghost use Rattle.std.specs.Prelude.{◌≡◌, IfOk};
+ghost use Rattle.cedar_loose_grammar.specs.Converting.{policy_syntax};
+ghost use Rattle.cedar_syntax.specs.View.{shown_policy, view_policy_impl};
+ghost use Rattle.cedar_templates.specs.Templates.{template_id, syntax_of};
+ghost use Rattle.cedar_conversion_leaves.specs.Converts.{Finds};
+ghost use Rattle.cedar_policy_conversion.specs.Parts.{parts_syntax};
+
+use cedar_annotations::annotations::Annotations;
+use cedar_constraints::actions::ActionConstraint;
+use cedar_constraints::principals::PrincipalConstraint;
+use cedar_constraints::resources::ResourceConstraint;
+use cedar_conversion_faults::{ConversionError, flatten_tuple_2};
+use cedar_names::places::Loc;
+use cedar_policies::{Effect, PolicyID};
+use cedar_policy_conversion_parts::{PolicyError, get_ast_annotations, to_clauses, to_effect};
+use cedar_scope_conversion::extract_scope;
+use cedar_styles::ExtStyles;
+use cedar_syntax::cst;
+use cedar_syntax::cst::PolicyImpl;
+use cedar_syntax::node::Node;
+use cedar_templates::templates::Template;
+use cedar_trees::expr::Expr;
+use std::alloc::{AllocError, Global};
+
+// What a policy is made of.
+#[derive(Drop)]
+pub(crate) struct Parts {
+    effect: Effect,
+    annotations: Annotations,
+    principal: PrincipalConstraint,
+    action: ActionConstraint,
+    resource: ResourceConstraint,
+    clauses: Option<Expr>,
+}
+
+// The parts of a policy at this place, or the faults of all.
+fn to_parts(
+    alloc: Global,
+    policy: &PolicyImpl,
+    loc: Option<&Loc>,
+    styles: &ExtStyles,
+) -> Result<Parts, PolicyError>
+    ensures { Finds parts_syntax result (policy_syntax styles.now (view_policy_impl policy.now)) }
+{
+    let effect = to_effect(alloc, &policy.effect);
+    let annotations = get_ast_annotations(alloc, &policy.annotations);
+    let scope = extract_scope(alloc, &policy.variables, loc);
+    let clauses = to_clauses(alloc, styles, &policy.conds, loc);
+    let head = flatten_tuple_2(effect, annotations);
+    let body = flatten_tuple_2(scope, clauses);
+    let ((effect, annotations), (scope, clauses)) = flatten_tuple_2(head, body)?;
+    let (principal, action, resource) = scope;
+    Ok(Parts {
+        effect,
+        annotations,
+        principal,
+        action,
+        resource,
+        clauses,
+    })
+}
+
+// The template of these parts.
+fn template_of(
+    alloc: Global,
+    id: PolicyID,
+    loc: Option<&Loc>,
+    parts: Parts,
+) -> Result<Template, AllocError>
+    ensures id { IfOk result (λ made. template_id made ≡ id) }
+    ensures syntax { IfOk result (λ made. syntax_of made ≡ parts_syntax parts) }
+{
+    Template::new(
+        alloc,
+        id,
+        loc.cloned()?,
+        parts.annotations,
+        parts.effect,
+        parts.principal,
+        parts.action,
+        parts.resource,
+        parts.clauses,
+    )
+}
+
+/// A policy, with or without slots, under an id. The faults of all its parts are gathered: its annotations,
+/// its effect, its scope and its clauses. (Cedar language reference, "Policy syntax".)
+#[tactic(auto, unfolding(cedar_loose_grammar::specs::Converting::policy_syntax))]
+pub fn to_template(
+    alloc: Global,
+    node: &Node<Option<cst::Policy>>,
+    id: PolicyID,
+    styles: &ExtStyles,
+) -> Result<Template, PolicyError>
+    ensures syntax { Finds syntax_of result (policy_syntax styles.now (shown_policy node.now)) }
+    ensures id { IfOk result (λ template. template_id template ≡ id) }
+{
+    let Some(cst::Policy::Policy(policy)) = &node.node else {
+        return Err(ConversionError::missing(alloc, node.loc()));
+    };
+    let parts = to_parts(alloc, policy, node.loc(), styles)?;
+    Ok(template_of(alloc, id, node.loc(), parts)?)
+}

@@ -1,0 +1,4 @@
+pub mod Gathering
+pub mod Joining
+mod Ordering
+mod Words

@@ -1,0 +1,29 @@
+-- The policies of a text as entries of a policy set, and what a set has of them. (Cedar language reference, "Policies".)
+use Rattle.std.specs.Prelude.{◌≡◌, ℕ, suc, true, List, [], ◌∷◌, None, Some, if◌then◌else◌}
+use Rattle.cedar_language.specs.Uid.{Text}
+use Rattle.cedar_grammar.specs.Policy.{Policy}
+use Rattle.cedar_world.specs.Syntax.{is_template}
+use Rattle.cedar_world.specs.PolicyEdits.{numbered}
+use Rattle.cedar_policy_set.specs.Entries.{Entry, static_policy, template, link, Entries, bound_at}
+
+abbrev pub text_entry : Policy → Entry
+text_entry s = if is_template s then template s else static_policy s
+
+-- the policies of a text under their own numbers, from its i-th on
+abbrev pub text_entries : ℕ → List Policy → Entries
+text_entries i [] = []
+text_entries i (s ∷ ss) = (numbered i, text_entry s) ∷ text_entries (suc i) ss
+
+-- each template has slots
+abbrev pub HaveSlots : Entries → Type 0
+HaveSlots es = (id : Text) (s : Policy) → bound_at es id ≡ Some (template s) → is_template s ≡ true
+
+-- the syntax of a policy or template; of a link, that of its template
+abbrev pub syntax_in : Entry → Policy
+syntax_in (static_policy s) = s
+syntax_in (template s) = s
+syntax_in (link t s b) = s
+
+-- no policy, template or link has clauses
+abbrev pub HaveNoClauses : Entries → Type 0
+HaveNoClauses es = (id : Text) (e : Entry) → bound_at es id ≡ Some e → (syntax_in e).body ≡ None

@@ -1,0 +1,3 @@
+mod Templates
+mod Texts
+mod Readings

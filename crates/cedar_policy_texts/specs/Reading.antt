@@ -1,0 +1,17 @@
+-- What a text of policies is read as, or why it is refused.
+use Rattle.std.specs.Prelude.{◌≡◌, List, Result, Ok, Err}
+use Rattle.cedar_language.specs.Uid.{Text}
+use Rattle.cedar_world.specs.Setting.{Setting, ArePoliciesWithin, ArePolicies, PoliciesNestWithin}
+use Rattle.cedar_world.specs.Syntax.{PolicySyntax}
+use Rattle.cedar_policy_set.specs.Entries.{Entries}
+use Rattle.cedar_policy_set.specs.Texts.{text_entries}
+use Rattle.cedar_replies.specs.declared.refusal.Refusal.{Refusal}
+use Rattle.cedar_replies.specs.declared.refusal.Refusal.TheVariants as refusal
+
+module _ (by : Setting) (text : Text) where
+  abbrev pub ReadsPolicies : Result Entries Refusal → Type 0
+  ReadsPolicies (Ok es) = (ss : List PolicySyntax) × ArePoliciesWithin by by.depth text ss × (es ≡ text_entries 0 ss)
+  ReadsPolicies (Err refusal.Text) = (ss : List PolicySyntax) → ArePolicies by text ss → ⊥
+  ReadsPolicies (Err refusal.Depth) = PoliciesNestWithin by by.depth text → ⊥
+  ReadsPolicies (Err refusal.Memory) = Unit {0}
+  ReadsPolicies (Err _) = ⊥

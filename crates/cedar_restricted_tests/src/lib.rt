@@ -1,0 +1,5 @@
+//! Tests of restricted expressions.
+#![tactic(auto)]
+
+#[cfg(test)]
+mod restricted;

@@ -1,0 +1,6 @@
+pub mod Acting
+pub mod Asking
+pub mod Finding
+pub mod Owning
+pub mod Parens
+pub mod Parts
