@@ -1,5 +1,5 @@
 #!/usr/bin/env python3
-"""Times the built program on asks, loads and puts, and prints how time grows.
+"""Times the built program on asks, loads, links and puts, and prints how time grows.
 
     python3 bench/measure.py --program crates/cedar_main/out/cedar_main [--repeat 5]
 
@@ -53,6 +53,22 @@ def asks_in_groups(count, policies_held, held):
     return groups() + put(range(held)) + frame('load', text) + frame('ask', ASK) * count
 
 
+def loads(count):
+    """Texts of one policy each: all but the first are renamed."""
+    return b''.join(frame('load', 'permit(principal == User::"u%d", action, resource);' % n) for n in range(count))
+
+
+def links(count):
+    link = '{template: "policy0", id: "l%d", principal: User::"u%d"}'
+    return frame('load', 'permit(principal == ?principal, action, resource);') + b''.join(
+        frame('link', link % (n, n)) for n in range(count)
+    )
+
+
+def unlinks(count):
+    return links(count) + b''.join(frame('unlink', '"l%d"' % n) for n in range(count))
+
+
 def cases():
     yield '10,000 asks, 100 policies', asks(10_000, 100)
     yield '20,000 asks, 100 policies', asks(20_000, 100)
@@ -66,6 +82,11 @@ def cases():
         yield 'load of %d KiB' % size, frame('load', policies_of_size(size * 1024))
     body = 'permit(principal, action in [' + ', '.join('Action::"a%d"' % n for n in range(40_000)) + '], resource);'
     yield 'load of one list of 40,000 actions', frame('load', body[:1_048_576])
+    for count in (1000, 2000, 4000):
+        yield '%s loads of one policy' % format(count, ','), loads(count)
+    yield '4,000 links', links(4000)
+    yield '4,000 links, and each unlinked', unlinks(4000)
+    yield '10,000 asks, 100 links', links(100) + frame('ask', ASK) * 10_000
 
 
 def seconds(program, data, repeat):

@@ -1,5 +1,5 @@
 -- What is gathered of the entities that unknowns stand for.
-use Rattle.std.proofs.Common.{◌≡◌, Bool, true, false, cond, ◌||◌, ◌⊎◌, inl, inr, Option, None, Result, Ok, Err, IfOk, OnOk, refl, sym, ap, ◌∙◌}
+use Rattle.std.proofs.Common.{◌≡◌, Bool, true, false, cond, ◌||◌, ◌⊎◌, inl, inr, Option, None, Result, Ok, Err, IfOk, IfSome, OnOk, refl, sym, ap, subst, ◌∙◌}
 use Rattle.std.specs.Ordering.{eq_by_cmp}
 use Rattle.std.specs.Cmp.Lexicographic.{bytes_decides}
 use Rattle.std.proofs.lemmas.Bool.{false≢true}
@@ -59,6 +59,14 @@ pub refused_any : {X : Type 0} (n : Text) (ty : Option ValueType) (e : ParseName
 refused_any n ty e h r (Ok found) none not = λ u ok. ap (λ o. stands_for_found o u) none ∙ refused_named n ty e u h r not ok
 refused_any n ty e h r (Err x) none not = tt
 
+-- a uid that is read from a text is written so
+pub read_written : (n : Text) (v : Uid) → ReadsUid n (Ok v) → IsWrittenUid v
+read_written n v r = (r.0.0, r.2, r.1)
+
+pub none_written : {X : Type 0} (r : Result (Option Uid) X) → IfOk r (λ found. found ≡ None) → IfOk r (λ found. IfSome found IsWrittenUid)
+none_written (Ok found) none = subst (λ o. IfSome o IsWrittenUid) (sym none) tt
+none_written (Err x) none = tt
+
 pub no_entities : (x : Text × Option ValueType) (u : Uid) → is_of_entities x.1 ≡ false → false ≡ stands_for x u
 no_entities x u h = rw h refl
 
@@ -85,3 +93,10 @@ turn_none held first more all f h = turn held held first more all (stays held �
     stays : (b : Bool) → b ≡ (b || false)
     stays true = refl
     stays false = refl
+
+pub written_more : (v u : Uid) (held now : Bool) → now ≡ cond (eq_by_cmp uid_cmp v u) true held → IsWrittenUid v → (held ≡ true → IsWrittenUid u) → now ≡ true → IsWrittenUid u
+written_more v u held now e w old h = by (eq_by_cmp uid_cmp v u) refl
+  where
+    by : (b : Bool) → eq_by_cmp uid_cmp v u ≡ b → IsWrittenUid u
+    by true same = subst IsWrittenUid ((uids_same v u).0 (uid_cmp_ties v u ∙ same)) w
+    by false other = old (sym (e ∙ ap (λ b. cond b true held) other) ∙ h)

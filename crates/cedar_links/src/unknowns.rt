@@ -1,5 +1,5 @@
 // The entities that aren't known yet.
-ghost use Rattle.std.specs.Prelude.{◌≡◌, false, None, IfOk, OnOk, option_map};
+ghost use Rattle.std.specs.Prelude.{◌≡◌, true, false, None, IfOk, IfSome, OnOk, option_map};
 ghost use Rattle.std.specs.BTreeSet.{contains};
 ghost use Rattle.cedar_language.specs.Order.{uid_cmp};
 ghost use Rattle.cedar_language.specs.Uid.{Uid};
@@ -26,7 +26,8 @@ impl Policy {
     /// and whose name is a uid as it is printed, stands for the entity of this uid. Refused for memory
     /// alone.
     pub fn unknown_entities(&self, alloc: Global) -> Result<BTreeSet<EntityUID>, AllocError>
-        ensures { IfOk result (λ uids. (u : Uid) → IsWrittenUid u → contains uid_cmp uids u ≡ is_unknown_entity (condition (policy_syntax self.now)) u) }
+        ensures stand { IfOk result (λ uids. (u : Uid) → IsWrittenUid u → contains uid_cmp uids u ≡ is_unknown_entity (condition (policy_syntax self.now)) u) }
+        ensures written { IfOk result (λ uids. (u : Uid) → contains uid_cmp uids u ≡ true → IsWrittenUid u) }
     {
         let condition = self.condition(alloc)?;
         gather_entities(alloc, &condition)
@@ -34,7 +35,8 @@ impl Policy {
 }
 
 fn gather_entities(alloc: Global, expr: &Expr) -> Result<BTreeSet<EntityUID>, AllocError>
-    ensures { IfOk result (λ uids. (u : Uid) → IsWrittenUid u → contains uid_cmp uids u ≡ is_unknown_entity (bare expr.now) u) }
+    ensures stand { IfOk result (λ uids. (u : Uid) → IsWrittenUid u → contains uid_cmp uids u ≡ is_unknown_entity (bare expr.now) u) }
+    ensures written { IfOk result (λ uids. (u : Uid) → contains uid_cmp uids u ≡ true → IsWrittenUid u) }
 {
     let mut uids = BTreeSet::new(alloc);
     for unknown in expr.unknowns(alloc)? {
@@ -48,7 +50,8 @@ fn gather_entities(alloc: Global, expr: &Expr) -> Result<BTreeSet<EntityUID>, Al
 // The entity that the unknown stands for, if it does.
 #[tactic(auto, using(crate::proofs::Standing::no_entities))]
 fn named_entity(alloc: Global, unknown: &Unknown) -> Result<Option<EntityUID>, AllocError>
-    ensures { IfOk result (λ found. (u : Uid) → IsWrittenUid u → stands_for_found found u ≡ stands_for (unknown_name unknown.now, unknown_type unknown.now) u) }
+    ensures stands { IfOk result (λ found. (u : Uid) → IsWrittenUid u → stands_for_found found u ≡ stands_for (unknown_name unknown.now, unknown_type unknown.now) u) }
+    ensures written { IfOk result (λ found. IfSome found IsWrittenUid) }
 {
     if !is_of_entities(&unknown.type_annotation) {
         return Ok(None);

@@ -1,5 +1,5 @@
 // Whole texts.
-ghost use Rattle.std.specs.Prelude.{All, IfOk, IfErr, map};
+ghost use Rattle.std.specs.Prelude.{◌≡◌, [], All, IfOk, IfErr, map};
 ghost use Rattle.cedar_cst.specs.Spelling.{IsSpelledToken};
 ghost use Rattle.cedar_cst.specs.View.{token_of};
 ghost use Rattle.cedar_loose_grammar.specs.LooseReading.{read_policies, read_policy, read_expr, read_primary, read_ref, read_name, read_ident};
@@ -30,6 +30,7 @@ pub fn parse_policies(
 ) -> Result<Node<Option<Policies>>, ParseErrors>
     ensures read { IfOk result (λ tree. IsRead read_policies depth text.now (shown_policies tree)) }
     ensures refused { IfErr result (Refuses read_policies depth text.now) }
+    ensures alone { IfErr result (λ errors. errors.0.tail.items ≡ []) }
 {
     let Ok(source) = RcStr::from_str(alloc, text) else {
         return Err(ParseErrors::one(alloc, ParseError::Memory));
@@ -90,6 +91,7 @@ pub fn parse_policy(
 ) -> Result<Node<Option<Policy>>, ParseErrors>
     ensures read { IfOk result (λ tree. IsRead read_policy depth text.now (shown_policy tree)) }
     ensures refused { IfErr result (Refuses read_policy depth text.now) }
+    ensures alone { IfErr result (λ errors. errors.0.tail.items ≡ []) }
 {
     let Ok(source) = RcStr::from_str(alloc, text) else {
         return Err(ParseErrors::one(alloc, ParseError::Memory));
@@ -145,6 +147,7 @@ fn policy_of(
 pub fn parse_expr(alloc: Global, text: &str, depth: u32) -> Result<Node<Option<Expr>>, ParseErrors>
     ensures read { IfOk result (λ tree. IsRead read_expr depth text.now (shown_expr tree)) }
     ensures refused { IfErr result (Refuses read_expr depth text.now) }
+    ensures alone { IfErr result (λ errors. errors.0.tail.items ≡ []) }
 {
     let Ok(source) = RcStr::from_str(alloc, text) else {
         return Err(ParseErrors::one(alloc, ParseError::Memory));
@@ -201,6 +204,7 @@ pub fn parse_primary(
 ) -> Result<Node<Option<Primary>>, ParseErrors>
     ensures read { IfOk result (λ tree. IsRead read_primary depth text.now (shown_primary tree)) }
     ensures refused { IfErr result (Refuses read_primary depth text.now) }
+    ensures alone { IfErr result (λ errors. errors.0.tail.items ≡ []) }
 {
     let Ok(source) = RcStr::from_str(alloc, text) else {
         return Err(ParseErrors::one(alloc, ParseError::Memory));
@@ -254,6 +258,7 @@ fn primary_of(
 pub fn parse_ref(alloc: Global, text: &str) -> Result<Node<Option<Ref>>, ParseErrors>
     ensures read { IfOk result (λ tree. IsRead (flat read_ref) 0 text.now (shown_ref tree)) }
     ensures refused { IfErr result (RefusesFlat (flat read_ref) text.now) }
+    ensures alone { IfErr result (λ errors. errors.0.tail.items ≡ []) }
 {
     let Ok(source) = RcStr::from_str(alloc, text) else {
         return Err(ParseErrors::one(alloc, ParseError::Memory));
@@ -294,6 +299,7 @@ fn ref_of(
 pub fn parse_name(alloc: Global, text: &str) -> Result<Node<Option<Name>>, ParseErrors>
     ensures read { IfOk result (λ tree. IsRead (flat read_name) 0 text.now (shown_name tree)) }
     ensures refused { IfErr result (RefusesFlat (flat read_name) text.now) }
+    ensures alone { IfErr result (λ errors. errors.0.tail.items ≡ []) }
 {
     let Ok(source) = RcStr::from_str(alloc, text) else {
         return Err(ParseErrors::one(alloc, ParseError::Memory));
@@ -334,6 +340,7 @@ fn name_of(
 pub fn parse_ident(alloc: Global, text: &str) -> Result<Node<Option<Ident>>, ParseErrors>
     ensures read { IfOk result (λ tree. IsRead (flat read_ident) 0 text.now (shown_ident tree)) }
     ensures refused { IfErr result (RefusesFlat (flat read_ident) text.now) }
+    ensures alone { IfErr result (λ errors. errors.0.tail.items ≡ []) }
 {
     let Ok(source) = RcStr::from_str(alloc, text) else {
         return Err(ParseErrors::one(alloc, ParseError::Memory));

@@ -1,5 +1,5 @@
 // Errors of a text, from what stopped its reader.
-ghost use Rattle.std.specs.Prelude.{◌≡◌};
+ghost use Rattle.std.specs.Prelude.{◌≡◌, []};
 ghost use Rattle.cedar_parse_errors.specs.Errors.{cause_of};
 ghost use Rattle.cedar_loose.specs.Texts.{stop_cause};
 
@@ -11,7 +11,8 @@ use std::rc::RcStr;
 
 /// The error that stopped the reader, with its place in the text `source`. It takes no memory.
 pub(crate) fn refusal(alloc: Global, error: ReadError, source: RcStr) -> ParseErrors
-    ensures { cause_of result.0.head ≡ stop_cause error }
+    ensures cause { cause_of result.0.head ≡ stop_cause error }
+    ensures alone { result.0.tail.items ≡ [] }
 {
     let error = match error {
         ReadError::Syntax(unexpected) => {

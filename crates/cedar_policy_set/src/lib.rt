@@ -5,6 +5,7 @@ mod adding;
 pub mod bounds;
 mod displays;
 pub mod errors;
+pub mod laws;
 mod linking;
 pub mod listing;
 mod reading;

@@ -2,7 +2,7 @@
 //! was wanted.
 #![tactic(auto)]
 
-ghost use Rattle.std.specs.Prelude.{◌≡◌, true, IsOk, IfOk, OnOk, string_bytes};
+ghost use Rattle.std.specs.Prelude.{◌≡◌, true, IsOk, IsOkAnd, IfOk, IfSome, OnOk, string_bytes};
 
 use std::alloc::{AllocError, Global};
 use std::fmt::{Debug, Display};
@@ -10,7 +10,7 @@ use std::test::Fail;
 
 /// Fails unless the text was made and is the wanted one.
 pub fn assert_text<E: Into<Fail>>(found: Result<String, E>, wanted: &str) -> Result<(), Fail>
-    ensures same { OnOk result (IfOk found (λ text. string_bytes text ≡ wanted.now)) }
+    ensures same { OnOk result (IsOkAnd found (λ text. string_bytes text ≡ wanted.now)) }
     ensures only { IfOk found (λ text. string_bytes text ≡ wanted.now → IsOk result) }
 {
     let found = match found {
@@ -27,7 +27,10 @@ pub fn assert_text<E: Into<Fail>>(found: Result<String, E>, wanted: &str) -> Res
 pub fn assert_value<T: PartialEq + Debug + Drop, E: Into<Fail>>(
     found: Result<T, E>,
     wanted: T,
-) -> Result<(), Fail> {
+) -> Result<(), Fail>
+    ensures same { OnOk result (IsOkAnd found (λ value. T.eq value wanted ≡ true)) }
+    ensures only { IfOk found (λ value. T.eq value wanted ≡ true → IsOk result) }
+{
     let found = match found {
         Ok(found) => found,
         Err(error) => return Err(error.into()),
@@ -39,7 +42,9 @@ pub fn assert_value<T: PartialEq + Debug + Drop, E: Into<Fail>>(
 }
 
 /// The text of a value, which is let go; refused for memory alone.
-pub fn text_of<T: Display + Drop>(alloc: Global, value: T) -> Result<String, AllocError> {
+pub fn text_of<T: Display + Drop>(alloc: Global, value: T) -> Result<String, AllocError>
+    ensures { IfOk result (λ text. IfSome (T.output value) (λ bytes. string_bytes text ≡ bytes)) }
+{
     value.to_string(alloc)
 }
 
@@ -48,7 +53,8 @@ pub fn are_same<T: PartialEq + Drop, E: Drop>(
     one: Result<T, E>,
     other: Result<T, E>,
 ) -> Result<bool, E>
-    ensures { IfOk result (λ same. IfOk one (λ x. IfOk other (λ y. same ≡ T.eq x y))) }
+    ensures same { IfOk result (λ same. IsOkAnd one (λ x. IsOkAnd other (λ y. same ≡ T.eq x y))) }
+    ensures made { IfOk one (λ _. IfOk other (λ _. IsOk result)) }
 {
     let one = one?;
     let other = other?;
