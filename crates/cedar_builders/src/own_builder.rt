@@ -1,12 +1,11 @@
 //! The builder of `Expr`.
-ghost use Rattle.std.specs.Prelude.{◌≡◌, None, Some, IfOk, IfNone, IfSome, IsSomeAnd, map};
+ghost use Rattle.std.specs.Prelude.{◌≡◌, None, Some, IfOk, IfNone, IfSome, map};
 ghost use Rattle.std.specs.Option.{option_copied};
 ghost use Rattle.cedar_language.specs.Tree as tree;
 ghost use Rattle.cedar_trees.specs.Bare.{bare, bare_entries, record_tree};
 ghost use Rattle.cedar_trees.specs.Records.{refused_key, record_made};
 ghost use Rattle.cedar_grammar.specs.Build.{trees};
 ghost use Rattle.cedar_builders.specs.Operations.{Gives, Builds};
-ghost use Rattle.cedar_builders.specs.Places.{SamePlace, SamePlaces};
 
 use crate::expr_builder;
 use cedar_literals::literals::Literal;
@@ -66,7 +65,7 @@ impl<T> ExprBuilder<T> {
         T: Drop,
         ensures without { IfNone expr.now.source_loc (IfOk result (λ builder. builder ≡ self)) }
         ensures place { IfSome expr.now.source_loc (λ loc.
-            IfOk result (λ builder. IsSomeAnd builder.source_loc (SamePlace loc))) }
+            IfOk result (λ builder. builder.source_loc ≡ Some loc)) }
         ensures same_data { IfOk result (λ builder. builder.«data» ≡ self.«data») }
     {
         match &expr.source_loc {
@@ -84,7 +83,7 @@ impl<T> ExprBuilder<T> {
 }
 
 impl<T: Clone + Drop> Clone for ExprBuilder<T> {
-    ghost is_clone = { λ builder copy. T.is_clone builder.«data» copy.«data» × SamePlaces builder.source_loc copy.source_loc };
+    ghost is_clone = { λ builder copy. T.is_clone builder.«data» copy.«data» × (copy.source_loc ≡ builder.source_loc) };
 
     fn clone(&self) -> Result<ExprBuilder<T>, AllocError> {
         let data = self.data.clone()?;
@@ -290,10 +289,10 @@ impl expr_builder::ExprBuilder for ExprBuilder {
         in_entity: Expr,
     ) -> Result<Expr, ExpressionConstructionError> {
         let copy = expr.clone(self.alloc)?;
-        let is = kinds::is_entity_type(self.alloc, copy, entity_type)?;
-        let is = self.clone()?.with_expr_kind(is);
+        let (one, other) = (self.clone()?, self.clone()?);
+        let is = one.with_expr_kind(kinds::is_entity_type(self.alloc, copy, entity_type)?);
         let within = kinds::binary_app(self.alloc, BinaryOp::In, expr, in_entity)?;
-        let within = self.clone()?.with_expr_kind(within);
+        let within = other.with_expr_kind(within);
         let kind = kinds::and(self.alloc, is, within)?;
         Ok(self.with_expr_kind(kind))
     }

@@ -61,9 +61,9 @@ impl<E: Drop> ConversionError<E> {
     pub fn fault(alloc: Global, kind: ToASTErrorKind, loc: Option<&Loc>) -> ConversionError<E>
         ensures { IsFault result }
     {
-        match loc.cloned() {
-            Ok(loc) => ConversionError::Faults(NonEmpty {
-                head: ToASTError::new(kind, loc),
+        match ToASTError::at(alloc, kind, loc) {
+            Ok(head) => ConversionError::Faults(NonEmpty {
+                head,
                 tail: Vec::new(alloc),
             }),
             Err(_) => ConversionError::Memory,

@@ -17,7 +17,7 @@ use std::fmt;
 use std::rc::RcStr;
 
 /// Why a part of a loose tree means nothing.
-#[derive(Debug, PartialEq, Eq, Drop)]
+#[derive(PartialEq, Eq, Drop)]
 pub enum ToASTErrorKind {
     /// A template has an id that another one has.
     DuplicateTemplateId(PolicyID),
@@ -185,6 +185,13 @@ impl fmt::Display for ToASTErrorKind {
             ToASTErrorKind::EmptyClause(None) => { write!(f, "condition clause cannot be empty") }
             _ => self.fmt_scope(f),
         }
+    }
+}
+
+/// The text of the fault, as `Display` writes it.
+impl fmt::Debug for ToASTErrorKind {
+    fn fmt<W: fmt::Write>(&self, f: &mut fmt::Formatter<W>) -> fmt::Result {
+        fmt::Display::fmt(self, f)
     }
 }
 

@@ -7,5 +7,6 @@ mod Insides
 mod Ascii
 mod KindReading
 mod Reading
+mod Unread
 mod PartReading
 mod Unescaping

@@ -3,7 +3,7 @@ use Rattle.std.proofs.Common.{◌≡◌, ℕ, zero, suc, ◌-◌, ◌<◌, ◌�
 use Rattle.std.specs.Str.{chars, IsUtf8}
 use Rattle.cedar_grammar.specs.Token.{Token}
 use Rattle.cedar_grammar.specs.Tokens.{IsTokens, after_blank, token_read, token_then, tokens_step, tokens_at, tokens_of}
-use Rattle.cedar_grammar.specs.Laws.{ReadsTokens}
+use Rattle.cedar_grammar.proofs.TokensComplete.{reads_tokens}
 use Rattle.cedar_cst.specs.declared.tokens.Token as placed
 use Rattle.cedar_cst.specs.View.{token_of}
 use Rattle.cedar_cst.specs.Rest.{IsRest}
@@ -66,14 +66,14 @@ pub left_more : (text rest after next : List ℕ) (done : List Token) (t : Token
 left_more text rest after next done t left u r s blank =
     turn text rest after next done t left.turns left.enough (chars-shorter rest after u r.cut r.shorter) (chars-short after next r.cut.utf8 s) left.same r.token blank
 
-pub left_none : (text rest : List ℕ) (done : List Token) → ReadsTokens → Left text rest done → chars rest ≡ [] → IsTokens text done
-left_none text rest done law left e =
-    (law (chars text) done).1
+pub left_none : (text rest : List ℕ) (done : List Token) → Left text rest done → chars rest ≡ [] → IsTokens text done
+left_none text rest done left e =
+    (reads_tokens (chars text) done).1
     (sym (ap (λ cs. after_tokens done (tokens_step (tokens_at left.turns) cs)) (sym e) ∙ left.same) ∙ ap Some (append-nil done))
 
-pub left_stuck : (text rest : List ℕ) (done : List Token) → ReadsTokens → Left text rest done → 0 < length (chars rest) → token_read (chars rest) ≡ None → (ts : List Token) → ¬ IsTokens text ts
-left_stuck text rest done law left some read ts is =
-    let one : tokens_of (chars text) ≡ Some ts = (law (chars text) ts).0 is in
+pub left_stuck : (text rest : List ℕ) (done : List Token) → Left text rest done → 0 < length (chars rest) → token_read (chars rest) ≡ None → (ts : List Token) → ¬ IsTokens text ts
+left_stuck text rest done left some read ts is =
+    let one : tokens_of (chars text) ≡ Some ts = (reads_tokens (chars text) ts).0 is in
     let two : tokens_of (chars text) ≡ None = sym left.same ∙ ap (after_tokens done) (step-some (tokens_at left.turns) (chars rest) 0 some ∙ ap (token_then (tokens_at left.turns)) read) in
     let three : None ≡ Some ts = sym two ∙ one in cc three
 

@@ -8,3 +8,4 @@ pub mod Places
 pub mod Refusal
 pub mod Parts
 pub mod Spelling
+pub mod Unread

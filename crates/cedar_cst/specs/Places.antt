@@ -1,5 +1,5 @@
 -- Where the tokens of a text stand.
-use Rattle.std.specs.Prelude.{◌≡◌, ℕ, ◌<◌, ◌≤◌, List, [], ◌∷◌, drop, Some}
+use Rattle.std.specs.Prelude.{◌≡◌, ℕ, ◌-◌, ◌<◌, ◌≤◌, List, [], ◌∷◌, length, drop, Some}
 use Rattle.std.specs.Str.{chars}
 use Rattle.cedar_grammar.specs.Tokens.{token_read}
 use Rattle.cedar_cst.specs.declared.tokens.Token.{Token}
@@ -14,3 +14,7 @@ pub record StandsIn (text : List ℕ) (t : Token) : Type 0 where
 abbrev pub ArePlaced : List ℕ → ℕ → List Token → ℕ → Type 0
 ArePlaced text from [] upto = from ≤ upto
 ArePlaced text from (t ∷ ts) upto = (from ≤ t.span.start) × StandsIn text t × ArePlaced text t.span.end ts upto
+
+-- the token stands in the text where the rest of it begins, up to what follows
+abbrev pub StandsBetween : List ℕ → List ℕ → Token → List ℕ → Type 0
+StandsBetween text rest t after = (t.span.start ≡ length text - length rest) × (t.span.end ≡ length text - length after)

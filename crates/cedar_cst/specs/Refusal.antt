@@ -10,9 +10,18 @@ use Rattle.cedar_cst.specs.declared.error.UnescapeError.TheVariants as unescape
 use Rattle.cedar_grammar.specs.Escape.{parts_of, string_of}
 
 -- the text has no tokens, and none stands at the place, which lies in it
+abbrev pub IsStuck : List ℕ → ℕ → Type 0
+IsStuck text place = (place < length text) × (token_read (chars (drop place text)) ≡ None) × ((ts : List Token) → ¬ IsTokens text ts)
+
+-- of want of memory nothing is said
 abbrev pub Refuses : List ℕ → TokenError → Type 0
-Refuses text (token.Unexpected place) = (place < length text) × (token_read (chars (drop place text)) ≡ None) × ((ts : List Token) → ¬ IsTokens text ts)
+Refuses text (token.Unexpected place) = IsStuck text place
 Refuses text token.Memory = ⊤
+
+-- the text is refused, and not for want of memory
+abbrev pub RefusesText : List ℕ → TokenError → Type 0
+RefusesText text (token.Unexpected place) = IsStuck text place
+RefusesText text token.Memory = ⊥
 
 -- the raw string stands for no text, and the place lies in it
 abbrev pub RefusesString : List ℕ → UnescapeError → Type 0

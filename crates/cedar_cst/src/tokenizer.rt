@@ -1,8 +1,12 @@
 // A text, read into tokens.
-ghost use Rattle.std.specs.Prelude.{All, IfOk, IfErr, map, length};
-ghost use Rattle.cedar_grammar.specs.Tokens.{IsTokens};
+ghost use Rattle.std.specs.Prelude.{◌≡◌, ◌-◌, All, IfOk, IfErr, IfSome, MatchOption, map, length};
+ghost use Rattle.std.specs.Str.{chars};
+ghost use Rattle.cedar_grammar.specs.Tokens.{IsTokens, token_read};
 ghost use Rattle.cedar_cst.specs.View.{token_of};
-ghost use Rattle.cedar_cst.specs.Places.{ArePlaced};
+ghost use Rattle.cedar_cst.specs.Rest.{IsRest};
+ghost use Rattle.cedar_cst.specs.Marks.{StartsNoComment};
+ghost use Rattle.cedar_cst.specs.Reads.{ReadsToken};
+ghost use Rattle.cedar_cst.specs.Places.{ArePlaced, StandsBetween};
 ghost use Rattle.cedar_cst.specs.Refusal.{Refuses};
 ghost use Rattle.cedar_cst.specs.Spelling.{IsSpelledToken};
 
@@ -10,7 +14,6 @@ use crate::characters::skip_blank;
 use crate::error::TokenError;
 use crate::kinds::split_token;
 use crate::tokens::{Span, Token};
-use cedar_grammar::reading_is_the_grammar;
 use std::alloc::Global;
 
 /// The tokens of a text, in order, each with its place. White space and comments may stand before,
@@ -25,22 +28,32 @@ pub fn tokenize(alloc: Global, text: &str) -> Result<Vec<Token<'_>>, TokenError>
     ensures spelled { IfOk result (λ tokens. All IsSpelledToken tokens.items) }
     ensures refused { IfErr result (Refuses text.now) }
 {
-    // Runs no code: its contract is the law that reading gives the definition's tokens, and no others.
-    reading_is_the_grammar();
-
     let mut tokens = Vec::new(alloc);
     let mut rest = skip_blank(text);
     'tokens: while !rest.is_empty() {
-        let start = text.len() - rest.len();
-        let Some((kind, after)) = split_token(rest) else {
-            return Err(TokenError::Unexpected { place: start });
+        let Some((token, after)) = read_token(text, rest) else {
+            let place = text.len() - rest.len();
+            return Err(TokenError::Unexpected { place });
         };
-        let span = Span {
-            start,
-            end: text.len() - after.len(),
-        };
-        tokens.push(Token { kind, span })?;
+        tokens.push(token)?;
         rest = skip_blank(after);
     }
     Ok(tokens)
+}
+
+/// The longest token at the start of the rest of the text, with its place, and what follows it.
+pub fn read_token<'t>(text: &str, rest: &'t str) -> Option<(Token<'t>, &'t str)>
+    requires cut { IsRest text.now rest.now }
+    requires visible { StartsNoComment (chars rest.now) }
+    ensures token { MatchOption result (token_read (chars rest.now) ≡ None)
+        (λ x. ReadsToken rest.now (token_of x.0) x.1.now) }
+    ensures place { IfSome result (λ x. StandsBetween text.now rest.now x.0 x.1.now) }
+    ensures spelled { IfSome result (λ x. IsSpelledToken x.0) }
+{
+    let (kind, after) = split_token(rest)?;
+    let span = Span {
+        start: text.len() - rest.len(),
+        end: text.len() - after.len(),
+    };
+    Some((Token { kind, span }, after))
 }

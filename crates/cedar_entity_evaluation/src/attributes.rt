@@ -53,9 +53,9 @@ fn refusal(
 ) -> EntityCreationError
     ensures { IfNoValue result (λ e. (e.uid ≡ uid) × (e.was_attr ≡ was_attr) × (e.attr_or_tag ≡ attr_or_tag) × (e.err ≡ err)) }
 {
-    match err {
+    match &err {
         EvaluationError::Memory => EntityCreationError::Memory(AllocError),
-        err => EntityCreationError::Evaluation(EntityAttrEvaluationError {
+        _ => EntityCreationError::Evaluation(EntityAttrEvaluationError {
             uid,
             attr_or_tag,
             was_attr,

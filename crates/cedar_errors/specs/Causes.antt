@@ -1,5 +1,5 @@
 -- What errors tell: what was met, and where.
-use Rattle.std.specs.Prelude.{ℕ, List, [], ◌∷◌, map, Bool, true, false, Option, None, option_map}
+use Rattle.std.specs.Prelude.{ℕ, List, [], ◌∷◌, map, Bool, true, false, Option, None}
 use Rattle.std.specs.Rc.{rc_str_bytes}
 use Rattle.std.specs.String.{string_bytes}
 use Rattle.cedar_language.specs.Uid.{Text, Name, Uid}
@@ -8,8 +8,7 @@ use Rattle.cedar_language.specs.Value.{Value}
 use Rattle.cedar_literals.specs.Types.{value_type_of}
 use Rattle.cedar_literals.specs.Operators.{unary_operator_of, binary_operator_of}
 use Rattle.cedar_literals.specs.declared.types.Type as code
-use Rattle.cedar_names.specs.declared.places.Loc.{Loc}
-use Rattle.cedar_names.specs.declared.places.Span.{Span}
+use Rattle.cedar_names.specs.declared.places.Place.{Place}
 use Rattle.cedar_trees.specs.declared.unknowns.NonEmpty.{NonEmpty}
 use Rattle.cedar_errors.specs.Residuals.{residual_tree}
 use Rattle.cedar_errors.specs.declared.missing.Named.{Named}
@@ -48,13 +47,13 @@ pub data Cause : Type 0 where
 abbrev pub name_sought : FuncDoesNotExistError → Name
 name_sought e = e.name
 
-abbrev pub place_sought : FuncDoesNotExistError → Option Loc
+abbrev pub place_sought : FuncDoesNotExistError → Option Place
 place_sought e = e.source_loc
 
 abbrev pub miscounted : WrongNumArgumentsError → Cause
 miscounted e = OtherCount e.function_name e.expected e.actual
 
-abbrev pub place_miscounted : WrongNumArgumentsError → Option Loc
+abbrev pub place_miscounted : WrongNumArgumentsError → Option Place
 place_miscounted e = e.source_loc
 
 abbrev pub name_failed : ExtensionFunctionExecutionError → Name
@@ -63,13 +62,13 @@ name_failed e = e.extension_name
 abbrev pub overflow_of_two : BinaryOpOverflowError → Cause
 overflow_of_two e = Overflow (binary_operator_of e.op) (e.arg1 ∷ e.arg2 ∷ [])
 
-abbrev pub place_of_two : BinaryOpOverflowError → Option Loc
+abbrev pub place_of_two : BinaryOpOverflowError → Option Place
 place_of_two e = e.source_loc
 
 abbrev pub overflow_of_one : UnaryOpOverflowError → Cause
 overflow_of_one e = Overflow (unary_operator_of e.op) (e.arg ∷ [])
 
-abbrev pub place_of_one : UnaryOpOverflowError → Option Loc
+abbrev pub place_of_one : UnaryOpOverflowError → Option Place
 place_of_one e = e.source_loc
 
 abbrev pub missing_of : Named → Uid → Text → Cause
@@ -102,16 +101,16 @@ cause_of (error.NonValue e) = Residual (residual_tree e.expr)
 cause_of (error.RecursionLimit e) = TooDeep
 cause_of error.Memory = OutOfMemory
 
-abbrev pub lookup_place : ExtensionFunctionLookupError → Option Loc
+abbrev pub lookup_place : ExtensionFunctionLookupError → Option Place
 lookup_place (lookup.FuncDoesNotExist e) = place_sought e
 lookup_place (lookup.Memory e) = None
 
-abbrev pub overflow_place : IntegerOverflowError → Option Loc
+abbrev pub overflow_place : IntegerOverflowError → Option Place
 overflow_place (overflow.BinaryOp e) = place_of_two e
 overflow_place (overflow.UnaryOp e) = place_of_one e
 
 -- where it was met, if that is known
-abbrev pub place_of : EvaluationError → Option Loc
+abbrev pub place_of : EvaluationError → Option Place
 place_of (error.EntityDoesNotExist e) = e.source_loc
 place_of (error.EntityAttrDoesNotExist e) = e.source_loc
 place_of (error.RecordAttrDoesNotExist e) = e.source_loc
@@ -135,11 +134,7 @@ abbrev pub hides_memory : EvaluationError → Bool
 hides_memory (error.FailedExtensionFunctionLookup (lookup.Memory e)) = true
 hides_memory _ = false
 
--- the range of a place, and its text
-abbrev pub seen_place : Option Loc → Option (Span × Text)
-seen_place = option_map (λ l. (l.span, rc_str_bytes l.src))
-
 -- the place of such an error that is met elsewhere; want of memory has none
-abbrev pub place_kept : Cause → Option Loc → Option Loc
+abbrev pub place_kept : Cause → Option Place → Option Place
 place_kept OutOfMemory place = None
 place_kept _ place = place

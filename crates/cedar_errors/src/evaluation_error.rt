@@ -18,7 +18,7 @@ use thiserror::Error;
 
 /// Why an evaluation gives no value. `==` compares all that an error tells, its place too.
 /// (Cedar language reference, "Semantics of operators".)
-#[derive(Debug, PartialEq, Eq, Drop, Error)]
+#[derive(Debug, PartialEq, Eq, Error)]
 pub enum EvaluationError {
     /// An entity was looked up that isn't held.
     #[error(transparent)]
@@ -56,6 +56,26 @@ pub enum EvaluationError {
     /// Memory ran out.
     #[error("memory ran out")]
     Memory,
+}
+
+// By hand, so that letting go of one is a call, whichever it is.
+impl Drop for EvaluationError {
+    fn drop(self) {
+        match self {
+            EvaluationError::EntityDoesNotExist(_error) => {}
+            EvaluationError::EntityAttrDoesNotExist(_error) => {}
+            EvaluationError::RecordAttrDoesNotExist(_error) => {}
+            EvaluationError::FailedExtensionFunctionLookup(_error) => {}
+            EvaluationError::TypeError(_error) => {}
+            EvaluationError::WrongNumArguments(_error) => {}
+            EvaluationError::IntegerOverflow(_error) => {}
+            EvaluationError::UnlinkedSlot(_error) => {}
+            EvaluationError::FailedExtensionFunctionExecution(_error) => {}
+            EvaluationError::NonValue(_error) => {}
+            EvaluationError::RecursionLimit(_error) => {}
+            EvaluationError::Memory => {}
+        }
+    }
 }
 
 impl EvaluationError {

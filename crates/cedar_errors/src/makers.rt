@@ -7,7 +7,7 @@ ghost use Rattle.cedar_literals.specs.Types.{value_type_of};
 ghost use Rattle.cedar_values.specs.Types.{type_of_value};
 ghost use Rattle.cedar_trees.specs.Bare.{bare};
 ghost use Rattle.cedar_errors.specs.Causes as causes;
-ghost use Rattle.cedar_errors.specs.Causes.{cause_of, place_of, seen_place, types_of};
+ghost use Rattle.cedar_errors.specs.Causes.{cause_of, place_of, types_of};
 ghost use Rattle.cedar_errors.specs.Failures.{OfKind, LimitMet, failure_of};
 
 use crate::calls::{ExtensionFunctionExecutionError, WrongNumArgumentsError};
@@ -169,7 +169,7 @@ impl EvaluationError {
     pub fn non_value(alloc: Global, expr: Expr) -> Result<EvaluationError, AllocError>
         ensures kind { IfOk result (λ error. failure_of error ≡ OfKind kinds.NonValue) }
         ensures cause { IfOk result (λ error. cause_of error ≡ causes.Residual (bare expr)) }
-        ensures place { IfOk result (λ error. seen_place (place_of error) ≡ seen_place expr.source_loc) }
+        ensures place { IfOk result (λ error. place_of error ≡ expr.source_loc) }
     {
         let source_loc = match expr.source_loc() {
             None => None,

@@ -36,7 +36,7 @@ fn long(number: i64) -> Value {
 
 fn place(alloc: Global) -> Result<Option<Loc>, AllocError> {
     let span = Span { start: 0, end: 1 };
-    Ok(Some(Loc::new(span, text(alloc, "f()")?)))
+    Ok(Some(Loc::new(alloc, span, text(alloc, "f()")?)?))
 }
 
 fn told(alloc: Global, made: Result<EvaluationError, Fail>) -> Result<String, Fail> {

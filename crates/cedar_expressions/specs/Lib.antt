@@ -32,7 +32,6 @@ pub use Rattle.cedar_trees.specs.Shapes
 pub use Rattle.cedar_trees.specs.Unknowns
 pub use Rattle.cedar_builders.specs.Operations
 pub use Rattle.cedar_builders.specs.Own
-pub use Rattle.cedar_builders.specs.Places
 pub use Rattle.cedar_shapes.specs.Leaves
 pub use Rattle.cedar_shapes.specs.Parts
 pub use Rattle.cedar_shapes.specs.PartsLeft

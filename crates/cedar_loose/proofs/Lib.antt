@@ -1,3 +1,4 @@
 pub mod Limits
 pub mod Fewer
 pub mod Readings
+pub mod Telling

@@ -90,13 +90,13 @@ ident_never ts e = whole-never (mapped loose.ident (needed (word_read ts))) (by 
 
 -- ---- texts without tokens
 
-pub no_tokens : {A : Type 0} (read : ℕ → List Token → Result A Fault) (limit : ℕ) (bytes : Text) (e : TokenError) (r : ReadError) → tokens.Refuses bytes e → TellsTokenError e r → IsRefused read limit bytes (stop_cause r)
+pub no_tokens : {A : Type 0} (read : ℕ → List Token → Result A Fault) (limit : ℕ) (bytes : Text) (e : TokenError) (r : ReadError) → tokens.RefusesText bytes e → TellsTokenError e r → IsRefused read limit bytes (stop_cause r)
 no_tokens read limit bytes (unread.Unexpected place) r h t = rw t.1 (λ n x d. h.2 d.0 d.1)
-no_tokens read limit bytes unread.Memory r h t = rw t tt
+no_tokens read limit bytes unread.Memory r h t = absurd h
 
-pub no_tokens_outside : {A : Type 0} (read : ℕ → List Token → Result A Fault) (bytes : Text) (e : TokenError) (r : ReadError) → tokens.Refuses bytes e → TellsTokenError e r → IsOutside read bytes (stop_cause r)
+pub no_tokens_outside : {A : Type 0} (read : ℕ → List Token → Result A Fault) (bytes : Text) (e : TokenError) (r : ReadError) → tokens.RefusesText bytes e → TellsTokenError e r → IsOutside read bytes (stop_cause r)
 no_tokens_outside read bytes (unread.Unexpected place) r h t = rw t.1 (λ n x d. h.2 d.0 d.1)
-no_tokens_outside read bytes unread.Memory r h t = rw t tt
+no_tokens_outside read bytes unread.Memory r h t = absurd h
 
 -- ---- all tokens
 

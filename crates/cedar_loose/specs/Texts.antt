@@ -1,5 +1,5 @@
 -- What is said of a text: what it reads as within a nesting, and what keeps it from being read.
-use Rattle.std.specs.Prelude.{◌≡◌, ℕ, ◌<◌, ◌≤◌, List, [], ◌∷◌, Result, Ok, Err, ⊤}
+use Rattle.std.specs.Prelude.{◌≡◌, ◌⊎◌, ℕ, ◌<◌, ◌≤◌, List, Result, Ok, Err, ⊤}
 use Rattle.cedar_language.specs.Uid.{Text}
 use Rattle.cedar_grammar.specs.Token.{Token}
 use Rattle.cedar_grammar.specs.Tokens.{IsTokens}
@@ -42,6 +42,12 @@ abbrev pub stop_cause : ReadError → Cause
 stop_cause (stop.Syntax at) = outside_the_grammar
 stop_cause stop.Depth = nested_too_deep
 stop_cause stop.Memory = out_of_memory
+
+-- the cause is told; an error with a place may want memory for it, and then that is told instead
+abbrev pub IsTold : Cause → Cause → Type 0
+IsTold outside_the_grammar told = (told ≡ outside_the_grammar) ⊎ (told ≡ out_of_memory)
+IsTold nested_too_deep told = told ≡ nested_too_deep
+IsTold out_of_memory told = told ≡ out_of_memory
 
 -- what was made of all tokens is seen as what is read
 abbrev pub GivesAll : {X A : Type 0} → (X → A) → Result X ReadError → Result A Fault → Type 0

@@ -1,7 +1,5 @@
 // Whole texts.
-ghost use Rattle.std.specs.Prelude.{◌≡◌, [], All, IfOk, IfErr, map};
-ghost use Rattle.cedar_cst.specs.Spelling.{IsSpelledToken};
-ghost use Rattle.cedar_cst.specs.View.{token_of};
+ghost use Rattle.std.specs.Prelude.{◌≡◌, [], IfOk, IfErr};
 ghost use Rattle.cedar_loose_grammar.specs.LooseReading.{read_policies, read_policy, read_expr, read_primary, read_ref, read_name, read_ident};
 ghost use Rattle.cedar_nodes.specs.View.{shown_ident, shown_name, shown_ref};
 ghost use Rattle.cedar_syntax.specs.View.{shown_policies, shown_policy, shown_expr, shown_primary};
@@ -9,7 +7,7 @@ ghost use Rattle.cedar_loose.specs.Texts.{IsRead, IsRefused, IsOutside, Refuses,
 
 use crate::policies::{policies, policy};
 use crate::refusal::refusal;
-use cedar_cst::{Token, tokenize};
+use cedar_cst::Tokens;
 use cedar_loose_expressions::{Cursor, ReadError};
 use cedar_loose_grammar::{limits_are_met_where_constructs_open, wider_limits_change_nothing};
 use cedar_parse_errors::{ParseError, ParseErrors};
@@ -23,6 +21,7 @@ use std::rc::RcStr;
 /// The first error is `ToCST`, with a place, where the text is none within any nesting; `Depth` where it
 /// is none within a nesting of `depth`, and more than `depth` places in it open a bracket or say `if`;
 /// and `Memory` for want of memory alone.
+#[tactic(auto, using(crate::proofs::Telling::told_refusal))]
 pub fn parse_policies(
     alloc: Global,
     text: &str,
@@ -55,24 +54,23 @@ fn policies_in(
     wider_limits_change_nothing();
     limits_are_met_where_constructs_open();
 
-    let tokens = tokenize(alloc, text)?;
-    policies_of(alloc, &tokens, source, depth)
+    let tokens = Tokens::new(text)?;
+    policies_of(alloc, tokens, source, depth)
 }
 
 /// The tree of the tokens.
 fn policies_of(
     alloc: Global,
-    tokens: &[Token<'_>],
+    tokens: Tokens<'_>,
     source: &RcStr,
     depth: u32,
 ) -> Result<Node<Option<Policies>>, ReadError>
-    requires { All IsSpelledToken tokens.now }
-    ensures { GivesAll shown_policies result (read_policies depth (map token_of tokens.now)) }
+    ensures { GivesAll shown_policies result (read_policies depth tokens.entry.left) }
 {
     if depth == 0 {
         return Err(ReadError::Depth);
     }
-    let mut cursor = Cursor::new(tokens, source);
+    let mut cursor = Cursor::new(alloc, tokens, source);
     let start = cursor.start();
     let parts = policies(&mut cursor, alloc, depth - 1)?;
     cursor.finish()?;
@@ -84,6 +82,7 @@ fn policies_of(
 /// The first error is `ToCST`, with a place, where the text is none within any nesting; `Depth` where it
 /// is none within a nesting of `depth`, and more than `depth` places in it open a bracket or say `if`;
 /// and `Memory` for want of memory alone.
+#[tactic(auto, using(crate::proofs::Telling::told_refusal))]
 pub fn parse_policy(
     alloc: Global,
     text: &str,
@@ -116,24 +115,23 @@ fn policy_in(
     wider_limits_change_nothing();
     limits_are_met_where_constructs_open();
 
-    let tokens = tokenize(alloc, text)?;
-    policy_of(alloc, &tokens, source, depth)
+    let tokens = Tokens::new(text)?;
+    policy_of(alloc, tokens, source, depth)
 }
 
 /// The tree of the tokens.
 fn policy_of(
     alloc: Global,
-    tokens: &[Token<'_>],
+    tokens: Tokens<'_>,
     source: &RcStr,
     depth: u32,
 ) -> Result<Node<Option<Policy>>, ReadError>
-    requires { All IsSpelledToken tokens.now }
-    ensures { GivesAll shown_policy result (read_policy depth (map token_of tokens.now)) }
+    ensures { GivesAll shown_policy result (read_policy depth tokens.entry.left) }
 {
     if depth == 0 {
         return Err(ReadError::Depth);
     }
-    let mut cursor = Cursor::new(tokens, source);
+    let mut cursor = Cursor::new(alloc, tokens, source);
     let tree = policy(&mut cursor, alloc, depth - 1)?;
     cursor.finish()?;
     Ok(tree)
@@ -144,6 +142,7 @@ fn policy_of(
 /// The first error is `ToCST`, with a place, where the text is none within any nesting; `Depth` where it
 /// is none within a nesting of `depth`, and more than `depth` places in it open a bracket or say `if`;
 /// and `Memory` for want of memory alone.
+#[tactic(auto, using(crate::proofs::Telling::told_refusal))]
 pub fn parse_expr(alloc: Global, text: &str, depth: u32) -> Result<Node<Option<Expr>>, ParseErrors>
     ensures read { IfOk result (λ tree. IsRead read_expr depth text.now (shown_expr tree)) }
     ensures refused { IfErr result (Refuses read_expr depth text.now) }
@@ -172,21 +171,20 @@ fn expr_in(
     wider_limits_change_nothing();
     limits_are_met_where_constructs_open();
 
-    let tokens = tokenize(alloc, text)?;
-    expr_of(alloc, &tokens, source, depth)
+    let tokens = Tokens::new(text)?;
+    expr_of(alloc, tokens, source, depth)
 }
 
 /// The tree of the tokens.
 fn expr_of(
     alloc: Global,
-    tokens: &[Token<'_>],
+    tokens: Tokens<'_>,
     source: &RcStr,
     depth: u32,
 ) -> Result<Node<Option<Expr>>, ReadError>
-    requires { All IsSpelledToken tokens.now }
-    ensures { GivesAll shown_expr result (read_expr depth (map token_of tokens.now)) }
+    ensures { GivesAll shown_expr result (read_expr depth tokens.entry.left) }
 {
-    let mut cursor = Cursor::new(tokens, source);
+    let mut cursor = Cursor::new(alloc, tokens, source);
     let tree = cursor.expr(alloc, depth)?;
     cursor.finish()?;
     Ok(tree)
@@ -197,6 +195,7 @@ fn expr_of(
 /// The first error is `ToCST`, with a place, where the text is none within any nesting; `Depth` where it
 /// is none within a nesting of `depth`, and more than `depth` places in it open a bracket or say `if`;
 /// and `Memory` for want of memory alone.
+#[tactic(auto, using(crate::proofs::Telling::told_refusal))]
 pub fn parse_primary(
     alloc: Global,
     text: &str,
@@ -229,24 +228,23 @@ fn primary_in(
     wider_limits_change_nothing();
     limits_are_met_where_constructs_open();
 
-    let tokens = tokenize(alloc, text)?;
-    primary_of(alloc, &tokens, source, depth)
+    let tokens = Tokens::new(text)?;
+    primary_of(alloc, tokens, source, depth)
 }
 
 /// The tree of the tokens.
 fn primary_of(
     alloc: Global,
-    tokens: &[Token<'_>],
+    tokens: Tokens<'_>,
     source: &RcStr,
     depth: u32,
 ) -> Result<Node<Option<Primary>>, ReadError>
-    requires { All IsSpelledToken tokens.now }
-    ensures { GivesAll shown_primary result (read_primary depth (map token_of tokens.now)) }
+    ensures { GivesAll shown_primary result (read_primary depth tokens.entry.left) }
 {
     if depth == 0 {
         return Err(ReadError::Depth);
     }
-    let mut cursor = Cursor::new(tokens, source);
+    let mut cursor = Cursor::new(alloc, tokens, source);
     let tree = cursor.primary(alloc, depth - 1)?;
     cursor.finish()?;
     Ok(tree)
@@ -255,6 +253,7 @@ fn primary_of(
 /// Reads an entity loosely: the tree of its tokens, each node with its place.
 ///
 /// The first error is `ToCST`, with a place, where the text is none, and `Memory` for want of memory alone.
+#[tactic(auto, using(crate::proofs::Telling::told_outside))]
 pub fn parse_ref(alloc: Global, text: &str) -> Result<Node<Option<Ref>>, ParseErrors>
     ensures read { IfOk result (λ tree. IsRead (flat read_ref) 0 text.now (shown_ref tree)) }
     ensures refused { IfErr result (RefusesFlat (flat read_ref) text.now) }
@@ -274,20 +273,15 @@ fn ref_in(alloc: Global, text: &str, source: &RcStr) -> Result<Node<Option<Ref>>
     ensures read { IfOk result (λ tree. IsRead (flat read_ref) 0 text.now (shown_ref tree)) }
     ensures refused { IfErr result (λ e. IsOutside (flat read_ref) text.now (stop_cause e)) }
 {
-    let tokens = tokenize(alloc, text)?;
-    ref_of(alloc, &tokens, source)
+    let tokens = Tokens::new(text)?;
+    ref_of(alloc, tokens, source)
 }
 
 /// The tree of the tokens.
-fn ref_of(
-    alloc: Global,
-    tokens: &[Token<'_>],
-    source: &RcStr,
-) -> Result<Node<Option<Ref>>, ReadError>
-    requires { All IsSpelledToken tokens.now }
-    ensures { GivesAll shown_ref result (read_ref (map token_of tokens.now)) }
+fn ref_of(alloc: Global, tokens: Tokens<'_>, source: &RcStr) -> Result<Node<Option<Ref>>, ReadError>
+    ensures { GivesAll shown_ref result (read_ref tokens.entry.left) }
 {
-    let mut cursor = Cursor::new(tokens, source);
+    let mut cursor = Cursor::new(alloc, tokens, source);
     let tree = cursor.entity(alloc)?;
     cursor.finish()?;
     Ok(tree)
@@ -296,6 +290,7 @@ fn ref_of(
 /// Reads a name loosely: the tree of its tokens, each node with its place.
 ///
 /// The first error is `ToCST`, with a place, where the text is none, and `Memory` for want of memory alone.
+#[tactic(auto, using(crate::proofs::Telling::told_outside))]
 pub fn parse_name(alloc: Global, text: &str) -> Result<Node<Option<Name>>, ParseErrors>
     ensures read { IfOk result (λ tree. IsRead (flat read_name) 0 text.now (shown_name tree)) }
     ensures refused { IfErr result (RefusesFlat (flat read_name) text.now) }
@@ -315,20 +310,19 @@ fn name_in(alloc: Global, text: &str, source: &RcStr) -> Result<Node<Option<Name
     ensures read { IfOk result (λ tree. IsRead (flat read_name) 0 text.now (shown_name tree)) }
     ensures refused { IfErr result (λ e. IsOutside (flat read_name) text.now (stop_cause e)) }
 {
-    let tokens = tokenize(alloc, text)?;
-    name_of(alloc, &tokens, source)
+    let tokens = Tokens::new(text)?;
+    name_of(alloc, tokens, source)
 }
 
 /// The tree of the tokens.
 fn name_of(
     alloc: Global,
-    tokens: &[Token<'_>],
+    tokens: Tokens<'_>,
     source: &RcStr,
 ) -> Result<Node<Option<Name>>, ReadError>
-    requires { All IsSpelledToken tokens.now }
-    ensures { GivesAll shown_name result (read_name (map token_of tokens.now)) }
+    ensures { GivesAll shown_name result (read_name tokens.entry.left) }
 {
-    let mut cursor = Cursor::new(tokens, source);
+    let mut cursor = Cursor::new(alloc, tokens, source);
     let tree = cursor.name(alloc)?;
     cursor.finish()?;
     Ok(tree)
@@ -337,6 +331,7 @@ fn name_of(
 /// Reads a word loosely: the tree of its tokens, each node with its place.
 ///
 /// The first error is `ToCST`, with a place, where the text is none, and `Memory` for want of memory alone.
+#[tactic(auto, using(crate::proofs::Telling::told_outside))]
 pub fn parse_ident(alloc: Global, text: &str) -> Result<Node<Option<Ident>>, ParseErrors>
     ensures read { IfOk result (λ tree. IsRead (flat read_ident) 0 text.now (shown_ident tree)) }
     ensures refused { IfErr result (RefusesFlat (flat read_ident) text.now) }
@@ -356,20 +351,19 @@ fn ident_in(alloc: Global, text: &str, source: &RcStr) -> Result<Node<Option<Ide
     ensures read { IfOk result (λ tree. IsRead (flat read_ident) 0 text.now (shown_ident tree)) }
     ensures refused { IfErr result (λ e. IsOutside (flat read_ident) text.now (stop_cause e)) }
 {
-    let tokens = tokenize(alloc, text)?;
-    ident_of(alloc, &tokens, source)
+    let tokens = Tokens::new(text)?;
+    ident_of(alloc, tokens, source)
 }
 
 /// The tree of the tokens.
 fn ident_of(
     alloc: Global,
-    tokens: &[Token<'_>],
+    tokens: Tokens<'_>,
     source: &RcStr,
 ) -> Result<Node<Option<Ident>>, ReadError>
-    requires { All IsSpelledToken tokens.now }
-    ensures { GivesAll shown_ident result (read_ident (map token_of tokens.now)) }
+    ensures { GivesAll shown_ident result (read_ident tokens.entry.left) }
 {
-    let mut cursor = Cursor::new(tokens, source);
+    let mut cursor = Cursor::new(alloc, tokens, source);
     let tree = cursor.ident(alloc)?;
     cursor.finish()?;
     Ok(tree)

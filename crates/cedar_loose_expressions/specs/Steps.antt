@@ -6,10 +6,6 @@ use Rattle.cedar_grammar.specs.Reading.{is_mark, eat_in}
 use Rattle.cedar_loose_grammar.specs.Loose.{Slot, Expr, Add, Relation, common, adds}
 use Rattle.cedar_loose_grammar.specs.LooseReading.{slot_of, Fault, syntax, Reader, ◌>>◌, mapped, links_of, rel_op, add_of, is_step}
 
-abbrev pub without_first : List Token → List Token
-without_first [] = []
-without_first (t ∷ ts) = ts
-
 -- the mark is next
 abbrev pub begins : Mark → List Token → Bool
 begins m [] = false

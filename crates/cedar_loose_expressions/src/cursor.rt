@@ -1,21 +1,22 @@
 // The tokens that are left to read.
-ghost use Rattle.std.specs.Prelude.{◌≡◌, [], All, map, Some, IfOk, IfSome};
+ghost use Rattle.std.specs.Prelude.{◌≡◌, [], Some, IfOk, IfSome};
 ghost use Rattle.std.specs.Str.{chars};
 ghost use Rattle.cedar_grammar.specs.Reading.{eat, eat_in, eat_then, eat_else, text_read};
 ghost use Rattle.cedar_grammar.specs.ReadingPolicies.{word_read, is_more, begins_annotation};
-ghost use Rattle.cedar_cst.specs.Spelling.{IsSpelled, IsSpelledToken, IsSpelledWord};
-ghost use Rattle.cedar_cst.specs.View.{token_of, mark_view, word_view};
+ghost use Rattle.cedar_cst.specs.Spelling.{IsSpelled, IsSpelledWord};
+ghost use Rattle.cedar_cst.specs.Unread.{without_first};
+ghost use Rattle.cedar_cst.specs.View.{mark_view, word_view};
 ghost use Rattle.cedar_loose_grammar.specs.LooseReading.{needed, eat_is, next_word, begins_access, begins_cond};
 ghost use Rattle.cedar_loose_expressions.specs.Gives.{Begins, Eats, Gives, Leaves};
-ghost use Rattle.cedar_loose_expressions.specs.Steps.{without_first, begins, begins_literal, begins_name, ended, eat_if, eat_has, eat_like};
+ghost use Rattle.cedar_loose_expressions.specs.Steps.{begins, begins_literal, begins_name, ended, eat_if, eat_has, eat_like};
 
 use crate::error::{Met, ReadError, Unexpected};
 use crate::kinds::kind_of;
-use cedar_cst::{Mark, Token, TokenKind, Word};
+use cedar_cst::{Mark, TokenKind, Tokens, Word};
 use cedar_expected::Kinds;
 use cedar_names::places::{Loc, Span};
 use cedar_nodes::node::Node;
-use std::alloc::AllocError;
+use std::alloc::{AllocError, Global};
 use std::cell::Cell;
 use std::marker::Model;
 use std::rc::RcStr;
@@ -23,38 +24,38 @@ use std::rc::RcStr;
 /// The tokens of a text that are left to read.
 #[derive(Drop)]
 pub struct Cursor<'t> {
-    rest: &'t [Token<'t>],
+    alloc: Global,
+    tokens: Tokens<'t>,
     source: &'t RcStr,
     /// Where the last token that was taken ends.
     end: usize,
     /// The kinds of tokens that readers looked for where the next token stands.
     expected: Cell<Kinds>,
+    /// The place of the last node that was made.
+    last: Cell<Option<Loc>>,
 }
 
 impl<'t> Model for Cursor<'t> {
-    ghost use Rattle.std.specs.Prelude.{List, All, map};
+    ghost use Rattle.std.specs.Prelude.{List};
     ghost use Rattle.cedar_grammar.specs.Token.{Token};
-    ghost use Rattle.cedar_cst.specs.Spelling.{IsSpelledToken};
-    ghost use Rattle.cedar_cst.specs.View.{token_of};
 
     ghost Value = { List Token };
 
-    ghost view = { λ c. map token_of c.rest.now };
-
-    ghost invariant = { λ c. All IsSpelledToken c.rest.now };
+    ghost view = { λ c. c.tokens.left };
 }
 
 impl<'t> Cursor<'t> {
-    /// All tokens of the text `source`.
-    pub fn new(tokens: &'t [Token<'t>], source: &'t RcStr) -> Cursor<'t>
-        requires { All IsSpelledToken tokens.now }
-        ensures { result ≡ map token_of tokens.now }
+    /// These tokens of the text `source`.
+    pub fn new(alloc: Global, tokens: Tokens<'t>, source: &'t RcStr) -> Cursor<'t>
+        ensures { result ≡ tokens.entry.left }
     {
         Cursor {
-            rest: tokens,
+            alloc,
+            tokens,
             source,
             end: 0,
             expected: Cell::new(Kinds::NONE),
+            last: Cell::new(None),
         }
     }
 
@@ -68,14 +69,14 @@ impl<'t> Cursor<'t> {
         ensures begins { Begins self.now result }
         ensures spelled { IfSome result IsSpelled }
     {
-        let (token, _) = self.rest.split_first()?;
+        let token = self.tokens.first()?;
         Some(token.kind)
     }
 
     /// Where the next token stands, or where the text ends.
     fn span(&self) -> Span {
-        match self.rest.split_first() {
-            Some((token, _)) => Span {
+        match self.tokens.first() {
+            Some(token) => Span {
                 start: token.span.start,
                 end: token.span.end,
             },
@@ -104,11 +105,7 @@ impl<'t> Cursor<'t> {
 
     /// That the next token isn't of the kinds that are expected.
     pub(crate) fn stopped(&self, expected: Kinds) -> Unexpected {
-        let met = if self.rest.is_empty() {
-            Met::End
-        } else {
-            Met::Token
-        };
+        let met = if self.is_more() { Met::Token } else { Met::End };
         Unexpected {
             met,
             span: self.span(),
@@ -124,7 +121,7 @@ impl<'t> Cursor<'t> {
     pub fn is_more(&self) -> bool
         ensures { result ≡ is_more self.now }
     {
-        !self.rest.is_empty()
+        self.tokens.first().is_some()
     }
 
     /// That no token is left.
@@ -143,21 +140,32 @@ impl<'t> Cursor<'t> {
     pub fn node<T: Drop>(&self, start: usize, value: T) -> Result<Node<Option<T>>, AllocError>
         ensures { IfOk result (λ node. node.node ≡ Some value) }
     {
-        let span = Span {
+        let loc = self.place(Span {
             start,
             end: self.end,
-        };
-        let loc = Loc::new(span, self.source.clone()?);
+        })?;
         Ok(Node::with_source_loc(Some(value), loc))
+    }
+
+    /// The place of these bytes; refused for memory alone. The nodes round an operand that stands alone
+    /// share one, since each of them is made after what it holds.
+    fn place(&self, span: Span) -> Result<Loc, AllocError> {
+        let last = self.last.take();
+        let loc = match &last {
+            Some(loc) if loc.span() == span => loc.clone(self.alloc)?,
+            _ => Loc::new(self.alloc, span, self.source.clone()?)?,
+        };
+        self.last.set(Some(loc.clone(self.alloc)?));
+        Ok(loc)
     }
 
     /// Takes the next token, if there is one.
     pub fn skip(&mut self)
         ensures { self.new ≡ without_first self.old }
     {
-        if !self.rest.is_empty() {
-            self.end = self.rest[0].span.end;
-            self.rest = &self.rest[1..];
+        if let Some(token) = self.tokens.first() {
+            self.end = token.span.end;
+            self.tokens.skip();
             self.expected = Cell::new(Kinds::NONE);
         }
     }
@@ -239,14 +247,14 @@ impl<'t> Cursor<'t> {
     fn behind(&self) -> Cursor<'t>
         ensures { result ≡ without_first self.now }
     {
-        let mut behind = Cursor {
-            rest: self.rest,
+        Cursor {
+            alloc: self.alloc,
+            tokens: self.tokens.behind(),
             source: self.source,
-            end: self.end,
+            end: self.span().end,
             expected: Cell::new(Kinds::NONE),
-        };
-        behind.skip();
-        behind
+            last: Cell::new(None),
+        }
     }
 
     /// Takes `::`, if it is next and a word follows.

@@ -124,6 +124,7 @@ impl<'t> Cursor<'t> {
             },
             Some(TokenKind::Text(_)) => {
                 let string = self.string(alloc)?;
+                let string = Box::new(alloc, string)?;
                 return Ok(self.node(start, Literal::Str(string))?);
             }
             _ => return Err(ReadError::Syntax(self.unexpected())),

@@ -8,4 +8,5 @@ pub mod laws;
 pub mod names;
 pub mod places;
 pub mod reading;
+pub(crate) mod shared;
 pub mod texts;

@@ -21,10 +21,20 @@ use std::slice::Iter;
 
 /// A name, as `A::B::C`: identifiers of a namespace, and a basename after them. Its identifiers may be
 /// `__cedar`. Contracts see its identifiers in order, and no place; so do `==`, order and hash.
-#[derive(Debug, Drop)]
+#[derive(Debug)]
 pub struct InternalName {
     components: Rc<Vec<Id>>,
     loc: Option<Loc>,
+}
+
+// By hand, so that letting go of one is a call.
+impl Drop for InternalName {
+    fn drop(self) {
+        let InternalName {
+            components: _,
+            loc: _,
+        } = self;
+    }
 }
 
 impl Model for InternalName {

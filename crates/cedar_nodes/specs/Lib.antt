@@ -1,4 +1,3 @@
-pub mod Places
 pub mod Nodes
 pub mod View
 pub mod Slots

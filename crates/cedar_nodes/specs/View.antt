@@ -79,7 +79,7 @@ abbrev pub view_literal : Literal → loose.Literal
 view_literal literals.True = loose.true_
 view_literal literals.False = loose.false_
 view_literal (literals.Num n) = loose.num n
-view_literal (literals.Str s) = loose.str (shown_str s)
+view_literal (literals.Str s) = loose.str (shown_str s.value)
 
 abbrev pub shown_literal : Node (Option Literal) → loose.Literal
 shown_literal = shown loose.missing_literal view_literal

@@ -71,14 +71,14 @@ pub enum Ref {
 #[derive(Clone, Debug, PartialEq, Eq, Drop)]
 pub struct RefInit(pub Node<Option<Ident>>, pub Node<Option<Literal>>);
 
-/// A literal.
+/// A literal. A string stands in a box, so that other literals are small.
 #[derive(Clone, Debug, PartialEq, Eq, Drop)]
 pub enum Literal {
     True,
     False,
     /// A number, without a sign.
     Num(u64),
-    Str(Node<Option<Str>>),
+    Str(Box<Node<Option<Str>>>),
 }
 
 /// A slot of a template.

@@ -1,17 +1,25 @@
 // Errors of nodes.
-ghost use Rattle.std.specs.Prelude.{◌≡◌};
+ghost use Rattle.std.specs.Prelude.{◌≡◌, IfOk};
+ghost use Rattle.std.specs.Option.{option_copied};
 
 use cedar_names::places::Loc;
-use std::alloc::AllocError;
+use std::alloc::{AllocError, Global};
 use std::error::Error;
 use std::fmt;
 use thiserror::Error;
 
 /// An error of one kind, and where it stands in a text, if that is known. `==` compares places too.
-#[derive(Clone, Debug, PartialEq, Eq, Drop)]
+#[derive(Clone, Debug, PartialEq, Eq)]
 pub struct PlacedError<K> {
     pub kind: K,
     pub loc: Option<Loc>,
+}
+
+// By hand, so that letting go of one is a call, whatever its kind holds.
+impl<K: Drop> Drop for PlacedError<K> {
+    fn drop(self) {
+        let PlacedError { kind: _, loc: _ } = self;
+    }
 }
 
 impl<K> PlacedError<K> {
@@ -21,6 +29,19 @@ impl<K> PlacedError<K> {
         ensures place { result.loc ≡ loc }
     {
         PlacedError { kind, loc }
+    }
+
+    /// The error of this kind at a copy of this place; refused for memory alone.
+    pub fn at(_alloc: Global, kind: K, loc: Option<&Loc>) -> Result<PlacedError<K>, AllocError>
+    where
+        K: Drop,
+        ensures kind { IfOk result (λ error. error.kind ≡ kind) }
+        ensures place { IfOk result (λ error. error.loc ≡ option_copied loc.entry) }
+    {
+        Ok(PlacedError {
+            kind,
+            loc: loc.cloned()?,
+        })
     }
 
     /// The kind.

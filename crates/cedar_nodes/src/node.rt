@@ -2,7 +2,6 @@
 ghost use Rattle.std.specs.Prelude.{◌≡◌, Some, None, IfOk, MatchOption, IfSome};
 ghost use Rattle.std.specs.Option.{option_copied, option_map, ok_or};
 ghost use Rattle.std.specs.Result.{IsOkAnd};
-ghost use Rattle.cedar_nodes.specs.Places.{place};
 ghost use Rattle.cedar_nodes.specs.Nodes.{GivesAtNode, IsRefused};
 ghost use Rattle.cedar_nodes.specs.declared.errors.EmptyNodeError.TheVariants.{Empty};
 
@@ -68,7 +67,7 @@ impl<T> Node<T> {
     /// The value, lent, at a copy of the place; refused for memory alone.
     pub fn as_ref(&self, alloc: Global) -> Result<Node<&T>, AllocError>
         ensures value { IfOk result (λ lent. lent.node.now ≡ self.now.node) }
-        ensures place { IfOk result (λ lent. place lent.loc ≡ place self.now.loc) }
+        ensures place { IfOk result (λ lent. lent.loc ≡ self.now.loc) }
     {
         Ok(Node {
             node: &self.node,
@@ -80,7 +79,7 @@ impl<T> Node<T> {
     /// doesn't learn what the node holds after a write through it.
     pub fn as_mut(&mut self, alloc: Global) -> Result<Node<&mut T>, AllocError>
         ensures value { IfOk result (λ lent. lent.node.now ≡ self.old.node) }
-        ensures place { IfOk result (λ lent. place lent.loc ≡ place self.old.loc) }
+        ensures place { IfOk result (λ lent. lent.loc ≡ self.old.loc) }
     {
         let loc = copied(alloc, self.loc())?;
         Ok(Node {
@@ -106,22 +105,21 @@ impl<T> Node<T> {
     }
 
     /// The error of this kind at a copy of this node's place; refused for memory alone.
-    pub fn to_ast_err<K, E: Into<K> + Drop>(
+    pub fn to_ast_err<K: Drop, E: Into<K> + Drop>(
         &self,
         alloc: Global,
         error_kind: E,
     ) -> Result<PlacedError<K>, AllocError>
         ensures kind { IfOk result (λ error. E.converts error_kind error.kind) }
-        ensures place { IfOk result (λ error. place error.loc ≡ place self.now.loc) }
+        ensures place { IfOk result (λ error. error.loc ≡ self.now.loc) }
     {
-        let loc = copied(alloc, self.loc())?;
-        Ok(PlacedError::new(error_kind.into(), loc))
+        PlacedError::at(alloc, error_kind.into(), self.loc())
     }
 }
 
 // A copy of the place.
 fn copied(_alloc: Global, loc: Option<&Loc>) -> Result<Option<Loc>, AllocError>
-    ensures { IfOk result (λ copy. place copy ≡ place (option_copied loc.entry)) }
+    ensures { IfOk result (λ copy. copy ≡ option_copied loc.entry) }
 {
     loc.cloned()
 }
@@ -162,7 +160,7 @@ impl<T> Node<Option<T>> {
     /// The value, lent, at a copy of the place; none where there is none. Refused for memory alone.
     pub fn collapse(&self, alloc: Global) -> Result<Option<Node<&T>>, AllocError>
         ensures value { IfOk result (λ lent. option_map (λ n. n.node.now) lent ≡ self.now.node) }
-        ensures place { IfOk result (λ lent. IfSome lent (λ n. place n.loc ≡ place self.now.loc)) }
+        ensures place { IfOk result (λ lent. IfSome lent (λ n. n.loc ≡ self.now.loc)) }
     {
         let Some(node) = self.as_inner() else {
             return Ok(None);

@@ -22,8 +22,26 @@ fn shown(alloc: Global, text: &str) -> Result<String, Fail> {
     }
 }
 
+/// The same, of the tokens as they are read one at a time.
+fn shown_singly(alloc: Global, text: &str) -> Result<String, Fail> {
+    let mut left = match Tokens::new(text) {
+        Ok(left) => left,
+        Err(error) => return Ok(error.to_string(alloc)?),
+    };
+    let mut tokens = Vec::new(alloc);
+    for _ in 0..text.len() {
+        let Some(token) = left.first() else {
+            break;
+        };
+        tokens.push(token)?;
+        left.skip();
+    }
+    listed(alloc, &tokens)
+}
+
 fn reads(rt: &impl Abort, alloc: Global, text: &str, wanted: &str) -> Result<(), Fail> {
-    assert_text(rt, shown(alloc, text), wanted)
+    assert_text(rt, shown(alloc, text), wanted)?;
+    assert_text(rt, shown_singly(alloc, text), wanted)
 }
 
 #[test]

@@ -11,7 +11,7 @@ use std::test::Fail;
 
 fn place(alloc: Global, start: usize) -> Result<Loc, AllocError> {
     let span = Span { start, end: 2 };
-    Ok(Loc::new(span, RcStr::from_str(alloc, "ab")?))
+    Loc::new(alloc, span, RcStr::from_str(alloc, "ab")?)
 }
 
 fn number(alloc: Global, value: u64, start: usize) -> Result<Node<u64>, AllocError> {

@@ -11,7 +11,7 @@ use std::test::Fail;
 const SPAN: Span = Span { start: 2, end: 3 };
 
 fn place(alloc: Global) -> Result<Loc, Fail> {
-    Ok(Loc::new(SPAN, RcStr::from_str(alloc, "a + b")?))
+    Ok(Loc::new(alloc, SPAN, RcStr::from_str(alloc, "a + b")?)?)
 }
 
 fn token(alloc: Global) -> Result<ToCSTError, Fail> {

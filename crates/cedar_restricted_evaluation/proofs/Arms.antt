@@ -31,7 +31,7 @@ use Rattle.cedar_errors.specs.Failures.{failure_of}
 use Rattle.cedar_errors.specs.Giving.{fails_on}
 use Rattle.cedar_errors.specs.declared.evaluation_error.EvaluationError.{EvaluationError}
 use Rattle.cedar_extensions.specs.Holding.{are_named}
-use Rattle.cedar_names.specs.declared.places.Loc.{Loc}
+use Rattle.cedar_names.specs.declared.places.Place.{Place}
 use Rattle.cedar_extensions.specs.Tables.{functions_in, holds_unknown, function_called}
 use Rattle.cedar_extensions.specs.declared.extensions.Extensions.{Extensions}
 use Rattle.cedar_values.specs.Kinds.{keys_of, values_of}
@@ -237,7 +237,7 @@ module _ (table : Extensions) where
 
 -- ---- from the parts of an expression to the expression
 
-pub kept_tree : (e f : Expr (Unit {0})) (place : Option Loc) → f ≡ record e { source_loc = place } → bare f ≡ bare e
+pub kept_tree : (e f : Expr (Unit {0})) (place : Option Place) → f ≡ record e { source_loc = place } → bare f ≡ bare e
 kept_tree e f place is = ap bare is ∙ bare_is (Unit {0}) (record e { source_loc = place }) ∙ sym (bare_is (Unit {0}) e)
 
 module _ (e : Expr (Unit {0})) where

@@ -31,8 +31,8 @@ fn to_within<E: Drop>(
     match to_refs(alloc, node) {
         Ok(refs) => Ok(ActionConstraint::In(refs.into_euids(alloc)?)),
         Err(error) => {
-            let kind = ToASTErrorKind::IsInActionScope;
-            Err(unless_inverted(alloc, error, node, kind, loc))
+            let inverted = ConversionError::fault(alloc, ToASTErrorKind::IsInActionScope, loc);
+            Err(unless_inverted(error, node, inverted))
         }
     }
 }

@@ -117,8 +117,8 @@ fn to_reference<E: Drop>(
         Ok(reference) => Ok(reference),
         Err(error) => match op {
             RelOp::In => {
-                let kind = ToASTErrorKind::InvertedIsIn;
-                Err(unless_inverted(alloc, error, node, kind, loc))
+                let inverted = ConversionError::fault(alloc, ToASTErrorKind::InvertedIsIn, loc);
+                Err(unless_inverted(error, node, inverted))
             }
             RelOp::Eq
             | RelOp::Less

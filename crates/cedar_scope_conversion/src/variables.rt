@@ -80,25 +80,17 @@ pub(crate) fn no_type_name<E: Drop>(
     }
 }
 
-/// The fault of what stands behind `in`: of this kind, where it is a test of a type.
+/// Why what stands behind `in` is no entity; `inverted` where it is a test of a type.
 pub(crate) fn unless_inverted<E: Drop>(
-    alloc: Global,
     error: ConversionError<E>,
     node: &Node<Option<Expr>>,
-    kind: ToASTErrorKind,
-    loc: Option<&Loc>,
+    inverted: ConversionError<E>,
 ) -> ConversionError<E>
-    ensures fault { IsFault error → IsFault result }
+    ensures fault { IsFault error → IsFault inverted → IsFault result }
     ensures memory { reason error ≡ out_of_memory → reason result ≡ out_of_memory }
 {
     match &error {
-        ConversionError::Faults(_) => {
-            if is_type_test(node) {
-                ConversionError::fault(alloc, kind, loc)
-            } else {
-                error
-            }
-        }
+        ConversionError::Faults(_) => { if is_type_test(node) { inverted } else { error } }
         ConversionError::Builder(_) => error,
         ConversionError::Memory => error,
     }

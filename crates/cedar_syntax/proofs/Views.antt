@@ -1,7 +1,7 @@
 -- What the view of a tree is, by the views of its parts.
 use Rattle.std.proofs.Common.{◌≡◌, List, [], ◌∷◌, map, Option, Some, None, Box, Vec, Global, refl, sym, ap, ◌∙◌}
 use Rattle.std.specs.Option.{option_map, unwrap_or}
-use Rattle.cedar_names.specs.declared.places.Loc.{Loc}
+use Rattle.cedar_names.specs.declared.places.Place.{Place}
 use Rattle.cedar_nodes.specs.declared.node.Node.{Node}
 use Rattle.cedar_nodes.specs.declared.cst.Ident.{Ident}
 use Rattle.cedar_nodes.specs.declared.cst.Literal.{Literal}
@@ -50,75 +50,75 @@ paired : {A B O P : Type 0} (op : O → P) (missing : B) (view : A → B) (m : O
 paired op missing view m h [] = refl
 paired op missing view m h (x ∷ xs) = let tail = paired op missing view m h xs in cc (h x)
 
-in-Relation-Common-0 : (o : Option Add) (l : Option Loc) → part loose.missing_add (former-Relation-Common-0-at-3.map Add loose.Add view_add record { node = o; loc = l }) ≡ unwrap_or (option_map view_add o) loose.missing_add
+in-Relation-Common-0 : (o : Option Add) (l : Option Place) → part loose.missing_add (former-Relation-Common-0-at-3.map Add loose.Add view_add record { node = o; loc = l }) ≡ unwrap_or (option_map view_add o) loose.missing_add
 in-Relation-Common-0 None l = refl
 in-Relation-Common-0 (Some x) l = refl
 
-in-Relation-IsIn-2 : (o : Option Add) (l : Option Loc) → part loose.missing_add (former-Relation-IsIn-2-at-3.map Add loose.Add view_add record { node = o; loc = l }) ≡ unwrap_or (option_map view_add o) loose.missing_add
+in-Relation-IsIn-2 : (o : Option Add) (l : Option Place) → part loose.missing_add (former-Relation-IsIn-2-at-3.map Add loose.Add view_add record { node = o; loc = l }) ≡ unwrap_or (option_map view_add o) loose.missing_add
 in-Relation-IsIn-2 None l = refl
 in-Relation-IsIn-2 (Some x) l = refl
 
-in-Or-extended : (o : Option And) (l : Option Loc) → part loose.missing_and (former-Or-extended-at-3.map And loose.And view_and record { node = o; loc = l }) ≡ unwrap_or (option_map view_and o) loose.missing_and
+in-Or-extended : (o : Option And) (l : Option Place) → part loose.missing_and (former-Or-extended-at-3.map And loose.And view_and record { node = o; loc = l }) ≡ unwrap_or (option_map view_and o) loose.missing_and
 in-Or-extended None l = refl
 in-Or-extended (Some x) l = refl
 
-in-Or-initial : (o : Option And) (l : Option Loc) → part loose.missing_and (former-Or-initial-at-3.map And loose.And view_and record { node = o; loc = l }) ≡ unwrap_or (option_map view_and o) loose.missing_and
+in-Or-initial : (o : Option And) (l : Option Place) → part loose.missing_and (former-Or-initial-at-3.map And loose.And view_and record { node = o; loc = l }) ≡ unwrap_or (option_map view_and o) loose.missing_and
 in-Or-initial None l = refl
 in-Or-initial (Some x) l = refl
 
-in-ExprData-If-0 : (o : Option Expr) (l : Option Loc) → part loose.missing_expr (former-ExprData-If-0-at-3.map Expr loose.Expr view_expr record { node = o; loc = l }) ≡ unwrap_or (option_map view_expr o) loose.missing_expr
+in-ExprData-If-0 : (o : Option Expr) (l : Option Place) → part loose.missing_expr (former-ExprData-If-0-at-3.map Expr loose.Expr view_expr record { node = o; loc = l }) ≡ unwrap_or (option_map view_expr o) loose.missing_expr
 in-ExprData-If-0 None l = refl
 in-ExprData-If-0 (Some x) l = refl
 
-in-MemAccess-Call-0 : (o : Option Expr) (l : Option Loc) → part loose.missing_expr (former-MemAccess-Call-0-at-3.map Expr loose.Expr view_expr record { node = o; loc = l }) ≡ unwrap_or (option_map view_expr o) loose.missing_expr
+in-MemAccess-Call-0 : (o : Option Expr) (l : Option Place) → part loose.missing_expr (former-MemAccess-Call-0-at-3.map Expr loose.Expr view_expr record { node = o; loc = l }) ≡ unwrap_or (option_map view_expr o) loose.missing_expr
 in-MemAccess-Call-0 None l = refl
 in-MemAccess-Call-0 (Some x) l = refl
 
-in-Member-access : (o : Option MemAccess) (l : Option Loc) → part loose.missing_access (former-Member-access-at-3.map MemAccess loose.MemAccess view_mem_access record { node = o; loc = l }) ≡ unwrap_or (option_map view_mem_access o) loose.missing_access
+in-Member-access : (o : Option MemAccess) (l : Option Place) → part loose.missing_access (former-Member-access-at-3.map MemAccess loose.MemAccess view_mem_access record { node = o; loc = l }) ≡ unwrap_or (option_map view_mem_access o) loose.missing_access
 in-Member-access None l = refl
 in-Member-access (Some x) l = refl
 
-in-Unary-item : (o : Option Member) (l : Option Loc) → part loose.missing_member (former-Unary-item-at-3.map Member loose.Member view_member record { node = o; loc = l }) ≡ unwrap_or (option_map view_member o) loose.missing_member
+in-Unary-item : (o : Option Member) (l : Option Place) → part loose.missing_member (former-Unary-item-at-3.map Member loose.Member view_member record { node = o; loc = l }) ≡ unwrap_or (option_map view_member o) loose.missing_member
 in-Unary-item None l = refl
 in-Unary-item (Some x) l = refl
 
-in-Add-initial : (o : Option Mult) (l : Option Loc) → part loose.missing_mult (former-Add-initial-at-3.map Mult loose.Mult view_mult record { node = o; loc = l }) ≡ unwrap_or (option_map view_mult o) loose.missing_mult
+in-Add-initial : (o : Option Mult) (l : Option Place) → part loose.missing_mult (former-Add-initial-at-3.map Mult loose.Mult view_mult record { node = o; loc = l }) ≡ unwrap_or (option_map view_mult o) loose.missing_mult
 in-Add-initial None l = refl
 in-Add-initial (Some x) l = refl
 
-in-ExprData-Or-0 : (o : Option Or) (l : Option Loc) → part loose.missing_or (former-ExprData-Or-0-at-3.map Or loose.Or view_or record { node = o; loc = l }) ≡ unwrap_or (option_map view_or o) loose.missing_or
+in-ExprData-Or-0 : (o : Option Or) (l : Option Place) → part loose.missing_or (former-ExprData-Or-0-at-3.map Or loose.Or view_or record { node = o; loc = l }) ≡ unwrap_or (option_map view_or o) loose.missing_or
 in-ExprData-Or-0 None l = refl
 in-ExprData-Or-0 (Some x) l = refl
 
-in-Member-item : (o : Option Primary) (l : Option Loc) → part loose.missing_primary (former-Member-item-at-3.map Primary loose.Primary view_primary record { node = o; loc = l }) ≡ unwrap_or (option_map view_primary o) loose.missing_primary
+in-Member-item : (o : Option Primary) (l : Option Place) → part loose.missing_primary (former-Member-item-at-3.map Primary loose.Primary view_primary record { node = o; loc = l }) ≡ unwrap_or (option_map view_primary o) loose.missing_primary
 in-Member-item None l = refl
 in-Member-item (Some x) l = refl
 
-in-Primary-RInits-0 : (o : Option RecInit) (l : Option Loc) → part loose.missing_rec_init (former-Primary-RInits-0-at-3.map RecInit loose.RecInit view_rec_init record { node = o; loc = l }) ≡ unwrap_or (option_map view_rec_init o) loose.missing_rec_init
+in-Primary-RInits-0 : (o : Option RecInit) (l : Option Place) → part loose.missing_rec_init (former-Primary-RInits-0-at-3.map RecInit loose.RecInit view_rec_init record { node = o; loc = l }) ≡ unwrap_or (option_map view_rec_init o) loose.missing_rec_init
 in-Primary-RInits-0 None l = refl
 in-Primary-RInits-0 (Some x) l = refl
 
-in-And-extended : (o : Option Relation) (l : Option Loc) → part loose.missing_relation (former-And-extended-at-3.map Relation loose.Relation view_relation record { node = o; loc = l }) ≡ unwrap_or (option_map view_relation o) loose.missing_relation
+in-And-extended : (o : Option Relation) (l : Option Place) → part loose.missing_relation (former-And-extended-at-3.map Relation loose.Relation view_relation record { node = o; loc = l }) ≡ unwrap_or (option_map view_relation o) loose.missing_relation
 in-And-extended None l = refl
 in-And-extended (Some x) l = refl
 
-in-And-initial : (o : Option Relation) (l : Option Loc) → part loose.missing_relation (former-And-initial-at-3.map Relation loose.Relation view_relation record { node = o; loc = l }) ≡ unwrap_or (option_map view_relation o) loose.missing_relation
+in-And-initial : (o : Option Relation) (l : Option Place) → part loose.missing_relation (former-And-initial-at-3.map Relation loose.Relation view_relation record { node = o; loc = l }) ≡ unwrap_or (option_map view_relation o) loose.missing_relation
 in-And-initial None l = refl
 in-And-initial (Some x) l = refl
 
-in-Mult-initial : (o : Option Unary) (l : Option Loc) → part loose.missing_unary (former-Mult-initial-at-3.map Unary loose.Unary view_unary record { node = o; loc = l }) ≡ unwrap_or (option_map view_unary o) loose.missing_unary
+in-Mult-initial : (o : Option Unary) (l : Option Place) → part loose.missing_unary (former-Mult-initial-at-3.map Unary loose.Unary view_unary record { node = o; loc = l }) ≡ unwrap_or (option_map view_unary o) loose.missing_unary
 in-Mult-initial None l = refl
 in-Mult-initial (Some x) l = refl
 
-in-Add-extended : (p : AddOp) (o : Option Mult) (l : Option Loc) → ◌≡◌ {A = loose.AddOp × loose.Mult} (view_add_op (former-Add-extended-at-5.map Mult loose.Mult view_mult (p, record { node = o; loc = l })).0, part loose.missing_mult (former-Add-extended-at-5.map Mult loose.Mult view_mult (p, record { node = o; loc = l })).1) (view_add_op p, unwrap_or (option_map view_mult o) loose.missing_mult)
+in-Add-extended : (p : AddOp) (o : Option Mult) (l : Option Place) → ◌≡◌ {A = loose.AddOp × loose.Mult} (view_add_op (former-Add-extended-at-5.map Mult loose.Mult view_mult (p, record { node = o; loc = l })).0, part loose.missing_mult (former-Add-extended-at-5.map Mult loose.Mult view_mult (p, record { node = o; loc = l })).1) (view_add_op p, unwrap_or (option_map view_mult o) loose.missing_mult)
 in-Add-extended p None l = refl
 in-Add-extended p (Some x) l = refl
 
-in-Mult-extended : (p : MultOp) (o : Option Unary) (l : Option Loc) → ◌≡◌ {A = loose.MultOp × loose.Unary} (view_mult_op (former-Mult-extended-at-5.map Unary loose.Unary view_unary (p, record { node = o; loc = l })).0, part loose.missing_unary (former-Mult-extended-at-5.map Unary loose.Unary view_unary (p, record { node = o; loc = l })).1) (view_mult_op p, unwrap_or (option_map view_unary o) loose.missing_unary)
+in-Mult-extended : (p : MultOp) (o : Option Unary) (l : Option Place) → ◌≡◌ {A = loose.MultOp × loose.Unary} (view_mult_op (former-Mult-extended-at-5.map Unary loose.Unary view_unary (p, record { node = o; loc = l })).0, part loose.missing_unary (former-Mult-extended-at-5.map Unary loose.Unary view_unary (p, record { node = o; loc = l })).1) (view_mult_op p, unwrap_or (option_map view_unary o) loose.missing_unary)
 in-Mult-extended p None l = refl
 in-Mult-extended p (Some x) l = refl
 
-in-Relation-Common-1 : (p : RelOp) (o : Option Add) (l : Option Loc) → ◌≡◌ {A = loose.RelOp × loose.Add} (view_rel_op (former-Relation-Common-1-at-5.map Add loose.Add view_add (p, record { node = o; loc = l })).0, part loose.missing_add (former-Relation-Common-1-at-5.map Add loose.Add view_add (p, record { node = o; loc = l })).1) (view_rel_op p, unwrap_or (option_map view_add o) loose.missing_add)
+in-Relation-Common-1 : (p : RelOp) (o : Option Add) (l : Option Place) → ◌≡◌ {A = loose.RelOp × loose.Add} (view_rel_op (former-Relation-Common-1-at-5.map Add loose.Add view_add (p, record { node = o; loc = l })).0, part loose.missing_add (former-Relation-Common-1-at-5.map Add loose.Add view_add (p, record { node = o; loc = l })).1) (view_rel_op p, unwrap_or (option_map view_add o) loose.missing_add)
 in-Relation-Common-1 p None l = refl
 in-Relation-Common-1 p (Some x) l = refl
 

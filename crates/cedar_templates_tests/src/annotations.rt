@@ -11,7 +11,7 @@ use std::test::Fail;
 
 fn place(alloc: Global) -> Result<Loc, Fail> {
     let src = RcStr::from_str(alloc, "@k(\"v\")")?;
-    Ok(Loc::new(Span { start: 0, end: 7 }, src))
+    Ok(Loc::new(alloc, Span { start: 0, end: 7 }, src)?)
 }
 
 fn annotations(alloc: Global) -> Result<Annotations, Fail> {

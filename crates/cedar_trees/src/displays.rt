@@ -199,3 +199,10 @@ impl<T> fmt::Display for Expr<T> {
         write_expr(self, f)
     }
 }
+
+/// Its text in the language, as `Display` writes it.
+impl<T> fmt::Debug for Expr<T> {
+    fn fmt<W: fmt::Write>(&self, f: &mut fmt::Formatter<W>) -> fmt::Result {
+        write_expr(self, f)
+    }
+}

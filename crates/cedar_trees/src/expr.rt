@@ -21,7 +21,6 @@ use std::rc::{Rc, RcStr};
 /// An expression, with the place that it was read at and data of its owner's. Its parts are shared.
 /// (Cedar language reference, "Expressions".)
 #[cycle(expr)]
-#[derive(Debug)]
 pub struct Expr<T = ()> {
     /// Which construct it is, and its parts.
     pub expr_kind: ExprKind<T>,
@@ -33,7 +32,7 @@ pub struct Expr<T = ()> {
 
 /// The constructs of the language.
 #[cycle(expr)]
-#[derive(Debug, Drop)]
+#[derive(Drop)]
 pub enum ExprKind<T = ()> {
     /// A literal.
     Lit(Literal),

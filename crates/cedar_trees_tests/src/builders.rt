@@ -296,7 +296,7 @@ fn start_of(loc: Option<&Loc>) -> Option<usize> {
 #[test]
 fn places_are_kept(rt: HostRuntime) -> Result<(), Fail> {
     let alloc = rt.alloc();
-    let place = Loc::new(Span { start: 3, end: 4 }, text(alloc, "a == b")?);
+    let place = Loc::new(alloc, Span { start: 3, end: 4 }, text(alloc, "a == b")?)?;
     let differ = builder(alloc)
         .with_source_loc(place)
         .noteq(long(1), long(2))?;

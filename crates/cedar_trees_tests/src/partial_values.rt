@@ -9,6 +9,7 @@ use cedar_partial_values::from_expr::TryFromExpr;
 use cedar_partial_values::partial_values::PartialValue;
 use cedar_partial_values::split::split;
 use cedar_partial_values::to_expr::ToExpr;
+use cedar_test_asserts::assert_value;
 use cedar_trees::expr::{Expr, ExprKind};
 use cedar_trees::unknowns::Unknown;
 use cedar_values::values::{Value, ValueKind};
@@ -141,8 +142,8 @@ fn split_of(alloc: Global, items: Vec<PartialValue>) -> Result<(usize, Option<i6
 fn partial_values_are_split(rt: HostRuntime) -> Result<(), Fail> {
     let alloc = rt.alloc();
     let values = vec![in alloc; PartialValue::from(long(1)), PartialValue::from(long(2))]?;
-    assert_eq!(rt; split_of(alloc, values)?, (2, None));
+    assert_value(split_of(alloc, values), (2, None))?;
     let mixed = vec![in alloc; PartialValue::from(long(1)), unknown(alloc, "x")?]?;
-    assert_eq!(rt; split_of(alloc, mixed)?, (2, Some(1)));
+    assert_value(split_of(alloc, mixed), (2, Some(1)))?;
     Ok(())
 }

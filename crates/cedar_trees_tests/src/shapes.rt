@@ -11,6 +11,7 @@ use cedar_shapes::iteration::{ExprIterator, Slots, Unknowns};
 use cedar_shapes::readers::ExprReaders;
 use cedar_shapes::shapes::{ExprShape, ExprShapeOnly};
 use cedar_shapes::types::FunctionTypes;
+use cedar_test_asserts::assert_value;
 use cedar_trees::errors::ExpressionConstructionError;
 use cedar_trees::expr::{Expr, ExprKind};
 use cedar_trees::unknowns::{NonEmpty, Unknown};
@@ -165,9 +166,10 @@ fn shapes_are_compared(rt: HostRuntime) -> Result<(), Fail> {
 fn places_and_data_are_passed_over(rt: HostRuntime) -> Result<(), Fail> {
     let alloc = rt.alloc();
     let plain = long(1);
+    let loc = Loc::new(alloc, Span { start: 0, end: 1 }, text(alloc, "1")?)?;
     let copy = Expr {
         expr_kind: ExprKind::Lit(Literal::Long(1)),
-        source_loc: Some(Loc::new(Span { start: 0, end: 1 }, text(alloc, "1")?)),
+        source_loc: Some(loc),
         data: 7u8,
     };
     assert!(rt; plain.eq_shape(&copy));
@@ -204,7 +206,7 @@ fn mixed(alloc: Global) -> Result<Expr, Fail> {
 fn positions_are_walked(rt: HostRuntime) -> Result<(), Fail> {
     let alloc = rt.alloc();
     let mixed = mixed(alloc)?;
-    assert_eq!(rt; counted(alloc, &mixed)?, 5);
+    assert_value(counted(alloc, &mixed), 5)?;
     let mut first = mixed.subexpressions(alloc)?;
     assert!(rt; first.next().is_some_and(|expr| expr.eq_shape(&mixed)));
     let mut slots = mixed.slots(alloc)?;

@@ -15,6 +15,7 @@ use cedar_substitution::functions::{SubstitutionFunction, TypedSubstitution, Unt
 use cedar_substitution::into_expr::IntoExpr;
 use cedar_substitution::substitution::SubstituteExprs;
 use cedar_substitution::told_values::Substitute;
+use cedar_test_asserts::assert_value;
 use cedar_trees::expr::{Expr, ExprKind};
 use cedar_trees::unknowns::{NonEmpty, Unknown};
 use cedar_uids::slots::SlotId;
@@ -191,11 +192,17 @@ fn unknowns_are_told(rt: HostRuntime) -> Result<(), Fail> {
     let mut told = HashMap::new(alloc);
     told.insert(name(alloc, "x")?, Expr::var(Var::Context))?;
     let either = unknown_or_slot(alloc, "x")?;
-    assert!(rt; !either.try_into_expr::<Mentions>(alloc)?);
-    assert!(rt; !either.into_expr::<Mentions>(alloc)?);
-    assert!(rt; either.substitute_exprs_into_expr::<Mentions>(alloc, &told)?);
+    assert_value(either.try_into_expr::<Mentions>(alloc), false)?;
+    assert_value(either.into_expr::<Mentions>(alloc), false)?;
+    assert_value(
+        either.substitute_exprs_into_expr::<Mentions>(alloc, &told),
+        true,
+    )?;
     let other = unknown_or_slot(alloc, "y")?;
-    assert!(rt; !other.substitute_exprs_into_expr::<Mentions>(alloc, &told)?);
+    assert_value(
+        other.substitute_exprs_into_expr::<Mentions>(alloc, &told),
+        false,
+    )?;
     Ok(())
 }
 
@@ -208,8 +215,11 @@ fn chains_take_no_stack(rt: HostRuntime) -> Result<(), Fail> {
     for _ in 0..500_000 {
         chain = Expr::or(alloc, chain, Expr::slot(SlotId::resource()))?;
     }
-    assert!(rt; !chain.into_expr::<Mentions>(alloc)?);
-    assert!(rt; chain.substitute_exprs_into_expr::<Mentions>(alloc, &told)?);
+    assert_value(chain.into_expr::<Mentions>(alloc), false)?;
+    assert_value(
+        chain.substitute_exprs_into_expr::<Mentions>(alloc, &told),
+        true,
+    )?;
     Ok(())
 }
 

@@ -7,6 +7,7 @@ use cedar_literals::variables::Var;
 use cedar_names::names::Name;
 use cedar_names::places::{Loc, Span};
 use cedar_names::reading::FromNormalizedStr;
+use cedar_test_asserts::assert_text;
 use cedar_trees::errors::{DuplicateKeyError, ExpressionConstructionError};
 use cedar_trees::expr::{Expr, ExprKind};
 use cedar_trees::unknowns::{NonEmpty, Unknown};
@@ -287,7 +288,7 @@ fn keys_stand_once(rt: HostRuntime) -> Result<(), Fail> {
 }
 
 fn place(alloc: Global) -> Result<Loc, AllocError> {
-    Ok(Loc::new(Span { start: 2, end: 4 }, text(alloc, "!(a)")?))
+    Loc::new(alloc, Span { start: 2, end: 4 }, text(alloc, "!(a)")?)
 }
 
 #[test]
@@ -388,17 +389,11 @@ fn records_printed(alloc: Global) -> Result<String, ExpressionConstructionError>
 #[test]
 fn expressions_are_printed(rt: HostRuntime) -> Result<(), Fail> {
     let alloc = rt.alloc();
-    assert_eq!(rt;
-        operators_printed(alloc)?.as_str(),
-        "(((-(1)) + 2) < 3) && true"
-    );
-    assert_eq!(rt;
-        attributes_printed(alloc)?.as_str(),
-        "unknown(\"x\")[\"a b\"].hasTag(context) has \"c\""
-    );
-    assert_eq!(rt;
-        records_printed(alloc)?.as_str(),
-        "{\"k\": [1, 2]}.isEmpty()"
-    );
+    assert_text(operators_printed(alloc), "(((-(1)) + 2) < 3) && true")?;
+    assert_text(
+        attributes_printed(alloc),
+        "unknown(\"x\")[\"a b\"].hasTag(context) has \"c\"",
+    )?;
+    assert_text(records_printed(alloc), "{\"k\": [1, 2]}.isEmpty()")?;
     Ok(())
 }

@@ -188,11 +188,22 @@ impl FromNormalizedStr for EntityType {
 
 /// A uid: the type of an entity, and the entity's own id. Contracts see these, and no place; so do
 /// `==`, order and hash.
-#[derive(Debug, Drop)]
+#[derive(Debug)]
 pub struct EntityUID {
     entity_type: EntityType,
     eid: Eid,
     loc: Option<Loc>,
+}
+
+// By hand, so that letting go of one is a call.
+impl Drop for EntityUID {
+    fn drop(self) {
+        let EntityUID {
+            entity_type: _,
+            eid: _,
+            loc: _,
+        } = self;
+    }
 }
 
 impl Model for EntityUID {
@@ -219,7 +230,12 @@ impl EntityUID {
     pub fn components(self) -> (EntityType, Eid)
         ensures { record { type_name = result.0; id = result.1 } ≡ self }
     {
-        (self.entity_type, self.eid)
+        let EntityUID {
+            entity_type,
+            eid,
+            loc: _,
+        } = self;
+        (entity_type, eid)
     }
 
     /// The type of the entity.

@@ -8,6 +8,7 @@ use cedar_literals::variables::Var;
 use cedar_names::conversions::FromIn;
 use cedar_names::names::Name;
 use cedar_names::reading::FromNormalizedStr;
+use cedar_test_asserts::{assert_text, assert_value};
 use cedar_uids::uids::EntityUID;
 use std::alloc::{AllocError, Global};
 use std::fmt::Display;
@@ -68,9 +69,12 @@ fn patterns_are_printed(rt: HostRuntime) -> Result<(), Fail> {
     let stars = Pattern::from_in(alloc, elems)?;
     assert_eq!(rt; stars.len(), 3);
     assert!(rt; !stars.is_empty() && stars.get_elems().len() == stars.iter().count());
-    assert!(rt; is_printed(alloc, stars, "\\**\\\"")?);
+    assert_value(is_printed(alloc, stars, "\\**\\\""), true)?;
     let line = vec![in alloc; PatternElem::Char('\n')]?;
-    assert!(rt; is_printed(alloc, Pattern::from(Rc::new(alloc, line)?), "\\n")?);
+    assert_value(
+        is_printed(alloc, Pattern::from(Rc::new(alloc, line)?), "\\n"),
+        true,
+    )?;
     Ok(())
 }
 
@@ -85,10 +89,16 @@ fn name(alloc: Global, text: &str) -> Result<Name, Fail> {
 #[test]
 fn literals_are_printed(rt: HostRuntime) -> Result<(), Fail> {
     let alloc = rt.alloc();
-    assert!(rt; is_printed(alloc, Literal::from(true), "true")?);
-    assert!(rt; is_printed(alloc, Literal::from(-7), "-7")?);
-    assert!(rt; is_printed(alloc, Literal::from_in(alloc, "a\"\n")?, "\"a\\\"\\n\"")?);
-    assert!(rt; is_printed(alloc, Literal::from_in(alloc, uid(alloc)?)?, "User::\"a\"")?);
+    assert_value(is_printed(alloc, Literal::from(true), "true"), true)?;
+    assert_value(is_printed(alloc, Literal::from(-7), "-7"), true)?;
+    assert_value(
+        is_printed(alloc, Literal::from_in(alloc, "a\"\n")?, "\"a\\\"\\n\""),
+        true,
+    )?;
+    assert_value(
+        is_printed(alloc, Literal::from_in(alloc, uid(alloc)?)?, "User::\"a\""),
+        true,
+    )?;
     Ok(())
 }
 
@@ -114,14 +124,8 @@ fn types_are_printed(rt: HostRuntime) -> Result<(), Fail> {
         Type::Record,
     ]?;
     let named = vec![in alloc; entity, Type::Extension { name }]?;
-    assert_eq!(rt;
-        types_text(alloc, plain)?.as_str(),
-        "bool|long|string|set|record|"
-    );
-    assert_eq!(rt;
-        types_text(alloc, named)?.as_str(),
-        "(entity of type `A::B`)|A::B|"
-    );
+    assert_text(types_text(alloc, plain), "bool|long|string|set|record|")?;
+    assert_text(types_text(alloc, named), "(entity of type `A::B`)|A::B|")?;
     Ok(())
 }
 
@@ -176,8 +180,8 @@ fn is_cloned<T: Clone + Hash + PartialEq + Drop>(value: &T) -> Result<bool, Allo
 #[test]
 fn copies_are_alike(rt: HostRuntime) -> Result<(), Fail> {
     let alloc = rt.alloc();
-    assert!(rt; is_cloned(&Literal::from_in(alloc, "a")?)?);
-    assert!(rt; is_cloned(&Type::entity_type(name(alloc, "User")?))?);
-    assert!(rt; is_cloned(&pattern(alloc, "a*")?)?);
+    assert_value(is_cloned(&Literal::from_in(alloc, "a")?), true)?;
+    assert_value(is_cloned(&Type::entity_type(name(alloc, "User")?)), true)?;
+    assert_value(is_cloned(&pattern(alloc, "a*")?), true)?;
     Ok(())
 }

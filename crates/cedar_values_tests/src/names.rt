@@ -5,6 +5,7 @@ use cedar_names::identifiers::{AnyId, Id, UnreservedId, is_normalized_ident};
 use cedar_names::names::{InternalName, Name};
 use cedar_names::places::{Loc, Span};
 use cedar_names::reading::FromNormalizedStr;
+use cedar_test_asserts::{assert_text, assert_value};
 use std::alloc::Global;
 use std::hash::{DefaultHasher, Hash, Hasher};
 use std::rc::RcStr;
@@ -95,11 +96,11 @@ fn names_are_printed(rt: HostRuntime) -> Result<(), Fail> {
         ("A::B::C", "A::B", "A::B::C"),
     ];
     for (text, path, qualified) in table {
-        assert_eq!(rt; printed(alloc, text)?.as_str(), text);
-        assert_eq!(rt; namespace(alloc, text)?.as_str(), path);
-        assert_eq!(rt; in_namespace(alloc, text)?.as_str(), qualified);
+        assert_text(printed(alloc, text), text)?;
+        assert_text(namespace(alloc, text), path)?;
+        assert_text(in_namespace(alloc, text), qualified)?;
     }
-    assert_eq!(rt; unqualified(alloc, "A")?.as_str(), "A");
+    assert_text(unqualified(alloc, "A"), "A")?;
     Ok(())
 }
 
@@ -119,8 +120,8 @@ fn converted_internal(alloc: Global, text: &str) -> Result<bool, Fail> {
 
 #[test]
 fn identifiers_and_names_convert(rt: HostRuntime) -> Result<(), Fail> {
-    assert!(rt; converted(rt.alloc(), "A")?);
-    assert!(rt; converted_internal(rt.alloc(), "__cedar")?);
+    assert_value(converted(rt.alloc(), "A"), true)?;
+    assert_value(converted_internal(rt.alloc(), "__cedar"), true)?;
     Ok(())
 }
 
@@ -132,7 +133,7 @@ fn hash_of<T: Hash>(value: &T) -> u64 {
 
 fn place(alloc: Global) -> Result<Loc, Fail> {
     let src = RcStr::from_str(alloc, "User::\"a\"")?;
-    Ok(Loc::new(Span { start: 0, end: 4 }, src))
+    Ok(Loc::new(alloc, Span { start: 0, end: 4 }, src)?)
 }
 
 fn are_alike<T: Hash + PartialEq>(one: &T, other: &T) -> bool {
@@ -149,7 +150,7 @@ fn places_of_names_do_not_count(rt: HostRuntime) -> Result<(), Fail> {
 }
 
 fn snippet_is(alloc: Global, span: Span, want: Option<&str>) -> Result<bool, Fail> {
-    let loc = Loc::new(span, RcStr::from_str(alloc, "aéb")?);
+    let loc = Loc::new(alloc, span, RcStr::from_str(alloc, "aéb")?)?;
     Ok(loc.snippet() == want)
 }
 
@@ -163,10 +164,7 @@ fn snippets_are_cut_at_characters(rt: HostRuntime) -> Result<(), Fail> {
         (4, 4, Some("")),
     ];
     for (start, end, want) in table {
-        assert!(rt;
-            snippet_is(rt.alloc(), Span { start, end }, want)?,
-            "{start} to {end}"
-        );
+        assert_value(snippet_is(rt.alloc(), Span { start, end }, want), true)?;
     }
     Ok(())
 }
@@ -179,7 +177,7 @@ fn is_below(alloc: Global, low: &str, high: &str) -> Result<bool, ParseNameError
 fn names_are_ordered(rt: HostRuntime) -> Result<(), Fail> {
     let table = [("A", "A::B"), ("A::B", "A::C"), ("A::C", "AB"), ("AB", "B")];
     for (low, high) in table {
-        assert!(rt; is_below(rt.alloc(), low, high)?, "{low} below {high}");
+        assert_value(is_below(rt.alloc(), low, high), true)?;
     }
     Ok(())
 }

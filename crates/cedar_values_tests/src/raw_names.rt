@@ -3,6 +3,7 @@ use cedar_names::errors::ParseNameError;
 use cedar_names::names::InternalName;
 use cedar_names::reading::FromNormalizedStr;
 use cedar_raw_names::raw_names::{AllDefs, ConditionalName, RawName, ReferenceType};
+use cedar_test_asserts::assert_text;
 use std::alloc::Global;
 use std::collections::BTreeSet;
 use std::test::Fail;
@@ -59,7 +60,7 @@ fn first_declared_names_resolve(rt: HostRuntime) -> Result<(), Fail> {
         ("M::A", ReferenceType::Common, "`M::A` is not declared"),
     ];
     for (text, kind, want) in table {
-        assert_eq!(rt; resolved(rt.alloc(), text, kind)?.as_str(), want);
+        assert_text(resolved(rt.alloc(), text, kind), want)?;
     }
     Ok(())
 }

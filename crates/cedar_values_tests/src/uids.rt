@@ -3,6 +3,7 @@ use cedar_names::errors::ParseNameError;
 use cedar_names::names::Name;
 use cedar_names::places::{Loc, Span};
 use cedar_names::reading::FromNormalizedStr;
+use cedar_test_asserts::assert_text;
 use cedar_uids::slots::{Slot, SlotId};
 use cedar_uids::uids::{Eid, EntityType, EntityUID};
 use std::alloc::{AllocError, Global};
@@ -29,7 +30,7 @@ fn type_in_namespace(alloc: Global, text: &str) -> Result<String, ParseNameError
 fn types_are_qualified(rt: HostRuntime) -> Result<(), Fail> {
     let table = [("A", "M::N::A"), ("A::B", "A::B")];
     for (text, qualified) in table {
-        assert_eq!(rt; type_in_namespace(rt.alloc(), text)?.as_str(), qualified);
+        assert_text(type_in_namespace(rt.alloc(), text), qualified)?;
     }
     Ok(())
 }
@@ -38,8 +39,9 @@ fn uid(alloc: Global, id: &str) -> Result<EntityUID, ParseNameError> {
     EntityUID::with_eid_and_type(alloc, "User", id)
 }
 
-fn escaped(alloc: Global, id: &str) -> Result<RcStr, Fail> {
-    Ok(Eid::new(RcStr::from_str(alloc, id)?).escaped(alloc)?)
+fn escaped(alloc: Global, id: &str) -> Result<String, Fail> {
+    let escaped = Eid::new(RcStr::from_str(alloc, id)?).escaped(alloc)?;
+    Ok(escaped.to_string(alloc)?)
 }
 
 #[test]
@@ -52,12 +54,9 @@ fn uids_are_printed(rt: HostRuntime) -> Result<(), Fail> {
         (" *+é", " *+é"),
     ];
     for (id, want) in table {
-        assert_eq!(rt; escaped(alloc, id)?.as_str(), want);
+        assert_text(escaped(alloc, id), want)?;
     }
-    assert_eq!(rt;
-        uid(alloc, "a\"")?.to_string(alloc)?.as_str(),
-        "User::\"a\\\"\""
-    );
+    assert_text(uid(alloc, "a\"")?.to_string(alloc), "User::\"a\\\"\"")?;
     Ok(())
 }
 
@@ -76,7 +75,7 @@ fn uids_are_read_from_what_is_printed(rt: HostRuntime) -> Result<(), Fail> {
         "User::\"::é*\"",
     ];
     for text in texts {
-        assert_eq!(rt; reread(rt.alloc(), text)?.as_str(), text);
+        assert_text(reread(rt.alloc(), text), text)?;
     }
     Ok(())
 }
@@ -86,7 +85,7 @@ fn uids_are_read_by_their_parts(rt: HostRuntime) -> Result<(), Fail> {
     let alloc = rt.alloc();
     let uid = EntityUID::from_normalized_str(alloc, "A::User::\"\\u{7f}\\n\"")?;
     assert_eq!(rt; uid.eid().as_str(), "\u{7f}\n");
-    assert_eq!(rt; uid.entity_type().to_string(alloc)?.as_str(), "A::User");
+    assert_text(uid.entity_type().to_string(alloc), "A::User")?;
     Ok(())
 }
 
@@ -154,7 +153,7 @@ fn hash_of<T: Hash>(value: &T) -> u64 {
 
 fn place(alloc: Global) -> Result<Loc, Fail> {
     let src = RcStr::from_str(alloc, "User::\"a\"")?;
-    Ok(Loc::new(Span { start: 0, end: 4 }, src))
+    Ok(Loc::new(alloc, Span { start: 0, end: 4 }, src)?)
 }
 
 /// The uid, as it is written at `loc`.
@@ -192,13 +191,7 @@ fn places_of_slots_do_not_count(rt: HostRuntime) -> Result<(), Fail> {
 
 #[test]
 fn slots_are_printed(rt: HostRuntime) -> Result<(), Fail> {
-    assert_eq!(rt;
-        SlotId::principal().to_string(rt.alloc())?.as_str(),
-        "?principal"
-    );
-    assert_eq!(rt;
-        SlotId::resource().to_string(rt.alloc())?.as_str(),
-        "?resource"
-    );
+    assert_text(SlotId::principal().to_string(rt.alloc()), "?principal")?;
+    assert_text(SlotId::resource().to_string(rt.alloc()), "?resource")?;
     Ok(())
 }

@@ -7,6 +7,7 @@ use cedar_literals::types::StaticallyTyped;
 use cedar_names::conversions::FromIn;
 use cedar_names::names::Name;
 use cedar_names::places::{Loc, Span};
+use cedar_test_asserts::{assert_text, assert_value};
 use cedar_uids::uids::EntityUID;
 use cedar_values::bounded_display::BoundedToString;
 use cedar_values::values::{Set, Value, ValueKind};
@@ -107,9 +108,9 @@ fn relation(alloc: Global, numbers: &[i64]) -> Result<(bool, bool), Fail> {
 
 #[test]
 fn sets_are_compared(rt: HostRuntime) -> Result<(), Fail> {
-    assert_eq!(rt; relation(rt.alloc(), &[3, 2, 1])?, (true, false));
-    assert_eq!(rt; relation(rt.alloc(), &[2, 3])?, (false, false));
-    assert_eq!(rt; relation(rt.alloc(), &[3, 4])?, (false, true));
+    assert_value(relation(rt.alloc(), &[3, 2, 1]), (true, false))?;
+    assert_value(relation(rt.alloc(), &[2, 3]), (false, false))?;
+    assert_value(relation(rt.alloc(), &[3, 4]), (false, true))?;
     assert!(rt; Set::empty(rt.alloc())?.is_empty());
     Ok(())
 }
@@ -170,18 +171,18 @@ fn values_are_printed(rt: HostRuntime) -> Result<(), Fail> {
     let values = every_kind(rt.alloc())?;
     let whole =
         "false;true;-1;1;\"a\\\"\";User::\"a\";[];[1];[1, 2];{};{\"a b\": 2, b: 1};{b: 1};rank(\"low\");rank(\"low\");";
-    assert_eq!(rt; texts(rt.alloc(), &values, None)?.as_str(), whole);
+    assert_text(texts(rt.alloc(), &values, None), whole)?;
     let short =
         "false;true;-1;1;\"a\\\"\";User::\"a\";[];[1];[1, .. ];{};{\"a b\": 2, .. };{b: 1};rank(\"low\");rank(\"low\");";
-    assert_eq!(rt; texts(rt.alloc(), &values, Some(1))?.as_str(), short);
+    assert_text(texts(rt.alloc(), &values, Some(1)), short)?;
     Ok(())
 }
 
 #[test]
 fn texts_are_bounded(rt: HostRuntime) -> Result<(), Fail> {
     let value = set_value(rt.alloc(), &[1, 2])?;
-    assert_eq!(rt; value.to_string_bounded(rt.alloc(), 0)?.as_str(), "[.. ]");
-    assert_eq!(rt; value.to_string_unbounded(rt.alloc())?.as_str(), "[1, 2]");
+    assert_text(value.to_string_bounded(rt.alloc(), 0), "[.. ]")?;
+    assert_text(value.to_string_unbounded(rt.alloc()), "[1, 2]")?;
     Ok(())
 }
 
@@ -234,15 +235,15 @@ fn sets_are_made(rt: HostRuntime) -> Result<(), Fail> {
 #[test]
 fn empty_kinds_are_made(rt: HostRuntime) -> Result<(), Fail> {
     let no_values = ValueKind::set(rt.alloc(), Vec::new(rt.alloc()))?;
-    assert_eq!(rt; ValueKind::empty_set(rt.alloc())?, no_values);
+    assert_value(ValueKind::empty_set(rt.alloc()), no_values)?;
     let no_fields = ValueKind::record(rt.alloc(), Vec::new(rt.alloc()))?;
-    assert_eq!(rt; ValueKind::empty_record(rt.alloc())?, no_fields);
+    assert_value(ValueKind::empty_record(rt.alloc()), no_fields)?;
     Ok(())
 }
 
 fn place(alloc: Global) -> Result<Loc, Fail> {
     let src = RcStr::from_str(alloc, "1")?;
-    Ok(Loc::new(Span { start: 0, end: 1 }, src))
+    Ok(Loc::new(alloc, Span { start: 0, end: 1 }, src)?)
 }
 
 fn hash_of(value: &Value) -> u64 {
@@ -306,6 +307,6 @@ fn types_are_told(rt: HostRuntime) -> Result<(), Fail> {
     let want =
         "bool;bool;long;long;string;(entity of type `User`);set;set;set;record;record;record;rank;rank;";
     let values = every_kind(rt.alloc())?;
-    assert_eq!(rt; types(rt.alloc(), &values)?.as_str(), want);
+    assert_text(types(rt.alloc(), &values), want)?;
     Ok(())
 }

@@ -17,8 +17,8 @@ use cedar_restricted_evaluation::interpret_restricted;
 use cedar_trees::expr::Expr;
 use std::alloc::Global;
 
-fn lookup_refusal(error: ExtensionFunctionLookupError) -> Refusal
-    ensures { result ≡ refusal_by (failure_by (lookup_cause error)) }
+fn lookup_refusal(error: &ExtensionFunctionLookupError) -> Refusal
+    ensures { result ≡ refusal_by (failure_by (lookup_cause error.now)) }
 {
     match error {
         ExtensionFunctionLookupError::FuncDoesNotExist(_) => Refusal::Evaluation,
@@ -30,7 +30,7 @@ fn lookup_refusal(error: ExtensionFunctionLookupError) -> Refusal
 fn refusal(error: EvaluationError) -> Refusal
     ensures { result ≡ refusal_by (failure_of error) }
 {
-    match error {
+    match &error {
         EvaluationError::RecursionLimit(_) => Refusal::Depth,
         EvaluationError::FailedExtensionFunctionLookup(error) => lookup_refusal(error),
         EvaluationError::Memory => Refusal::Memory,

@@ -1,11 +1,10 @@
-use Rattle.std.proofs.Common.{◌≡◌, ◌++◌, ◌∷◌, [], ◌-◌, length, refl, sym, ap, ◌∙◌, subst, arith}
+use Rattle.std.proofs.Common.{◌≡◌, ◌++◌, ◌∷◌, [], ◌-◌, length, sym, ap, ◌∙◌, subst, arith}
 use Rattle.std.specs.Prelude.{map, All}
 use Rattle.std.specs.Str.{chars}
 use Rattle.std.proofs.lemmas.List.{map-append}
 use Rattle.std.proofs.lemmas.List.Elements.{All-nil, All-push}
 use Rattle.std.proofs.lemmas.Bool.{eqb-true, eqb-false}
 use Rattle.cedar_grammar.specs.Tokens.{token_read}
-use Rattle.cedar_cst.specs.declared.tokens.Token.{Token}
 use Rattle.cedar_cst.specs.View.{token_of}
 use Rattle.cedar_cst.specs.Spelling.{IsSpelledToken}
 use Rattle.cedar_cst.specs.Places.{ArePlaced}
@@ -32,7 +31,7 @@ returns-in_default-clause-refused c =
     let i = c.tokens.invariant in
     let some : length c.tokens.rest.now ≡ 0 → ⊥ = eqb-false (length c.tokens.rest.now) 0 (sym c.is_empty.ensures ∙ c.tokens-test.true) in
     let short = i.rest.short in
-    let none = left_stuck c.args.text.now c.tokens.rest.now (map token_of c.tokens.tokens.items) c.reading_is_the_grammar.ensures.tokens i.left (chars-some c.tokens.rest.now i.rest.utf8 (omega arith)) c.in_default.ensures.token in
+    let none = left_stuck c.args.text.now c.tokens.rest.now (map token_of c.tokens.tokens.items) i.left (chars-some c.tokens.rest.now i.rest.utf8 (omega arith)) c.in_default.ensures.token in
     (omega arith, ap (λ x. token_read (chars x)) i.rest.bytes ∙ c.in_default.ensures.token, none)
 
 pub tokens-preserved : goal.tokens-preserved
@@ -41,7 +40,8 @@ tokens-preserved c =
     let read = c.in-Some.ensures.token in
     let skipped = c.skip_blank-rest-in-tokens.ensures in
     let old = c.tokens.tokens.items in
-    let token : Token = record { kind = c.in-Some.kind; span = record { start = length c.args.text.now - length c.tokens.rest.now; end = length c.args.text.now - length c.in-Some.after.now } } in
+    let token = c.in-Some.token in
+    let place = c.in-Some.ensures.place in
     let pushed : c.push.new.self.items ≡ old ++ (token ∷ []) = c.in_ok-push.ensures.items in
     let short = skipped.rest.short in
     record {
@@ -53,7 +53,7 @@ tokens-preserved c =
           (left_more c.args.text.now c.tokens.rest.now c.in-Some.after.now c.skip_blank-rest-in-tokens.result.now (map token_of old) (token_of token) i.left i.rest.utf8 read skipped.rest skipped.blank);
       places =
           subst (λ ts. ArePlaced c.args.text.now 0 ts (length c.args.text.now - length c.skip_blank-rest-in-tokens.result.now)) (sym pushed)
-          (placed_more c.args.text.now 0 (length c.args.text.now - length c.tokens.rest.now) old token i.places (omega arith) (stands c.args.text.now c.tokens.rest.now c.in-Some.after.now token i.rest read refl refl)
+          (placed_more c.args.text.now 0 (length c.args.text.now - length c.tokens.rest.now) old token i.places (omega arith) (stands c.args.text.now c.tokens.rest.now c.in-Some.after.now token i.rest read place.0 place.1)
           (length c.args.text.now - length c.skip_blank-rest-in-tokens.result.now) (omega arith));
       spelled = subst (All IsSpelledToken) (sym pushed) (All-push IsSpelledToken old token i.spelled c.in-Some.ensures.spelled);
     }
@@ -61,4 +61,4 @@ tokens-preserved c =
 pub returns-clause-tokens : goal.returns-clause-tokens
 returns-clause-tokens c =
     let none : length c.tokens.rest.now ≡ 0 = eqb-true (length c.tokens.rest.now) 0 (sym c.is_empty.ensures ∙ c.tokens-test.false) in
-    left_none c.args.text.now c.tokens.rest.now (map token_of c.tokens.tokens.items) c.reading_is_the_grammar.ensures.tokens c.tokens.invariant.left (no_chars c.tokens.rest.now none)
+    left_none c.args.text.now c.tokens.rest.now (map token_of c.tokens.tokens.items) c.tokens.invariant.left (no_chars c.tokens.rest.now none)

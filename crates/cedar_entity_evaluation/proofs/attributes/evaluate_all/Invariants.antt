@@ -1,4 +1,3 @@
-use Rattle.std.proofs.Common.{◌≡◌}
 use Rattle.cedar_restricted.specs.Views.{restricted_entries}
 use Rattle.cedar_entity_evaluation.specs.Evaluated.{AreWithin}
 use Rattle.cedar_entity_evaluation.proofs.Giving.{IsUnderway}
@@ -6,6 +5,5 @@ use Rattle.cedar_entity_evaluation.proofs.attributes.evaluate_all.Given as goal
 
 abbrev pub invariant-loop-name : goal.invariant-loop-name
 invariant-loop-name l =
-    (l.uid ≡ l.fn.uid) ×
     IsUnderway l.extensions l.fn.exprs.entries l.name-iterator l.values.entries ×
     (AreWithin l.depth (restricted_entries l.name-iterator) → AreWithin l.depth (restricted_entries l.fn.exprs.entries))

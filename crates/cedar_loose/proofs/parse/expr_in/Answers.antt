@@ -1,19 +1,15 @@
-use Rattle.std.proofs.Common.{map, sym, subst}
 use Rattle.std.proofs.lemmas.Result.{err_from_is_err_and}
-use Rattle.cedar_cst.specs.View.{token_of}
-use Rattle.cedar_grammar.specs.Tokens.{IsTokens}
-use Rattle.cedar_nodes.specs.View.{shown_ident, shown_name, shown_ref}
-use Rattle.cedar_syntax.specs.View.{shown_policies, shown_policy, shown_expr, shown_primary, view_policies}
+use Rattle.cedar_syntax.specs.View.{shown_expr}
 use Rattle.cedar_loose_grammar.specs.LooseReading.{read_expr}
 use Rattle.cedar_loose.proofs.Limits.{is_read, is_refused, no_tokens}
 use Rattle.cedar_loose.proofs.parse.expr_in.Goals as goal
 
 pub returns-clause-read : goal.returns-clause-read
-returns-clause-read c = is_read read_expr c.args.text.now _ (subst (λ ts. IsTokens c.args.text.now (map token_of ts)) (sym c.deref.ensures.value) c.in_ok-tokens.ensures.tokens) shown_expr c.args.depth c.expr_of.result c.expr_of.ensures
+returns-clause-read c = is_read read_expr c.args.text.now _ c.in_ok-tokens.ensures.tokens shown_expr c.args.depth c.expr_of.result c.expr_of.ensures
 
 pub returns-clause-refused : goal.returns-clause-refused
 returns-clause-refused c =
-    let are = (subst (λ ts. IsTokens c.args.text.now (map token_of ts)) (sym c.deref.ensures.value) c.in_ok-tokens.ensures.tokens) in
+    let are = c.in_ok-tokens.ensures.tokens in
     is_refused read_expr c.args.text.now _ are c.args.depth c.wider_limits_change_nothing.ensures.expressions c.limits_are_met_where_constructs_open.ensures.expressions (c.limits_are_met_where_constructs_open.ensures.texts c.args.text.now _ are) shown_expr c.expr_of.result c.expr_of.ensures
 
 pub returns-in_err-tokens-clause-refused : goal.returns-in_err-tokens-clause-refused

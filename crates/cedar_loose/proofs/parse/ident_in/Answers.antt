@@ -1,19 +1,15 @@
-use Rattle.std.proofs.Common.{map, sym, subst}
 use Rattle.std.proofs.lemmas.Result.{err_from_is_err_and}
-use Rattle.cedar_cst.specs.View.{token_of}
-use Rattle.cedar_grammar.specs.Tokens.{IsTokens}
-use Rattle.cedar_nodes.specs.View.{shown_ident, shown_name, shown_ref}
-use Rattle.cedar_syntax.specs.View.{shown_policies, shown_policy, shown_expr, shown_primary, view_policies}
+use Rattle.cedar_nodes.specs.View.{shown_ident}
 use Rattle.cedar_loose_grammar.specs.LooseReading.{read_ident}
 use Rattle.cedar_loose.specs.Texts.{flat}
 use Rattle.cedar_loose.proofs.Limits.{is_read, is_outside, no_tokens_outside, ident_never}
 use Rattle.cedar_loose.proofs.parse.ident_in.Goals as goal
 
 pub returns-clause-read : goal.returns-clause-read
-returns-clause-read c = is_read (flat read_ident) c.args.text.now _ (subst (λ ts. IsTokens c.args.text.now (map token_of ts)) (sym c.deref.ensures.value) c.in_ok-tokens.ensures.tokens) shown_ident 0 c.ident_of.result c.ident_of.ensures
+returns-clause-read c = is_read (flat read_ident) c.args.text.now _ c.in_ok-tokens.ensures.tokens shown_ident 0 c.ident_of.result c.ident_of.ensures
 
 pub returns-clause-refused : goal.returns-clause-refused
-returns-clause-refused c = is_outside read_ident c.args.text.now _ (subst (λ ts. IsTokens c.args.text.now (map token_of ts)) (sym c.deref.ensures.value) c.in_ok-tokens.ensures.tokens) (ident_never _) shown_ident c.ident_of.result c.ident_of.ensures
+returns-clause-refused c = is_outside read_ident c.args.text.now _ c.in_ok-tokens.ensures.tokens (ident_never _) shown_ident c.ident_of.result c.ident_of.ensures
 
 pub returns-in_err-tokens-clause-refused : goal.returns-in_err-tokens-clause-refused
 returns-in_err-tokens-clause-refused c =

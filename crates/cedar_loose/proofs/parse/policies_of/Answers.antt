@@ -1,16 +1,13 @@
 use Rattle.std.proofs.Common.{◌-◌, Ok, map, sym, ap, ◌∙◌}
 use Rattle.std.proofs.lemmas.Result.{err_from_is_err_and}
-use Rattle.cedar_grammar.specs.ReadingPolicies.{word_read, is_more}
+use Rattle.cedar_grammar.specs.ReadingPolicies.{is_more}
 use Rattle.cedar_loose_grammar.specs.Loose as loose
-use Rattle.cedar_loose_grammar.specs.LooseReading.{◌>>◌, mapped, needed, whole, each_of, policy_of, expr_at, primary_of, ref_of, name_of, read_policies}
-use Rattle.cedar_cst.specs.View.{token_of}
-use Rattle.cedar_grammar.specs.Tokens.{IsTokens}
-use Rattle.cedar_nodes.specs.View.{shown_ident, shown_name, shown_ref}
-use Rattle.cedar_syntax.specs.View.{shown_policies, shown_policy, shown_expr, shown_primary, view_policies}
+use Rattle.cedar_loose_grammar.specs.LooseReading.{◌>>◌, mapped, whole, each_of, policy_of, read_policies}
+use Rattle.cedar_syntax.specs.View.{shown_policy, view_policies}
 use Rattle.cedar_syntax.proofs.Views.{seen}
 use Rattle.cedar_loose_expressions.proofs.Loops.{first_fails, mapped_fails}
 use Rattle.cedar_loose_expressions.proofs.Cases.{fails_as}
-use Rattle.cedar_loose.proofs.Limits.{all_read, not_all_read, policies_within, policy_within, primary_within, policies_zero, policy_zero}
+use Rattle.cedar_loose.proofs.Limits.{all_read, not_all_read, policies_within, policies_zero}
 use Rattle.cedar_loose.proofs.parse.policies_of.Goals as goal
 
 pub returns-in_err-parts : goal.returns-in_err-parts
@@ -27,4 +24,4 @@ pub returns : goal.returns
 returns c = rw (sym c.new-cursor.ensures) (policies_within c.args.depth c.if-depth-eq0.false c.new-cursor.result ∙ all_read (mapped loose.policies (each_of is_more (policy_of (c.args.depth - 1)) c.new-cursor.result)) (loose.policies (map shown_policy c.in_ok-parts.parts.items)) c.policies.new.cursor (ap (mapped loose.policies) c.in_ok-parts.ensures) c.in_ok-finish.ensures ∙ ap (λ x. Ok x) (sym (seen loose.missing_policies view_policies c.in_ok-node.field-0 _ c.in_ok-node.ensures)))
 
 pub returns-then-depth-eq0 : goal.returns-then-depth-eq0
-returns-then-depth-eq0 c = rw c.if-depth-eq0.true (policies_zero (map token_of c.args.tokens.now))
+returns-then-depth-eq0 c = rw c.if-depth-eq0.true (policies_zero c.args.tokens.left)

@@ -1,16 +1,10 @@
-use Rattle.std.proofs.Common.{◌-◌, Ok, map, sym, ap, ◌∙◌}
+use Rattle.std.proofs.Common.{◌-◌, sym, ◌∙◌}
 use Rattle.std.proofs.lemmas.Result.{err_from_is_err_and}
-use Rattle.cedar_grammar.specs.ReadingPolicies.{word_read, is_more}
-use Rattle.cedar_loose_grammar.specs.Loose as loose
-use Rattle.cedar_loose_grammar.specs.LooseReading.{◌>>◌, mapped, needed, whole, each_of, policy_of, expr_at, primary_of, ref_of, name_of, read_policy}
-use Rattle.cedar_cst.specs.View.{token_of}
-use Rattle.cedar_grammar.specs.Tokens.{IsTokens}
-use Rattle.cedar_nodes.specs.View.{shown_ident, shown_name, shown_ref}
-use Rattle.cedar_syntax.specs.View.{shown_policies, shown_policy, shown_expr, shown_primary, view_policies}
-use Rattle.cedar_syntax.proofs.Views.{seen}
-use Rattle.cedar_loose_expressions.proofs.Loops.{first_fails, mapped_fails}
+use Rattle.cedar_loose_grammar.specs.LooseReading.{◌>>◌, whole, policy_of, read_policy}
+use Rattle.cedar_syntax.specs.View.{shown_policy}
+use Rattle.cedar_loose_expressions.proofs.Loops.{first_fails}
 use Rattle.cedar_loose_expressions.proofs.Cases.{fails_as}
-use Rattle.cedar_loose.proofs.Limits.{all_read, not_all_read, policies_within, policy_within, primary_within, policies_zero, policy_zero}
+use Rattle.cedar_loose.proofs.Limits.{all_read, not_all_read, policy_within, policy_zero}
 use Rattle.cedar_loose.proofs.parse.policy_of.Goals as goal
 
 pub returns-in_err-tree : goal.returns-in_err-tree
@@ -27,4 +21,4 @@ pub returns : goal.returns
 returns c = rw (sym c.new-cursor.ensures) (policy_within c.args.depth c.if-depth-eq0.false c.new-cursor.result ∙ all_read (policy_of (c.args.depth - 1) c.new-cursor.result) (shown_policy c.in_ok-tree.tree) c.policy.new.cursor c.in_ok-tree.ensures c.in_ok-finish.ensures)
 
 pub returns-then-depth-eq0 : goal.returns-then-depth-eq0
-returns-then-depth-eq0 c = rw c.if-depth-eq0.true (policy_zero (map token_of c.args.tokens.now))
+returns-then-depth-eq0 c = rw c.if-depth-eq0.true (policy_zero c.args.tokens.left)

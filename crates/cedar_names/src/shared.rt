@@ -1,0 +1,98 @@
+// Values that copies share.
+ghost use Rattle.std.specs.Prelude.{◌≡◌, IfOk};
+
+use std::alloc::{AllocError, Global};
+use std::cmp::Ordering;
+use std::hash::{Hash, Hasher};
+use std::marker::Model;
+use std::rc::Rc;
+
+/// A value that is shared, seen as the value.
+#[derive(Debug, Drop)]
+pub(crate) struct Shared<T> {
+    held: Rc<T>,
+}
+
+impl<T> Model for Shared<T> {
+    ghost Value = { T };
+
+    ghost view = { λ a. a.held.value };
+}
+
+impl<T: Drop> Shared<T> {
+    /// The value, shared; refused for memory alone.
+    pub(crate) fn new(alloc: Global, value: T) -> Result<Shared<T>, AllocError>
+        ensures { IfOk result (λ shared. shared ≡ value) }
+    {
+        Ok(Shared {
+            held: Rc::new(alloc, value)?,
+        })
+    }
+}
+
+impl<T> Shared<T> {
+    /// The value.
+    pub(crate) fn get(&self) -> &T
+        ensures { result.now ≡ self.now }
+    {
+        &self.held
+    }
+}
+
+impl<T: Drop> Clone for Shared<T> {
+    ghost is_clone = { λ shared copy. copy ≡ shared };
+
+    fn clone(&self) -> Result<Shared<T>, AllocError> {
+        Ok(Shared {
+            held: self.held.clone()?,
+        })
+    }
+}
+
+impl<T: PartialEq> PartialEq for Shared<T> {
+    ghost eq = { T.eq };
+
+    ghost laws = { T.laws };
+
+    fn eq(&self, other: &Shared<T>) -> bool {
+        self.held == other.held
+    }
+}
+
+impl<T: Eq> Eq for Shared<T> {
+    ghost laws = { T.Eq.laws };
+}
+
+impl<T: PartialOrd> PartialOrd for Shared<T> {
+    ghost partial_cmp = { T.partial_cmp };
+
+    ghost laws = { T.PartialOrd.laws };
+
+    fn partial_cmp(&self, other: &Shared<T>) -> Option<Ordering> {
+        self.held.partial_cmp(&other.held)
+    }
+}
+
+impl<T: Ord> Ord for Shared<T> {
+    ghost cmp = { T.cmp };
+
+    ghost total = { T.total };
+
+    ghost matches_partial_cmp = { T.matches_partial_cmp };
+
+    ghost matches_eq = { T.matches_eq };
+
+    fn cmp(&self, other: &Shared<T>) -> Ordering {
+        self.held.cmp(&other.held)
+    }
+}
+
+impl<T: Hash> Hash for Shared<T> {
+    ghost hash_input = { T.hash_input };
+
+    ghost respects_eq = { T.respects_eq };
+
+    fn hash<H: Hasher>(&self, state: &mut H) {
+        self.held.hash(state);
+    }
+}
