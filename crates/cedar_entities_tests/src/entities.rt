@@ -1,11 +1,11 @@
 // What edits leave where there is memory, and what they are refused for.
-use crate::asserts::{assert_text, assert_value, text_of};
 use cedar_closure::TcError;
 use cedar_entities::closing::TCComputation;
 use cedar_entities::errors::EntitiesError;
 use cedar_entities::store::{Dereference, Entities};
 use cedar_entity::entity::Entity;
 use cedar_partial_values::partial_values::PartialValue;
+use cedar_test_asserts::{assert_text, assert_value, text_of};
 use cedar_trees::unknowns::Unknown;
 use cedar_uids::uids::EntityUID;
 use std::alloc::Global;
@@ -133,20 +133,15 @@ fn added(alloc: Global, held: Rows<'_>, rows: Rows<'_>) -> Result<&'static str, 
 fn versions_have_the_same_ancestors(rt: HostRuntime) -> Result<(), Fail> {
     let alloc = rt.alloc();
     let held: Rows<'_> = &[("a", &["h"]), ("h", &["g"])];
-    assert_value(&rt, added(alloc, held, &[("a", &["h", "g"])]), "ok")?;
-    assert_value(&rt, added(alloc, held, &[("a", &["h"])]), "duplicate")?;
+    assert_value(added(alloc, held, &[("a", &["h", "g"])]), "ok")?;
+    assert_value(added(alloc, held, &[("a", &["h"])]), "duplicate")?;
     assert_value(
-        &rt,
         added(alloc, held, &[("b", &["h"]), ("b", &[])]),
         "duplicate",
     )?;
-    assert_value(
-        &rt,
-        added(alloc, held, &[("b", &["h"]), ("b", &["h"])]),
-        "ok",
-    )?;
-    assert_value(&rt, added(alloc, held, &[("g", &["a"])]), "cycle")?;
-    assert_value(&rt, added(alloc, &[], &[("a", &["a"])]), "cycle")?;
+    assert_value(added(alloc, held, &[("b", &["h"]), ("b", &["h"])]), "ok")?;
+    assert_value(added(alloc, held, &[("g", &["a"])]), "cycle")?;
+    assert_value(added(alloc, &[], &[("a", &["a"])]), "cycle")?;
     Ok(())
 }
 
@@ -179,8 +174,8 @@ fn added_unknown(alloc: Global, held: &str, name: &str) -> Result<&'static str, 
 #[test]
 fn versions_have_the_same_residuals(rt: HostRuntime) -> Result<(), Fail> {
     let alloc = rt.alloc();
-    assert_value(&rt, added_unknown(alloc, "p", "p"), "ok")?;
-    assert_value(&rt, added_unknown(alloc, "p", "q"), "duplicate")?;
+    assert_value(added_unknown(alloc, "p", "p"), "ok")?;
+    assert_value(added_unknown(alloc, "p", "q"), "duplicate")?;
     Ok(())
 }
 
@@ -196,7 +191,7 @@ fn differing(alloc: Global) -> Result<String, Fail> {
 
 #[test]
 fn the_entity_that_differs_is_told(rt: HostRuntime) -> Result<(), Fail> {
-    assert_text(&rt, differing(rt.alloc()), "G::\"b\"")?;
+    assert_text(differing(rt.alloc()), "G::\"b\"")?;
     Ok(())
 }
 
@@ -221,10 +216,9 @@ fn made(alloc: Global, tc_computation: TCComputation) -> Result<&'static str, Fa
 #[test]
 fn closures_are_taken_as_they_are(rt: HostRuntime) -> Result<(), Fail> {
     let alloc = rt.alloc();
-    assert_value(&rt, made(alloc, TCComputation::ComputeNow), "ok")?;
-    assert_value(&rt, made(alloc, TCComputation::AssumeAlreadyComputed), "ok")?;
+    assert_value(made(alloc, TCComputation::ComputeNow), "ok")?;
+    assert_value(made(alloc, TCComputation::AssumeAlreadyComputed), "ok")?;
     assert_value(
-        &rt,
         made(alloc, TCComputation::EnforceAlreadyComputed),
         "missing",
     )?;
@@ -274,9 +268,8 @@ fn shown(alloc: Global, rows: Rows<'_>) -> Result<String, Fail> {
 #[test]
 fn stores_are_printed(rt: HostRuntime) -> Result<(), Fail> {
     let alloc = rt.alloc();
-    assert_text(&rt, shown(alloc, &[]), "<empty Entities>")?;
+    assert_text(shown(alloc, &[]), "<empty Entities>")?;
     assert_text(
-        &rt,
         shown(alloc, &[("b", &["a"]), ("a", &[])]),
         "G::\"a\":\n  attrs:\n  ancestors:\nG::\"b\":\n  attrs:\n  ancestors:G::\"a\"\n",
     )?;
@@ -293,8 +286,8 @@ fn walked(alloc: Global, rows: Rows<'_>) -> Result<(usize, usize), Fail> {
 #[test]
 fn stores_are_walked(rt: HostRuntime) -> Result<(), Fail> {
     let alloc = rt.alloc();
-    assert_value(&rt, walked(alloc, &[]), (0, 0))?;
-    assert_value(&rt, walked(alloc, TWO_WAYS), (3, 3))?;
+    assert_value(walked(alloc, &[]), (0, 0))?;
+    assert_value(walked(alloc, TWO_WAYS), (3, 3))?;
     Ok(())
 }
 
@@ -332,8 +325,8 @@ fn is_made_partial(alloc: Global) -> Result<bool, Fail> {
 #[test]
 fn stores_are_counted(rt: HostRuntime) -> Result<(), Fail> {
     let alloc = rt.alloc();
-    assert_value(&rt, counted(alloc, &[]), (0, true, false))?;
-    assert_value(&rt, counted(alloc, TWO_WAYS), (3, false, false))?;
+    assert_value(counted(alloc, &[]), (0, true, false))?;
+    assert_value(counted(alloc, TWO_WAYS), (3, false, false))?;
     assert!(rt; is_made_partial(alloc)?);
     Ok(())
 }
@@ -347,6 +340,6 @@ fn id_held(alloc: Global, id: &str) -> Result<String, Fail> {
 
 #[test]
 fn what_is_held_is_lent(rt: HostRuntime) -> Result<(), Fail> {
-    assert_text(&rt, id_held(rt.alloc(), "a"), "G::\"a\"")?;
+    assert_text(id_held(rt.alloc(), "a"), "G::\"a\"")?;
     Ok(())
 }

@@ -1,5 +1,4 @@
 // Entities whose attributes and tags are evaluated, where there is memory.
-use crate::asserts::assert_text;
 use cedar_entity::entity::Entity;
 use cedar_entity_evaluation::{EntityCreationError, EvaluateEntity};
 use cedar_extensions::extensions::Extensions;
@@ -7,6 +6,7 @@ use cedar_literals::literals::Literal;
 use cedar_names::names::Name;
 use cedar_partial_values::partial_values::PartialValue;
 use cedar_restricted::restricted::RestrictedExpr;
+use cedar_test_asserts::assert_text;
 use cedar_uids::uids::EntityUID;
 use std::alloc::{AllocError, Global};
 use std::collections::{BTreeMap, HashSet};
@@ -80,15 +80,10 @@ fn outcome(alloc: Global, attrs: &[(&str, &str)], tags: &[(&str, &str)]) -> Resu
 fn attributes_are_evaluated(rt: HostRuntime) -> Result<(), Fail> {
     let alloc = rt.alloc();
     assert_text(
-        &rt,
         outcome(alloc, &[("a", "one"), ("b", "unknown")], &[]),
         "1, unknown(\"b\"), nothing",
     )?;
-    assert_text(
-        &rt,
-        outcome(alloc, &[], &[("a", "one")]),
-        "nothing, nothing, 1",
-    )?;
+    assert_text(outcome(alloc, &[], &[("a", "one")]), "nothing, nothing, 1")?;
     Ok(())
 }
 
@@ -96,7 +91,6 @@ fn attributes_are_evaluated(rt: HostRuntime) -> Result<(), Fail> {
 fn the_first_error_is_told(rt: HostRuntime) -> Result<(), Fail> {
     let alloc = rt.alloc();
     assert_text(
-        &rt,
         outcome(
             alloc,
             &[("b", "f"), ("c", "g"), ("a", "one")],
@@ -105,7 +99,6 @@ fn the_first_error_is_told(rt: HostRuntime) -> Result<(), Fail> {
         "failed to evaluate attribute `b` of `User::\"u\"`: extension function `f` does not exist",
     )?;
     assert_text(
-        &rt,
         outcome(alloc, &[("a", "one")], &[("a", "g")]),
         "failed to evaluate tag `a` of `User::\"u\"`: extension function `g` does not exist",
     )?;

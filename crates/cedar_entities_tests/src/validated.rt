@@ -1,5 +1,4 @@
 // Which entities and stores are valid, where there is memory.
-use crate::asserts::{assert_text, text_of};
 use cedar_entities::closing::TCComputation;
 use cedar_entities::store::Entities;
 use cedar_entity::entity::Entity;
@@ -8,6 +7,7 @@ use cedar_extensions::extensions::Extensions;
 use cedar_literals::literals::Literal;
 use cedar_names::names::Name;
 use cedar_partial_values::partial_values::PartialValue;
+use cedar_test_asserts::{assert_text, text_of};
 use cedar_trees::expr::Expr;
 use cedar_uids::uids::EntityUID;
 use cedar_validation::errors::ExprValidationError;
@@ -65,9 +65,8 @@ fn said_of_entity(alloc: Global, attrs: Rows<'_>, tags: Rows<'_>) -> Result<Stri
 #[test]
 fn entities_whose_calls_fit_are_valid(rt: HostRuntime) -> Result<(), Fail> {
     let alloc = rt.alloc();
-    assert_text(&rt, said_of_entity(alloc, &[], &[]), "valid")?;
+    assert_text(said_of_entity(alloc, &[], &[]), "valid")?;
     assert_text(
-        &rt,
         said_of_entity(
             alloc,
             &[("a", "unknown"), ("b", "one")],
@@ -83,7 +82,6 @@ fn entities_whose_calls_fit_are_valid(rt: HostRuntime) -> Result<(), Fail> {
 fn the_first_call_that_does_not_fit_is_told(rt: HostRuntime) -> Result<(), Fail> {
     let alloc = rt.alloc();
     assert_text(
-        &rt,
         said_of_entity(
             alloc,
             &[("c", "h"), ("a", "unknown"), ("b", "g")],
@@ -92,7 +90,6 @@ fn the_first_call_that_does_not_fit_is_told(rt: HostRuntime) -> Result<(), Fail>
         "extension function `g` does not exist",
     )?;
     assert_text(
-        &rt,
         said_of_entity(alloc, &[("b", "one")], &[("b", "g"), ("a", "f")]),
         "extension function `f` does not exist",
     )?;
@@ -131,8 +128,8 @@ fn said_of_store(alloc: Global, first: &str, second: &str) -> Result<String, Fai
 fn stores_are_valid_where_each_entity_is(rt: HostRuntime) -> Result<(), Fail> {
     let alloc = rt.alloc();
     let wrong = "extension function `f` does not exist";
-    assert_text(&rt, said_of_store(alloc, "one", "unknown"), "valid")?;
-    assert_text(&rt, said_of_store(alloc, "one", "f"), wrong)?;
-    assert_text(&rt, said_of_store(alloc, "f", "one"), wrong)?;
+    assert_text(said_of_store(alloc, "one", "unknown"), "valid")?;
+    assert_text(said_of_store(alloc, "one", "f"), wrong)?;
+    assert_text(said_of_store(alloc, "f", "one"), wrong)?;
     Ok(())
 }

@@ -1,5 +1,4 @@
 // Texts of errors, their places, and that `==` looks at both.
-use crate::asserts::{are_same, assert_text, shown};
 use cedar_errors::evaluation_error::EvaluationError;
 use cedar_errors::lookups::{ExtensionFunctionLookupError, FuncDoesNotExistError};
 use cedar_errors::operands::{BinaryOpOverflowError, IntegerOverflowError, UnaryOpOverflowError};
@@ -8,6 +7,7 @@ use cedar_literals::operators::{BinaryOp, UnaryOp};
 use cedar_literals::types::Type;
 use cedar_names::names::Name;
 use cedar_names::places::{Loc, Span};
+use cedar_test_asserts::{are_same, assert_text, text_of};
 use cedar_trees::expr::Expr;
 use cedar_trees::unknowns::{NonEmpty, Unknown};
 use cedar_uids::slots::SlotId;
@@ -40,7 +40,7 @@ fn place(alloc: Global) -> Result<Option<Loc>, AllocError> {
 }
 
 fn told(alloc: Global, made: Result<EvaluationError, Fail>) -> Result<String, Fail> {
-    Ok(shown(alloc, made?)?)
+    Ok(text_of(alloc, made?)?)
 }
 
 fn no_entity(alloc: Global) -> Result<EvaluationError, Fail> {
@@ -66,22 +66,18 @@ fn no_key(alloc: Global) -> Result<EvaluationError, Fail> {
 fn what_is_missing_is_told(rt: HostRuntime) -> Result<(), Fail> {
     let alloc = rt.alloc();
     assert_text(
-        &rt,
         told(alloc, no_entity(alloc)),
         "entity `User::\"a\"` does not exist",
     )?;
     assert_text(
-        &rt,
         told(alloc, no_attribute(alloc)),
         "`User::\"a\"` does not have the attribute `b`",
     )?;
     assert_text(
-        &rt,
         told(alloc, no_tag(alloc)),
         "`User::\"a\"` does not have the tag `b`",
     )?;
     assert_text(
-        &rt,
         told(alloc, no_key(alloc)),
         "record does not have the attribute `b`",
     )?;
@@ -115,22 +111,18 @@ fn overflow_of_one(_alloc: Global) -> Result<EvaluationError, Fail> {
 fn operands_are_told(rt: HostRuntime) -> Result<(), Fail> {
     let alloc = rt.alloc();
     assert_text(
-        &rt,
         told(alloc, other_type(alloc)),
         "type error: expected bool, got long",
     )?;
     assert_text(
-        &rt,
         told(alloc, other_types(alloc)),
         "type error: expected one of [set, (entity of type `f`), record], got long",
     )?;
     assert_text(
-        &rt,
         told(alloc, overflow_of_two(alloc)),
         "integer overflow while attempting to multiply the values `2` and `3`",
     )?;
     assert_text(
-        &rt,
         told(alloc, overflow_of_one(alloc)),
         "integer overflow while attempting to negate the value `2`",
     )?;
@@ -155,17 +147,14 @@ fn no_answer(alloc: Global) -> Result<EvaluationError, Fail> {
 fn calls_are_told(rt: HostRuntime) -> Result<(), Fail> {
     let alloc = rt.alloc();
     assert_text(
-        &rt,
         told(alloc, no_function(alloc)),
         "extension function `f` does not exist",
     )?;
     assert_text(
-        &rt,
         told(alloc, other_count(alloc)),
         "wrong number of arguments provided to extension function `f`: expected 1, got 2",
     )?;
     assert_text(
-        &rt,
         told(alloc, no_answer(alloc)),
         "error while evaluating `f` extension function: no answer",
     )?;
@@ -185,22 +174,18 @@ fn residual(alloc: Global) -> Result<EvaluationError, Fail> {
 fn what_is_left_is_told(rt: HostRuntime) -> Result<(), Fail> {
     let alloc = rt.alloc();
     assert_text(
-        &rt,
         told(alloc, unlinked(alloc)),
         "template slot `?resource` was not linked",
     )?;
     assert_text(
-        &rt,
         told(alloc, residual(alloc)),
         "the expression contains unknown(s): `unknown(\"x\")`",
     )?;
     assert_text(
-        &rt,
         told(alloc, Ok(EvaluationError::recursion_limit(None))),
         "recursion limit reached",
     )?;
     assert_text(
-        &rt,
         told(alloc, Ok(EvaluationError::from(AllocError))),
         "memory ran out",
     )?;
@@ -214,7 +199,7 @@ fn failed_lookup(_alloc: Global) -> Result<EvaluationError, Fail> {
 #[test]
 fn want_of_memory_is_no_failed_lookup(rt: HostRuntime) -> Result<(), Fail> {
     let alloc = rt.alloc();
-    assert_text(&rt, told(alloc, failed_lookup(alloc)), "memory ran out")
+    assert_text(told(alloc, failed_lookup(alloc)), "memory ran out")
 }
 
 fn limit(alloc: Global) -> Result<EvaluationError, AllocError> {

@@ -1,5 +1,4 @@
 // What tables and functions answer where there is memory.
-use crate::asserts::{assert_text, assert_value, shown};
 use cedar_errors::evaluation_error::EvaluationError;
 use cedar_extensions::collecting::{CollectError, collect_no_duplicates};
 use cedar_extensions::errors::{
@@ -15,6 +14,7 @@ use cedar_names::names::Name;
 use cedar_names::reading::FromNormalizedStr;
 use cedar_shapes::readers::ExprReaders;
 use cedar_shapes::types::FunctionTypes;
+use cedar_test_asserts::{assert_text, assert_value, text_of};
 use cedar_trees::expr::Expr;
 use cedar_values::values::{Value, ValueKind};
 use std::alloc::{AllocError, Global};
@@ -53,9 +53,8 @@ fn sought(alloc: Global, text: &str) -> Result<String, Fail> {
 #[test]
 fn functions_are_found_by_whole_names(rt: HostRuntime) -> Result<(), Fail> {
     let alloc = rt.alloc();
-    assert_text(&rt, sought(alloc, "unknown"), "unknown")?;
+    assert_text(sought(alloc, "unknown"), "unknown")?;
     assert_text(
-        &rt,
         sought(alloc, "a::unknown"),
         "extension function `a::unknown` does not exist",
     )?;
@@ -81,7 +80,7 @@ fn called(
 fn told(alloc: Global, answer: Result<RcStr, EvaluationError>) -> Result<String, AllocError> {
     match answer {
         Ok(name) => String::from_str(alloc, name.as_str()),
-        Err(error) => shown(alloc, error),
+        Err(error) => text_of(alloc, error),
     }
 }
 
@@ -104,14 +103,12 @@ fn told_of_number(alloc: Global) -> Result<String, Fail> {
 #[test]
 fn unknowns_are_named(rt: HostRuntime) -> Result<(), Fail> {
     let alloc = rt.alloc();
-    assert_text(&rt, told_of_text(alloc), "x")?;
+    assert_text(told_of_text(alloc), "x")?;
     assert_text(
-        &rt,
         told_of(alloc, &[]),
         "wrong number of arguments provided to extension function `unknown`: expected 1, got 0",
     )?;
     assert_text(
-        &rt,
         told_of_number(alloc),
         "error while evaluating `unknown` extension function: the name of an unknown is a string",
     )?;
@@ -162,7 +159,7 @@ fn extensions_are_read(rt: HostRuntime) -> Result<(), Fail> {
     let alloc = rt.alloc();
     assert!(rt; is_held(alloc, "g")?);
     assert!(rt; !is_held(alloc, "e")?);
-    assert_value(&rt, counted(alloc), (2, 1))?;
+    assert_value(counted(alloc), (2, 1))?;
     assert!(rt; !has_types(alloc)?);
     Ok(())
 }
@@ -177,7 +174,7 @@ fn first_name(alloc: Global) -> Result<String, Fail> {
 
 #[test]
 fn names_are_walked(rt: HostRuntime) -> Result<(), Fail> {
-    assert_text(&rt, first_name(rt.alloc()), "partial_evaluation")
+    assert_text(first_name(rt.alloc()), "partial_evaluation")
 }
 
 // How many arguments it takes, and whether it takes one that tells its type.
@@ -189,7 +186,7 @@ fn taken(alloc: Global) -> Result<(Option<usize>, usize, bool), Fail> {
 
 #[test]
 fn functions_say_what_they_take(rt: HostRuntime) -> Result<(), Fail> {
-    assert_value(&rt, taken(rt.alloc()), (Some(1), 1, true))
+    assert_value(taken(rt.alloc()), (Some(1), 1, true))
 }
 
 // Whether the table knows the type of what calls of this function give.
@@ -243,12 +240,10 @@ fn made_twice(alloc: Global) -> Result<String, Fail> {
 fn tables_are_refused(rt: HostRuntime) -> Result<(), Fail> {
     let alloc = rt.alloc();
     assert_text(
-        &rt,
         defined_twice(alloc),
         "extension function `f` is defined multiple times",
     )?;
     assert_text(
-        &rt,
         made_twice(alloc),
         "multiple extension constructors for the same extension type ip",
     )?;

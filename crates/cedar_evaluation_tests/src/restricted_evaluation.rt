@@ -1,5 +1,4 @@
 // What evaluations give where there is memory.
-use crate::asserts::{assert_text, shown};
 use cedar_errors::evaluation_error::EvaluationError;
 use cedar_extensions::extensions::Extensions;
 use cedar_literals::literals::Literal;
@@ -7,6 +6,7 @@ use cedar_names::names::Name;
 use cedar_partial_values::partial_values::PartialValue;
 use cedar_restricted::borrowed::BorrowedRestrictedExpr;
 use cedar_restricted_evaluation::interpret_restricted;
+use cedar_test_asserts::{assert_text, text_of};
 use cedar_trees::expr::Expr;
 use cedar_trees::unknowns::Unknown;
 use std::alloc::{AllocError, Global};
@@ -36,9 +36,9 @@ fn told(
     answer: Result<PartialValue, EvaluationError>,
 ) -> Result<String, AllocError> {
     match answer {
-        Ok(PartialValue::Value(value)) => shown(alloc, value),
-        Ok(PartialValue::Residual(expr)) => shown(alloc, expr),
-        Err(error) => shown(alloc, error),
+        Ok(PartialValue::Value(value)) => text_of(alloc, value),
+        Ok(PartialValue::Residual(expr)) => text_of(alloc, expr),
+        Err(error) => text_of(alloc, error),
     }
 }
 
@@ -65,8 +65,8 @@ fn record(alloc: Global) -> Result<Expr, Fail> {
 #[test]
 fn values_are_built(rt: HostRuntime) -> Result<(), Fail> {
     let alloc = rt.alloc();
-    assert_text(&rt, within(alloc, set(alloc)?, 2), "[1, 2]")?;
-    assert_text(&rt, within(alloc, record(alloc)?, 2), "{a: 3}")?;
+    assert_text(within(alloc, set(alloc)?, 2), "[1, 2]")?;
+    assert_text(within(alloc, record(alloc)?, 2), "{a: 3}")?;
     Ok(())
 }
 
@@ -79,12 +79,8 @@ fn nested(alloc: Global) -> Result<Expr, AllocError> {
 #[test]
 fn depth_is_limited(rt: HostRuntime) -> Result<(), Fail> {
     let alloc = rt.alloc();
-    assert_text(&rt, within(alloc, nested(alloc)?, 3), "[[1]]")?;
-    assert_text(
-        &rt,
-        within(alloc, nested(alloc)?, 2),
-        "recursion limit reached",
-    )?;
+    assert_text(within(alloc, nested(alloc)?, 3), "[[1]]")?;
+    assert_text(within(alloc, nested(alloc)?, 2), "recursion limit reached")?;
     Ok(())
 }
 
@@ -103,12 +99,8 @@ fn leaf(alloc: Global) -> Result<Expr, Fail> {
 #[test]
 fn unknowns_wait(rt: HostRuntime) -> Result<(), Fail> {
     let alloc = rt.alloc();
-    assert_text(
-        &rt,
-        within(alloc, waiting(alloc)?, 3),
-        "[unknown(\"x\"), 1]",
-    )?;
-    assert_text(&rt, within(alloc, leaf(alloc)?, 1), "unknown(\"y\")")?;
+    assert_text(within(alloc, waiting(alloc)?, 3), "[unknown(\"x\"), 1]")?;
+    assert_text(within(alloc, leaf(alloc)?, 1), "unknown(\"y\")")?;
     Ok(())
 }
 
@@ -128,12 +120,10 @@ fn error_behind(alloc: Global) -> Result<Expr, Fail> {
 fn errors_are_met(rt: HostRuntime) -> Result<(), Fail> {
     let alloc = rt.alloc();
     assert_text(
-        &rt,
         within(alloc, call_of_none(alloc, "f")?, 1),
         "extension function `f` does not exist",
     )?;
     assert_text(
-        &rt,
         within(alloc, error_behind(alloc)?, 3),
         "wrong number of arguments provided to extension function `unknown`: expected 1, got 0",
     )?;

@@ -1,8 +1,8 @@
 // Which calls are valid, where there is memory.
-use crate::asserts::assert_text;
 use cedar_extensions::extensions::Extensions;
 use cedar_literals::literals::Literal;
 use cedar_names::names::Name;
+use cedar_test_asserts::assert_text;
 use cedar_trees::expr::Expr;
 use cedar_validation::validation::ExprValidation;
 use std::alloc::Global;
@@ -51,8 +51,8 @@ fn said(alloc: Global, expr: Expr) -> Result<String, Fail> {
 #[test]
 fn calls_that_fit_are_valid(rt: HostRuntime) -> Result<(), Fail> {
     let alloc = rt.alloc();
-    assert_text(&rt, said(alloc, long(1)), "valid")?;
-    assert_text(&rt, said(alloc, valid(alloc)?), "valid")?;
+    assert_text(said(alloc, long(1)), "valid")?;
+    assert_text(said(alloc, valid(alloc)?), "valid")?;
     Ok(())
 }
 
@@ -60,12 +60,10 @@ fn calls_that_fit_are_valid(rt: HostRuntime) -> Result<(), Fail> {
 fn other_calls_are_refused(rt: HostRuntime) -> Result<(), Fail> {
     let alloc = rt.alloc();
     assert_text(
-        &rt,
         said(alloc, call_of_none(alloc, "f")?),
         "extension function `f` does not exist",
     )?;
     assert_text(
-        &rt,
         said(alloc, call_of_two(alloc, "unknown")?),
         "wrong number of arguments provided to extension function `unknown`: expected 1, got 2",
     )?;
@@ -79,7 +77,6 @@ fn the_first_of_a_walk_is_told(rt: HostRuntime) -> Result<(), Fail> {
     let left = call_of_none(alloc, "f")?;
     let right = call_of_none(alloc, "unknown")?;
     assert_text(
-        &rt,
         said(alloc, less(alloc, left, right)?),
         "wrong number of arguments provided to extension function `unknown`: expected 1, got 0",
     )?;

@@ -1,8 +1,7 @@
-use crate::asserts::{assert_text, assert_value};
 use cedar_cst::*;
+use cedar_test_asserts::{assert_text, assert_value};
 use std::alloc::Global;
 use std::fmt::Write;
-use std::process::Abort;
 use std::test::Fail;
 
 fn listed(alloc: Global, tokens: &[Token<'_>]) -> Result<String, Fail> {
@@ -39,70 +38,62 @@ fn shown_singly(alloc: Global, text: &str) -> Result<String, Fail> {
     listed(alloc, &tokens)
 }
 
-fn reads(rt: &impl Abort, alloc: Global, text: &str, wanted: &str) -> Result<(), Fail> {
-    assert_text(rt, shown(alloc, text), wanted)?;
-    assert_text(rt, shown_singly(alloc, text), wanted)
+fn reads(alloc: Global, text: &str, wanted: &str) -> Result<(), Fail> {
+    assert_text(shown(alloc, text), wanted)?;
+    assert_text(shown_singly(alloc, text), wanted)
 }
 
 #[test]
 fn reads_tokens(rt: HostRuntime) -> Result<(), Fail> {
     let alloc = rt.alloc();
-    reads(&rt, alloc, "", "")?;
-    reads(&rt, alloc, " \t// all blank", "")?;
+    reads(alloc, "", "")?;
+    reads(alloc, " \t// all blank", "")?;
     reads(
-        &rt,
         alloc,
         "permit(a)",
         "Word(Permit) 0..6;Mark(LeftParen) 6..7;Word(Other(\"a\")) 7..8;Mark(RightParen) 8..9;",
     )?;
     reads(
-        &rt,
         alloc,
         "a // b\r\"c\"",
         "Word(Other(\"a\")) 0..1;Text(\"c\") 7..10;",
     )?;
     reads(
-        &rt,
         alloc,
         "\u{a0}1\u{3000}/ 2",
         "Number(\"1\") 2..3;Mark(Slash) 6..7;Number(\"2\") 8..9;",
     )?;
     reads(
-        &rt,
         alloc,
         "in?principal",
         "Word(In) 0..2;Slot(Principal) 2..12;",
     )?;
     reads(
-        &rt,
         alloc,
         "__cedar::_x9",
         "Word(Cedar) 0..7;Mark(ColonColon) 7..9;Word(Other(\"_x9\")) 9..12;",
     )?;
     reads(
-        &rt,
         alloc,
         "trues 007a",
         "Word(Other(\"trues\")) 0..5;Number(\"007\") 6..9;Word(Other(\"a\")) 9..10;",
     )?;
     reads(
-        &rt,
         alloc,
         "<==!= =",
         "Mark(LessEqual) 0..2;Mark(Equal) 2..3;Mark(NotEqual) 3..5;Mark(Equal) 6..7;",
     )?;
-    reads(&rt, alloc, ":::", "Mark(ColonColon) 0..2;Mark(Colon) 2..3;")?;
+    reads(alloc, ":::", "Mark(ColonColon) 0..2;Mark(Colon) 2..3;")?;
     reads(
-        &rt,
         alloc,
         "\"a\n\u{e9}\\\"\" ?x",
         "Text(\"a\\n\u{e9}\\\\\\\"\") 0..8;Slot(Other(\"x\")) 9..11;",
     )?;
-    reads(&rt, alloc, "\u{feff}permit", "no token stands at byte 0")?;
-    reads(&rt, alloc, "a & b", "no token stands at byte 2")?;
-    reads(&rt, alloc, "a ? b", "no token stands at byte 2")?;
-    reads(&rt, alloc, "\"a\\\n\"", "no token stands at byte 0")?;
-    reads(&rt, alloc, "a \"b\\\"", "no token stands at byte 2")?;
+    reads(alloc, "\u{feff}permit", "no token stands at byte 0")?;
+    reads(alloc, "a & b", "no token stands at byte 2")?;
+    reads(alloc, "a ? b", "no token stands at byte 2")?;
+    reads(alloc, "\"a\\\n\"", "no token stands at byte 0")?;
+    reads(alloc, "a \"b\\\"", "no token stands at byte 2")?;
     Ok(())
 }
 
@@ -125,7 +116,7 @@ fn counted(alloc: Global) -> Result<(usize, usize, usize), Fail> {
 
 #[test]
 fn reads_a_long_text(rt: HostRuntime) -> Result<(), Fail> {
-    assert_value(&rt, counted(rt.alloc()), (1048576, 786432, 131073))
+    assert_value(counted(rt.alloc()), (1048576, 786432, 131073))
 }
 
 #[test]
@@ -148,49 +139,34 @@ fn unescaped(alloc: Global, raw: &str) -> Result<String, Fail> {
     }
 }
 
-fn stands_for(rt: &impl Abort, alloc: Global, raw: &str, wanted: &str) -> Result<(), Fail> {
-    assert_text(rt, unescaped(alloc, raw), wanted)
+fn stands_for(alloc: Global, raw: &str, wanted: &str) -> Result<(), Fail> {
+    assert_text(unescaped(alloc, raw), wanted)
 }
 
 #[test]
 fn unescapes(rt: HostRuntime) -> Result<(), Fail> {
     let alloc = rt.alloc();
-    stands_for(&rt, alloc, "", "")?;
-    stands_for(&rt, alloc, "a\n\u{e9}*", "a\n\u{e9}*")?;
-    stands_for(&rt, alloc, "\\n\\r\\t\\\\\\0\\'\\\"", "\n\r\t\\\0'\"")?;
-    stands_for(&rt, alloc, "\\x7f\\x4A", "\u{7f}J")?;
-    stands_for(
-        &rt,
-        alloc,
-        "\\u{0}\\u{0000e9}\\u{10FFFF}",
-        "\0\u{e9}\u{10ffff}",
-    )?;
+    stands_for(alloc, "", "")?;
+    stands_for(alloc, "a\n\u{e9}*", "a\n\u{e9}*")?;
+    stands_for(alloc, "\\n\\r\\t\\\\\\0\\'\\\"", "\n\r\t\\\0'\"")?;
+    stands_for(alloc, "\\x7f\\x4A", "\u{7f}J")?;
+    stands_for(alloc, "\\u{0}\\u{0000e9}\\u{10FFFF}", "\0\u{e9}\u{10ffff}")?;
     Ok(())
 }
 
 #[test]
 fn refuses_escapes(rt: HostRuntime) -> Result<(), Fail> {
     let alloc = rt.alloc();
-    stands_for(&rt, alloc, "a\\", "no character is escaped at byte 1")?;
-    stands_for(&rt, alloc, "a\r\n", "no character is escaped at byte 1")?;
-    stands_for(&rt, alloc, "\\*", "no character is escaped at byte 0")?;
-    stands_for(&rt, alloc, "\\x80", "no character is escaped at byte 0")?;
-    stands_for(&rt, alloc, "\\x7", "no character is escaped at byte 0")?;
-    stands_for(&rt, alloc, "\\u{}", "no character is escaped at byte 0")?;
-    stands_for(
-        &rt,
-        alloc,
-        "\\u{0000041}",
-        "no character is escaped at byte 0",
-    )?;
-    stands_for(&rt, alloc, "\\u{d800}", "no character is escaped at byte 0")?;
-    stands_for(
-        &rt,
-        alloc,
-        "\\u{110000}",
-        "no character is escaped at byte 0",
-    )?;
-    stands_for(&rt, alloc, "ab\\q", "no character is escaped at byte 2")?;
+    stands_for(alloc, "a\\", "no character is escaped at byte 1")?;
+    stands_for(alloc, "a\r\n", "no character is escaped at byte 1")?;
+    stands_for(alloc, "\\*", "no character is escaped at byte 0")?;
+    stands_for(alloc, "\\x80", "no character is escaped at byte 0")?;
+    stands_for(alloc, "\\x7", "no character is escaped at byte 0")?;
+    stands_for(alloc, "\\u{}", "no character is escaped at byte 0")?;
+    stands_for(alloc, "\\u{0000041}", "no character is escaped at byte 0")?;
+    stands_for(alloc, "\\u{d800}", "no character is escaped at byte 0")?;
+    stands_for(alloc, "\\u{110000}", "no character is escaped at byte 0")?;
+    stands_for(alloc, "ab\\q", "no character is escaped at byte 2")?;
     Ok(())
 }
 
@@ -205,15 +181,7 @@ fn parts(alloc: Global, raw: &str) -> Result<String, Fail> {
 #[test]
 fn keeps_parts(rt: HostRuntime) -> Result<(), Fail> {
     let alloc = rt.alloc();
-    assert_text(
-        &rt,
-        parts(alloc, "*\\*\\x2a"),
-        "[Itself('*'), Star, Named('*')]",
-    )?;
-    assert_text(
-        &rt,
-        parts(alloc, "a\\z"),
-        "no character is escaped at byte 1",
-    )?;
+    assert_text(parts(alloc, "*\\*\\x2a"), "[Itself('*'), Star, Named('*')]")?;
+    assert_text(parts(alloc, "a\\z"), "no character is escaped at byte 1")?;
     Ok(())
 }

@@ -1,5 +1,5 @@
-use crate::asserts::assert_text;
 use cedar_expected::{Kinds, POLICY_TOKEN_CONFIG, expected_to_string};
+use cedar_test_asserts::assert_text;
 use std::alloc::Global;
 use std::test::Fail;
 
@@ -14,27 +14,23 @@ fn told(alloc: Global, kinds: Kinds) -> Result<String, Fail> {
 #[test]
 fn expected_kinds_are_told(rt: HostRuntime) -> Result<(), Fail> {
     let alloc = rt.alloc();
-    assert_text(&rt, told(alloc, Kinds::NONE), "nothing")?;
-    assert_text(&rt, told(alloc, Kinds::SLASH), "nothing")?;
-    assert_text(&rt, told(alloc, Kinds::SEMICOLON), "expected `;`")?;
+    assert_text(told(alloc, Kinds::NONE), "nothing")?;
+    assert_text(told(alloc, Kinds::SLASH), "nothing")?;
+    assert_text(told(alloc, Kinds::SEMICOLON), "expected `;`")?;
     assert_text(
-        &rt,
         told(alloc, Kinds::MULT_OPERATORS.with(Kinds::THEN)),
         "expected `*` or `then`",
     )?;
-    assert_text(&rt, told(alloc, Kinds::WORDS), "expected identifier")?;
+    assert_text(told(alloc, Kinds::WORDS), "expected identifier")?;
     assert_text(
-        &rt,
         told(alloc, Kinds::WORDS.with(Kinds::BANG)),
         "expected `!`, `false`, identifier, `if`, or `true`",
     )?;
     assert_text(
-        &rt,
         told(alloc, Kinds::SLOTS.with(Kinds::NUMBER)),
         "expected number, `?principal`, or `?resource`",
     )?;
     assert_text(
-        &rt,
         told(alloc, Kinds::STRINGLIT.with(Kinds::COMMA)),
         "expected `,` or string literal",
     )?;

@@ -1,14 +1,13 @@
 // Texts that are read, printed again, and texts that are refused with a place.
-use crate::asserts::{assert_text, assert_value};
 use cedar_expected::POLICY_TOKEN_CONFIG;
 use cedar_loose::{
     parse_expr, parse_ident, parse_name, parse_policies, parse_policy, parse_primary, parse_ref,
 };
 use cedar_parse_errors::{ParseError, ParseErrors};
 use cedar_syntax::node::Node;
+use cedar_test_asserts::{assert_text, assert_value};
 use std::alloc::Global;
 use std::fmt::Display;
-use std::process::Abort;
 use std::test::Fail;
 
 /// The place, and the error's text.
@@ -43,28 +42,27 @@ fn shown<T: Display + Drop>(
 
 const DEEP: &str = "the text is nested too deep";
 
-fn stays(rt: &impl Abort, alloc: Global, text: &str) -> Result<(), Fail> {
-    assert_text(rt, shown(alloc, parse_expr(alloc, text, 8)), text)
+fn stays(alloc: Global, text: &str) -> Result<(), Fail> {
+    assert_text(shown(alloc, parse_expr(alloc, text, 8)), text)
 }
 
 /// Expressions that are printed as they are written.
 #[test]
 fn expressions_are_read(rt: HostRuntime) -> Result<(), Fail> {
     let alloc = rt.alloc();
-    stays(&rt, alloc, "a || b && !!c || true")?;
-    stays(&rt, alloc, "if a then b else if c then false else d")?;
-    stays(&rt, alloc, "a == b < c in d = e")?;
+    stays(alloc, "a || b && !!c || true")?;
+    stays(alloc, "if a then b else if c then false else d")?;
+    stays(alloc, "a == b < c in d = e")?;
     stays(
-        &rt,
         alloc,
         "a has b.c && a like \"*\\n\" && a is T && a is T in e",
     )?;
-    stays(&rt, alloc, "1 + -2 * 3 / 4 % 5 - 6")?;
-    stays(&rt, alloc, "-----1 + !!!!!a")?;
-    stays(&rt, alloc, "a.b(c, [])[\"e\"].if(1)")?;
-    stays(&rt, alloc, "{a: 1, \"b\": (2), c: {}}")?;
-    stays(&rt, alloc, "A::B::\"c\" in N::{a: 1, b: \"s\"}")?;
-    stays(&rt, alloc, "?principal == ?resource || ?other")?;
+    stays(alloc, "1 + -2 * 3 / 4 % 5 - 6")?;
+    stays(alloc, "-----1 + !!!!!a")?;
+    stays(alloc, "a.b(c, [])[\"e\"].if(1)")?;
+    stays(alloc, "{a: 1, \"b\": (2), c: {}}")?;
+    stays(alloc, "A::B::\"c\" in N::{a: 1, b: \"s\"}")?;
+    stays(alloc, "?principal == ?resource || ?other")?;
     Ok(())
 }
 
@@ -75,79 +73,45 @@ fn expression(alloc: Global, text: &str, depth: u32) -> Result<String, Fail> {
 #[test]
 fn expressions_are_refused(rt: HostRuntime) -> Result<(), Fail> {
     let alloc = rt.alloc();
+    assert_text(expression(alloc, "", 1), "0..0: unexpected end of input")?;
     assert_text(
-        &rt,
-        expression(alloc, "", 1),
-        "0..0: unexpected end of input",
-    )?;
-    assert_text(
-        &rt,
         expression(alloc, "1 + // \u{e9}", 1),
         "9..9: unexpected end of input",
     )?;
-    assert_text(&rt, expression(alloc, "1 + # 2", 1), "4..4: invalid token")?;
-    assert_text(&rt, expression(alloc, "\u{e9}", 1), "0..0: invalid token")?;
+    assert_text(expression(alloc, "1 + # 2", 1), "4..4: invalid token")?;
+    assert_text(expression(alloc, "\u{e9}", 1), "0..0: invalid token")?;
+    assert_text(expression(alloc, "1 2", 1), "2..3: unexpected token `2`")?;
     assert_text(
-        &rt,
-        expression(alloc, "1 2", 1),
-        "2..3: unexpected token `2`",
-    )?;
-    assert_text(
-        &rt,
         expression(alloc, "\"\u{e9}\" + )", 1),
         "7..8: unexpected token `)`",
     )?;
     assert_text(
-        &rt,
         expression(alloc, "[1, 2,, 3]", 2),
         "6..7: unexpected token `,`",
     )?;
+    assert_text(expression(alloc, "[,]", 2), "1..2: unexpected token `,`")?;
+    assert_text(expression(alloc, "f(1, ]", 2), "5..6: unexpected token `]`")?;
+    assert_text(expression(alloc, "{a 1}", 2), "3..4: unexpected token `1`")?;
     assert_text(
-        &rt,
-        expression(alloc, "[,]", 2),
-        "1..2: unexpected token `,`",
-    )?;
-    assert_text(
-        &rt,
-        expression(alloc, "f(1, ]", 2),
-        "5..6: unexpected token `]`",
-    )?;
-    assert_text(
-        &rt,
-        expression(alloc, "{a 1}", 2),
-        "3..4: unexpected token `1`",
-    )?;
-    assert_text(
-        &rt,
         expression(alloc, "if a else b", 2),
         "5..9: unexpected token `else`",
     )?;
+    assert_text(expression(alloc, "a.1", 1), "2..3: unexpected token `1`")?;
     assert_text(
-        &rt,
-        expression(alloc, "a.1", 1),
-        "2..3: unexpected token `1`",
-    )?;
-    assert_text(
-        &rt,
         expression(alloc, "18446744073709551616", 1),
         "0..20: unexpected token `18446744073709551616`",
     )?;
     assert_text(
-        &rt,
         expression(alloc, "a has b has c", 1),
         "8..11: unexpected token `has`",
     )?;
-    assert_text(
-        &rt,
-        expression(alloc, "!-1", 1),
-        "1..2: unexpected token `-`",
-    )?;
-    assert_text(&rt, expression(alloc, "((1))", 3), "((1))")?;
-    assert_text(&rt, expression(alloc, "((1))", 2), DEEP)?;
-    assert_text(&rt, expression(alloc, "[]", 1), "[]")?;
-    assert_text(&rt, expression(alloc, "[[]]", 1), DEEP)?;
-    assert_text(&rt, expression(alloc, "1 + 1 + 1 + 1", 1), "1 + 1 + 1 + 1")?;
-    assert_text(&rt, expression(alloc, "1", 0), DEEP)?;
+    assert_text(expression(alloc, "!-1", 1), "1..2: unexpected token `-`")?;
+    assert_text(expression(alloc, "((1))", 3), "((1))")?;
+    assert_text(expression(alloc, "((1))", 2), DEEP)?;
+    assert_text(expression(alloc, "[]", 1), "[]")?;
+    assert_text(expression(alloc, "[[]]", 1), DEEP)?;
+    assert_text(expression(alloc, "1 + 1 + 1 + 1", 1), "1 + 1 + 1 + 1")?;
+    assert_text(expression(alloc, "1", 0), DEEP)?;
     Ok(())
 }
 
@@ -182,8 +146,8 @@ fn one_too_deep(alloc: Global, (open, close): (&str, &str)) -> Result<String, Fa
 fn nested_texts_are_read_up_to_the_limit(rt: HostRuntime) -> Result<(), Fail> {
     let alloc = rt.alloc();
     for construct in [("(", ")"), ("[", "]"), ("if ", " then 1 else 2")] {
-        assert_value(&rt, stays_nested(alloc, construct, 255), true)?;
-        assert_text(&rt, one_too_deep(alloc, construct), DEEP)?;
+        assert_value(stays_nested(alloc, construct, 255), true)?;
+        assert_text(one_too_deep(alloc, construct), DEEP)?;
     }
     Ok(())
 }
@@ -199,14 +163,12 @@ fn policy(alloc: Global, text: &str) -> Result<String, Fail> {
 #[test]
 fn policies_are_read(rt: HostRuntime) -> Result<(), Fail> {
     let alloc = rt.alloc();
-    assert_text(&rt, policies(alloc, "", 1), "")?;
+    assert_text(policies(alloc, "", 1), "")?;
     assert_text(
-        &rt,
         policies(alloc, "permit(principal, action, resource,);", 1),
         "permit(principal, action, resource);",
     )?;
     assert_text(
-        &rt,
         policies(
             alloc,
             "@id(\"a\") @if forbid(principal: N::T is T in ?principal, action == A::\"x\") when {} unless { true };",
@@ -215,42 +177,32 @@ fn policies_are_read(rt: HostRuntime) -> Result<(), Fail> {
         "@id(\"a\") @if forbid(principal: N::T is T in ?principal, action == A::\"x\") when {} unless {true};",
     )?;
     assert_text(
-        &rt,
         policies(alloc, "permit(action in [A::\"x\"]);", 2),
         "permit(action in [A::\"x\"]);",
     )?;
+    assert_text(policies(alloc, "permit(action in [A::\"x\"]);", 1), DEEP)?;
+    assert_text(policies(alloc, "permit();", 1), "permit();")?;
     assert_text(
-        &rt,
-        policies(alloc, "permit(action in [A::\"x\"]);", 1),
-        DEEP,
-    )?;
-    assert_text(&rt, policies(alloc, "permit();", 1), "permit();")?;
-    assert_text(
-        &rt,
         policies(alloc, "permit(principal", 1),
         "16..16: unexpected end of input",
     )?;
     assert_text(
-        &rt,
         policies(alloc, "permit(principal,,);", 1),
         "17..18: unexpected token `,`",
     )?;
     assert_text(
-        &rt,
         policies(alloc, "permit(principal) when { true }", 1),
         "31..31: unexpected end of input",
     )?;
     assert_text(
-        &rt,
         policies(alloc, "@id(a) permit();", 1),
         "4..5: unexpected token `a`",
     )?;
     assert_text(
-        &rt,
         policies(alloc, "permit(); 1", 1),
         "10..11: unexpected token `1`",
     )?;
-    assert_text(&rt, policies(alloc, "permit();", 0), DEEP)?;
+    assert_text(policies(alloc, "permit();", 0), DEEP)?;
     Ok(())
 }
 
@@ -258,12 +210,10 @@ fn policies_are_read(rt: HostRuntime) -> Result<(), Fail> {
 fn one_policy_is_read(rt: HostRuntime) -> Result<(), Fail> {
     let alloc = rt.alloc();
     assert_text(
-        &rt,
         policy(alloc, "permit(principal) when { 1 };"),
         "permit(principal) when {1};",
     )?;
     assert_text(
-        &rt,
         policy(alloc, "permit(); permit();"),
         "10..16: unexpected token `permit`",
     )?;
@@ -281,8 +231,8 @@ fn policies_are_compared(rt: HostRuntime) -> Result<(), Fail> {
     let alloc = rt.alloc();
     let text =
         "@if(\"v\") permit(principal is N in ?principal) unless { if 1 then 2 else {a: [3]} };";
-    assert_value(&rt, is_same(alloc, text, text), true)?;
-    assert_value(&rt, is_same(alloc, text, "permit();"), false)?;
+    assert_value(is_same(alloc, text, text), true)?;
+    assert_value(is_same(alloc, text, "permit();"), false)?;
     Ok(())
 }
 
@@ -305,14 +255,14 @@ fn word(alloc: Global, text: &str) -> Result<String, Fail> {
 #[test]
 fn parts_are_read(rt: HostRuntime) -> Result<(), Fail> {
     let alloc = rt.alloc();
-    assert_text(&rt, entity(alloc, " A::\"b\" "), "A::\"b\"")?;
-    assert_text(&rt, entity(alloc, "A::b"), "4..4: unexpected end of input")?;
-    assert_text(&rt, primary(alloc, 2), "(1 + 2)")?;
-    assert_text(&rt, primary(alloc, 1), DEEP)?;
-    assert_text(&rt, name(alloc, "a::if::principal"), "a::if::principal")?;
-    assert_text(&rt, name(alloc, "a::"), "3..3: unexpected end of input")?;
-    assert_text(&rt, word(alloc, "__cedar"), "__cedar")?;
-    assert_text(&rt, word(alloc, "1"), "0..1: unexpected token `1`")?;
+    assert_text(entity(alloc, " A::\"b\" "), "A::\"b\"")?;
+    assert_text(entity(alloc, "A::b"), "4..4: unexpected end of input")?;
+    assert_text(primary(alloc, 2), "(1 + 2)")?;
+    assert_text(primary(alloc, 1), DEEP)?;
+    assert_text(name(alloc, "a::if::principal"), "a::if::principal")?;
+    assert_text(name(alloc, "a::"), "3..3: unexpected end of input")?;
+    assert_text(word(alloc, "__cedar"), "__cedar")?;
+    assert_text(word(alloc, "1"), "0..1: unexpected token `1`")?;
     Ok(())
 }
 
@@ -361,52 +311,42 @@ fn missed_in_name(alloc: Global, text: &str) -> Result<String, Fail> {
 fn expected_tokens_of_expressions(rt: HostRuntime) -> Result<(), Fail> {
     let alloc = rt.alloc();
     assert_text(
-        &rt,
         missed_in_expression(alloc, "1 +"),
         "3..3: unexpected end of input, expected `!`, `(`, `-`, `[`, `{`, `false`, identifier, number, `?principal`, `?resource`, string literal, or `true`",
     )?;
     assert_text(
-        &rt,
         missed_in_expression(alloc, ""),
         "0..0: unexpected end of input, expected `!`, `(`, `-`, `[`, `{`, `false`, identifier, `if`, number, `?principal`, `?resource`, string literal, or `true`",
     )?;
     assert_text(
-        &rt,
         missed_in_expression(alloc, "!!-a"),
         "2..3: unexpected token `-`, expected `!`, `(`, `[`, `{`, `false`, identifier, number, `?principal`, `?resource`, string literal, or `true`",
     )?;
     assert_text(
-        &rt,
         missed_in_expression(alloc, "f(a ]"),
         "4..5: unexpected token `]`, expected `!=`, `&&`, `(`, `)`, `*`, `+`, `,`, `-`, `.`, `::`, `<`, `<=`, `==`, `>`, `>=`, `[`, `||`, `has`, `in`, `is`, or `like`",
     )?;
     assert_text(
-        &rt,
         missed_in_expression(alloc, "a has b has c"),
         "8..11: unexpected token `has`, expected `&&`, `(`, `*`, `+`, `-`, `.`, `::`, `[`, or `||`",
     )?;
     assert_text(
-        &rt,
         missed_in_expression(alloc, "a.1"),
         "2..3: unexpected token `1`, expected identifier",
     )?;
     assert_text(
-        &rt,
         missed_in_expression(alloc, "A::1"),
         "3..4: unexpected token `1`, expected `{`, identifier, or string literal",
     )?;
     assert_text(
-        &rt,
         missed_in_expression(alloc, "18446744073709551616"),
         "0..20: unexpected token `18446744073709551616`, nothing",
     )?;
     assert_text(
-        &rt,
         missed_in_expression(alloc, "a #"),
         "2..2: invalid token, nothing",
     )?;
     assert_text(
-        &rt,
         missed_in_expression(alloc, "1 2"),
         "2..3: unexpected token `2`, expected `!=`, `&&`, `(`, `*`, `+`, `-`, `.`, `<`, `<=`, `==`, `>`, `>=`, `[`, `||`, `has`, `in`, `is`, or `like`",
     )?;
@@ -417,47 +357,38 @@ fn expected_tokens_of_expressions(rt: HostRuntime) -> Result<(), Fail> {
 fn expected_tokens_of_policies(rt: HostRuntime) -> Result<(), Fail> {
     let alloc = rt.alloc();
     assert_text(
-        &rt,
         missed_in_policies(alloc, "1"),
         "0..1: unexpected token `1`, expected `@` or identifier",
     )?;
     assert_text(
-        &rt,
         missed_in_policies(alloc, "permit"),
         "6..6: unexpected end of input, expected `(`",
     )?;
     assert_text(
-        &rt,
         missed_in_policies(alloc, "permit(principal"),
         "16..16: unexpected end of input, expected `!=`, `)`, `,`, `:`, `<`, `<=`, `==`, `>`, `>=`, `in`, or `is`",
     )?;
     assert_text(
-        &rt,
         missed_in_policies(alloc, "permit(principal: A::\"b\");"),
         "21..24: unexpected token `\"b\"`, expected identifier",
     )?;
     assert_text(
-        &rt,
         missed_in_policies(alloc, "permit()"),
         "8..8: unexpected end of input, expected `;` or identifier",
     )?;
     assert_text(
-        &rt,
         missed_in_policies(alloc, "permit() when 1;"),
         "14..15: unexpected token `1`, expected `{`",
     )?;
     assert_text(
-        &rt,
         missed_in_policies(alloc, "@a(b) permit();"),
         "3..4: unexpected token `b`, expected string literal",
     )?;
     assert_text(
-        &rt,
         missed_in_policies(alloc, "permit(); }"),
         "10..11: unexpected token `}`, expected `@` or identifier",
     )?;
     assert_text(
-        &rt,
         missed_in_name(alloc, "a::"),
         "3..3: unexpected end of input, expected identifier",
     )?;

@@ -1,10 +1,10 @@
 // Calls on nodes and copies.
-use crate::asserts::{assert_text, assert_value};
 use cedar_literals::variables::Var;
 use cedar_names::places::{Loc, Span};
 use cedar_nodes::cst::{Ident, Name, Slot};
 use cedar_nodes::errors::{EmptyNodeError, PlacedError};
 use cedar_nodes::node::Node;
+use cedar_test_asserts::{assert_text, assert_value};
 use std::alloc::{AllocError, Global};
 use std::rc::RcStr;
 use std::test::Fail;
@@ -73,10 +73,10 @@ fn taken_apart(alloc: Global) -> Result<(u64, Option<usize>), Fail> {
 #[test]
 fn nodes_lend_their_value(rt: HostRuntime) -> Result<(), Fail> {
     let alloc = rt.alloc();
-    assert_value(&rt, copied(alloc), (8, Some(1)))?;
-    assert_value(&rt, cloned(alloc), (8, Some(1)))?;
-    assert_value(&rt, halved(alloc), (4, Some(1)))?;
-    assert_value(&rt, taken_apart(alloc), (8, Some(1)))?;
+    assert_value(copied(alloc), (8, Some(1)))?;
+    assert_value(cloned(alloc), (8, Some(1)))?;
+    assert_value(halved(alloc), (4, Some(1)))?;
+    assert_value(taken_apart(alloc), (8, Some(1)))?;
     Ok(())
 }
 
@@ -100,9 +100,9 @@ fn shown_odd(alloc: Global) -> Result<String, Fail> {
 #[test]
 fn errors_have_places(rt: HostRuntime) -> Result<(), Fail> {
     let alloc = rt.alloc();
-    assert_value(&rt, is_odd_there(alloc), true)?;
-    assert_value(&rt, is_odd_at(alloc, None), false)?;
-    assert_text(&rt, shown_odd(alloc), "odd")?;
+    assert_value(is_odd_there(alloc), true)?;
+    assert_value(is_odd_at(alloc, None), false)?;
+    assert_text(shown_odd(alloc), "odd")?;
     Ok(())
 }
 
@@ -133,11 +133,11 @@ fn taken(alloc: Global, value: Option<u64>) -> Result<Option<u64>, Fail> {
 #[test]
 fn full_nodes_give_their_value(rt: HostRuntime) -> Result<(), Fail> {
     let alloc = rt.alloc();
-    assert_value(&rt, start_lent(alloc, Some(7)), Some(1))?;
-    assert_value(&rt, is_place_applied(alloc, Some(7)), Some(true))?;
-    assert_value(&rt, applied(alloc, Some(7)), Some(7))?;
-    assert_value(&rt, lent(alloc, Some(7)), Some(7))?;
-    assert_value(&rt, taken(alloc, Some(7)), Some(7))?;
+    assert_value(start_lent(alloc, Some(7)), Some(1))?;
+    assert_value(is_place_applied(alloc, Some(7)), Some(true))?;
+    assert_value(applied(alloc, Some(7)), Some(7))?;
+    assert_value(lent(alloc, Some(7)), Some(7))?;
+    assert_value(taken(alloc, Some(7)), Some(7))?;
     Ok(())
 }
 
@@ -153,11 +153,11 @@ fn is_place_told(alloc: Global) -> Result<bool, Fail> {
 #[test]
 fn empty_nodes_give_none(rt: HostRuntime) -> Result<(), Fail> {
     let alloc = rt.alloc();
-    assert_value(&rt, start_lent(alloc, None), None)?;
-    assert_value(&rt, is_place_applied(alloc, None), None)?;
-    assert_value(&rt, applied(alloc, None), None)?;
-    assert_value(&rt, taken(alloc, None), None)?;
-    assert_value(&rt, is_place_told(alloc), true)?;
+    assert_value(start_lent(alloc, None), None)?;
+    assert_value(is_place_applied(alloc, None), None)?;
+    assert_value(applied(alloc, None), None)?;
+    assert_value(taken(alloc, None), None)?;
+    assert_value(is_place_told(alloc), true)?;
     Ok(())
 }
 
@@ -202,7 +202,7 @@ fn is_copied(alloc: Global) -> Result<bool, Fail> {
 #[test]
 fn names_are_printed_and_copied(rt: HostRuntime) -> Result<(), Fail> {
     let alloc = rt.alloc();
-    assert_text(&rt, shown(alloc), "A::[error]")?;
-    assert_value(&rt, is_copied(alloc), true)?;
+    assert_text(shown(alloc), "A::[error]")?;
+    assert_value(is_copied(alloc), true)?;
     Ok(())
 }
