@@ -164,7 +164,10 @@ fn snippets_are_cut_at_characters(rt: HostRuntime) -> Result<(), Fail> {
         (4, 4, Some("")),
     ];
     for (start, end, want) in table {
-        assert_value(snippet_is(rt.alloc(), Span { start, end }, want), true)?;
+        assert!(rt;
+            snippet_is(rt.alloc(), Span { start, end }, want)?,
+            "{start} to {end}"
+        );
     }
     Ok(())
 }
@@ -177,7 +180,7 @@ fn is_below(alloc: Global, low: &str, high: &str) -> Result<bool, ParseNameError
 fn names_are_ordered(rt: HostRuntime) -> Result<(), Fail> {
     let table = [("A", "A::B"), ("A::B", "A::C"), ("A::C", "AB"), ("AB", "B")];
     for (low, high) in table {
-        assert_value(is_below(rt.alloc(), low, high), true)?;
+        assert!(rt; is_below(rt.alloc(), low, high)?, "{low} below {high}");
     }
     Ok(())
 }
