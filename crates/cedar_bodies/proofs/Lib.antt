@@ -1,4 +1,11 @@
 pub mod Keyed
-pub mod Listing
+pub mod ItemByItem
 pub mod Naming
 pub mod Wholes
+pub mod Carrying
+pub mod Entries
+pub mod Listed
+pub mod Parts
+pub mod Reading
+pub mod Sets
+pub mod Versions

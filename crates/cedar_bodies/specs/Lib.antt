@@ -2,3 +2,8 @@ pub mod Lent
 pub mod Links
 pub mod Questions
 pub mod Entities
+pub mod Reading
+pub mod Refusals
+pub mod Fields
+pub mod Making
+pub mod Listing

@@ -9,8 +9,8 @@ ghost use Rattle.cedar_bodies.specs.Entities.{listed_uids, listed_or_none, writt
 use crate::fields::{field, has_only, optional_record, required_entity};
 use crate::laws::bodies_are_written;
 use crate::literals::{entity_of, entries_of, items_of};
+use cedar_literals::uids::EntityUID;
 use cedar_trees::expr::Expr;
-use cedar_uids::uids::EntityUID;
 use std::alloc::{AllocError, Global};
 use std::collections::BTreeMap;
 use std::rc::RcStr;

@@ -7,8 +7,8 @@ ghost use Rattle.cedar_world.specs.Bodies as world;
 ghost use Rattle.cedar_bodies.specs.Lent.{fields_in};
 
 use crate::literals::{entity_of, entries_of, string_of};
+use cedar_literals::uids::EntityUID;
 use cedar_trees::expr::Expr;
-use cedar_uids::uids::EntityUID;
 use std::collections::BTreeMap;
 use std::rc::RcStr;
 

@@ -1,15 +1,21 @@
-//! Bodies of commands, read from expressions: ids, uids, links, entities and questions. Each reader
-//! answers what its body says, or none where the body hasn't the command's shape.
+//! Bodies of commands, read from expressions: uids, links, questions, and entities that are made of them.
 #![tactic(auto)]
 
 mod entities;
+mod entry_fields;
 mod fields;
 pub mod laws;
 mod links;
+mod listing;
 mod literals;
+mod making;
 mod questions;
+mod values;
+pub mod version_laws;
 
 pub use entities::{EntityBody, entity_bodies, uids_of};
 pub use links::{LinkBody, link_body};
+pub use listing::listed_entities;
 pub use literals::{entity_of, entries_of, items_of, string_of};
+pub use making::set_of;
 pub use questions::{AskBody, ask_body};

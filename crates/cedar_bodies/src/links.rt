@@ -7,8 +7,8 @@ ghost use Rattle.cedar_bodies.specs.Links.{link_of};
 
 use crate::fields::{has_only, optional_entity, required_string};
 use crate::literals::entries_of;
+use cedar_literals::uids::EntityUID;
 use cedar_trees::expr::Expr;
-use cedar_uids::uids::EntityUID;
 use std::collections::BTreeMap;
 use std::rc::RcStr;
 

@@ -7,8 +7,8 @@ ghost use Rattle.cedar_bodies.specs.Questions.{question_of, given_context};
 
 use crate::fields::{field, has_only, optional_entity};
 use crate::literals::entries_of;
+use cedar_literals::uids::EntityUID;
 use cedar_trees::expr::Expr;
-use cedar_uids::uids::EntityUID;
 use std::collections::BTreeMap;
 use std::rc::RcStr;
 

@@ -12,12 +12,12 @@ ghost use Rattle.cedar_builders.specs.Operations.{Operations, IsLawful, Gives, B
 use cedar_literals::literals::Literal;
 use cedar_literals::operators::{BinaryOp, UnaryOp};
 use cedar_literals::patterns::Pattern;
+use cedar_literals::slots::SlotId;
+use cedar_literals::uids::EntityType;
 use cedar_literals::variables::Var;
 use cedar_names::names::Name;
 use cedar_names::places::Loc;
 use cedar_trees::unknowns::{NonEmpty, Unknown};
-use cedar_uids::slots::SlotId;
-use cedar_uids::uids::EntityType;
 use std::alloc::{AllocError, Global};
 use std::rc::RcStr;
 

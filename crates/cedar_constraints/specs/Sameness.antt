@@ -13,7 +13,7 @@ use Rattle.std.specs.Cmp.Lexicographic.{pointwise, pointwise_decides, bytes_deci
 use Rattle.cedar_language.specs.Uid.{Text, Name, Uid}
 use Rattle.std.proofs.lemmas.Cmp.{on_total}
 use Rattle.cedar_language.specs.Order.{Head, head, head_cmp, same_name, same_uid}
-use Rattle.cedar_uids.specs.Uids.{uid_hash}
+use Rattle.cedar_literals.specs.Uids.{uid_hash}
 use Rattle.cedar_literals.specs.Heads.{head_cmp_total, order_decides, by_head_same}
 use Rattle.cedar_world.specs.Syntax.{Bindings}
 use Rattle.cedar_constraints.specs.References.{target_of}

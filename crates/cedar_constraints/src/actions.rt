@@ -8,10 +8,10 @@ ghost use Rattle.cedar_constraints.specs.ActionsLeft.{types_left};
 
 use crate::errors::{ActionTypeError, InvalidActionType};
 use cedar_literals::literals::Literal;
+use cedar_literals::uids::{EntityType, EntityUID};
 use cedar_literals::variables::Var;
 use cedar_trees::expr::Expr;
 use cedar_trees::unknowns::NonEmpty;
-use cedar_uids::uids::{EntityType, EntityUID};
 use std::alloc::{AllocError, Global};
 use std::rc::Rc;
 use std::{fmt, slice};

@@ -4,18 +4,27 @@ ghost use Rattle.std.specs.Option.{option_copied};
 ghost use Rattle.cedar_world.specs.Syntax.{binding_of};
 ghost use Rattle.cedar_constraints.specs.Bindings.{unbound, with_entity, bound_slots};
 
-use cedar_uids::slots::SlotId;
-use cedar_uids::uids::EntityUID;
+use cedar_literals::slots::SlotId;
+use cedar_literals::uids::EntityUID;
 use std::alloc::{AllocError, Global};
 use std::fmt;
 use std::marker::Model;
 
 /// The entity that each slot is bound to, if it is: a map from slots to uids. It takes no memory of
 /// its own, since there are two slots. Contracts see the entities, and so does `==`.
-#[derive(Debug, Drop)]
+#[derive(Debug)]
 pub struct SlotEnv {
     principal: Option<EntityUID>,
     resource: Option<EntityUID>,
+}
+
+impl Drop for SlotEnv {
+    fn drop(self) {
+        let SlotEnv {
+            principal: _,
+            resource: _,
+        } = self;
+    }
 }
 
 impl Model for SlotEnv {

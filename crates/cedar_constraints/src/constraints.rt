@@ -8,10 +8,10 @@ ghost use Rattle.cedar_constraints.specs.TypesLeft.{names_left};
 
 use crate::references::EntityReference;
 use cedar_literals::literals::Literal;
+use cedar_literals::slots::{Slot, SlotId};
+use cedar_literals::uids::{EntityType, EntityUID};
 use cedar_literals::variables::Var;
 use cedar_trees::expr::Expr;
-use cedar_uids::slots::{Slot, SlotId};
-use cedar_uids::uids::{EntityType, EntityUID};
 use std::alloc::{AllocError, Global};
 use std::fmt;
 use std::rc::Rc;

@@ -1,6 +1,6 @@
 // Why a constraint is refused.
-pub use cedar_policy_errors::InvalidActionType;
-use cedar_uids::slots::Slot;
+use cedar_literals::slots::Slot;
+pub use cedar_policy_parts::InvalidActionType;
 use std::alloc::{AllocError, AllocFailed};
 use thiserror::Error;
 

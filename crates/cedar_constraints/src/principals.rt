@@ -6,9 +6,9 @@ ghost use Rattle.cedar_trees.specs.Bare.{bare};
 ghost use Rattle.cedar_constraints.specs.Asked.{constraint_of};
 
 use crate::constraints::{PrincipalOrResource, PrincipalOrResourceConstraint};
+use cedar_literals::slots::Slot;
+use cedar_literals::uids::{EntityType, EntityUID};
 use cedar_trees::expr::Expr;
-use cedar_uids::slots::Slot;
-use cedar_uids::uids::{EntityType, EntityUID};
 use std::alloc::{AllocError, Global};
 use std::fmt;
 use std::marker::Model;

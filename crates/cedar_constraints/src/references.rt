@@ -6,10 +6,10 @@ ghost use Rattle.cedar_constraints.specs.References.{target_of};
 
 use crate::constraints::PrincipalOrResource;
 use cedar_literals::literals::Literal;
+use cedar_literals::slots::{Slot, SlotId};
+use cedar_literals::uids::EntityUID;
 use cedar_names::places::Loc;
 use cedar_trees::expr::Expr;
-use cedar_uids::slots::{Slot, SlotId};
-use cedar_uids::uids::EntityUID;
 use std::alloc::{AllocError, Global};
 use std::cmp::Ordering;
 use std::fmt;

@@ -10,44 +10,44 @@ use Rattle.cedar_grammar.specs.Build.{Comparison, compared, unary, is_in, nots, 
 use Rattle.cedar_grammar.specs.Names.{Names}
 use Rattle.cedar_grammar.specs.Reading.{◌>>=◌}
 use Rattle.cedar_grammar.specs.Escape.{pattern_of}
-use Rattle.cedar_loose_grammar.specs.Loose as loose
-use Rattle.cedar_loose_grammar.specs.Converting as converting
-use Rattle.cedar_loose_grammar.specs.Converting.{expr_tree, or_tree, relation_tree, adds_tree, add_tree, unary_tree, member_tree, access_head, primary_head, exprs_trees, rec_inits_trees, rec_init_tree, head_tree, comparison_of, lone_member, member_fields, lone_primary, primary_raw, primary_path, primary_text, primary_key, lone_number, alone, ident_text, called, literal_tree, ref_entity, record_tree, signed, negated}
-use Rattle.cedar_nodes.specs.declared.node.Node.{Node}
-use Rattle.cedar_nodes.specs.declared.cst.Ident.{Ident}
-use Rattle.cedar_nodes.specs.declared.cst.Literal.{Literal}
-use Rattle.cedar_nodes.specs.declared.cst.Ref.{Ref}
-use Rattle.cedar_nodes.specs.declared.cst.Name.{Name}
-use Rattle.cedar_nodes.specs.declared.cst.Slot.{Slot}
-use Rattle.cedar_nodes.specs.declared.cst.RelOp.{RelOp}
-use Rattle.cedar_nodes.specs.declared.cst.NegOp.{NegOp}
-use Rattle.cedar_nodes.specs.declared.cst.NegOp.TheVariants as signs
-use Rattle.cedar_nodes.specs.View.{shown_ident, shown_literal, shown_ref, shown_name, view_rel_op, view_neg_op}
-use Rattle.cedar_syntax.specs.declared.cst.Expr.{Expr, out-Expr, roll-Expr, roll-out-Expr}
-use Rattle.cedar_syntax.specs.declared.cst.Expr.TheOpen.{Expr-F}
-use Rattle.cedar_syntax.specs.declared.cst.Expr.TheOpen as layer
-use Rattle.cedar_syntax.specs.declared.cst.And.{And}
-use Rattle.cedar_syntax.specs.declared.cst.Member.{Member}
-use Rattle.cedar_syntax.specs.declared.cst.Mult.{Mult}
-use Rattle.cedar_syntax.specs.declared.cst.Expr.TheVariants as expr
-use Rattle.cedar_syntax.specs.declared.cst.ExprImpl.{ExprImpl, out-ExprImpl}
-use Rattle.cedar_syntax.specs.declared.cst.ExprData.{ExprData}
-use Rattle.cedar_syntax.specs.declared.cst.ExprData.TheVariants as expr_data
-use Rattle.cedar_syntax.specs.declared.cst.Or.{Or}
-use Rattle.cedar_syntax.specs.declared.cst.Relation.{Relation}
-use Rattle.cedar_syntax.specs.declared.cst.Relation.TheVariants as relation
-use Rattle.cedar_syntax.specs.declared.cst.Add.{Add}
-use Rattle.cedar_syntax.specs.declared.cst.Unary.{Unary, out-Unary}
-use Rattle.cedar_syntax.specs.declared.cst.MemAccess.{MemAccess}
-use Rattle.cedar_syntax.specs.declared.cst.MemAccess.TheVariants as mem_access
-use Rattle.cedar_syntax.specs.declared.cst.Primary.{Primary}
-use Rattle.cedar_syntax.specs.declared.cst.Primary.TheVariants as primary
-use Rattle.cedar_syntax.specs.declared.cst.RecInit.{RecInit, out-RecInit}
-use Rattle.cedar_syntax.specs.View.{view_expr, view_expr_data, view_relation, view_unary, view_mem_access, view_primary, view_rec_init, shown_expr, shown_or, shown_relation, shown_add, shown_unary, shown_member, shown_mem_access, shown_primary, shown_rec_init}
-use Rattle.cedar_syntax.proofs.Views.{seen, view_expr_expr, view_expr_impl_out, view_expr_data_or, view_expr_data_if, view_relation_common, view_relation_has, view_relation_like, view_relation_is_type, view_relation_is_type_in, view_unary_out, view_mem_access_field, view_mem_access_call, view_mem_access_index, view_primary_literal, view_primary_ref, view_primary_name, view_primary_slot, view_primary_expr, view_primary_e_list, view_primary_r_inits, view_rec_init_out}
-use Rattle.cedar_conversion_parts.specs.Joints.{joined, minus_long}
-use Rattle.cedar_conversion_parts.specs.declared.applying.Joint.TheVariants as joint
-use Rattle.cedar_conversion_parts.proofs.Converting.{never}
+use Rattle.cedar_grammar.specs.Loose as loose
+use Rattle.cedar_grammar.specs.Converting as converting
+use Rattle.cedar_grammar.specs.Converting.{expr_tree, or_tree, relation_tree, adds_tree, add_tree, unary_tree, member_tree, access_head, primary_head, exprs_trees, rec_inits_trees, rec_init_tree, head_tree, comparison_of, lone_member, member_fields, lone_primary, primary_raw, primary_path, primary_text, primary_key, lone_number, alone, ident_text, called, literal_tree, ref_entity, record_tree, signed, negated}
+use Rattle.cedar_cst.specs.declared.node.Node.{Node}
+use Rattle.cedar_cst.specs.declared.leaves.Ident.{Ident}
+use Rattle.cedar_cst.specs.declared.leaves.Literal.{Literal}
+use Rattle.cedar_cst.specs.declared.leaves.Ref.{Ref}
+use Rattle.cedar_cst.specs.declared.leaves.Name.{Name}
+use Rattle.cedar_cst.specs.declared.leaves.Slot.{Slot}
+use Rattle.cedar_cst.specs.declared.leaves.RelOp.{RelOp}
+use Rattle.cedar_cst.specs.declared.leaves.NegOp.{NegOp}
+use Rattle.cedar_cst.specs.declared.leaves.NegOp.TheVariants as signs
+use Rattle.cedar_cst.specs.LeafView.{shown_ident, shown_literal, shown_ref, shown_name, view_rel_op, view_neg_op}
+use Rattle.cedar_cst.specs.declared.cst.Expr.{Expr, out-Expr, roll-Expr, roll-out-Expr}
+use Rattle.cedar_cst.specs.declared.cst.Expr.TheOpen.{Expr-F}
+use Rattle.cedar_cst.specs.declared.cst.Expr.TheOpen as layer
+use Rattle.cedar_cst.specs.declared.cst.And.{And}
+use Rattle.cedar_cst.specs.declared.cst.Member.{Member}
+use Rattle.cedar_cst.specs.declared.cst.Mult.{Mult}
+use Rattle.cedar_cst.specs.declared.cst.Expr.TheVariants as expr
+use Rattle.cedar_cst.specs.declared.cst.ExprImpl.{ExprImpl, out-ExprImpl}
+use Rattle.cedar_cst.specs.declared.cst.ExprData.{ExprData}
+use Rattle.cedar_cst.specs.declared.cst.ExprData.TheVariants as expr_data
+use Rattle.cedar_cst.specs.declared.cst.Or.{Or}
+use Rattle.cedar_cst.specs.declared.cst.Relation.{Relation}
+use Rattle.cedar_cst.specs.declared.cst.Relation.TheVariants as relation
+use Rattle.cedar_cst.specs.declared.cst.Add.{Add}
+use Rattle.cedar_cst.specs.declared.cst.Unary.{Unary, out-Unary}
+use Rattle.cedar_cst.specs.declared.cst.MemAccess.{MemAccess}
+use Rattle.cedar_cst.specs.declared.cst.MemAccess.TheVariants as mem_access
+use Rattle.cedar_cst.specs.declared.cst.Primary.{Primary}
+use Rattle.cedar_cst.specs.declared.cst.Primary.TheVariants as primary
+use Rattle.cedar_cst.specs.declared.cst.RecInit.{RecInit, out-RecInit}
+use Rattle.cedar_cst.specs.View.{view_expr, view_expr_data, view_relation, view_unary, view_mem_access, view_primary, view_rec_init, shown_expr, shown_or, shown_relation, shown_add, shown_unary, shown_member, shown_mem_access, shown_primary, shown_rec_init}
+use Rattle.cedar_cst.proofs.Views.{seen, view_expr_expr, view_expr_impl_out, view_expr_data_or, view_expr_data_if, view_relation_common, view_relation_has, view_relation_like, view_relation_is_type, view_relation_is_type_in, view_unary_out, view_mem_access_field, view_mem_access_call, view_mem_access_index, view_primary_literal, view_primary_ref, view_primary_name, view_primary_slot, view_primary_expr, view_primary_e_list, view_primary_r_inits, view_rec_init_out}
+use Rattle.cedar_conversion.specs.Joints.{joined, minus_long}
+use Rattle.cedar_conversion.specs.declared.applying.Joint.TheVariants as joint
+use Rattle.cedar_conversion.proofs.Converting.{never}
 
 swap : {A B C : Type 0} (v : Option A) (w : Option B) (k : A → B → C) → (v >>= λ x. w >>= λ y. let z : Option C = Some (k x y) in z) ≡ (w >>= λ y. v >>= λ x. let z : Option C = Some (k x y) in z)
 swap None None k = refl

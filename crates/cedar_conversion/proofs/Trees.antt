@@ -6,32 +6,32 @@ use Rattle.cedar_language.specs.Tree.{Tree}
 use Rattle.cedar_grammar.specs.Build.{Keyed}
 use Rattle.cedar_grammar.specs.Names.{Names}
 use Rattle.cedar_grammar.specs.Reading.{◌>>=◌}
-use Rattle.cedar_loose_grammar.specs.Loose as loose
-use Rattle.cedar_loose_grammar.specs.Converting as converting
-use Rattle.cedar_loose_grammar.specs.Converting.{expr_tree, or_tree, ands_tree, and_tree, relations_tree, relation_tree, adds_tree, add_tree, mults_tree, mult_tree, unaries_tree, unary_tree, member_tree, accesses_tree, access_head, primary_head, exprs_trees, rec_inits_trees, rec_init_tree, head_tree, comparison_of, sum, product}
-use Rattle.cedar_nodes.specs.declared.node.Node.{Node}
-use Rattle.cedar_nodes.specs.declared.cst.AddOp.{AddOp}
-use Rattle.cedar_nodes.specs.declared.cst.MultOp.{MultOp}
-use Rattle.cedar_nodes.specs.View.{shown, view_add_op, view_mult_op}
-use Rattle.cedar_syntax.specs.declared.cst.Expr.{Expr}
-use Rattle.cedar_syntax.specs.declared.cst.Or.{Or, out-Or}
-use Rattle.cedar_syntax.specs.declared.cst.And.{And, out-And}
-use Rattle.cedar_syntax.specs.declared.cst.Relation.{Relation}
-use Rattle.cedar_syntax.specs.declared.cst.Add.{Add, out-Add}
-use Rattle.cedar_syntax.specs.declared.cst.Mult.{Mult, out-Mult}
-use Rattle.cedar_syntax.specs.declared.cst.Unary.{Unary}
-use Rattle.cedar_syntax.specs.declared.cst.Member.{Member, out-Member}
-use Rattle.cedar_syntax.specs.declared.cst.MemAccess.{MemAccess}
-use Rattle.cedar_syntax.specs.declared.cst.RecInit.{RecInit}
-use Rattle.cedar_syntax.specs.declared.cst.Primary.{Primary}
-use Rattle.cedar_syntax.specs.View.{view_or, view_and, view_add, view_mult, view_member, shown_expr, shown_or, shown_and, shown_relation, shown_add, shown_mult, shown_unary, shown_member, shown_mem_access, shown_primary, shown_rec_init}
-use Rattle.cedar_syntax.proofs.Views.{seen, view_or_out, view_and_out, view_add_out, view_mult_out, view_member_out}
-use Rattle.cedar_conversion_faults.specs.declared.errors.ConversionError.{ConversionError}
+use Rattle.cedar_grammar.specs.Loose as loose
+use Rattle.cedar_grammar.specs.Converting as converting
+use Rattle.cedar_grammar.specs.Converting.{expr_tree, or_tree, ands_tree, and_tree, relations_tree, relation_tree, adds_tree, add_tree, mults_tree, mult_tree, unaries_tree, unary_tree, member_tree, accesses_tree, access_head, primary_head, exprs_trees, rec_inits_trees, rec_init_tree, head_tree, comparison_of, sum, product}
+use Rattle.cedar_cst.specs.declared.node.Node.{Node}
+use Rattle.cedar_cst.specs.declared.leaves.AddOp.{AddOp}
+use Rattle.cedar_cst.specs.declared.leaves.MultOp.{MultOp}
+use Rattle.cedar_cst.specs.LeafView.{shown, view_add_op, view_mult_op}
+use Rattle.cedar_cst.specs.declared.cst.Expr.{Expr}
+use Rattle.cedar_cst.specs.declared.cst.Or.{Or, out-Or}
+use Rattle.cedar_cst.specs.declared.cst.And.{And, out-And}
+use Rattle.cedar_cst.specs.declared.cst.Relation.{Relation}
+use Rattle.cedar_cst.specs.declared.cst.Add.{Add, out-Add}
+use Rattle.cedar_cst.specs.declared.cst.Mult.{Mult, out-Mult}
+use Rattle.cedar_cst.specs.declared.cst.Unary.{Unary}
+use Rattle.cedar_cst.specs.declared.cst.Member.{Member, out-Member}
+use Rattle.cedar_cst.specs.declared.cst.MemAccess.{MemAccess}
+use Rattle.cedar_cst.specs.declared.cst.RecInit.{RecInit}
+use Rattle.cedar_cst.specs.declared.cst.Primary.{Primary}
+use Rattle.cedar_cst.specs.View.{view_or, view_and, view_add, view_mult, view_member, shown_expr, shown_or, shown_and, shown_relation, shown_add, shown_mult, shown_unary, shown_member, shown_mem_access, shown_primary, shown_rec_init}
+use Rattle.cedar_cst.proofs.Views.{seen, view_or_out, view_and_out, view_add_out, view_mult_out, view_member_out}
+use Rattle.cedar_conversion_leaves.specs.declared.errors.ConversionError.{ConversionError}
 use Rattle.cedar_conversion_leaves.specs.Converts.{Converts}
-use Rattle.cedar_conversion_parts.specs.SoFar.{SoFar}
-use Rattle.cedar_conversion_parts.specs.Joints.{joined}
-use Rattle.cedar_conversion_parts.specs.declared.applying.Joint.TheVariants as joint
-use Rattle.cedar_conversion_parts.proofs.Converting.{same_as, step_so, more_so, all_so}
+use Rattle.cedar_conversion.specs.SoFar.{SoFar}
+use Rattle.cedar_conversion.specs.Joints.{joined}
+use Rattle.cedar_conversion.specs.declared.applying.Joint.TheVariants as joint
+use Rattle.cedar_conversion.proofs.Converting.{same_as, step_so, more_so, all_so}
 
 pub empty : {A V : Type 0} {B : Type 0} (missing : B) (view : A → B) (f : B → Option V) (n : Node (Option A)) → n.node ≡ None → f missing ≡ None → f (shown missing view n) ≡ None
 empty missing view f n is h = ap (λ o. f (unwrap_or (option_map view o) missing)) is ∙ h

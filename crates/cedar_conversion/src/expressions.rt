@@ -1,33 +1,31 @@
 // Expressions.
 ghost use Rattle.std.specs.Prelude.{Option};
-ghost use Rattle.cedar_loose_grammar.specs.Converting as converting;
-ghost use Rattle.cedar_loose_grammar.specs.Converting.{expr_tree, or_tree, and_tree, relation_tree, add_tree, mult_tree, unary_tree, member_tree, access_head, primary_head, rec_init_tree};
-ghost use Rattle.cedar_syntax.specs.View.{shown_expr, shown_or, shown_and, shown_relation, shown_add, shown_mult, shown_unary, shown_member, shown_mem_access, shown_primary, shown_rec_init};
-ghost use Rattle.cedar_conversion_faults.specs.Reasons.{IsFault};
+ghost use Rattle.cedar_grammar.specs.Converting as converting;
+ghost use Rattle.cedar_grammar.specs.Converting.{expr_tree, or_tree, and_tree, relation_tree, add_tree, mult_tree, unary_tree, member_tree, access_head, primary_head, rec_init_tree};
+ghost use Rattle.cedar_cst.specs.View.{shown_expr, shown_or, shown_and, shown_relation, shown_add, shown_mult, shown_unary, shown_member, shown_mem_access, shown_primary, shown_rec_init};
+ghost use Rattle.cedar_conversion_leaves.specs.Reasons.{IsFault};
 ghost use Rattle.cedar_conversion_leaves.specs.Converts.{and_then};
-ghost use Rattle.cedar_conversion_parts.specs.Building.{MakesTree};
-ghost use Rattle.cedar_conversion_parts.specs.Entries.{MakesEntry};
-ghost use Rattle.cedar_conversion_parts.specs.Heads.{MakesHead};
+ghost use Rattle.cedar_conversion.specs.Building.{MakesTree};
+ghost use Rattle.cedar_conversion.specs.Entries.{MakesEntry};
+ghost use Rattle.cedar_conversion.specs.Heads.{MakesHead};
 
-use cedar_builders::expr_builder::ExprBuilder;
-use cedar_conversion_faults::{ConversionError, ToASTErrorKind, flatten_tuple_2};
-use cedar_conversion_leaves::{to_literal, to_ref, to_unreserved_ident};
-use cedar_conversion_lookahead::{
-    lone_number, to_entity_type, to_fields, to_index, to_key, to_like_pattern,
-};
-use cedar_conversion_parts::{
+use crate::{
     Head, Joint, Sign, attribute, call, entity_to_head, expr_to_head, has, head_to_expr, index,
     is_type, is_type_in, ite, join, like, literal_to_head, negative, pushed, pushed_entry,
     record_to_head, set_to_head, signed,
 };
+use cedar_builders::expr_builder::ExprBuilder;
+use cedar_conversion_leaves::{
+    ConversionError, ExtStyles, ToASTErrorKind, flatten_tuple_2, lone_number, to_entity_type,
+    to_fields, to_index, to_key, to_like_pattern, to_literal, to_ref, to_unreserved_ident,
+};
+use cedar_cst::cst::{
+    Add, And, Expr, ExprData, MemAccess, Member, Mult, NegOp, Or, Primary, RecInit, Relation, Slot,
+    Unary,
+};
+use cedar_cst::node::Node;
 use cedar_literals::operators::UnaryOp;
 use cedar_names::places::Loc;
-use cedar_nodes::cst::{NegOp, Slot};
-use cedar_nodes::node::Node;
-use cedar_styles::ExtStyles;
-use cedar_syntax::cst::{
-    Add, And, Expr, ExprData, MemAccess, Member, Mult, Or, Primary, RecInit, Relation, Unary,
-};
 use std::alloc::{AllocError, Global};
 use std::rc::RcStr;
 

@@ -8,9 +8,9 @@ use Rattle.cedar_grammar.specs.Token as token
 use Rattle.cedar_grammar.specs.Token.{Word, Other, spelled, word_of, word_among, named_words, id_of}
 use Rattle.cedar_grammar.specs.Names.{variable_of}
 use Rattle.cedar_names.specs.Identifiers.{is_identifier, is_keyword, IsUnreservedId}
-use Rattle.cedar_loose_grammar.specs.Loose as loose
-use Rattle.cedar_loose_grammar.specs.Converting.{ident_text, ident_spelling, name_variable}
-use Rattle.cedar_nodes.specs.View.{written_ident}
+use Rattle.cedar_grammar.specs.Loose as loose
+use Rattle.cedar_grammar.specs.Converting.{ident_text, ident_spelling, name_variable}
+use Rattle.cedar_cst.specs.LeafView.{written_ident}
 use Rattle.cedar_conversion_leaves.specs.Words.{ident_variable}
 
 -- what holds of the first of some words, where the text is so spelled, and of the word among the others

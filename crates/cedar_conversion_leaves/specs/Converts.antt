@@ -1,8 +1,8 @@
 -- What a conversion gives: what stands for the value that should be given, or faults where there is none.
 use Rattle.std.specs.Prelude.{◌≡◌, ⊤, Option, Some, None, IfSome, Result, Ok, Err}
 use Rattle.cedar_grammar.specs.Reading.{◌>>=◌}
-use Rattle.cedar_conversion_faults.specs.declared.errors.ConversionError.{ConversionError}
-use Rattle.cedar_conversion_faults.specs.Reasons.{Reason, means_nothing, refused, out_of_memory, reason}
+use Rattle.cedar_conversion_leaves.specs.declared.errors.ConversionError.{ConversionError}
+use Rattle.cedar_conversion_leaves.specs.Reasons.{Reason, means_nothing, refused, out_of_memory, reason}
 
 -- what is made of a part, where there is one
 abbrev pub and_then : {A B : Type 0} → Option A → (A → Option B) → Option B

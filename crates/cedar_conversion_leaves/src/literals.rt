@@ -2,18 +2,18 @@
 ghost use Rattle.std.specs.Prelude.{◌≡◌};
 ghost use Rattle.cedar_language.specs.Tree as tree;
 ghost use Rattle.cedar_literals.specs.Literals.{literal_of};
-ghost use Rattle.cedar_loose_grammar.specs.Converting.{literal_tree, ref_entity};
-ghost use Rattle.cedar_nodes.specs.View.{shown_literal, shown_ref};
+ghost use Rattle.cedar_grammar.specs.Converting.{literal_tree, ref_entity};
+ghost use Rattle.cedar_cst.specs.LeafView.{shown_literal, shown_ref};
 ghost use Rattle.cedar_conversion_leaves.specs.Converts.{Finds};
 
 use crate::names::to_name;
 use crate::strings::to_text;
-use cedar_conversion_faults::{ConversionError, ToASTErrorKind, flatten_tuple_2};
+use crate::{ConversionError, ToASTErrorKind, flatten_tuple_2};
+use cedar_cst::cst;
+use cedar_cst::cst::Ref;
+use cedar_cst::node::Node;
 use cedar_literals::literals::Literal;
-use cedar_nodes::cst;
-use cedar_nodes::cst::Ref;
-use cedar_nodes::node::Node;
-use cedar_uids::uids::{Eid, EntityType, EntityUID};
+use cedar_literals::uids::{Eid, EntityType, EntityUID};
 use std::alloc::Global;
 
 /// The literal; faults where it is missing, a number is too large, or a string stands for no text.

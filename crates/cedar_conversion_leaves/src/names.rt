@@ -1,20 +1,20 @@
 // Words and names.
 ghost use Rattle.std.specs.Prelude.{◌≡◌, MatchOption, IfOk, None, map, false};
-ghost use Rattle.cedar_loose_grammar.specs.Converting.{ident_text, ident_spelling, name_path, each};
-ghost use Rattle.cedar_nodes.specs.View.{view_ident, shown_ident, shown_name, written_ident};
-ghost use Rattle.cedar_conversion_faults.specs.Reasons.{IsFault};
+ghost use Rattle.cedar_grammar.specs.Converting.{ident_text, ident_spelling, name_path, each};
+ghost use Rattle.cedar_cst.specs.LeafView.{view_ident, shown_ident, shown_name, written_ident};
+ghost use Rattle.cedar_conversion_leaves.specs.Reasons.{IsFault};
 ghost use Rattle.cedar_names.specs.Names.{is_reserved_name};
 ghost use Rattle.cedar_conversion_leaves.specs.Converts.{Finds};
 
-use cedar_conversion_faults::{ConversionError, ToASTErrorKind};
+use crate::{ConversionError, ToASTErrorKind};
+use cedar_cst::cst;
+use cedar_cst::cst::Ident;
+use cedar_cst::node::Node;
 use cedar_names::errors::ParseNameError;
 use cedar_names::identifiers::{AnyId, Id, UnreservedId, is_normalized_ident};
 use cedar_names::names::{InternalName, Name};
 use cedar_names::places::Loc;
 use cedar_names::reading::FromNormalizedStr;
-use cedar_nodes::cst;
-use cedar_nodes::cst::Ident;
-use cedar_nodes::node::Node;
 use std::alloc::{AllocError, Global};
 use std::rc::RcStr;
 

@@ -3,20 +3,20 @@ ghost use Rattle.std.specs.Prelude.{◌≡◌, Some, map};
 ghost use Rattle.std.specs.Rc.{rc_str_bytes};
 ghost use Rattle.std.specs.Str.{chars};
 ghost use Rattle.cedar_grammar.specs.Escape.{pattern_of, pattern_elem};
-ghost use Rattle.cedar_cst.specs.Parts.{part_view};
+ghost use Rattle.cedar_tokens.specs.Parts.{part_view};
 ghost use Rattle.cedar_literals.specs.Patterns.{elem_of};
-ghost use Rattle.cedar_loose_grammar.specs.Converting.{str_text};
-ghost use Rattle.cedar_nodes.specs.View.{shown_str};
+ghost use Rattle.cedar_grammar.specs.Converting.{str_text};
+ghost use Rattle.cedar_cst.specs.LeafView.{shown_str};
 ghost use Rattle.cedar_conversion_leaves.specs.Refusing.{Refuses};
 ghost use Rattle.cedar_conversion_leaves.specs.Converts.{Finds};
 
-use cedar_conversion_faults::{ConversionError, ToASTErrorKind};
-use cedar_cst::{Part, UnescapeError, to_unescaped_string, unescape_parts};
+use crate::{ConversionError, ToASTErrorKind};
+use cedar_cst::cst::Str;
+use cedar_cst::node::Node;
 use cedar_literals::patterns::{Pattern, PatternElem};
 use cedar_names::conversions::FromIn;
 use cedar_names::places::Loc;
-use cedar_nodes::cst::Str;
-use cedar_nodes::node::Node;
+use cedar_tokens::{Part, UnescapeError, to_unescaped_string, unescape_parts};
 use std::alloc::Global;
 use std::rc::RcStr;
 

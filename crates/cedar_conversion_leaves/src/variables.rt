@@ -2,14 +2,14 @@
 ghost use Rattle.std.specs.Prelude.{◌≡◌};
 ghost use Rattle.std.specs.Option.{option_map};
 ghost use Rattle.cedar_literals.specs.Variables.{variable_of};
-ghost use Rattle.cedar_loose_grammar.specs.Converting.{name_variable};
-ghost use Rattle.cedar_nodes.specs.View.{shown_ident, shown_name, written_ident};
+ghost use Rattle.cedar_grammar.specs.Converting.{name_variable};
+ghost use Rattle.cedar_cst.specs.LeafView.{shown_ident, shown_name, written_ident};
 ghost use Rattle.cedar_conversion_leaves.specs.Words.{ident_variable};
 
 use crate::names::spelling;
+use cedar_cst::cst::{Ident, Name};
+use cedar_cst::node::Node;
 use cedar_literals::variables::Var;
-use cedar_nodes::cst::{Ident, Name};
-use cedar_nodes::node::Node;
 
 // The variable that is so written.
 fn variable_named(text: &str) -> Option<Var>

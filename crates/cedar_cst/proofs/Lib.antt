@@ -1,12 +1,1 @@
-mod Rests
-mod Runs
-mod Blanks
-mod OtherWords
-mod MarkReading
-mod Insides
-mod Ascii
-mod KindReading
-mod Reading
-mod Unread
-mod PartReading
-mod Unescaping
+pub mod Views

@@ -1,11 +1,4 @@
-pub mod Rest
-pub mod Class
+pub mod Nodes
+pub mod LeafView
+pub mod Slots
 pub mod View
-pub mod Marks
-pub mod Strings
-pub mod Reads
-pub mod Places
-pub mod Refusal
-pub mod Parts
-pub mod Spelling
-pub mod Unread

@@ -3,7 +3,7 @@ use Rattle.std.proofs.Common.{◌≡◌, Bool, true, false, cond, List, [], ◌�
 use Rattle.std.specs.FinSet as set
 use Rattle.cedar_language.specs.Uid.{Uid}
 use Rattle.cedar_language.specs.Order.{same_uid}
-use Rattle.cedar_entity.specs.Data.{UidSet, EntityData, without}
+use Rattle.cedar_entities.specs.Data.{UidSet, EntityData, without}
 use Rattle.cedar_entities.specs.Edits.{last_by, first_by, or_first}
 use Rattle.cedar_entities.specs.Kept.{Lookup, IsByUid, same, put_over, added_to, removed_from}
 

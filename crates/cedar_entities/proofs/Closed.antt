@@ -12,9 +12,9 @@ use Rattle.cedar_closure.specs.Paths.{IsTransitive}
 use Rattle.cedar_closure.specs.Refused.{IsTcRefusal, IsTcViolation}
 use Rattle.cedar_closure.specs.declared.errors.TcError.{TcError}
 use Rattle.cedar_closure.specs.declared.errors.TcError.TheVariants as closure
-use Rattle.cedar_entity.specs.Data.{EntityData, IsSameBesideAncestors, ancestors_of}
-use Rattle.cedar_uids.specs.Laws.{same_uid_equiv}
-use Rattle.cedar_entity.proofs.Uids.{contains-items}
+use Rattle.cedar_entities.specs.Data.{EntityData, IsSameBesideAncestors, ancestors_of}
+use Rattle.cedar_literals.specs.Laws.{same_uid_equiv}
+use Rattle.cedar_entities.proofs.Uids.{contains-items}
 use Rattle.cedar_entities.specs.Held.{held_of, parents_of, IsParent, IsAncestor}
 use Rattle.cedar_entities.specs.Kept.{Lookup, in_map, held_in, IsKept, KeepsAncestors, IsByUid}
 use Rattle.cedar_entities.specs.Refusals.{from_closure}

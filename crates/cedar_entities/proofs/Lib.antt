@@ -1,3 +1,6 @@
+pub mod Uids
+mod Entries
+mod SameMaps
 mod Lookups
 mod Closed
 mod Adding
@@ -6,3 +9,9 @@ mod Sameness
 mod ByUid
 mod Passing
 mod Edited
+mod Giving
+mod Refusing
+mod Joined
+pub mod Shown
+mod EditedWorlds
+mod Fitting

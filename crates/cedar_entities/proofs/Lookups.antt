@@ -4,7 +4,7 @@ use Rattle.std.specs.FinSet as set
 use Rattle.cedar_language.specs.Uid.{Uid}
 use Rattle.cedar_language.specs.Facts.{Reaches, edge, further}
 use Rattle.cedar_language.specs.Order.{same_uid}
-use Rattle.cedar_entity.specs.Data.{UidSet, EntityData, without}
+use Rattle.cedar_entities.specs.Data.{UidSet, EntityData, without}
 use Rattle.cedar_entities.specs.Held.{Held, held_of, parents_of, IsAncestor}
 use Rattle.cedar_entities.specs.Edits.{last_by, first_by, or_first, without_parents}
 use Rattle.cedar_entities.specs.Kept.{Lookup, held_in, same, added_to, removed_from}

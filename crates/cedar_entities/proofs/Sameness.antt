@@ -4,8 +4,8 @@ use Rattle.std.specs.Option.{MatchOption, IsSome, IsSomeAnd}
 use Rattle.std.specs.Set.{is_member}
 use Rattle.cedar_language.specs.Uid.{Uid}
 use Rattle.cedar_language.specs.Order.{same_uid}
-use Rattle.cedar_entity.specs.Data.{EntityData, IsSameEntity}
-use Rattle.cedar_entity.proofs.Uids.{uid_is}
+use Rattle.cedar_entities.specs.Data.{EntityData, IsSameEntity}
+use Rattle.cedar_entities.proofs.Uids.{uid_is}
 use Rattle.cedar_entities.specs.Kept.{Lookup, IsSameAt, HoldsAllOf, HoldsUidsOf}
 
 or_more : (a b : Bool) → b ≡ true → (a || b) ≡ true

@@ -5,7 +5,7 @@ use Rattle.std.specs.FinSet as set
 use Rattle.std.specs.List.{AllByRecursion}
 use Rattle.cedar_language.specs.Uid.{Uid}
 use Rattle.cedar_language.specs.Order.{same_uid}
-use Rattle.cedar_entity.specs.Data.{UidSet, EntityData}
+use Rattle.cedar_entities.specs.Data.{UidSet, EntityData}
 use Rattle.cedar_entities.specs.Held.{Held, held_of, IsAncestor}
 
 -- the entity is one of the list

@@ -3,8 +3,8 @@ use Rattle.std.specs.Prelude.{Option, None, Some, IsTrue}
 use Rattle.std.specs.FinSet as set
 use Rattle.cedar_language.specs.Uid.{Uid}
 use Rattle.cedar_language.specs.Facts.{Reaches}
-use Rattle.cedar_entity.specs.Attributes.{AttributeMap}
-use Rattle.cedar_entity.specs.Data.{UidSet, EntityData}
+use Rattle.cedar_entities.specs.Attributes.{AttributeMap}
+use Rattle.cedar_entities.specs.Data.{UidSet, EntityData}
 
 pub record Held : Type 0 where
   pub attributes : AttributeMap

@@ -6,7 +6,7 @@ use Rattle.std.specs.HashMap.{HashMap, get}
 use Rattle.std.specs.List.{AllByRecursion}
 use Rattle.cedar_language.specs.Uid.{Uid}
 use Rattle.cedar_language.specs.Order.{same_uid}
-use Rattle.cedar_entity.specs.Data.{UidSet, EntityData, IsSameEntity, ancestors_of, without}
+use Rattle.cedar_entities.specs.Data.{UidSet, EntityData, IsSameEntity, ancestors_of, without}
 use Rattle.cedar_entities.specs.Held.{Held, held_of, IsAncestor}
 use Rattle.cedar_entities.specs.Edits.{last_by, first_by, or_first, IsListed}
 

@@ -1,6 +1,17 @@
+pub mod Codes
+pub mod Attributes
+pub mod Data
+pub mod Sameness
+pub mod AncestorsLeft
 pub mod Held
 pub mod Edits
 pub mod Kept
 pub mod Refusals
 pub mod Modes
 pub mod Store
+pub mod Evaluated
+pub mod Refused
+pub mod Calls
+pub mod Validated
+pub mod Shown
+pub mod Laws

@@ -3,7 +3,7 @@ use Rattle.std.specs.Prelude.{◌≡◌, ⊤, List}
 use Rattle.cedar_language.specs.Uid.{Uid}
 use Rattle.cedar_closure.specs.declared.errors.TcError.{TcError}
 use Rattle.cedar_closure.specs.declared.errors.TcError.TheVariants as closure
-use Rattle.cedar_entity.specs.Data.{EntityData}
+use Rattle.cedar_entities.specs.Data.{EntityData}
 use Rattle.cedar_entities.specs.Kept.{Lookup, added_to, IsOtherVersion}
 use Rattle.cedar_entities.specs.declared.errors.EntitiesError.{EntitiesError}
 use Rattle.cedar_entities.specs.declared.errors.EntitiesError.TheVariants.{Duplicate, TransitiveClosureError, Memory}

@@ -4,9 +4,9 @@ use Rattle.std.specs.FinSet as set
 use Rattle.std.specs.HashMap.{values}
 use Rattle.cedar_language.specs.Uid.{Uid}
 use Rattle.cedar_language.specs.Tree.{Unknown, EntityType}
-use Rattle.cedar_uids.specs.Escapes.{uid_text}
+use Rattle.cedar_literals.specs.Escapes.{uid_text}
 use Rattle.cedar_trees.specs.Bare.{bare}
-use Rattle.cedar_entity.specs.Data.{EntityData, ancestors_of}
+use Rattle.cedar_entities.specs.Data.{EntityData, ancestors_of}
 use Rattle.cedar_entities.specs.Held.{Held, held_of, IsAncestor}
 use Rattle.cedar_entities.specs.Edits.{add, CanAdd, IsMisfit}
 use Rattle.cedar_entities.specs.Kept.{Lookup, in_map, held_in, KeepsAncestors, IsSameAt, added_to, AreVersions, IsOtherVersion}

@@ -1,9 +1,9 @@
 // The ancestors that are kept.
 
+use crate::entity::Entity;
 use crate::errors::EntitiesError;
 use cedar_closure::{enforce_tc_and_dag, rebuild_tc};
-use cedar_entity::entity::Entity;
-use cedar_uids::uids::EntityUID;
+use cedar_literals::uids::EntityUID;
 use std::alloc::Global;
 use std::collections::HashMap;
 

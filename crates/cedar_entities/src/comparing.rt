@@ -2,8 +2,8 @@
 ghost use Rattle.std.specs.Prelude.{◌↔◌, IsTrue};
 ghost use Rattle.cedar_entities.specs.Kept.{in_map, IsSameAt, HoldsAllOf, HoldsUidsOf};
 
-use cedar_entity::entity::Entity;
-use cedar_uids::uids::EntityUID;
+use crate::entity::Entity;
+use cedar_literals::uids::EntityUID;
 use std::collections::HashMap;
 
 // Whether the maps have the same entity at a uid, or none.

@@ -4,14 +4,14 @@ ghost use Rattle.std.specs.Option.{option_map, IsSomeAnd};
 ghost use Rattle.std.specs.FinSet as set;
 ghost use Rattle.cedar_language.specs.Uid.{Uid};
 ghost use Rattle.cedar_language.specs.Order.{same_uid, uid_cmp};
-ghost use Rattle.cedar_entity.specs.Data.{IsSameEntity, without};
+ghost use Rattle.cedar_entities.specs.Data.{IsSameEntity, without};
 ghost use Rattle.cedar_entities.specs.Edits.{or_first};
 ghost use Rattle.cedar_entities.specs.Kept.{in_map, put_over, added_to, removed_from, AreVersions};
 ghost use Rattle.cedar_entities.specs.Refusals.{IsAddRefusal, IsOneRefusal};
 
+use crate::entity::Entity;
 use crate::errors::{Duplicate, EntitiesError};
-use cedar_entity::entity::Entity;
-use cedar_uids::uids::EntityUID;
+use cedar_literals::uids::EntityUID;
 use std::alloc::{AllocError, Global};
 use std::collections::{HashMap, HashSet};
 

@@ -2,7 +2,7 @@
 ghost use Rattle.std.specs.Prelude.{◌≡◌};
 
 use cedar_closure::TcError;
-use cedar_uids::uids::EntityUID;
+use cedar_literals::uids::EntityUID;
 use std::alloc::{AllocError, AllocFailed};
 use thiserror::Error;
 

@@ -1,9 +1,27 @@
-//! The store of entities: by their uids, with the ancestors that their parents reach.
+//! Entities and the store that holds them: attributes and tags evaluated and validated, parents and
+//! ancestors, edits of the store, and the law that these are the world's.
 #![tactic(auto)]
 
+pub mod ancestors;
+pub mod attributes;
 pub mod closing;
 mod comparing;
-mod displays;
 mod edits;
+pub mod entity;
+mod entity_displays;
 pub mod errors;
+mod evaluated_attributes;
+mod evaluation;
+mod evaluation_errors;
+mod nodes;
 pub mod store;
+mod store_displays;
+mod typing;
+mod validated_attributes;
+mod validation;
+mod world_laws;
+
+pub use evaluation::EvaluateEntity;
+pub use evaluation_errors::{EntityAttrEvaluationError, EntityCreationError};
+pub use validation::{EntitiesValidation, EntityValidation};
+pub use world_laws::{adds_are_the_worlds, puts_are_the_worlds, removes_are_the_worlds};

@@ -3,8 +3,8 @@
 use crate::rows::uid;
 use anyhow::Result;
 use cedar_entities::closing::TCComputation;
+use cedar_entities::entity::Entity;
 use cedar_entities::store::Entities;
-use cedar_entity::entity::Entity;
 use std::alloc::Global;
 use std::collections::HashSet;
 

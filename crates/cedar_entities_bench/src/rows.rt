@@ -2,10 +2,10 @@
 
 use anyhow::Result;
 use cedar_entities::closing::TCComputation;
+use cedar_entities::entity::Entity;
 use cedar_entities::store::Entities;
-use cedar_entity::entity::Entity;
+use cedar_literals::uids::{Eid, EntityType, EntityUID};
 use cedar_names::names::Name;
-use cedar_uids::uids::{Eid, EntityType, EntityUID};
 use std::alloc::Global;
 use std::rc::RcStr;
 

@@ -1,5 +1,5 @@
 // Names of a schema before they are resolved.
 
-pub use cedar_raw_names::raw_names::{
+pub use cedar_names::raw_names::{
     AllDefs, ConditionalName, RawName, ReferenceType, TypeNotDefinedError,
 };

@@ -1,4 +1,5 @@
-pub mod Calls
+pub mod BuiltInCalls
 pub mod Defined
 pub mod Finding
 pub mod Gathered
+mod Fitting

@@ -9,7 +9,7 @@ use Rattle.cedar_language.specs.Value.{Value, Plain}
 use Rattle.cedar_language.specs.Facts as facts
 use Rattle.cedar_literals.specs.Types.{value_type_of}
 use Rattle.cedar_literals.specs.declared.types.Type as code
-use Rattle.cedar_errors.specs.Causes.{Cause, OtherCount, NoAnswer, OutOfMemory}
+use Rattle.cedar_extensions.specs.Causes.{Cause, OtherCount, NoAnswer, OutOfMemory}
 use Rattle.cedar_trees.specs.Unknowns.{unknown_name, unknown_type}
 use Rattle.cedar_world.specs.Functions as world
 use Rattle.cedar_world.specs.Functions.{NamedFunction, unknown_function}

@@ -1,7 +1,13 @@
+pub mod Residuals
+pub mod Causes
+pub mod Failures
+pub mod Giving
 pub mod Functions
 pub mod Holding
 pub mod Defining
 pub mod Tables
 pub mod Lookups
 pub mod Collecting
-pub mod Refused
+pub mod TableRefusals
+pub mod Calls
+pub mod ValidationRefusals

@@ -4,9 +4,9 @@ use Rattle.std.specs.Borrow.{Bor}
 use Rattle.cedar_language.specs.Uid.{Name}
 use Rattle.cedar_language.specs.Tree.{StringType}
 use Rattle.cedar_world.specs.Functions.{the_unknown, as_function}
-use Rattle.cedar_errors.specs.Causes.{name_sought}
-use Rattle.cedar_errors.specs.declared.lookups.ExtensionFunctionLookupError.{ExtensionFunctionLookupError}
-use Rattle.cedar_errors.specs.declared.lookups.ExtensionFunctionLookupError.TheVariants.{FuncDoesNotExist, Memory}
+use Rattle.cedar_extensions.specs.Causes.{name_sought}
+use Rattle.cedar_extensions.specs.declared.lookups.ExtensionFunctionLookupError.{ExtensionFunctionLookupError}
+use Rattle.cedar_extensions.specs.declared.lookups.ExtensionFunctionLookupError.TheVariants.{FuncDoesNotExist, Memory}
 use Rattle.cedar_extensions.specs.Functions.{function_name, function_style, is_unknown, argument_types, returned_type}
 use Rattle.cedar_extensions.specs.declared.functions.ExtensionFunction.{ExtensionFunction}
 

@@ -7,7 +7,7 @@ use crate::available::partial_evaluation;
 use crate::extension::{Extension, find_among};
 use crate::functions::ExtensionFunction;
 use crate::iteration::{ExtNames, ExtTypes, Funcs, OrderedTypes};
-use cedar_errors::lookups::{ExtensionFunctionLookupError, FuncDoesNotExistError};
+use crate::lookups::{ExtensionFunctionLookupError, FuncDoesNotExistError};
 use cedar_literals::types::Type;
 use cedar_names::names::Name;
 use cedar_shapes::types::FunctionTypes;

@@ -7,12 +7,12 @@ ghost use Rattle.cedar_language.specs.Value as language;
 ghost use Rattle.cedar_language.specs.Value.{a_value, no_values, FailedExtensionFunctionExecution};
 ghost use Rattle.cedar_literals.specs.Types.{value_type_of};
 ghost use Rattle.cedar_world.specs.Functions.{one_string, unknown_function};
-ghost use Rattle.cedar_errors.specs.Causes.{cause_of};
-ghost use Rattle.cedar_errors.specs.Giving.{Gives};
-ghost use Rattle.cedar_errors.specs.Failures.{OfKind, failure_of};
+ghost use Rattle.cedar_extensions.specs.Causes.{cause_of};
+ghost use Rattle.cedar_extensions.specs.Giving.{Gives};
+ghost use Rattle.cedar_extensions.specs.Failures.{OfKind, failure_of};
 ghost use Rattle.cedar_extensions.specs.Functions.{function_name, function_style, style_of, meaning_of, is_unknown, returned_type, argument_types, is_single_argument_constructor, extension_type_of, output_value, IsOutput, TellsOfCall, string_value};
 
-use cedar_errors::evaluation_error::EvaluationError;
+use crate::evaluation_error::EvaluationError;
 use cedar_literals::literals::Literal;
 use cedar_literals::types::Type;
 use cedar_names::names::Name;

@@ -11,3 +11,7 @@ pub mod Gaps
 pub mod Reading
 pub mod ReadingPolicies
 pub mod Laws
+pub mod Loose
+pub mod LooseReading
+pub mod Converting
+pub mod LooseLaws

@@ -6,7 +6,7 @@ use Rattle.std.proofs.lemmas.Bool.{ltb-true, ltb-false, lt-ltb, le-ltb, eqb-true
 use Rattle.std.proofs.lemmas.Fmt.{hex_one_digit, hex_two_digits}
 use Rattle.std.proofs.lemmas.Str.{encode_ascii, encode_same, length-encode, len_utf8_bounds}
 use Rattle.cedar_language.specs.Tree.{PatternElem, Char, Wildcard}
-use Rattle.cedar_uids.specs.Escapes.{is_control}
+use Rattle.cedar_literals.specs.Escapes.{is_control}
 use Rattle.cedar_literals.specs.Patterns.{elem_text, pattern_text, PatternsAreToldApart}
 
 test : (b : Bool) → (b ≡ true) ⊎ (b ≡ false)

@@ -1,3 +1,9 @@
+pub mod Uids
+pub mod Escapes
+pub mod Unescaping
+pub mod Slots
+pub mod Reading
+pub mod Laws
 pub mod Heads
 pub mod Literals
 pub mod Types

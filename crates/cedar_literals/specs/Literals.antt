@@ -2,7 +2,7 @@
 use Rattle.std.specs.Prelude.{◌≡◌, ◌++◌, Bool, if◌then◌else◌, codes, refl}
 use Rattle.std.specs.Fmt.{signed_decimal}
 use Rattle.cedar_language.specs.Uid.{Text, Uid}
-use Rattle.cedar_uids.specs.Escapes.{escaped, uid_text}
+use Rattle.cedar_literals.specs.Escapes.{escaped, uid_text}
 use Rattle.std.specs.Rc.{rc_str_bytes}
 use Rattle.std.specs.declared.cmp.Ordering.{Ordering}
 use Rattle.std.specs.Ordering.{on, eq_by_cmp}
@@ -16,7 +16,7 @@ use Rattle.cedar_language.specs.Tree as tree
 use Rattle.cedar_language.specs.Value.{Plain}
 use Rattle.cedar_language.specs.Order.{head_cmp, literal_head}
 use Rattle.cedar_language.specs.OrderLaws.{value_cmp_same}
-use Rattle.cedar_uids.specs.Uids.{uid_hash}
+use Rattle.cedar_literals.specs.Uids.{uid_hash}
 use Rattle.cedar_literals.specs.Heads.{head_cmp_total, order_decides}
 use Rattle.cedar_literals.specs.declared.literals.Literal.{Literal}
 use Rattle.cedar_literals.specs.declared.literals.Literal.TheVariants.{Bool as ABool, Long, String, EntityUID}

@@ -11,7 +11,7 @@ use Rattle.std.specs.Hash.{HashWrites, Alike, same_Alike, on_Alike, items_Alike}
 use Rattle.std.proofs.lemmas.Cmp.{on_total, lists_total, eq_by_cmp_equiv}
 use Rattle.std.specs.List.{flat_map}
 use Rattle.cedar_language.specs.Uid.{Text}
-use Rattle.cedar_uids.specs.Escapes.{escaped_char}
+use Rattle.cedar_literals.specs.Escapes.{escaped_char}
 use Rattle.cedar_language.specs.Tree.{PatternElem, Char, Wildcard}
 use Rattle.cedar_language.specs.Order.{Head, head, head_cmp}
 use Rattle.cedar_literals.specs.Heads.{head_cmp_total, by_head_same, order_decides}

@@ -1,10 +1,17 @@
-//! The leaves of Cedar's expressions: literals, types of values, patterns, variables and operators.
+//! Literals of Cedar, and what they are made of: entity uids, slots, escapes, types of values, patterns,
+//! variables and operators.
 #![tactic(auto)]
 
-pub mod laws;
+pub mod escapes;
+pub mod literal_laws;
 pub mod literals;
 mod matching;
 pub mod operators;
 pub mod patterns;
+pub mod reading;
+pub mod slots;
 pub mod types;
+pub mod uid_laws;
+pub mod uids;
+mod unescaping;
 pub mod variables;

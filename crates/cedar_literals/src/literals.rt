@@ -3,9 +3,9 @@ ghost use Rattle.std.specs.Prelude.{◌≡◌, ◌↔◌, IsTrue};
 ghost use Rattle.cedar_language.specs.Order.{literal_head};
 ghost use Rattle.cedar_literals.specs.Literals.{literal_of, IsEntity};
 
+use crate::escapes::Escaped;
+use crate::uids::EntityUID;
 use cedar_names::conversions::FromIn;
-use cedar_uids::escapes::Escaped;
-use cedar_uids::uids::EntityUID;
 use std::alloc::{AllocError, Global};
 use std::cmp::Ordering;
 use std::fmt;
@@ -20,7 +20,7 @@ pub type InputInteger = i64;
 
 /// A literal. Contracts see it through `literal_of`: the text of a string, and the type and id of an
 /// entity; `==`, order and hash look past sharing and places. (Cedar language reference, "Data types".)
-#[derive(Debug, Drop)]
+#[derive(Debug)]
 pub enum Literal {
     /// `true` or `false`.
     Bool(bool),
@@ -30,6 +30,17 @@ pub enum Literal {
     String(RcStr),
     /// An entity, by its uid.
     EntityUID(Rc<EntityUID>),
+}
+
+impl Drop for Literal {
+    fn drop(self) {
+        match self {
+            Literal::Bool(_) => {}
+            Literal::Long(_) => {}
+            Literal::String(_) => {}
+            Literal::EntityUID(_) => {}
+        }
+    }
 }
 
 impl Literal {

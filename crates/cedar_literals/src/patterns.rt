@@ -6,9 +6,9 @@ ghost use Rattle.std.specs.Str.{chars};
 ghost use Rattle.cedar_language.specs.Pattern.{Matches};
 ghost use Rattle.cedar_literals.specs.Patterns.{elem_of, pattern_text};
 
+use crate::escapes::EscapedChar;
 use crate::matching;
 use cedar_names::conversions::FromIn;
-use cedar_uids::escapes::EscapedChar;
 use std::alloc::{AllocError, Global};
 use std::cmp::Ordering;
 use std::fmt;

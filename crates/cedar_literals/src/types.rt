@@ -6,8 +6,8 @@ ghost use Rattle.cedar_language.specs.Tree.{ValueType};
 ghost use Rattle.cedar_literals.specs.Types.{type_head, value_type_of};
 
 use crate::literals::Literal;
+use crate::uids::{EntityType, EntityUID};
 use cedar_names::names::Name;
-use cedar_uids::uids::{EntityType, EntityUID};
 use std::alloc::{AllocError, Global};
 use std::cmp::Ordering;
 use std::fmt;

@@ -4,8 +4,8 @@ use Rattle.cedar_grammar.specs.Token as token
 use Rattle.cedar_grammar.specs.Token.{Word, Token}
 use Rattle.cedar_grammar.specs.Reading.{eat, text_read}
 use Rattle.cedar_grammar.specs.ReadingPolicies.{word_read, begins_annotation}
-use Rattle.cedar_loose_grammar.specs.Loose as loose
-use Rattle.cedar_loose_grammar.specs.LooseReading.{Fault, Reading, Reader, ◌>>◌, mapped, needed, each_of, items_of, operator_at, rel_op, name_of, add_of, expr_at, eat_is, optional, compared_step, annotated, annotation_of, variable_def_of, braced, cond_of, begins_cond, policy_of}
+use Rattle.cedar_grammar.specs.Loose as loose
+use Rattle.cedar_grammar.specs.LooseReading.{Fault, Reading, Reader, ◌>>◌, mapped, needed, each_of, items_of, operator_at, rel_op, name_of, add_of, expr_at, eat_is, optional, compared_step, annotated, annotation_of, variable_def_of, braced, cond_of, begins_cond, policy_of}
 use Rattle.cedar_loose.specs.Parts.{valued, value_of, inside, clause_of}
 
 pub bind_same : {A B : Type 0} (r : Result A Fault) (f g : A → Result B Fault) → ((x : A) → f x ≡ g x) → (r >> f) ≡ (r >> g)

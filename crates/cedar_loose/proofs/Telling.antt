@@ -2,8 +2,8 @@
 use Rattle.std.proofs.Common.{ℕ, List, Result, inl, inr, sym, subst}
 use Rattle.cedar_language.specs.Uid.{Text}
 use Rattle.cedar_grammar.specs.Token.{Token}
-use Rattle.cedar_loose_grammar.specs.LooseReading.{Fault}
-use Rattle.cedar_parse_errors.specs.Errors.{Cause, outside_the_grammar, nested_too_deep, out_of_memory}
+use Rattle.cedar_grammar.specs.LooseReading.{Fault}
+use Rattle.cedar_loose.specs.Errors.{Cause, outside_the_grammar, nested_too_deep, out_of_memory}
 use Rattle.cedar_loose.specs.Texts.{IsRefused, IsOutside, IsTold}
 
 pub told_refusal : {A : Type 0} (read : ℕ → List Token → Result A Fault) (limit : ℕ) (bytes : Text) (cause told : Cause) → IsTold cause told → IsRefused read limit bytes cause → IsRefused read limit bytes told

@@ -3,13 +3,13 @@ use Rattle.std.specs.Prelude.{List, Option, Some, None, Ok}
 use Rattle.cedar_grammar.specs.Token as token
 use Rattle.cedar_grammar.specs.Token.{Token}
 use Rattle.cedar_grammar.specs.Reading.{eat, text_read}
-use Rattle.cedar_loose_grammar.specs.Loose as loose
-use Rattle.cedar_loose_grammar.specs.LooseReading.{Reading, Reader, ◌>>◌, needed}
-use Rattle.cedar_nodes.specs.declared.node.Node.{Node}
-use Rattle.cedar_nodes.specs.declared.cst.RelOp.{RelOp}
-use Rattle.cedar_nodes.specs.View.{view_rel_op}
-use Rattle.cedar_syntax.specs.declared.cst.Expr.{Expr}
-use Rattle.cedar_syntax.specs.View.{shown_expr}
+use Rattle.cedar_grammar.specs.Loose as loose
+use Rattle.cedar_grammar.specs.LooseReading.{Reading, Reader, ◌>>◌, needed}
+use Rattle.cedar_cst.specs.declared.node.Node.{Node}
+use Rattle.cedar_cst.specs.declared.leaves.RelOp.{RelOp}
+use Rattle.cedar_cst.specs.LeafView.{view_rel_op}
+use Rattle.cedar_cst.specs.declared.cst.Expr.{Expr}
+use Rattle.cedar_cst.specs.View.{shown_expr}
 
 -- an operator, and what it compares with
 abbrev pub compared_expr : RelOp × Node (Option Expr) → loose.RelOp × loose.Expr

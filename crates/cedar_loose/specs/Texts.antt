@@ -4,12 +4,12 @@ use Rattle.cedar_language.specs.Uid.{Text}
 use Rattle.cedar_grammar.specs.Token.{Token}
 use Rattle.cedar_grammar.specs.Tokens.{IsTokens}
 use Rattle.cedar_grammar.specs.Nesting.{loose_nesting}
-use Rattle.cedar_loose_grammar.specs.LooseReading.{Fault}
+use Rattle.cedar_grammar.specs.LooseReading.{Fault}
 use Rattle.cedar_loose_expressions.specs.declared.error.ReadError.{ReadError}
 use Rattle.cedar_loose_expressions.specs.declared.error.ReadError.TheVariants as stop
 use Rattle.cedar_loose_expressions.specs.Gives.{Fails}
-use Rattle.cedar_parse_errors.specs.Errors.{Cause, outside_the_grammar, nested_too_deep, out_of_memory, cause_of}
-use Rattle.cedar_parse_errors.specs.declared.errors.ParseErrors.{ParseErrors}
+use Rattle.cedar_loose.specs.Errors.{Cause, outside_the_grammar, nested_too_deep, out_of_memory, cause_of}
+use Rattle.cedar_loose.specs.declared.errors.ParseErrors.{ParseErrors}
 
 -- the loose tree that the text's tokens read as, with a nesting of at most n
 abbrev pub IsRead : {A : Type 0} → (ℕ → List Token → Result A Fault) → ℕ → Text → A → Type 0

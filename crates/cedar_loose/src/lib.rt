@@ -1,10 +1,14 @@
-//! The loose parser: from a text to a tree that holds all that the conversion can name a fault of.
+//! The loose parser: policies, expressions, names and whole texts read into trees of the loose syntax.
 #![tactic(auto)]
 
+mod errors;
+mod literals;
 mod parse;
 mod policies;
 mod refusal;
 
+pub use errors::{ParseError, ParseErrors, ToCSTError};
+pub use literals::LiteralParseError;
 pub use parse::{
     parse_expr, parse_ident, parse_name, parse_policies, parse_policy, parse_primary, parse_ref,
 };

@@ -1,18 +1,18 @@
 // Whole texts.
 ghost use Rattle.std.specs.Prelude.{◌≡◌, [], IfOk, IfErr};
-ghost use Rattle.cedar_loose_grammar.specs.LooseReading.{read_policies, read_policy, read_expr, read_primary, read_ref, read_name, read_ident};
-ghost use Rattle.cedar_nodes.specs.View.{shown_ident, shown_name, shown_ref};
-ghost use Rattle.cedar_syntax.specs.View.{shown_policies, shown_policy, shown_expr, shown_primary};
+ghost use Rattle.cedar_grammar.specs.LooseReading.{read_policies, read_policy, read_expr, read_primary, read_ref, read_name, read_ident};
+ghost use Rattle.cedar_cst.specs.LeafView.{shown_ident, shown_name, shown_ref};
+ghost use Rattle.cedar_cst.specs.View.{shown_policies, shown_policy, shown_expr, shown_primary};
 ghost use Rattle.cedar_loose.specs.Texts.{IsRead, IsRefused, IsOutside, Refuses, RefusesFlat, GivesAll, flat, stop_cause};
 
 use crate::policies::{policies, policy};
 use crate::refusal::refusal;
-use cedar_cst::Tokens;
+use crate::{ParseError, ParseErrors};
+use cedar_cst::cst::{Expr, Ident, Name, Policies, Policy, Primary, Ref};
+use cedar_cst::node::Node;
+use cedar_grammar::{limits_are_met_where_constructs_open, wider_limits_change_nothing};
 use cedar_loose_expressions::{Cursor, ReadError};
-use cedar_loose_grammar::{limits_are_met_where_constructs_open, wider_limits_change_nothing};
-use cedar_parse_errors::{ParseError, ParseErrors};
-use cedar_syntax::cst::{Expr, Ident, Name, Policies, Policy, Primary, Ref};
-use cedar_syntax::node::Node;
+use cedar_tokens::Tokens;
 use std::alloc::Global;
 use std::rc::RcStr;
 

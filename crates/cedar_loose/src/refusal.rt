@@ -1,11 +1,11 @@
 // Errors of a text, from what stopped its reader.
 ghost use Rattle.std.specs.Prelude.{◌≡◌, []};
-ghost use Rattle.cedar_parse_errors.specs.Errors.{cause_of};
+ghost use Rattle.cedar_loose.specs.Errors.{cause_of};
 ghost use Rattle.cedar_loose.specs.Texts.{IsTold, stop_cause};
 
+use crate::{ParseError, ParseErrors, ToCSTError};
 use cedar_loose_expressions::{Met, ReadError};
 use cedar_names::places::Loc;
-use cedar_parse_errors::{ParseError, ParseErrors, ToCSTError};
 use std::alloc::Global;
 use std::rc::RcStr;
 

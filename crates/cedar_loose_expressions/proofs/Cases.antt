@@ -5,10 +5,10 @@ use Rattle.cedar_grammar.specs.Token.{Word, Mark, Token, word, number, text, slo
 use Rattle.cedar_grammar.specs.Reading.{eat, is_mark}
 use Rattle.cedar_grammar.specs.ReadingPolicies.{word_read}
 use Rattle.cedar_grammar.proofs.Parts.{eat-is}
-use Rattle.cedar_loose_grammar.specs.Loose as loose
-use Rattle.cedar_loose_grammar.specs.Loose.{Expr, Add, Primary}
-use Rattle.cedar_loose_grammar.specs.LooseReading.{Fault, syntax, depth, begins_access, each_of, member_of, Reading, Reader, ◌>>◌, mapped, needed, eat_is, links_of, rel_op, items_of, literal_of, named_of, slot_of, rec_init_of, primary_of, access_of, add_of, relation_step, relation_of, choice_of, or_of, expr_of, expr_at}
-use Rattle.cedar_loose_grammar.proofs.Rests.{Leaves, rest-length, access-after}
+use Rattle.cedar_grammar.specs.Loose as loose
+use Rattle.cedar_grammar.specs.Loose.{Expr, Add, Primary}
+use Rattle.cedar_grammar.specs.LooseReading.{Fault, syntax, depth, begins_access, each_of, member_of, Reading, Reader, ◌>>◌, mapped, needed, eat_is, links_of, rel_op, items_of, literal_of, named_of, slot_of, rec_init_of, primary_of, access_of, add_of, relation_step, relation_of, choice_of, or_of, expr_of, expr_at}
+use Rattle.cedar_grammar.proofs.Rests.{Leaves, rest-length, access-after}
 use Rattle.cedar_loose_expressions.specs.declared.error.ReadError.{ReadError}
 use Rattle.cedar_loose_expressions.specs.Gives.{Fails, Gives}
 use Rattle.cedar_loose_expressions.proofs.Loops.{fails_by, first_fails}

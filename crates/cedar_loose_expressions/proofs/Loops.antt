@@ -5,9 +5,9 @@ use Rattle.cedar_grammar.specs.Token as token
 use Rattle.cedar_grammar.specs.Token.{Mark, Token, mark}
 use Rattle.cedar_grammar.specs.Reading.{eat}
 use Rattle.cedar_grammar.proofs.Parts.{eat-is}
-use Rattle.cedar_loose_grammar.specs.LooseReading.{Fault, Reading, Reader, ◌>>◌, mapped, needed, each_step, each_at, each_of, after_item, items_step, items_at, items_of, operator_at, before_rest, chain_step, chain_at, links_of, chain_of}
-use Rattle.cedar_loose_grammar.proofs.Rests as rests
-use Rattle.cedar_loose_grammar.proofs.Rests.{rest-length}
+use Rattle.cedar_grammar.specs.LooseReading.{Fault, Reading, Reader, ◌>>◌, mapped, needed, each_step, each_at, each_of, after_item, items_step, items_at, items_of, operator_at, before_rest, chain_step, chain_at, links_of, chain_of}
+use Rattle.cedar_grammar.proofs.Rests as rests
+use Rattle.cedar_grammar.proofs.Rests.{rest-length}
 use Rattle.cedar_loose_expressions.specs.declared.error.ReadError.{ReadError}
 use Rattle.cedar_loose_expressions.specs.declared.error.ReadError.TheVariants.{Syntax, Depth, Memory}
 use Rattle.cedar_loose_expressions.specs.Gives.{Fails}

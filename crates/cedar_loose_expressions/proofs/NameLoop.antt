@@ -3,9 +3,9 @@ use Rattle.std.proofs.Common.{◌≡◌, ℕ, zero, suc, ◌<◌, ◌≤◌, Lis
 use Rattle.std.proofs.lemmas.List.{append-nil, append_assoc}
 use Rattle.cedar_grammar.specs.Token.{Word, Token, word}
 use Rattle.cedar_grammar.specs.ReadingPolicies.{word_read}
-use Rattle.cedar_loose_grammar.specs.Loose.{Ident, ident, Name, missing_name, name}
-use Rattle.cedar_loose_grammar.specs.LooseReading.{Fault, syntax, Reading, ◌>>◌, mapped, needed, next_word, qualified, name_next, name_at, name_of}
-use Rattle.cedar_loose_grammar.proofs.Basics.{ok_pair, word_read-is, next_word-is}
+use Rattle.cedar_grammar.specs.Loose.{Ident, ident, Name, missing_name, name}
+use Rattle.cedar_grammar.specs.LooseReading.{Fault, syntax, Reading, ◌>>◌, mapped, needed, next_word, qualified, name_next, name_at, name_of}
+use Rattle.cedar_grammar.proofs.Basics.{ok_pair, word_read-is, next_word-is}
 use Rattle.cedar_loose_expressions.specs.declared.error.ReadError.{ReadError}
 use Rattle.cedar_loose_expressions.specs.Gives.{Fails}
 use Rattle.cedar_loose_expressions.proofs.Loops.{fails_by}

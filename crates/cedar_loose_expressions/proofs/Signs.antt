@@ -5,9 +5,9 @@ use Rattle.std.proofs.lemmas.Bool.{lt-ltb, le-ltb}
 use Rattle.cedar_grammar.specs.Token as token
 use Rattle.cedar_grammar.specs.Token.{Mark, Token, mark}
 use Rattle.cedar_grammar.specs.Reading.{eat, is_mark, signs_of}
-use Rattle.cedar_loose_grammar.specs.Loose as loose
-use Rattle.cedar_loose_grammar.specs.Loose.{Expr}
-use Rattle.cedar_loose_grammar.specs.LooseReading.{Reader, mapped, member_of, after_bangs, after_dashes, unary_of}
+use Rattle.cedar_grammar.specs.Loose as loose
+use Rattle.cedar_grammar.specs.Loose.{Expr}
+use Rattle.cedar_grammar.specs.LooseReading.{Reader, mapped, member_of, after_bangs, after_dashes, unary_of}
 
 -- one more sign
 pub record OneSign (m : Mark) (ts us : List Token) : Type 0 where

@@ -4,9 +4,9 @@ use Rattle.std.specs.Prelude.{cond}
 use Rattle.cedar_language.specs.Uid.{Text}
 use Rattle.cedar_grammar.specs.Token.{word_of, Other}
 use Rattle.cedar_names.specs.Identifiers.{is_identifier}
-use Rattle.cedar_cst.specs.Spelling.{is_word, IsOtherWord}
-use Rattle.cedar_loose_grammar.specs.Loose as loose
-use Rattle.cedar_nodes.specs.View.{written_ident}
+use Rattle.cedar_tokens.specs.Spelling.{is_word, IsOtherWord}
+use Rattle.cedar_grammar.specs.Loose as loose
+use Rattle.cedar_cst.specs.LeafView.{written_ident}
 
 word_is_identifier : (s : Text) → is_word s ≡ is_identifier s
 word_is_identifier [] = refl

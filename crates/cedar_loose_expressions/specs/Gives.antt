@@ -1,11 +1,11 @@
 -- What the code that reads answers, by the reading functions of the loose grammar.
 use Rattle.std.specs.Prelude.{◌≡◌, List, [], ◌∷◌, Option, Some, None, Result, Ok, Err, Bool, true, false, ⊤}
 use Rattle.cedar_grammar.specs.Token.{Token}
-use Rattle.cedar_cst.specs.declared.tokens.TokenKind.{TokenKind}
-use Rattle.cedar_cst.specs.declared.error.TokenError.{TokenError}
-use Rattle.cedar_cst.specs.declared.error.TokenError.TheVariants as token
-use Rattle.cedar_cst.specs.View.{kind_view}
-use Rattle.cedar_loose_grammar.specs.LooseReading.{Fault, syntax, depth, Reading}
+use Rattle.cedar_tokens.specs.declared.tokens.TokenKind.{TokenKind}
+use Rattle.cedar_tokens.specs.declared.error.TokenError.{TokenError}
+use Rattle.cedar_tokens.specs.declared.error.TokenError.TheVariants as token
+use Rattle.cedar_tokens.specs.View.{kind_view}
+use Rattle.cedar_grammar.specs.LooseReading.{Fault, syntax, depth, Reading}
 use Rattle.cedar_loose_expressions.specs.declared.error.Unexpected.{Unexpected}
 use Rattle.cedar_loose_expressions.specs.declared.error.ReadError.{ReadError}
 use Rattle.cedar_loose_expressions.specs.declared.error.ReadError.TheVariants as error

@@ -3,8 +3,8 @@ use Rattle.std.specs.Prelude.{List, [], ◌∷◌, Option, Some, None, Result, O
 use Rattle.cedar_grammar.specs.Token as token
 use Rattle.cedar_grammar.specs.Token.{Mark, Token, word, number, text, slot}
 use Rattle.cedar_grammar.specs.Reading.{is_mark, eat_in}
-use Rattle.cedar_loose_grammar.specs.Loose.{Slot, Expr, Add, Relation, common, adds}
-use Rattle.cedar_loose_grammar.specs.LooseReading.{slot_of, Fault, syntax, Reader, ◌>>◌, mapped, links_of, rel_op, add_of, is_step}
+use Rattle.cedar_grammar.specs.Loose.{Slot, Expr, Add, Relation, common, adds}
+use Rattle.cedar_grammar.specs.LooseReading.{slot_of, Fault, syntax, Reader, ◌>>◌, mapped, links_of, rel_op, add_of, is_step}
 
 -- the mark is next
 abbrev pub begins : Mark → List Token → Bool

@@ -1,9 +1,8 @@
 // What keeps tokens from being read.
 ghost use Rattle.std.specs.Prelude.{◌≡◌};
 
-use cedar_cst::TokenError;
-use cedar_expected::Kinds;
 use cedar_names::places::Span;
+use cedar_tokens::{Kinds, TokenError};
 use std::alloc::{AllocError, AllocFailed};
 
 /// What stands where nothing can be read on.

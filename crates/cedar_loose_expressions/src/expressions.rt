@@ -1,19 +1,19 @@
 // Expressions: one reader for each rule of the loose grammar.
 ghost use Rattle.std.specs.Prelude.{map};
-ghost use Rattle.cedar_cst.specs.View.{mark_view};
+ghost use Rattle.cedar_tokens.specs.View.{mark_view};
 ghost use Rattle.cedar_grammar.specs.Token as token;
-ghost use Rattle.cedar_loose_grammar.specs.LooseReading.{items_of, expr_at, choice_of, or_of, and_of, relation_of, add_of, mult_of, unary_of, member_of, access_of, primary_of, rec_init_of};
-ghost use Rattle.cedar_syntax.specs.View.{shown_expr, shown_or, shown_and, shown_relation, shown_add, shown_mult, shown_unary, shown_member, shown_mem_access, shown_primary, shown_rec_init};
+ghost use Rattle.cedar_grammar.specs.LooseReading.{items_of, expr_at, choice_of, or_of, and_of, relation_of, add_of, mult_of, unary_of, member_of, access_of, primary_of, rec_init_of};
+ghost use Rattle.cedar_cst.specs.View.{shown_expr, shown_or, shown_and, shown_relation, shown_add, shown_mult, shown_unary, shown_member, shown_mem_access, shown_primary, shown_rec_init};
 ghost use Rattle.cedar_loose_expressions.specs.Gives.{Gives};
 ghost use Rattle.cedar_loose_expressions.specs.Steps.{is_of, comparisons_of};
 
 use crate::cursor::Cursor;
 use crate::error::ReadError;
-use cedar_cst::Mark;
-use cedar_nodes::node::Node;
-use cedar_syntax::cst::{
+use cedar_cst::cst::{
     Add, And, Expr, MemAccess, Member, Mult, Or, Primary, RecInit, Relation, Unary,
 };
+use cedar_cst::node::Node;
+use cedar_tokens::Mark;
 use std::alloc::Global;
 
 impl<'t> Cursor<'t> {
@@ -35,7 +35,7 @@ impl<'t> Cursor<'t> {
     }
 
     /// Takes what follows `if`.
-    #[tactic(auto, unfolding(cedar_loose_grammar::specs::LooseReading::choice_of))]
+    #[tactic(auto, unfolding(cedar_grammar::specs::LooseReading::choice_of))]
     #[cycle(expression)]
     fn choice(
         &mut self,
@@ -292,7 +292,7 @@ impl<'t> Cursor<'t> {
     }
 
     /// Takes an entry of a record.
-    #[tactic(auto, unfolding(cedar_loose_grammar::specs::LooseReading::rec_init_of))]
+    #[tactic(auto, unfolding(cedar_grammar::specs::LooseReading::rec_init_of))]
     #[cycle(expression)]
     fn rec_init(&mut self, alloc: Global, depth: u32) -> Result<Node<Option<RecInit>>, ReadError>
         ensures { Gives shown_rec_init result self.new (rec_init_of (expr_at depth) self.old) }

@@ -1,6 +1,5 @@
 // Kinds of marks, as an error tells them.
-use cedar_cst::Mark;
-use cedar_expected::Kinds;
+use cedar_tokens::{Kinds, Mark};
 
 /// The kind of a mark.
 pub(crate) fn kind_of(mark: Mark) -> Kinds {

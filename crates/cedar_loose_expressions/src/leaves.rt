@@ -1,22 +1,21 @@
 // Words, strings, literals and slots.
 ghost use Rattle.std.specs.Prelude.{◌≡◌, IfOk};
-ghost use Rattle.cedar_cst.specs.Spelling.{IsSpelledWord};
-ghost use Rattle.cedar_cst.specs.View.{word_view};
+ghost use Rattle.cedar_tokens.specs.Spelling.{IsSpelledWord};
+ghost use Rattle.cedar_tokens.specs.View.{word_view};
 ghost use Rattle.cedar_grammar.specs.Reading.{text_read};
 ghost use Rattle.cedar_grammar.specs.ReadingPolicies.{word_read};
 ghost use Rattle.cedar_grammar.specs.Token.{spelled};
-ghost use Rattle.cedar_loose_grammar.specs.Loose as loose;
-ghost use Rattle.cedar_loose_grammar.specs.LooseReading.{mapped, needed, literal_of, slot_of};
-ghost use Rattle.cedar_nodes.specs.View.{view_ident, view_slot, shown_ident, shown_str, shown_literal, shown_slot};
+ghost use Rattle.cedar_grammar.specs.Loose as loose;
+ghost use Rattle.cedar_grammar.specs.LooseReading.{mapped, needed, literal_of, slot_of};
+ghost use Rattle.cedar_cst.specs.LeafView.{view_ident, view_slot, shown_ident, shown_str, shown_literal, shown_slot};
 ghost use Rattle.cedar_loose_expressions.specs.Gives.{Gives};
 ghost use Rattle.cedar_loose_expressions.specs.Steps.{slot_read};
 
 use crate::cursor::Cursor;
 use crate::error::ReadError;
-use cedar_cst::{TokenKind, Word};
-use cedar_expected::Kinds;
-use cedar_nodes::cst::{Ident, Literal, Slot, Str};
-use cedar_nodes::node::Node;
+use cedar_cst::cst::{Ident, Literal, Slot, Str};
+use cedar_cst::node::Node;
+use cedar_tokens::{Kinds, TokenKind, Word};
 use std::alloc::{AllocError, Global};
 use std::rc::RcStr;
 
@@ -109,7 +108,7 @@ impl<'t> Cursor<'t> {
     }
 
     /// Takes a literal, which has to be next.
-    #[tactic(auto, unfolding(cedar_loose_grammar::specs::LooseReading::literal_of))]
+    #[tactic(auto, unfolding(cedar_grammar::specs::LooseReading::literal_of))]
     pub(crate) fn literal(&mut self, alloc: Global) -> Result<Node<Option<Literal>>, ReadError>
         ensures { Gives shown_literal result self.new (literal_of self.old) }
     {

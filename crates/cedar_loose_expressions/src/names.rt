@@ -1,20 +1,18 @@
 // Names and entities.
 ghost use Rattle.std.specs.Prelude.{◌≡◌, map, None};
 ghost use Rattle.cedar_grammar.specs.Reading.{eat};
-ghost use Rattle.cedar_loose_grammar.specs.Loose.{Expr};
-ghost use Rattle.cedar_loose_grammar.specs.LooseReading.{Reader, primary_of, name_of, ref_init_of, items_of, ref_rest, ref_of, named_of};
+ghost use Rattle.cedar_grammar.specs.Loose.{Expr};
+ghost use Rattle.cedar_grammar.specs.LooseReading.{Reader, primary_of, name_of, ref_init_of, items_of, ref_rest, ref_of, named_of};
 ghost use Rattle.cedar_grammar.specs.Token as token;
-ghost use Rattle.cedar_nodes.specs.View.{shown_name, shown_ref, shown_ref_init};
-ghost use Rattle.cedar_syntax.specs.View.{shown_primary};
+ghost use Rattle.cedar_cst.specs.LeafView.{shown_name, shown_ref, shown_ref_init};
+ghost use Rattle.cedar_cst.specs.View.{shown_primary};
 ghost use Rattle.cedar_loose_expressions.specs.Gives.{Gives};
 
 use crate::cursor::Cursor;
 use crate::error::ReadError;
-use cedar_cst::Mark;
-use cedar_expected::Kinds;
-use cedar_nodes::cst::{Name, Ref, RefInit};
-use cedar_nodes::node::Node;
-use cedar_syntax::cst::Primary;
+use cedar_cst::cst::{Name, Primary, Ref, RefInit};
+use cedar_cst::node::Node;
+use cedar_tokens::{Kinds, Mark};
 use std::alloc::Global;
 
 impl<'t> Cursor<'t> {
@@ -34,7 +32,7 @@ impl<'t> Cursor<'t> {
     }
 
     /// Takes an entry of an entity that is named by attributes, which has to be next.
-    #[tactic(auto, unfolding(cedar_loose_grammar::specs::LooseReading::ref_init_of))]
+    #[tactic(auto, unfolding(cedar_grammar::specs::LooseReading::ref_init_of))]
     fn ref_init(&mut self, alloc: Global) -> Result<Node<Option<RefInit>>, ReadError>
         ensures { Gives shown_ref_init result self.new (ref_init_of self.old) }
     {
@@ -62,7 +60,7 @@ impl<'t> Cursor<'t> {
     }
 
     /// Takes what follows a type and `::`: a string, or attributes.
-    #[tactic(auto, unfolding(cedar_loose_grammar::specs::LooseReading::ref_rest))]
+    #[tactic(auto, unfolding(cedar_grammar::specs::LooseReading::ref_rest))]
     fn ref_rest(
         &mut self,
         alloc: Global,
@@ -83,7 +81,7 @@ impl<'t> Cursor<'t> {
     }
 
     /// Takes an entity, which has to be next.
-    #[tactic(auto, unfolding(cedar_loose_grammar::specs::LooseReading::ref_of))]
+    #[tactic(auto, unfolding(cedar_grammar::specs::LooseReading::ref_of))]
     pub fn entity(&mut self, alloc: Global) -> Result<Node<Option<Ref>>, ReadError>
         ensures { Gives shown_ref result self.new (ref_of self.old) }
     {
@@ -94,7 +92,7 @@ impl<'t> Cursor<'t> {
     }
 
     /// Takes a name or an entity, one of which has to be next.
-    #[tactic(auto, unfolding(cedar_loose_grammar::specs::LooseReading::named_of))]
+    #[tactic(auto, unfolding(cedar_grammar::specs::LooseReading::named_of))]
     pub(crate) fn named(&mut self, alloc: Global) -> Result<Node<Option<Primary>>, ReadError>
         ensures { Gives shown_primary result self.new (named_of self.old) }
     {

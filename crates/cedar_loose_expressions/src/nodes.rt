@@ -1,18 +1,17 @@
 // Nodes of expressions, each at the place of what was taken for it. The makers are refused for memory alone.
 ghost use Rattle.std.specs.Prelude.{◌≡◌, IfOk, map};
 ghost use Rattle.std.specs.Option.{option_map};
-ghost use Rattle.cedar_loose_grammar.specs.Loose as loose;
-ghost use Rattle.cedar_nodes.specs.View.{shown_ident, shown_literal, shown_ref, shown_name, shown_slot, view_neg_op};
-ghost use Rattle.cedar_syntax.specs.View.{shown_expr, shown_or, shown_and, shown_relation, shown_add, shown_mult, shown_unary, shown_member, shown_mem_access, shown_primary, shown_rec_init};
+ghost use Rattle.cedar_grammar.specs.Loose as loose;
+ghost use Rattle.cedar_cst.specs.LeafView.{shown_ident, shown_literal, shown_ref, shown_name, shown_slot, view_neg_op};
+ghost use Rattle.cedar_cst.specs.View.{shown_expr, shown_or, shown_and, shown_relation, shown_add, shown_mult, shown_unary, shown_member, shown_mem_access, shown_primary, shown_rec_init};
 ghost use Rattle.cedar_loose_expressions.specs.Links.{linked_add, linked_mult, linked_unary};
 
 use crate::cursor::Cursor;
-use cedar_nodes::cst::{AddOp, Ident, Literal, MultOp, Name, NegOp, Ref, RelOp, Slot};
-use cedar_nodes::node::Node;
-use cedar_syntax::cst::{
-    Add, And, Expr, ExprData, ExprImpl, MemAccess, Member, Mult, Or, Primary, RecInit, Relation,
-    Unary,
+use cedar_cst::cst::{
+    Add, AddOp, And, Expr, ExprData, ExprImpl, Ident, Literal, MemAccess, Member, Mult, MultOp,
+    Name, NegOp, Or, Primary, RecInit, Ref, RelOp, Relation, Slot, Unary,
 };
+use cedar_cst::node::Node;
 use std::alloc::{AllocError, Global};
 
 impl<'t> Cursor<'t> {

@@ -1,17 +1,16 @@
 // Operators between operands, and signs before them.
 ghost use Rattle.std.specs.Prelude.{◌≡◌, min};
 ghost use Rattle.std.specs.Option.{option_map};
-ghost use Rattle.cedar_cst.specs.View.{mark_view};
+ghost use Rattle.cedar_tokens.specs.View.{mark_view};
 ghost use Rattle.cedar_grammar.specs.Reading.{signs_of};
-ghost use Rattle.cedar_loose_grammar.specs.Loose.{Expr, unary};
-ghost use Rattle.cedar_loose_grammar.specs.LooseReading.{Reader, mapped, operator_at, or_op, and_op, rel_op, add_op, mult_op, member_of, unary_of};
-ghost use Rattle.cedar_nodes.specs.View.{view_rel_op, view_add_op, view_mult_op, view_neg_op};
+ghost use Rattle.cedar_grammar.specs.Loose.{Expr, unary};
+ghost use Rattle.cedar_grammar.specs.LooseReading.{Reader, mapped, operator_at, or_op, and_op, rel_op, add_op, mult_op, member_of, unary_of};
+ghost use Rattle.cedar_cst.specs.LeafView.{view_rel_op, view_add_op, view_mult_op, view_neg_op};
 ghost use Rattle.cedar_loose_expressions.specs.Gives.{TakesOperator};
 
 use crate::cursor::Cursor;
-use cedar_cst::{Mark, TokenKind, Word};
-use cedar_expected::Kinds;
-use cedar_nodes::cst::{AddOp, MultOp, NegOp, RelOp};
+use cedar_cst::cst::{AddOp, MultOp, NegOp, RelOp};
+use cedar_tokens::{Kinds, Mark, TokenKind, Word};
 
 impl<'t> Cursor<'t> {
     /// Takes `||`, if it is next.

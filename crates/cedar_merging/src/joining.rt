@@ -1,15 +1,15 @@
 // The policies that another set has more.
 ghost use Rattle.std.specs.Prelude.{◌≡◌, IfOk, true, false};
 ghost use Rattle.cedar_templates.specs.Templates.{template_id, syntax_of};
-ghost use Rattle.cedar_links.specs.Policies.{policy_id};
+ghost use Rattle.cedar_policies.specs.Policies.{policy_id};
 ghost use Rattle.cedar_policy_set.specs.Entries.{is_link};
 ghost use Rattle.cedar_policy_set.specs.Bounds.{bound_id, entry_of, entries_of, policy_entry, IsNamed};
 ghost use Rattle.cedar_merging.specs.Renaming.{IsRenaming, new_id, renamed};
 ghost use Rattle.cedar_merging.specs.Merged.{is_more, joining};
 
 use crate::renaming::{Renaming, conflicts, copied, given_id, renamed_id};
-use cedar_links::policies::Policy;
-use cedar_policies::PolicyID;
+use cedar_policies::policies::Policy;
+use cedar_policy_parts::PolicyID;
 use cedar_policy_set::bounds::Bound;
 use cedar_policy_set::sets::PolicySet;
 use cedar_templates::templates::Template;

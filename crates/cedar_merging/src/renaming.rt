@@ -7,7 +7,7 @@ ghost use Rattle.cedar_policy_set.specs.Bounds.{bound_id, entry_of};
 ghost use Rattle.cedar_merging.specs.Renaming.{IsNextFree, IsRenaming, conflicts, new_id};
 ghost use Rattle.cedar_merging.specs.Room.{HasRoom};
 
-use cedar_policies::PolicyID;
+use cedar_policy_parts::PolicyID;
 use cedar_policy_set::bounds::Bound;
 use cedar_policy_set::sets::PolicySet;
 use indexmap::IndexMap;

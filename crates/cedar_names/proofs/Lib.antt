@@ -1,3 +1,4 @@
 pub mod Qualifying
 pub mod Sameness
 pub mod Splitting
+pub mod Finding

@@ -3,3 +3,4 @@ pub mod Names
 pub mod Reading
 pub mod Converting
 pub mod Laws
+pub mod Raw

@@ -1,4 +1,5 @@
-//! Names of Cedar: places in a text, identifiers and names.
+//! Names of Cedar: identifiers, names, places in texts, shared texts, and the names of a schema before they
+//! are resolved.
 #![tactic(auto)]
 
 pub mod conversions;
@@ -7,6 +8,7 @@ pub mod identifiers;
 pub mod laws;
 pub mod names;
 pub mod places;
+pub mod raw_names;
 pub mod reading;
 pub(crate) mod shared;
 pub mod texts;

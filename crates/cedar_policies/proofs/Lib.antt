@@ -1,0 +1,3 @@
+pub mod Arity
+pub mod Unbound
+pub mod Standing

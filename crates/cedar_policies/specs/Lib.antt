@@ -1,1 +1,4 @@
-pub mod Effects
+pub mod Policies
+pub mod SamePolicies
+pub mod Linking
+pub mod Unknowns

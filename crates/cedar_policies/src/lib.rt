@@ -1,8 +1,8 @@
-//! Policies: their ids and effects.
+//! Policies: static ones, and links of templates.
 #![tactic(auto)]
 
-mod effect;
-mod policy_id;
-
-pub use effect::Effect;
-pub use policy_id::PolicyID;
+mod displays;
+pub mod errors;
+pub mod linking;
+pub mod policies;
+mod unknowns;

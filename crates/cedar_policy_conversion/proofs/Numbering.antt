@@ -9,12 +9,12 @@ use Rattle.cedar_language.specs.Order.{same_text}
 use Rattle.cedar_grammar.specs.Names.{Names}
 use Rattle.cedar_grammar.specs.Policy.{Policy}
 use Rattle.cedar_grammar.specs.Reading.{◌>>=◌}
-use Rattle.cedar_loose_grammar.specs.Converting.{each, policy_syntax}
-use Rattle.cedar_loose_grammar.specs.Loose as loose
+use Rattle.cedar_grammar.specs.Converting.{each, policy_syntax}
+use Rattle.cedar_grammar.specs.Loose as loose
 use Rattle.cedar_world.specs.PolicyEdits.{numbered}
-use Rattle.cedar_conversion_faults.specs.declared.errors.ConversionError.{ConversionError}
+use Rattle.cedar_conversion_leaves.specs.declared.errors.ConversionError.{ConversionError}
 use Rattle.cedar_conversion_leaves.specs.Converts.{Finds}
-use Rattle.cedar_policy_conversion_parts.proofs.Joining.{each_last}
+use Rattle.cedar_policy_parts_conversion.proofs.Joining.{each_last}
 use Rattle.cedar_policy_set.specs.Entries.{Entry, Entries, bound_at}
 use Rattle.cedar_policy_set.specs.Refused.{taken}
 use Rattle.cedar_policy_set.specs.Texts.{text_entry, text_entries}

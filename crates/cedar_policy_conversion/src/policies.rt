@@ -1,8 +1,8 @@
 // Policies by whether they have slots.
 ghost use Rattle.std.specs.Prelude.{◌≡◌, IfOk};
 ghost use Rattle.std.specs.Option.{option_map};
-ghost use Rattle.cedar_loose_grammar.specs.Converting.{policy_syntax};
-ghost use Rattle.cedar_syntax.specs.View.{shown_policy};
+ghost use Rattle.cedar_grammar.specs.Converting.{policy_syntax};
+ghost use Rattle.cedar_cst.specs.View.{shown_policy};
 ghost use Rattle.cedar_templates.specs.StaticPolicies.{static_id, static_syntax};
 ghost use Rattle.cedar_templates.specs.Templates.{template_id, syntax_of};
 ghost use Rattle.cedar_conversion_leaves.specs.Converts.{and_then, Finds};
@@ -11,14 +11,12 @@ ghost use Rattle.cedar_policy_conversion.specs.Kinds.{without_slots, with_slots,
 
 use crate::templates::to_template;
 use cedar_constraints::errors::UnexpectedSlotError;
-use cedar_conversion_faults::{ConversionError, ToASTErrorKind};
+use cedar_conversion_leaves::{ConversionError, ExtStyles, ToASTErrorKind};
+use cedar_cst::cst;
+use cedar_cst::node::Node;
 use cedar_names::places::Loc;
-use cedar_policies::PolicyID;
-use cedar_policy_conversion_parts::PolicyError;
-use cedar_policy_errors::{ExpectedStaticPolicy, ExpectedTemplate};
-use cedar_styles::ExtStyles;
-use cedar_syntax::cst;
-use cedar_syntax::node::Node;
+use cedar_policy_parts::{ExpectedStaticPolicy, ExpectedTemplate, PolicyID};
+use cedar_policy_parts_conversion::PolicyError;
 use cedar_templates::static_policies::StaticPolicy;
 use cedar_templates::templates::Template;
 use either::Either;

@@ -1,8 +1,8 @@
 // The policies of a text.
 ghost use Rattle.std.specs.Prelude.{◌≡◌, ◌<◌, ◌^◌, [], ◌∷◌, ◌++◌, IfOk, IfErr, OnOk, map, None, Option, Some};
 ghost use Rattle.std.specs.Option.{option_map};
-ghost use Rattle.cedar_loose_grammar.specs.Converting.{each, policies_syntax, policy_syntax};
-ghost use Rattle.cedar_syntax.specs.View.{shown_policies, shown_policy};
+ghost use Rattle.cedar_grammar.specs.Converting.{each, policies_syntax, policy_syntax};
+ghost use Rattle.cedar_cst.specs.View.{shown_policies, shown_policy};
 ghost use Rattle.cedar_world.specs.PolicyEdits.{numbered};
 ghost use Rattle.cedar_conversion_leaves.specs.Converts.{and_then, Finds};
 ghost use Rattle.cedar_policy_set.specs.Entries.{Entries, bound_at};
@@ -11,14 +11,13 @@ ghost use Rattle.cedar_policy_set.specs.Texts.{text_entry, text_entries};
 ghost use Rattle.cedar_policy_conversion.specs.Kinds.{entry_made, id_made};
 
 use crate::policies::to_policy_or_template;
-use cedar_conversion_faults::{ConversionError, flatten_tuple_2};
-use cedar_policies::PolicyID;
-use cedar_policy_conversion_parts::PolicyError;
+use cedar_conversion_leaves::{ConversionError, ExtStyles, flatten_tuple_2};
+use cedar_cst::cst;
+use cedar_cst::node::Node;
+use cedar_policy_parts::PolicyID;
+use cedar_policy_parts_conversion::PolicyError;
 use cedar_policy_set::errors::PolicySetError;
 use cedar_policy_set::sets::PolicySet;
-use cedar_styles::ExtStyles;
-use cedar_syntax::cst;
-use cedar_syntax::node::Node;
 use cedar_templates::static_policies::StaticPolicy;
 use cedar_templates::templates::Template;
 use either::Either;
@@ -99,7 +98,7 @@ fn set_of(
 
 /// The policy set of a text: its static policies and templates in its order, under the ids `policy0`,
 /// `policy1` and so on. The faults of all policies are gathered. (Cedar language reference, "Policies".)
-#[tactic(auto, unfolding(cedar_loose_grammar::specs::Converting::policies_syntax))]
+#[tactic(auto, unfolding(cedar_grammar::specs::Converting::policies_syntax))]
 pub fn to_policyset(
     alloc: Global,
     node: &Node<Option<cst::Policies>>,

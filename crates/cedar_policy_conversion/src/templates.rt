@@ -1,24 +1,24 @@
 // Policies with or without slots.
 ghost use Rattle.std.specs.Prelude.{◌≡◌, IfOk};
-ghost use Rattle.cedar_loose_grammar.specs.Converting.{policy_syntax};
-ghost use Rattle.cedar_syntax.specs.View.{shown_policy, view_policy_impl};
+ghost use Rattle.cedar_grammar.specs.Converting.{policy_syntax};
+ghost use Rattle.cedar_cst.specs.View.{shown_policy, view_policy_impl};
 ghost use Rattle.cedar_templates.specs.Templates.{template_id, syntax_of};
 ghost use Rattle.cedar_conversion_leaves.specs.Converts.{Finds};
 ghost use Rattle.cedar_policy_conversion.specs.Parts.{parts_syntax};
 
-use cedar_annotations::annotations::Annotations;
 use cedar_constraints::actions::ActionConstraint;
 use cedar_constraints::principals::PrincipalConstraint;
 use cedar_constraints::resources::ResourceConstraint;
-use cedar_conversion_faults::{ConversionError, flatten_tuple_2};
+use cedar_conversion_leaves::{ConversionError, ExtStyles, flatten_tuple_2};
+use cedar_cst::cst;
+use cedar_cst::cst::PolicyImpl;
+use cedar_cst::node::Node;
 use cedar_names::places::Loc;
-use cedar_policies::{Effect, PolicyID};
-use cedar_policy_conversion_parts::{PolicyError, get_ast_annotations, to_clauses, to_effect};
-use cedar_scope_conversion::extract_scope;
-use cedar_styles::ExtStyles;
-use cedar_syntax::cst;
-use cedar_syntax::cst::PolicyImpl;
-use cedar_syntax::node::Node;
+use cedar_policy_parts::annotations::Annotations;
+use cedar_policy_parts::{Effect, PolicyID};
+use cedar_policy_parts_conversion::{
+    PolicyError, extract_scope, get_ast_annotations, to_clauses, to_effect,
+};
 use cedar_templates::templates::Template;
 use cedar_trees::expr::Expr;
 use std::alloc::{AllocError, Global};
@@ -86,7 +86,7 @@ fn template_of(
 
 /// A policy, with or without slots, under an id. The faults of all its parts are gathered: its annotations,
 /// its effect, its scope and its clauses. (Cedar language reference, "Policy syntax".)
-#[tactic(auto, unfolding(cedar_loose_grammar::specs::Converting::policy_syntax))]
+#[tactic(auto, unfolding(cedar_grammar::specs::Converting::policy_syntax))]
 pub fn to_template(
     alloc: Global,
     node: &Node<Option<cst::Policy>>,

@@ -6,9 +6,9 @@ use Rattle.cedar_language.specs.Order.{same_text}
 use Rattle.cedar_grammar.specs.Policy.{Policy}
 use Rattle.cedar_world.specs.Syntax.{Bindings}
 use Rattle.cedar_world.specs.Refusals.{binds_exactly}
-use Rattle.cedar_links.specs.Linking.{lacking, extra}
-use Rattle.cedar_links.specs.declared.errors.LinkingError as linking
-use Rattle.cedar_links.specs.declared.errors.LinkingError.TheVariants.{ArityError, NoSuchTemplate, PolicyIdConflict, Memory as LinkingMemory}
+use Rattle.cedar_policies.specs.Linking.{lacking, extra}
+use Rattle.cedar_policies.specs.declared.errors.LinkingError as linking
+use Rattle.cedar_policies.specs.declared.errors.LinkingError.TheVariants.{ArityError, NoSuchTemplate, PolicyIdConflict, Memory as LinkingMemory}
 use Rattle.cedar_policy_set.specs.Entries.{Entry, static_policy, template, link, Entries, bound_at, is_bound, is_policy, is_static, is_link, own_template_at}
 use Rattle.cedar_policy_set.specs.EntryNodes.{same_entry}
 use Rattle.cedar_policy_set.specs.declared.errors.PolicySetError as adding

@@ -8,8 +8,8 @@ ghost use Rattle.cedar_policy_set.specs.Entries.{template as a_template, IsFull,
 ghost use Rattle.cedar_policy_set.specs.EntryNodes.{same_entry};
 ghost use Rattle.cedar_policy_set.specs.Bounds.{policy_entry, link_entry, policy_seen, template_seen};
 
-use cedar_links::policies::Policy;
-use cedar_policies::PolicyID;
+use cedar_policies::policies::Policy;
+use cedar_policy_parts::PolicyID;
 use cedar_templates::templates::Template;
 use indexmap::IndexMap;
 use std::alloc::AllocError;

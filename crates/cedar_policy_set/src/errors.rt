@@ -1,7 +1,7 @@
 // Why a policy set refuses an edit or a question.
 ghost use Rattle.std.specs.Prelude.{◌≡◌};
 
-use cedar_policies::PolicyID;
+use cedar_policy_parts::PolicyID;
 use cedar_templates::errors::TemplateValidationError;
 use std::alloc::{AllocError, AllocFailed};
 use thiserror::Error;

@@ -5,9 +5,9 @@ ghost use Rattle.cedar_policy_set.specs.Refused.{IsLinked, IsLinkRefusal};
 use crate::bounds::Bound;
 use crate::sets::PolicySet;
 use cedar_constraints::bindings::SlotEnv;
-use cedar_links::errors::LinkingError;
-use cedar_links::linking::TemplateLinks;
-use cedar_policies::PolicyID;
+use cedar_policies::errors::LinkingError;
+use cedar_policies::linking::TemplateLinks;
+use cedar_policy_parts::PolicyID;
 use cedar_templates::templates::Template;
 use std::alloc::Global;
 

@@ -6,8 +6,8 @@ ghost use Rattle.cedar_policy_set.specs.Refused.{IsListingRefusal, has_template_
 use crate::bounds::Bound;
 use crate::errors::PolicySetGetLinksError;
 use crate::sets::PolicySet;
-use cedar_links::policies::Policy;
-use cedar_policies::PolicyID;
+use cedar_policies::policies::Policy;
+use cedar_policy_parts::PolicyID;
 use cedar_templates::templates::Template;
 use indexmap::map::{IntoValues, Values};
 

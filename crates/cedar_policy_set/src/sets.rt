@@ -5,7 +5,7 @@ ghost use Rattle.cedar_language.specs.Uid.{Text};
 ghost use Rattle.cedar_grammar.specs.Policy.{Policy as PolicySyntax};
 
 use crate::bounds::Bound;
-use cedar_policies::PolicyID;
+use cedar_policy_parts::PolicyID;
 use indexmap::IndexMap;
 use indexmap::map::{IntoValues, Values};
 use std::alloc::{AllocError, Global};

@@ -2,7 +2,7 @@
 ghost use Rattle.std.specs.Prelude.{◌≡◌, true};
 ghost use Rattle.cedar_extensions.specs.declared.extensions.Extensions.{Extensions};
 ghost use Rattle.cedar_templates.specs.Templates.{template_id, syntax_of};
-ghost use Rattle.cedar_links.specs.Policies.{policy_id};
+ghost use Rattle.cedar_policies.specs.Policies.{policy_id};
 ghost use Rattle.cedar_policy_set.specs.Entries.{is_link};
 ghost use Rattle.cedar_policy_set.specs.Bounds.{bound_id, entry_of, policy_entry};
 ghost use Rattle.cedar_policy_set.specs.Validated.{ValidatesAll, ValidatesOne, ValidatesTemplate};
@@ -11,7 +11,7 @@ use crate::bounds::Bound;
 use crate::errors::PolicySetValidationError;
 use crate::sets::PolicySet;
 use cedar_extensions::extensions::Extensions;
-use cedar_links::policies::Policy;
+use cedar_policies::policies::Policy;
 use cedar_templates::errors::TemplateValidationError;
 use cedar_templates::templates::Template;
 use std::alloc::Global;

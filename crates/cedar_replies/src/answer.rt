@@ -4,7 +4,7 @@ ghost use Rattle.std.specs.Prelude.{◌≡◌};
 use crate::decision::Decision;
 use crate::erring::Erring;
 use crate::policy_ids::PolicyIds;
-use cedar_policies::PolicyID;
+use cedar_policy_parts::PolicyID;
 use std::alloc::AllocError;
 
 /// What a question is answered.

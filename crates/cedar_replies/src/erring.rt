@@ -4,7 +4,7 @@ ghost use Rattle.std.specs.FinMap as finite;
 ghost use Rattle.cedar_replies.specs.Erring.{have_kinds, with_kinds};
 
 use crate::error_kind::ErrorKind;
-use cedar_policies::PolicyID;
+use cedar_policy_parts::PolicyID;
 use std::alloc::{AllocError, Global};
 use std::marker::Model;
 

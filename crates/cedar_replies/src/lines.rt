@@ -13,7 +13,7 @@ use crate::decision::Decision;
 use crate::error_kind::ErrorKind;
 use crate::refusal::Refusal;
 use cedar_frames::{Watched, put, put_quoted};
-use cedar_policies::PolicyID;
+use cedar_policy_parts::PolicyID;
 use std::io::Write;
 
 /// How a decision is written.

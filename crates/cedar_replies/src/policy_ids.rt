@@ -3,7 +3,7 @@ ghost use Rattle.std.specs.Prelude.{◌≡◌};
 ghost use Rattle.std.specs.FinMap as finite;
 ghost use Rattle.cedar_world.specs.Answer.{ids_of};
 
-use cedar_policies::PolicyID;
+use cedar_policy_parts::PolicyID;
 use std::alloc::AllocError;
 use std::marker::Model;
 

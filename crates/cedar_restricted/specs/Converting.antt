@@ -6,7 +6,7 @@ use Rattle.cedar_language.specs.Tree.{Tree}
 use Rattle.cedar_language.specs.Value.{Value}
 use Rattle.cedar_language.specs.Restricted.{is_restricted}
 use Rattle.cedar_trees.specs.Bare.{bare}
-use Rattle.cedar_partial_values.specs.PartialValues.{PartExpresses}
+use Rattle.cedar_restricted.specs.PartialValues.{PartExpresses}
 use Rattle.cedar_restricted.specs.Views.{restricted_tree}
 use Rattle.cedar_restricted.specs.declared.restricted.RestrictedExpr.{RestrictedExpr}
 use Rattle.cedar_restricted.specs.declared.conversions.PartialValueToRestrictedExprError.{PartialValueToRestrictedExprError}

@@ -1,3 +1,8 @@
+pub mod Expressing
+pub mod PartialValues
+pub mod Reading
+pub mod Splitting
+pub mod Laws
 pub mod Offences
 pub mod Readers
 pub mod Views

@@ -10,17 +10,17 @@ ghost use Rattle.cedar_restricted.specs.Readers.{literal_boolean, literal_long, 
 
 use crate::elements::{RestrictedElements, RestrictedPairs};
 use crate::errors::{InvalidRestrictedExpressionError, RestrictedExpressionError};
-use crate::laws::offences_are_what_is_not_restricted;
 use crate::offences::first_offence;
 use crate::restricted::RestrictedExpr;
+use crate::restricted_laws::offences_are_what_is_not_restricted;
 use cedar_literals::literals::{Integer, Literal};
 use cedar_literals::types::Type;
+use cedar_literals::uids::EntityUID;
 use cedar_names::names::Name;
 use cedar_shapes::readers::ExprReaders;
 use cedar_shapes::types::FunctionTypes;
 use cedar_trees::expr::{Expr, ExprKind};
 use cedar_trees::unknowns::Unknown;
-use cedar_uids::uids::EntityUID;
 use std::alloc::{AllocError, Global};
 use std::rc::RcStr;
 

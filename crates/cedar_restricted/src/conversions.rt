@@ -5,15 +5,15 @@ ghost use Rattle.cedar_trees.specs.Bare.{bare};
 ghost use Rattle.cedar_restricted.specs.Converting.{MakesRestricted};
 
 use crate::borrowed::BorrowedRestrictedExpr;
-use crate::laws::offences_are_what_is_not_restricted;
 use crate::offences::first_offence;
+use crate::partial_value_laws::written_values_are_restricted;
+use crate::partial_values::PartialValue;
 use crate::restricted::RestrictedExpr;
-use cedar_extension_values::extension_values::RepresentableExtensionValue;
+use crate::restricted_laws::offences_are_what_is_not_restricted;
+use crate::to_expr::ToExpr;
 use cedar_names::conversions::FromIn;
-use cedar_partial_values::laws::written_values_are_restricted;
-use cedar_partial_values::partial_values::PartialValue;
-use cedar_partial_values::to_expr::ToExpr;
 use cedar_trees::expr::Expr;
+use cedar_values::extension_values::RepresentableExtensionValue;
 use cedar_values::values::{Value, ValueKind};
 use std::alloc::{AllocError, Global};
 use std::convert::AsRef;
@@ -25,7 +25,7 @@ impl FromIn<Value> for RestrictedExpr {
 
     ghost use Rattle.cedar_restricted.specs.Views.{restricted_tree};
     ghost use Rattle.std.specs.Prelude.{IfOk};
-    ghost use Rattle.cedar_partial_values.specs.Expressing.{Expresses};
+    ghost use Rattle.cedar_restricted.specs.Expressing.{Expresses};
 
     ghost from_in_gives = { λ value result. IfOk result (λ expr. Expresses value (restricted_tree expr)) };
 
@@ -42,7 +42,7 @@ impl FromIn<ValueKind> for RestrictedExpr {
     ghost use Rattle.cedar_restricted.specs.Views.{restricted_tree};
     ghost use Rattle.std.specs.Prelude.{IfOk};
     ghost use Rattle.cedar_values.specs.Kinds.{value_of};
-    ghost use Rattle.cedar_partial_values.specs.Expressing.{Expresses};
+    ghost use Rattle.cedar_restricted.specs.Expressing.{Expresses};
 
     ghost from_in_gives = { λ kind result. IfOk result (λ expr. Expresses (value_of kind) (restricted_tree expr)) };
 
@@ -58,7 +58,7 @@ impl FromIn<RepresentableExtensionValue> for RestrictedExpr {
 
     ghost use Rattle.cedar_restricted.specs.Views.{restricted_tree};
     ghost use Rattle.std.specs.Prelude.{◌≡◌, IfOk};
-    ghost use Rattle.cedar_extension_values.specs.Representations.{written_call};
+    ghost use Rattle.cedar_values.specs.Representations.{written_call};
 
     ghost from_in_gives = { λ value result. IfOk result (λ expr. restricted_tree expr ≡ written_call value) };
 
@@ -99,7 +99,7 @@ impl From<AllocError> for PartialValueToRestrictedExprError {
 impl FromIn<PartialValue> for RestrictedExpr {
     type Error = PartialValueToRestrictedExprError;
 
-    ghost use Rattle.cedar_partial_values.specs.PartialValues.{partial_of};
+    ghost use Rattle.cedar_restricted.specs.PartialValues.{partial_of};
     ghost use Rattle.cedar_restricted.specs.Converting.{MakesRestricted};
 
     ghost from_in_gives = { λ partial result. MakesRestricted (partial_of partial) result };

@@ -1,12 +1,18 @@
-//! Restricted expressions of Cedar: literals, unknowns, sets, records and calls of extension functions
-//! alone. They stand for the values of attributes and contexts.
+//! Partial values and restricted expressions: values written as expressions, expressions that hold data
+//! alone, and what is read of them.
 #![tactic(auto)]
 
 pub mod borrowed;
 pub mod conversions;
 pub mod elements;
 pub mod errors;
-pub mod laws;
+pub mod from_expr;
 mod offences;
+pub mod partial_value_laws;
+pub mod partial_values;
+mod representations;
 pub mod restricted;
+pub mod restricted_laws;
 pub mod shapes;
+pub mod split;
+pub mod to_expr;

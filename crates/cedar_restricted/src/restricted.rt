@@ -14,12 +14,12 @@ use crate::borrowed::BorrowedRestrictedExpr;
 use crate::elements::{RestrictedElements, RestrictedPairs};
 use crate::errors::RestrictedExpressionError;
 use cedar_literals::literals::{Integer, Literal};
+use cedar_literals::uids::EntityUID;
 use cedar_names::names::Name;
 use cedar_names::places::Loc;
 use cedar_trees::errors::ExpressionConstructionError;
 use cedar_trees::expr::Expr;
 use cedar_trees::unknowns::Unknown;
-use cedar_uids::uids::EntityUID;
 use std::alloc::{AllocError, Global};
 use std::rc::RcStr;
 

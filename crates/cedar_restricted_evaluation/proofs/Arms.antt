@@ -16,8 +16,8 @@ use Rattle.cedar_language.specs.Height.{height}
 use Rattle.cedar_language.specs.Operators.{applied, called, count, or_fails}
 use Rattle.cedar_language.specs.Order.{text_cmp, all_of, set_of}
 use Rattle.cedar_language.specs.Restricted.{is_restricted, are_restricted}
-use Rattle.cedar_early.specs.Partial.{Answer, Evaluated, ResidualTree, Failed, Answers, AllEvaluated, SomeResiduals, SomeFailed, answer_of, residual_answer, apply_answer, partial_in, all_partial_in}
-use Rattle.cedar_early.specs.Question.{name_held}
+use Rattle.cedar_partial_evaluation.specs.Partial.{Answer, Evaluated, ResidualTree, Failed, Answers, AllEvaluated, SomeResiduals, SomeFailed, answer_of, residual_answer, apply_answer, partial_in, all_partial_in}
+use Rattle.cedar_partial_evaluation.specs.Question.{name_held}
 use Rattle.cedar_grammar.specs.Build.{trees, keys}
 use Rattle.cedar_world.specs.Bodies.{named, all_named}
 use Rattle.cedar_world.specs.Functions.{is_the_unknown, one_string, unknown_function}
@@ -27,19 +27,19 @@ use Rattle.cedar_trees.specs.declared.expr.ExprKind.TheVariants as kind
 use Rattle.cedar_trees.specs.Unknowns.{unknown_name, unknown_type}
 use Rattle.cedar_trees.specs.declared.unknowns.Unknown as code
 use Rattle.cedar_trees.proofs.Bares.{bare_is, bare-Unknown, bare-Set, bare-Record}
-use Rattle.cedar_errors.specs.Failures.{failure_of}
-use Rattle.cedar_errors.specs.Giving.{fails_on}
-use Rattle.cedar_errors.specs.declared.evaluation_error.EvaluationError.{EvaluationError}
+use Rattle.cedar_extensions.specs.Failures.{failure_of}
+use Rattle.cedar_extensions.specs.Giving.{fails_on}
+use Rattle.cedar_extensions.specs.declared.evaluation_error.EvaluationError.{EvaluationError}
 use Rattle.cedar_extensions.specs.Holding.{are_named}
 use Rattle.cedar_names.specs.declared.places.Place.{Place}
 use Rattle.cedar_extensions.specs.Tables.{functions_in, holds_unknown, function_called}
 use Rattle.cedar_extensions.specs.declared.extensions.Extensions.{Extensions}
 use Rattle.cedar_values.specs.Kinds.{keys_of, values_of}
-use Rattle.cedar_partial_values.proofs.Rising.{texts, keys_are}
-use Rattle.cedar_partial_values.specs.Expressing.{is_ground, are_ground}
-use Rattle.cedar_partial_values.specs.PartialValues.{partial_of}
-use Rattle.cedar_partial_values.specs.Splitting.{ExpressEach, is_residual}
-use Rattle.cedar_partial_values.specs.declared.partial_values.PartialValue.{PartialValue}
+use Rattle.cedar_restricted.proofs.Rising.{texts, keys_are}
+use Rattle.cedar_restricted.specs.Expressing.{is_ground, are_ground}
+use Rattle.cedar_restricted.specs.PartialValues.{partial_of}
+use Rattle.cedar_restricted.specs.Splitting.{ExpressEach, is_residual}
+use Rattle.cedar_restricted.specs.declared.partial_values.PartialValue.{PartialValue}
 use Rattle.cedar_restricted_evaluation.specs.Evaluations.{HasFunctions, nothing_told, named_by, all_named_by, answer_in}
 use Rattle.cedar_restricted_evaluation.specs.Findings.{IsCalled, Calls, IsFound, Errs, Evaluates, answers_in, AreFound, SomeErrs}
 use Rattle.cedar_restricted_evaluation.proofs.Naming.{held_is_found, by_naming, names_unknown_so}

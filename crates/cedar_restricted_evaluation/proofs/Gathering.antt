@@ -15,18 +15,18 @@ use Rattle.cedar_language.specs.Facts.{Facts}
 use Rattle.cedar_language.specs.Height.{height, heights}
 use Rattle.cedar_language.specs.Order.{all_of, placed, put, rising, value_cmp}
 use Rattle.cedar_language.specs.Restricted.{is_restricted, are_restricted}
-use Rattle.cedar_early.specs.MadeAgain.{tree_of, trees_of}
-use Rattle.cedar_early.specs.Partial.{Answer, Evaluated, ResidualTree, Answers, AllEvaluated, SomeResiduals, SomeFailed, and_next, all_partial_in}
+use Rattle.cedar_partial_evaluation.specs.MadeAgain.{tree_of, trees_of}
+use Rattle.cedar_partial_evaluation.specs.Partial.{Answer, Evaluated, ResidualTree, Answers, AllEvaluated, SomeResiduals, SomeFailed, and_next, all_partial_in}
 use Rattle.cedar_grammar.specs.Build.{trees}
-use Rattle.cedar_errors.specs.Failures.{Failure, failure_of}
-use Rattle.cedar_errors.specs.Giving.{FailsBy, GivesBy, fails_on}
-use Rattle.cedar_errors.specs.declared.evaluation_error.EvaluationError.{EvaluationError}
+use Rattle.cedar_extensions.specs.Failures.{Failure, failure_of}
+use Rattle.cedar_extensions.specs.Giving.{FailsBy, GivesBy, fails_on}
+use Rattle.cedar_extensions.specs.declared.evaluation_error.EvaluationError.{EvaluationError}
 use Rattle.cedar_extensions.specs.Tables.{holds_unknown}
 use Rattle.cedar_extensions.specs.declared.extensions.Extensions.{Extensions}
-use Rattle.cedar_partial_values.specs.Expressing.{is_ground, are_ground, Expresses, ExpressAll}
-use Rattle.cedar_partial_values.specs.Laws.{holds_extension, hold_extension}
-use Rattle.cedar_partial_values.specs.Splitting.{ExpressEach, is_residual}
-use Rattle.cedar_partial_values.proofs.ReadBack.{ground, restricted}
+use Rattle.cedar_restricted.specs.Expressing.{is_ground, are_ground, Expresses, ExpressAll}
+use Rattle.cedar_restricted.specs.Laws.{holds_extension, hold_extension}
+use Rattle.cedar_restricted.specs.Splitting.{ExpressEach, is_residual}
+use Rattle.cedar_restricted.proofs.ReadBack.{ground, restricted}
 use Rattle.cedar_restricted_evaluation.specs.Evaluations.{HasFunctions, nothing_told, named_by, all_named_by, answer_in}
 use Rattle.cedar_restricted_evaluation.specs.Findings.{IsFound, Errs, answers_in, AreFound, SomeErrs}
 

@@ -9,18 +9,18 @@ use Rattle.cedar_language.specs.Value.{Value, Kind, Outcome, Gives, Fails}
 use Rattle.cedar_language.specs.Facts.{Facts}
 use Rattle.cedar_language.specs.Height.{height}
 use Rattle.cedar_language.specs.Meaning.{Request, meaning}
-use Rattle.cedar_early.specs.Like.{itself}
-use Rattle.cedar_early.specs.Partial.{Evaluated, ResidualTree, Failed, Answers, AllEvaluated, SomeResiduals, SomeFailed, LeafAnswers, KnownIsMeaning, answer_of, leaf_answers_of, and_next, apply_answer, partial_in, all_partial_in}
+use Rattle.cedar_partial_evaluation.specs.Like.{itself}
+use Rattle.cedar_partial_evaluation.specs.Partial.{Evaluated, ResidualTree, Failed, Answers, AllEvaluated, SomeResiduals, SomeFailed, LeafAnswers, KnownIsMeaning, answer_of, leaf_answers_of, and_next, apply_answer, partial_in, all_partial_in}
 use Rattle.cedar_world.specs.Bodies.{named, all_named, named_call, unknown_or, holds_call, hold_call}
 use Rattle.cedar_world.specs.Functions.{is_the_unknown}
-use Rattle.cedar_errors.specs.Failures.{failure_of}
-use Rattle.cedar_errors.specs.Giving.{fails_on}
-use Rattle.cedar_errors.specs.declared.evaluation_error.EvaluationError.{EvaluationError}
+use Rattle.cedar_extensions.specs.Failures.{failure_of}
+use Rattle.cedar_extensions.specs.Giving.{fails_on}
+use Rattle.cedar_extensions.specs.declared.evaluation_error.EvaluationError.{EvaluationError}
 use Rattle.cedar_extensions.specs.Tables.{holds_unknown}
 use Rattle.cedar_extensions.specs.declared.extensions.Extensions.{Extensions}
-use Rattle.cedar_partial_values.specs.Expressing.{is_ground, are_ground}
-use Rattle.cedar_partial_values.specs.PartialValues.{partial_of}
-use Rattle.cedar_partial_values.specs.declared.partial_values.PartialValue.{PartialValue}
+use Rattle.cedar_restricted.specs.Expressing.{is_ground, are_ground}
+use Rattle.cedar_restricted.specs.PartialValues.{partial_of}
+use Rattle.cedar_restricted.specs.declared.partial_values.PartialValue.{PartialValue}
 use Rattle.cedar_restricted_evaluation.specs.Evaluations as evaluation
 use Rattle.cedar_restricted_evaluation.specs.Evaluations.{HasFunctions, IsKnown, IsMeant, MeansKnown, nothing_told, named_by, answer_in, IsAnswer, IsLeft}
 use Rattle.cedar_restricted_evaluation.specs.Findings.{IsFound, Errs, Evaluates}

@@ -10,17 +10,17 @@ use Rattle.cedar_language.specs.Facts.{Facts}
 use Rattle.cedar_language.specs.Height.{height}
 use Rattle.cedar_language.specs.Meaning.{Request, meaning}
 use Rattle.cedar_language.specs.Restricted.{is_restricted}
-use Rattle.cedar_early.specs.Like.{IsLike}
-use Rattle.cedar_early.specs.Partial.{Answer, Evaluated, ResidualTree, Failed, LeafAnswers, partial_in}
-use Rattle.cedar_early.specs.Question.{held_names}
+use Rattle.cedar_partial_evaluation.specs.Like.{IsLike}
+use Rattle.cedar_partial_evaluation.specs.Partial.{Answer, Evaluated, ResidualTree, Failed, LeafAnswers, partial_in}
+use Rattle.cedar_partial_evaluation.specs.Question.{held_names}
 use Rattle.cedar_world.specs.Bodies.{named, all_named, holds_call}
-use Rattle.cedar_errors.specs.Giving.{GivesBy}
-use Rattle.cedar_errors.specs.declared.evaluation_error.EvaluationError.{EvaluationError}
+use Rattle.cedar_extensions.specs.Giving.{GivesBy}
+use Rattle.cedar_extensions.specs.declared.evaluation_error.EvaluationError.{EvaluationError}
 use Rattle.cedar_extensions.specs.Tables.{holds_unknown, function_called}
 use Rattle.cedar_extensions.specs.declared.extensions.Extensions.{Extensions}
-use Rattle.cedar_partial_values.specs.Expressing.{is_ground}
-use Rattle.cedar_partial_values.specs.PartialValues.{partial_of}
-use Rattle.cedar_partial_values.specs.declared.partial_values.PartialValue.{PartialValue}
+use Rattle.cedar_restricted.specs.Expressing.{is_ground}
+use Rattle.cedar_restricted.specs.PartialValues.{partial_of}
+use Rattle.cedar_restricted.specs.declared.partial_values.PartialValue.{PartialValue}
 
 -- the functions are those of the table; a restricted tree looks at nothing else that is held
 abbrev pub HasFunctions : Extensions → Facts → Type 0

@@ -9,17 +9,17 @@ use Rattle.cedar_language.specs.Value.{Value, Plain, Values, Gives, Fails, Kind}
 use Rattle.cedar_language.specs.Facts.{Facts}
 use Rattle.cedar_language.specs.Operators.{called}
 use Rattle.cedar_language.specs.Restricted.{is_restricted}
-use Rattle.cedar_early.specs.Partial.{Answers, Evaluated, ResidualTree, Failed, SomeFailed, all_partial_in}
+use Rattle.cedar_partial_evaluation.specs.Partial.{Answers, Evaluated, ResidualTree, Failed, SomeFailed, all_partial_in}
 use Rattle.cedar_grammar.specs.Build.{trees}
 use Rattle.cedar_world.specs.Functions.{is_the_unknown}
-use Rattle.cedar_errors.specs.Giving.{GivesBy}
-use Rattle.cedar_errors.specs.declared.evaluation_error.EvaluationError.{EvaluationError}
+use Rattle.cedar_extensions.specs.Giving.{GivesBy}
+use Rattle.cedar_extensions.specs.declared.evaluation_error.EvaluationError.{EvaluationError}
 use Rattle.cedar_extensions.specs.Tables.{holds_unknown, function_called}
 use Rattle.cedar_extensions.specs.declared.extensions.Extensions.{Extensions}
-use Rattle.cedar_partial_values.specs.Expressing.{is_ground}
-use Rattle.cedar_partial_values.specs.Laws.{holds_extension}
-use Rattle.cedar_partial_values.specs.PartialValues.{partial_of}
-use Rattle.cedar_partial_values.specs.declared.partial_values.PartialValue.{PartialValue}
+use Rattle.cedar_restricted.specs.Expressing.{is_ground}
+use Rattle.cedar_restricted.specs.Laws.{holds_extension}
+use Rattle.cedar_restricted.specs.PartialValues.{partial_of}
+use Rattle.cedar_restricted.specs.declared.partial_values.PartialValue.{PartialValue}
 use Rattle.cedar_restricted_evaluation.specs.Evaluations.{HasFunctions, nothing_told, all_named_by, answer_in}
 
 -- ---- calls

@@ -2,12 +2,12 @@
 ghost use Rattle.cedar_language.specs.Order.{all_of};
 ghost use Rattle.cedar_restricted_evaluation.specs.Findings.{Calls};
 
-use cedar_errors::evaluation_error::EvaluationError;
+use cedar_extensions::evaluation_error::EvaluationError;
 use cedar_extensions::extensions::Extensions;
 use cedar_extensions::functions::ExtensionOutputValue;
 use cedar_names::names::Name;
 use cedar_names::places::Loc;
-use cedar_partial_values::partial_values::PartialValue;
+use cedar_restricted::partial_values::PartialValue;
 use cedar_values::values::Value;
 use std::alloc::Global;
 

@@ -4,7 +4,7 @@ ghost use Rattle.cedar_language.specs.Height.{height, heights};
 ghost use Rattle.cedar_language.specs.Restricted.{is_restricted, are_restricted};
 ghost use Rattle.cedar_language.specs.Tree.{Apply, MakeSet, MakeRecord, Call};
 ghost use Rattle.cedar_grammar.specs.Build.{trees, keys};
-ghost use Rattle.cedar_partial_values.specs.PartialValues.{partial_of};
+ghost use Rattle.cedar_restricted.specs.PartialValues.{partial_of};
 ghost use Rattle.cedar_restricted.specs.Views.{borrowed_tree};
 ghost use Rattle.cedar_trees.specs.Bare.{bare, bare_entries};
 ghost use Rattle.cedar_restricted_evaluation.specs.Evaluations.{MeansKnown, Answers, IsLeft};
@@ -12,14 +12,14 @@ ghost use Rattle.cedar_restricted_evaluation.specs.Findings.{Evaluates, Evaluate
 
 use crate::calls::call;
 use crate::records::keyed;
-use cedar_early::known_is_meaning;
-use cedar_errors::evaluation_error::EvaluationError;
+use cedar_extensions::evaluation_error::EvaluationError;
 use cedar_extensions::extensions::Extensions;
 use cedar_names::names::Name;
 use cedar_names::places::Loc;
-use cedar_partial_values::partial_values::PartialValue;
-use cedar_partial_values::split::split;
+use cedar_partial_evaluation::known_is_meaning;
 use cedar_restricted::borrowed::BorrowedRestrictedExpr;
+use cedar_restricted::partial_values::PartialValue;
+use cedar_restricted::split::split;
 use cedar_trees::expr::{Expr, ExprKind};
 use cedar_values::values::{Value, ValueKind};
 use either::Either;

@@ -20,7 +20,7 @@ use Rattle.cedar_world.proofs.BodyCommands.{not_below, no_text, not_restricted, 
 use Rattle.cedar_replies.specs.declared.refusal.Refusal.{Refusal}
 use Rattle.cedar_replies.specs.declared.refusal.Refusal.TheVariants.{Text, Depth, NotRestricted, Shape, Evaluation, NotAValue, Duplicate, Cycle, Memory}
 use Rattle.cedar_replies.specs.Refusals.{refusal_of}
-use Rattle.cedar_edits.specs.Edits.{AreFine, PutsBody, AddsBody, RemovesBody}
+use Rattle.cedar_held.specs.EntityEdits.{AreFine, PutsBody, AddsBody, RemovesBody}
 use Rattle.cedar_texts.specs.Reading.{ReadsBody}
 
 not_both : (b : Bool) → b ≡ false → b ≡ true → ⊥

@@ -16,7 +16,7 @@ use Rattle.cedar_world.proofs.BodyCommands.{Stand, First, no_text, not_restricte
 use Rattle.cedar_replies.specs.declared.refusal.Refusal.{Refusal}
 use Rattle.cedar_replies.specs.declared.refusal.Refusal.TheVariants.{Text, Depth, NotRestricted, Shape, NoSuchTemplate, NotTemplate, Arity, IdConflict, NotLink, NoSuchPolicy, HasLinks, NotStatic, Memory}
 use Rattle.cedar_replies.specs.Refusals.{refusal_of}
-use Rattle.cedar_held_policies.specs.Edits.{LinksBody, UnlinksId, RemovesStatic, RemovesTemplate}
+use Rattle.cedar_held.specs.PolicyEdits.{LinksBody, UnlinksId, RemovesStatic, RemovesTemplate}
 use Rattle.cedar_texts.specs.Reading.{ReadsBody}
 
 -- the world refuses so, or there was no memory

@@ -14,7 +14,7 @@ use Rattle.cedar_world.specs.Bodies as world
 use Rattle.cedar_world.proofs.SoFar.{IsPlainContext, asks_plainly}
 use Rattle.cedar_bodies.specs.Questions as body
 use Rattle.cedar_bodies.specs.declared.questions.AskBody.{AskBody}
-use Rattle.cedar_scopes.specs.Questions as scopes
+use Rattle.cedar_held.specs.Questions as scopes
 
 same_part : (u : Option Uid) → world.part_of u ≡ scopes.part_of u
 same_part None = refl

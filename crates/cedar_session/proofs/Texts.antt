@@ -4,8 +4,8 @@ use Rattle.std.specs.FinMap as finite
 use Rattle.cedar_language.specs.Uid as uid
 use Rattle.cedar_language.specs.Tree.{Tree}
 use Rattle.cedar_language.specs.Height.{height}
-use Rattle.cedar_scopes.specs.declared.question.Question.{Question}
-use Rattle.cedar_scopes.specs.Questions.{question_of}
+use Rattle.cedar_held.specs.declared.question.Question.{Question}
+use Rattle.cedar_held.specs.Questions.{question_of}
 use Rattle.cedar_world.specs.Syntax.{PolicySyntax}
 use Rattle.cedar_world.specs.World.{World, Policies}
 use Rattle.cedar_world.specs.PolicyEdits.{Loads}
@@ -21,7 +21,7 @@ use Rattle.cedar_replies.specs.declared.refusal.Refusal.TheVariants.{Text, Depth
 use Rattle.cedar_replies.specs.Refusals.{refusal_of}
 use Rattle.cedar_replies.specs.Replies.{answer_of}
 use Rattle.cedar_session.specs.Reading.{Gives}
-use Rattle.cedar_policy_texts.specs.Reading.{ReadsPolicies}
+use Rattle.cedar_texts.specs.PolicyReading.{ReadsPolicies}
 use Rattle.cedar_texts.specs.Reading.{IsLowBody, ReadsBody}
 use Rattle.cedar_texts.specs.Settings.{setting_with}
 use Rattle.cedar_language.specs.Facts.{Written}
@@ -30,7 +30,7 @@ use Rattle.cedar_world.specs.Functions.{function_of}
 use Rattle.cedar_extensions.specs.Defining.{defined}
 use Rattle.cedar_extensions.specs.Tables.{functions_in, holds_unknown, function_called}
 use Rattle.cedar_extensions.specs.declared.extensions.Extensions.{Extensions}
-use Rattle.cedar_versions.specs.Fields.{Serves}
+use Rattle.cedar_bodies.specs.Fields.{Serves}
 
 -- ---- steps
 

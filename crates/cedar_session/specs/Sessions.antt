@@ -1,10 +1,10 @@
 -- What a session holds, as the world names it.
 use Rattle.std.specs.Prelude.{Result, Ok, Err, Vec}
 use Rattle.std.specs.declared.alloc.Global.{Global}
-use Rattle.cedar_policies.specs.declared.policy_id.PolicyID.{PolicyID}
+use Rattle.cedar_policy_parts.specs.declared.policy_id.PolicyID.{PolicyID}
 use Rattle.std.specs.Option.{option_map}
 use Rattle.std.specs.FinMap as finite
-use Rattle.cedar_scopes.specs.Questions.{question_of}
+use Rattle.cedar_held.specs.Questions.{question_of}
 use Rattle.cedar_world.specs.World as world
 use Rattle.cedar_world.specs.World.{World}
 use Rattle.cedar_texts.specs.Settings.{setting_with}

@@ -1,15 +1,15 @@
 // The question that a body states.
 ghost use Rattle.std.specs.Prelude.{◌≡◌, IfOk, option_map};
 ghost use Rattle.cedar_trees.specs.Bare.{bare};
-ghost use Rattle.cedar_scopes.specs.Questions.{question_of};
+ghost use Rattle.cedar_held.specs.Questions.{question_of};
 ghost use Rattle.cedar_world.specs.Bodies as world;
 ghost use Rattle.cedar_session.specs.Reading.{Gives};
 
 use cedar_bodies::ask_body;
+use cedar_held::Question;
+use cedar_literals::uids::EntityUID;
 use cedar_replies::Refusal;
-use cedar_scopes::Question;
 use cedar_trees::expr::Expr;
-use cedar_uids::uids::EntityUID;
 use std::alloc::{AllocError, Global};
 
 // A copy of an entity, where one is given.

@@ -8,14 +8,11 @@ ghost use Rattle.cedar_session.specs.Commands.{command_verb, command_text};
 use crate::asking::question_in;
 use crate::command::Command;
 use cedar_bodies::{link_body, string_of};
-use cedar_edits::HeldEntities;
 use cedar_extensions::extensions::Extensions;
-use cedar_held_policies::HeldPolicies;
-use cedar_policies::PolicyID;
-use cedar_policy_texts::read_policies;
+use cedar_held::{HeldEntities, HeldPolicies, Question, answer};
+use cedar_policy_parts::PolicyID;
 use cedar_replies::{Answer, Refusal, Reply};
-use cedar_scopes::{Question, answer};
-use cedar_texts::read_body;
+use cedar_texts::{read_body, read_policies};
 use std::alloc::Global;
 
 /// A question that was asked, and the answer that was given last.

@@ -8,10 +8,10 @@ ghost use Rattle.cedar_shapes.specs.Positions.{positions, need_all};
 ghost use Rattle.cedar_shapes.specs.Stack.{stack_of};
 
 use crate::parts::Parts;
+use cedar_literals::slots::{Slot, SlotId};
 use cedar_names::places::Loc;
 use cedar_trees::expr::{Expr, ExprKind};
 use cedar_trees::unknowns::Unknown;
-use cedar_uids::slots::{Slot, SlotId};
 use std::alloc::{AllocError, Global};
 
 // Puts the parts onto a stack that has room for them, the first one lowest.

@@ -17,11 +17,11 @@ ghost use Rattle.cedar_shapes.specs.ShapeOrder.{mark, kind_number, numbered, ope
 use cedar_literals::literals::Literal;
 use cedar_literals::operators::{BinaryOp, UnaryOp};
 use cedar_literals::patterns::Pattern;
+use cedar_literals::slots::SlotId;
 use cedar_literals::variables::Var;
 use cedar_names::names::Name;
 use cedar_trees::expr::{Expr, ExprKind};
 use cedar_trees::unknowns::{NonEmpty, Unknown};
-use cedar_uids::slots::SlotId;
 use std::cmp::Ordering;
 use std::collections::BTreeMap;
 use std::hash::{Hash, Hasher};

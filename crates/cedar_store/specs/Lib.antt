@@ -1,19 +1,19 @@
 pub use Rattle.cedar_closure.specs.Graph
 pub use Rattle.cedar_closure.specs.Paths
-pub use Rattle.cedar_entity.specs.Attributes
-pub use Rattle.cedar_entity.specs.Data
+pub use Rattle.cedar_entities.specs.Attributes
+pub use Rattle.cedar_entities.specs.Data
 pub use Rattle.cedar_entities.specs.Edits
 pub use Rattle.cedar_entities.specs.Held
 pub use Rattle.cedar_entities.specs.Kept
 pub use Rattle.cedar_entities.specs.Modes
 pub use Rattle.cedar_entities.specs.Refusals
 pub use Rattle.cedar_entities.specs.Store
-pub use Rattle.cedar_entity_evaluation.specs.Evaluated
-pub use Rattle.cedar_entity_validation.specs.Calls
-pub use Rattle.cedar_entity_validation.specs.Validated as ValidatedCalls
-pub use Rattle.cedar_entities_world.specs.Shown
-pub use Rattle.cedar_policies.specs.Effects
-pub use Rattle.cedar_annotations.specs.Annotations
+pub use Rattle.cedar_entities.specs.Evaluated
+pub use Rattle.cedar_entities.specs.Calls
+pub use Rattle.cedar_entities.specs.Validated as ValidatedCalls
+pub use Rattle.cedar_entities.specs.Shown
+pub use Rattle.cedar_policy_parts.specs.Effects
+pub use Rattle.cedar_policy_parts.specs.Annotations
 pub use Rattle.cedar_constraints.specs.Actions
 pub use Rattle.cedar_constraints.specs.Asked
 pub use Rattle.cedar_constraints.specs.Bindings
@@ -22,8 +22,8 @@ pub use Rattle.cedar_templates.specs.Bodies
 pub use Rattle.cedar_templates.specs.StaticPolicies
 pub use Rattle.cedar_templates.specs.Templates
 pub use Rattle.cedar_templates.specs.Validation
-pub use Rattle.cedar_links.specs.Linking
-pub use Rattle.cedar_links.specs.Policies
+pub use Rattle.cedar_policies.specs.Linking
+pub use Rattle.cedar_policies.specs.Policies
 pub use Rattle.cedar_policy_set.specs.Bounds
 pub use Rattle.cedar_policy_set.specs.Entries
 pub use Rattle.cedar_policy_set.specs.Texts

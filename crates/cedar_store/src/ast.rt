@@ -1,6 +1,5 @@
 // Entities, scopes, templates, policies and policy sets.
 
-pub use cedar_annotations::annotations::{Annotation, Annotations, IntoIter};
 pub use cedar_constraints::actions::ActionConstraint;
 pub use cedar_constraints::bindings::SlotEnv;
 pub use cedar_constraints::constraints::{PrincipalOrResource, PrincipalOrResourceConstraint};
@@ -8,17 +7,19 @@ pub use cedar_constraints::errors::{ActionTypeError, InvalidActionType, Unexpect
 pub use cedar_constraints::principals::PrincipalConstraint;
 pub use cedar_constraints::references::EntityReference;
 pub use cedar_constraints::resources::ResourceConstraint;
-pub use cedar_entity::ancestors::Ancestors;
-pub use cedar_entity::attributes::Attributes;
-pub use cedar_entity::entity::Entity;
-pub use cedar_entity_evaluation::{EntityAttrEvaluationError, EntityCreationError, EvaluateEntity};
-pub use cedar_entity_validation::EntityValidation;
-pub use cedar_links::errors::LinkingError;
-pub use cedar_links::linking::TemplateLinks;
-pub use cedar_links::policies::Policy;
+pub use cedar_entities::ancestors::Ancestors;
+pub use cedar_entities::attributes::Attributes;
+pub use cedar_entities::entity::Entity;
+pub use cedar_entities::{
+    EntityAttrEvaluationError, EntityCreationError, EntityValidation, EvaluateEntity,
+};
 pub use cedar_merging::merging::Merging;
 pub use cedar_merging::renaming::{Renaming, renamed_id, renaming_of};
-pub use cedar_policies::{Effect, PolicyID};
+pub use cedar_policies::errors::LinkingError;
+pub use cedar_policies::linking::TemplateLinks;
+pub use cedar_policies::policies::Policy;
+pub use cedar_policy_parts::annotations::{Annotation, Annotations, IntoIter};
+pub use cedar_policy_parts::{Effect, PolicyID};
 pub use cedar_policy_set::errors::{
     PolicySetError, PolicySetGetLinksError, PolicySetPolicyRemovalError,
     PolicySetTemplateRemovalError, PolicySetUnlinkError, PolicySetValidationError,

@@ -1,6 +1,6 @@
 // The store of entities.
 
+pub use cedar_entities::EntitiesValidation;
 pub use cedar_entities::closing::TCComputation;
 pub use cedar_entities::errors::{Duplicate, EntitiesError};
 pub use cedar_entities::store::{Dereference, Entities, EntityIterator};
-pub use cedar_entity_validation::EntitiesValidation;

@@ -11,7 +11,7 @@ use Rattle.std.specs.Rc.{rc_str_bytes}
 use Rattle.cedar_language.specs.Uid.{Text}
 use Rattle.cedar_language.specs.Tree.{ValueType, Unknown}
 use Rattle.cedar_language.specs.Value.{Value}
-use Rattle.cedar_partial_values.specs.Expressing.{Expresses}
+use Rattle.cedar_restricted.specs.Expressing.{Expresses}
 use Rattle.cedar_trees.specs.Bare.{bare}
 use Rattle.cedar_trees.specs.declared.expr.Expr.{Expr}
 use Rattle.cedar_substitution.specs.Told.{told_for, tree_or, told_tree}

@@ -9,7 +9,7 @@ use Rattle.cedar_language.specs.Value.{Value}
 use Rattle.cedar_literals.specs.Types.{value_type_of, same_type}
 use Rattle.cedar_literals.specs.declared.types.Type as code
 use Rattle.cedar_values.specs.Types.{type_of_value}
-use Rattle.cedar_partial_values.specs.Expressing.{Expresses}
+use Rattle.cedar_restricted.specs.Expressing.{Expresses}
 use Rattle.cedar_trees.specs.Bare.{bare}
 use Rattle.cedar_trees.specs.declared.expr.Expr.{Expr}
 use Rattle.cedar_builders.specs.Operations.{Operations, made}

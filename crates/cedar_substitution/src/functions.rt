@@ -2,7 +2,7 @@
 
 use crate::errors::SubstitutionError;
 use crate::told_values::types_apart;
-use cedar_partial_values::to_expr::ToExpr;
+use cedar_restricted::to_expr::ToExpr;
 use cedar_trees::expr::Expr;
 use cedar_trees::unknowns::Unknown;
 use cedar_values::values::Value;

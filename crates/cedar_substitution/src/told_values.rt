@@ -10,7 +10,7 @@ use crate::errors::SubstitutionError;
 use crate::substitution::SubstituteExprs;
 use cedar_builders::expr_builder::ExprBuilder;
 use cedar_literals::types::{StaticallyTyped, Type};
-use cedar_partial_values::to_expr::ToExpr;
+use cedar_restricted::to_expr::ToExpr;
 use cedar_shapes::iteration::Unknowns;
 use cedar_trees::expr::Expr;
 use cedar_trees::unknowns::Unknown;

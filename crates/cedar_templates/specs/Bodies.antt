@@ -7,7 +7,7 @@ use Rattle.cedar_language.specs.Tree.{Tree}
 use Rattle.cedar_grammar.specs.Policy.{Policy}
 use Rattle.cedar_trees.specs.Bare.{bare}
 use Rattle.cedar_trees.specs.declared.expr.Expr.{Expr}
-use Rattle.cedar_policies.specs.Effects.{effect_of}
+use Rattle.cedar_policy_parts.specs.Effects.{effect_of}
 use Rattle.cedar_constraints.specs.Actions.{action_of}
 use Rattle.cedar_templates.specs.declared.bodies.TemplateBody.{TemplateBody}
 

@@ -11,7 +11,7 @@ use Rattle.cedar_language.specs.Tree.{Tree}
 use Rattle.cedar_grammar.specs.Policy.{Policy}
 use Rattle.cedar_shapes.specs.ShapeOrder.{tree_cmp}
 use Rattle.cedar_shapes.specs.ShapesOnly.{tree_eq_decides}
-use Rattle.cedar_annotations.specs.Sameness.{same_annotations, annotations_decide}
+use Rattle.cedar_policy_parts.specs.Sameness.{same_annotations, annotations_decide}
 use Rattle.cedar_constraints.specs.Sameness.{same_constraint, same_action, constraints_decide, actions_decide}
 
 abbrev pub same_effect : Effect → Effect → Bool

@@ -6,12 +6,12 @@ use Rattle.cedar_language.specs.Tree.{SlotId, Tree}
 use Rattle.cedar_grammar.specs.Policy.{Policy}
 use Rattle.cedar_shapes.specs.Leaves.{slots_among}
 use Rattle.cedar_shapes.specs.Positions.{positions}
-use Rattle.cedar_errors.specs.Causes.{Cause}
+use Rattle.cedar_extensions.specs.Causes.{Cause}
 use Rattle.cedar_extensions.specs.declared.extensions.Extensions.{Extensions}
-use Rattle.cedar_validation.specs.Calls.{calls_in, call_fits, first_fault}
-use Rattle.cedar_validation.specs.Refused.{Refuses}
-use Rattle.cedar_validation.specs.declared.errors.ExprValidationError.{ExprValidationError}
-use Rattle.cedar_validation.specs.declared.errors.ExprValidationError.TheVariants as expression
+use Rattle.cedar_extensions.specs.Calls.{calls_in, call_fits, first_fault}
+use Rattle.cedar_extensions.specs.ValidationRefusals.{Refuses}
+use Rattle.cedar_extensions.specs.declared.validation_errors.ExprValidationError.{ExprValidationError}
+use Rattle.cedar_extensions.specs.declared.validation_errors.ExprValidationError.TheVariants as expression
 use Rattle.cedar_constraints.specs.Actions.{others, uids_of, held_uids}
 use Rattle.cedar_constraints.specs.declared.errors.ActionTypeError.{ActionTypeError}
 use Rattle.cedar_constraints.specs.declared.errors.ActionTypeError.TheVariants as action

@@ -1,7 +1,7 @@
 // Why a template is refused.
 use cedar_constraints::errors::{ActionTypeError, InvalidActionType};
-pub use cedar_policy_errors::SlotsInConditionClause;
-use cedar_validation::errors::ExprValidationError;
+use cedar_extensions::validation_errors::ExprValidationError;
+pub use cedar_policy_parts::SlotsInConditionClause;
 use std::alloc::AllocError;
 use thiserror::Error;
 

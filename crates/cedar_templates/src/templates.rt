@@ -5,22 +5,22 @@ ghost use Rattle.std.specs.Map.{lookup};
 ghost use Rattle.cedar_language.specs.Order.{same_text};
 ghost use Rattle.cedar_grammar.specs.Policy.{condition, slots as slots_of};
 ghost use Rattle.cedar_trees.specs.Bare.{bare};
-ghost use Rattle.cedar_policies.specs.Effects.{effect_of};
+ghost use Rattle.cedar_policy_parts.specs.Effects.{effect_of};
 ghost use Rattle.cedar_constraints.specs.Actions.{action_of};
 ghost use Rattle.cedar_templates.specs.Bodies.{body_id, body_syntax, shared_tree};
 ghost use Rattle.cedar_templates.specs.Slots.{slot_ids};
 
 use crate::bodies::TemplateBody;
-use cedar_annotations::annotations::{Annotation, Annotations};
 use cedar_constraints::actions::ActionConstraint;
 use cedar_constraints::principals::PrincipalConstraint;
 use cedar_constraints::resources::ResourceConstraint;
+use cedar_literals::slots::Slot;
 use cedar_names::conversions::FromIn;
 use cedar_names::identifiers::AnyId;
 use cedar_names::places::Loc;
-use cedar_policies::{Effect, PolicyID};
+use cedar_policy_parts::annotations::{Annotation, Annotations};
+use cedar_policy_parts::{Effect, PolicyID};
 use cedar_trees::expr::Expr;
-use cedar_uids::slots::Slot;
 use std::alloc::{AllocError, Global};
 use std::rc::Rc;
 

@@ -6,9 +6,9 @@ ghost use Rattle.cedar_templates.specs.Validation.{Validates, ValidatesClauses, 
 use crate::errors::{SlotsInConditionClause, TemplateValidationError};
 use crate::templates::Template;
 use cedar_extensions::extensions::Extensions;
+use cedar_extensions::validation::ExprValidation;
 use cedar_shapes::readers::ExprReaders;
 use cedar_trees::expr::Expr;
-use cedar_validation::validation::ExprValidation;
 use std::alloc::Global;
 
 impl Template {

@@ -2,3 +2,6 @@ mod Lowness
 mod Texts
 mod Bodies
 mod Callers
+mod Templates
+mod PolicyTexts
+mod Readings

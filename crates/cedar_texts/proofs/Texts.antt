@@ -7,12 +7,12 @@ use Rattle.cedar_grammar.specs.Laws.{OneList}
 use Rattle.cedar_grammar.specs.Names.{Names}
 use Rattle.cedar_grammar.specs.Nesting.{loose_nesting}
 use Rattle.cedar_grammar.specs.Policies.{ReadsExpr}
-use Rattle.cedar_loose_grammar.specs.Converting.{converted, expr_tree}
-use Rattle.cedar_loose_grammar.specs.Laws.{ExprsConvert, ExprsStand}
-use Rattle.cedar_loose_grammar.specs.Loose as loose
-use Rattle.cedar_loose_grammar.specs.LooseReading.{Fault, read_expr}
+use Rattle.cedar_grammar.specs.Converting.{converted, expr_tree}
+use Rattle.cedar_grammar.specs.LooseLaws.{ExprsConvert, ExprsStand}
+use Rattle.cedar_grammar.specs.Loose as loose
+use Rattle.cedar_grammar.specs.LooseReading.{Fault, read_expr}
 use Rattle.cedar_loose.specs.Texts.{IsRead, IsRefused}
-use Rattle.cedar_parse_errors.specs.Errors.{outside_the_grammar, nested_too_deep}
+use Rattle.cedar_loose.specs.Errors.{outside_the_grammar, nested_too_deep}
 use Rattle.cedar_replies.specs.declared.refusal.Refusal.{Refusal}
 use Rattle.cedar_replies.specs.declared.refusal.Refusal.TheVariants as refusal
 use Rattle.cedar_trees.specs.Bare.{bare}

@@ -1,3 +1,5 @@
 pub mod Settings
 pub mod Trees
 pub mod Reading
+pub mod Sets
+pub mod PolicyReading

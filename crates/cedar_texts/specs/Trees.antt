@@ -7,16 +7,16 @@ use Rattle.cedar_grammar.specs.Names.{Names, is_among, is_function}
 use Rattle.cedar_grammar.specs.Nesting.{loose_nesting}
 use Rattle.cedar_grammar.specs.Policies.{ReadsExpr}
 use Rattle.cedar_world.specs.Functions.{the_unknown}
-use Rattle.cedar_loose_grammar.specs.LooseReading.{read_expr}
+use Rattle.cedar_grammar.specs.LooseReading.{read_expr}
 use Rattle.cedar_loose.specs.Texts.{IsRead, IsRefused}
-use Rattle.cedar_parse_errors.specs.Errors.{outside_the_grammar, nested_too_deep}
-use Rattle.cedar_nodes.specs.declared.node.Node.{Node}
+use Rattle.cedar_loose.specs.Errors.{outside_the_grammar, nested_too_deep}
+use Rattle.cedar_cst.specs.declared.node.Node.{Node}
 use Rattle.cedar_replies.specs.declared.refusal.Refusal.{Refusal}
 use Rattle.cedar_replies.specs.declared.refusal.Refusal.TheVariants as refusal
 use Rattle.cedar_restricted.specs.Views.{restricted_tree}
 use Rattle.cedar_restricted.specs.declared.restricted.RestrictedExpr.{RestrictedExpr}
-use Rattle.cedar_syntax.specs.View.{shown_expr}
-use Rattle.cedar_syntax.specs.declared.cst.Expr as loose
+use Rattle.cedar_cst.specs.View.{shown_expr}
+use Rattle.cedar_cst.specs.declared.cst.Expr as loose
 use Rattle.cedar_trees.specs.Bare.{bare}
 use Rattle.cedar_trees.specs.declared.expr.Expr.{Expr}
 

@@ -1,23 +1,19 @@
 // The expression of a text.
 ghost use Rattle.std.specs.Prelude.{◌≡◌, IfOk, false};
-ghost use Rattle.cedar_loose_grammar.specs.Converting.{expr_tree};
-ghost use Rattle.cedar_syntax.specs.View.{shown_expr};
+ghost use Rattle.cedar_grammar.specs.Converting.{expr_tree};
+ghost use Rattle.cedar_cst.specs.View.{shown_expr};
 ghost use Rattle.cedar_trees.specs.Bare.{bare};
 ghost use Rattle.cedar_world.specs.Bodies.{holds_call};
 ghost use Rattle.cedar_texts.specs.Trees.{LacksUnknown, ReadsLoosely, Writes, ReadsTree};
 
 use cedar_builders::own_builder::ExprBuilder;
-use cedar_conversion::to_expr;
-use cedar_conversion_faults::ConversionError;
-use cedar_conversion_laws::{calls_are_named, trees_are_built};
-use cedar_grammar::at_most_one_meaning;
-use cedar_loose::parse_expr;
-use cedar_loose_grammar::{converting_is_the_grammar, wider_limits_change_nothing};
-use cedar_parse_errors::ParseError;
+use cedar_conversion::{calls_are_named, to_expr, trees_are_built};
+use cedar_conversion_leaves::{ConversionError, ExtStyles};
+use cedar_cst::cst;
+use cedar_cst::node::Node;
+use cedar_grammar::{at_most_one_meaning, converting_is_the_grammar, wider_limits_change_nothing};
+use cedar_loose::{ParseError, parse_expr};
 use cedar_replies::Refusal;
-use cedar_styles::ExtStyles;
-use cedar_syntax::cst;
-use cedar_syntax::node::Node;
 use cedar_trees::expr::Expr;
 use std::alloc::Global;
 

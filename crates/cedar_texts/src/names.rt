@@ -4,12 +4,12 @@ ghost use Rattle.cedar_extensions.specs.Functions.{function_name, function_style
 ghost use Rattle.cedar_world.specs.Functions.{body_names, policy_names, the_unknown};
 ghost use Rattle.cedar_texts.specs.Settings.{functions_of, is_method};
 
+use cedar_conversion_leaves::ExtStyles;
 use cedar_extensions::extensions::Extensions;
 use cedar_extensions::functions::{CallStyle, ExtensionFunction};
 use cedar_names::errors::ParseNameError;
 use cedar_names::identifiers::UnreservedId;
 use cedar_names::names::Name;
-use cedar_styles::ExtStyles;
 use std::alloc::{AllocError, Global};
 
 /// The names that bodies of commands may call: those of the table's functions, `unknown` among them

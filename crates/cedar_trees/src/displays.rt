@@ -3,8 +3,8 @@
 
 use crate::expr::{Expr, ExprKind};
 use crate::unknowns::{NonEmpty, Unknown};
+use cedar_literals::escapes::Escaped;
 use cedar_literals::operators::{BinaryOp, UnaryOp};
-use cedar_uids::escapes::Escaped;
 use std::collections::BTreeMap;
 use std::fmt;
 use std::rc::RcStr;

@@ -4,7 +4,7 @@ use Rattle.std.specs.Ordering.{eq_by_cmp}
 use Rattle.cedar_language.specs.Uid.{Uid}
 use Rattle.cedar_language.specs.Order.{same_uid}
 use Rattle.cedar_language.specs.Order.{uid_cmp}
-use Rattle.cedar_uids.specs.Laws.{uid_cmp_ties}
+use Rattle.cedar_literals.specs.Laws.{uid_cmp_ties}
 
 chosen : (b c : Bool) → cond b true c ≡ (c || b)
 chosen true true = refl

@@ -7,7 +7,7 @@ use Rattle.cedar_language.specs.Value.{Value, Plain, SetOf, RecordOf, ExtensionO
 use Rattle.cedar_language.specs.Order.{same, all_of}
 use Rattle.cedar_language.specs.OrderLaws.{same_is}
 use Rattle.cedar_literals.specs.Literals.{literal_hash}
-use Rattle.cedar_extension_values.specs.Extensions.{extension_hash}
+use Rattle.cedar_values.specs.Extensions.{extension_hash}
 use Rattle.cedar_values.specs.Kinds.{value_of}
 use Rattle.cedar_values.specs.Orders.{same_kind, same_set}
 

@@ -8,7 +8,7 @@ use Rattle.cedar_language.specs.Value.{Value, Plain, SetOf, RecordOf, ExtensionO
 use Rattle.cedar_language.specs.Order.{all_of}
 use Rattle.cedar_literals.specs.Literals.{literal_of}
 use Rattle.cedar_literals.specs.declared.literals.Literal.{Literal}
-use Rattle.cedar_extension_values.specs.Representations.{extension_of}
+use Rattle.cedar_values.specs.Representations.{extension_of}
 use Rattle.cedar_values.specs.declared.values.ValueKind.{ValueKind}
 use Rattle.cedar_values.specs.declared.values.ValueKind.TheVariants as kind
 

@@ -1,3 +1,6 @@
+pub mod Texts
+pub mod Extensions
+pub mod Representations
 pub mod Falls
 pub mod Hashes
 pub mod Kinds
@@ -6,5 +9,5 @@ pub mod Occurring
 pub mod Orders
 pub mod Records
 pub mod Sizes
-pub mod Texts
+pub mod TextBounds
 pub mod Types

@@ -1,7 +1,7 @@
 // Laws of values and sets.
 ghost use Rattle.cedar_language.specs.Order.{same};
 ghost use Rattle.cedar_names.specs.Laws.{TestsSame};
-ghost use Rattle.cedar_extension_values.specs.Extensions.{same_extension};
+ghost use Rattle.cedar_values.specs.Extensions.{same_extension};
 ghost use Rattle.cedar_values.specs.Laws.{SetsAreTheirMembers, KindsAreTheirValues};
 ghost use Rattle.cedar_values.specs.Orders.{same_set};
 

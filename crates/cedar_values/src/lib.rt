@@ -2,6 +2,8 @@
 #![tactic(auto)]
 
 pub mod bounded_display;
+pub mod extension_values;
 pub mod laws;
-mod texts;
+mod text_bounds;
+pub mod texts;
 pub mod values;

@@ -2,7 +2,7 @@
 ghost use Rattle.std.specs.Prelude.{◌≡◌};
 ghost use Rattle.cedar_values.specs.Kinds.{value_of};
 
-use cedar_extension_values::extension_values::RepresentableExtensionValue;
+use crate::extension_values::RepresentableExtensionValue;
 use cedar_literals::literals::Literal;
 use cedar_names::places::Loc;
 use std::collections::BTreeMap;

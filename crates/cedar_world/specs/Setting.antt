@@ -7,10 +7,10 @@ use Rattle.cedar_language.specs.Facts.{Facts}
 use Rattle.cedar_language.specs.Meaning.{meaning}
 use Rattle.cedar_language.specs.Authorization.{Known, request_at}
 use Rattle.cedar_language.specs.Height.{height}
-use Rattle.cedar_early.specs.Settling.{Is, settled_in}
-use Rattle.cedar_early.specs.Prompt.{ErrsAs}
-use Rattle.cedar_early.specs.Question.{settled_of}
-use Rattle.cedar_early.specs.Filling.{names_told, ErrsEverywhere}
+use Rattle.cedar_partial_evaluation.specs.Settling.{Is, settled_in}
+use Rattle.cedar_partial_evaluation.specs.Prompt.{ErrsAs}
+use Rattle.cedar_partial_evaluation.specs.Question.{settled_of}
+use Rattle.cedar_partial_evaluation.specs.Filling.{names_told, ErrsEverywhere}
 use Rattle.cedar_grammar.specs.Policies.{Reads, ReadsExpr}
 use Rattle.cedar_grammar.specs.Nesting.{loose_nesting}
 use Rattle.cedar_world.specs.Syntax.{PolicySyntax}

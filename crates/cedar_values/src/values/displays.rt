@@ -1,9 +1,9 @@
 // How values are printed.
 
 use crate::bounded_display::BoundedDisplay;
-use crate::texts::one_less;
+use crate::text_bounds::one_less;
+use crate::texts::{write_key, write_separator};
 use crate::values::{Set, Value, ValueKind};
-use cedar_extension_values::texts::{write_key, write_separator};
 use std::collections::BTreeMap;
 use std::fmt;
 use std::rc::RcStr;

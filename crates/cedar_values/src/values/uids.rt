@@ -10,7 +10,7 @@ ghost use Rattle.cedar_values.specs.Occurring.{occurs_in, occurs_among, is_uid};
 
 use crate::values::{Set, Value, ValueKind};
 use cedar_literals::literals::Literal;
-use cedar_uids::uids::EntityUID;
+use cedar_literals::uids::EntityUID;
 use std::alloc::{AllocError, Global};
 use std::collections::{BTreeMap, BTreeSet};
 use std::rc::RcStr;

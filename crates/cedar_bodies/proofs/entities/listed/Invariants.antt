@@ -2,7 +2,7 @@ use Rattle.std.proofs.Common.{◌≡◌, map, drop}
 use Rattle.cedar_grammar.specs.Build.{trees}
 use Rattle.cedar_trees.specs.Bare.{bare}
 use Rattle.cedar_world.specs.Bodies.{each, entity_of}
-use Rattle.cedar_bodies.proofs.Listing.{after}
+use Rattle.cedar_bodies.proofs.ItemByItem.{after}
 use Rattle.cedar_bodies.proofs.entities.listed.Given as goal
 
 abbrev pub invariant-loop-item : goal.invariant-loop-item

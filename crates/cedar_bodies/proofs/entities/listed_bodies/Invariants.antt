@@ -3,7 +3,7 @@ use Rattle.cedar_grammar.specs.Build.{trees}
 use Rattle.cedar_trees.specs.Bare.{bare}
 use Rattle.cedar_world.specs.Bodies.{each}
 use Rattle.cedar_bodies.specs.Entities.{all_written, written_body}
-use Rattle.cedar_bodies.proofs.Listing.{after}
+use Rattle.cedar_bodies.proofs.ItemByItem.{after}
 use Rattle.cedar_bodies.proofs.entities.listed_bodies.Given as goal
 
 abbrev pub invariant-loop-item : goal.invariant-loop-item

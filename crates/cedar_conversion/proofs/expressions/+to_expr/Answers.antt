@@ -2,22 +2,22 @@ use Rattle.std.proofs.Common.{◌≡◌, ◌<◌, Some, Ok, map, drop, [], ◌�
 use Rattle.std.proofs.lemmas.Grind.{common_steps}
 use Rattle.cedar_grammar.specs.Reading.{◌>>=◌}
 use Rattle.std.specs.Rc.{rc_str_bytes}
-use Rattle.cedar_nodes.specs.View.{shown_name}
-use Rattle.cedar_loose_grammar.specs.Loose as loose
-use Rattle.cedar_loose_grammar.specs.Converting as converting
-use Rattle.cedar_loose_grammar.specs.Converting.{expr_tree, or_tree, and_tree, relation_tree, add_tree, mult_tree, unary_tree, member_tree, access_head, primary_head, rec_init_tree, exprs_trees, rec_inits_trees, record_tree, called}
+use Rattle.cedar_cst.specs.LeafView.{shown_name}
+use Rattle.cedar_grammar.specs.Loose as loose
+use Rattle.cedar_grammar.specs.Converting as converting
+use Rattle.cedar_grammar.specs.Converting.{expr_tree, or_tree, and_tree, relation_tree, add_tree, mult_tree, unary_tree, member_tree, access_head, primary_head, rec_init_tree, exprs_trees, rec_inits_trees, record_tree, called}
 use Rattle.cedar_language.specs.Tree as tree
 use Rattle.cedar_grammar.specs.Build.{trees}
-use Rattle.cedar_syntax.specs.View.{view_expr, view_or, view_and, view_relation, view_add, view_mult, view_unary, view_member, view_primary, view_rec_init, shown_expr, shown_rec_init}
-use Rattle.cedar_conversion_parts.specs.Building.{IsBuilt, IsRefused, AreBuilt, AreRefused}
-use Rattle.cedar_conversion_parts.specs.Entries.{AreEntries, AreEntriesRefused, IsEntry, IsEntryRefused, EachIsBuilt, meant}
-use Rattle.cedar_conversion_parts.specs.Heads.{IsHead, IsHeadRefused}
-use Rattle.cedar_conversion_parts.proofs.Converting.{same_as, faulty, found, flat_pair}
-use Rattle.cedar_conversion_parts.proofs.Made.{built_none}
+use Rattle.cedar_cst.specs.View.{view_expr, view_or, view_and, view_relation, view_add, view_mult, view_unary, view_member, view_primary, view_rec_init, shown_expr, shown_rec_init}
+use Rattle.cedar_conversion.specs.Building.{IsBuilt, IsRefused, AreBuilt, AreRefused}
+use Rattle.cedar_conversion.specs.Entries.{AreEntries, AreEntriesRefused, IsEntry, IsEntryRefused, EachIsBuilt, meant}
+use Rattle.cedar_conversion.specs.Heads.{IsHead, IsHeadRefused}
+use Rattle.cedar_conversion.proofs.Converting.{same_as, faulty, found, flat_pair}
+use Rattle.cedar_conversion.proofs.Made.{built_none}
 use Rattle.cedar_conversion.proofs.Trees.{empty, cut_at, or_start, or_more, or_end, and_start, and_more, and_end, add_start, add_more, add_end, mult_start, mult_more, mult_end, member_start, member_more, member_end, items_start, items_more, items_end, entries_start, entries_more, entries_end}
 use Rattle.cedar_conversion.proofs.Nodes.{expr_or, expr_if, relation_alone, relation_joined, relation_chain, relation_has, relation_like, relation_is, relation_is_in, unary_plain, unary_bangs, unary_over_bang, unary_over_dash, unary_dashes, unary_no_dash, unary_number, cons_of, length_none, none_more, one_variant, access_none, access_field, access_call, access_index, primary_literal, primary_ref, primary_name, primary_slot, primary_expr, primary_list, primary_record, entry_seen}
 use borrow.Enum.Total.{values_d}
-use Rattle.cedar_syntax.specs.contracts.cst.Expr.{enum}
+use Rattle.cedar_cst.specs.contracts.cst.Expr.{enum}
 use Rattle.cedar_conversion.proofs.expressions.+to_expr.Goals as goal
 
 pub expr_to_expr-returns-in-None : goal.expr_to_expr-returns-in-None

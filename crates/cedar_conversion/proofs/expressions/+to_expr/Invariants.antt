@@ -1,12 +1,12 @@
 use Rattle.std.proofs.Common.{map, drop}
-use Rattle.cedar_loose_grammar.specs.Loose as loose
-use Rattle.cedar_loose_grammar.specs.Converting.{or_tree, ands_tree, and_tree, relations_tree, add_tree, mults_tree, mult_tree, unaries_tree, member_tree, accesses_tree, exprs_trees, rec_inits_trees}
-use Rattle.cedar_nodes.specs.View.{view_add_op, view_mult_op}
-use Rattle.cedar_syntax.specs.View.{shown_expr, shown_or, shown_and, shown_relation, shown_add, shown_mult, shown_unary, shown_member, shown_mem_access, shown_rec_init}
-use Rattle.cedar_conversion_parts.specs.Building.{IsBuilt, IsRefused, AreBuilt, AreRefused}
-use Rattle.cedar_conversion_parts.specs.Entries.{AreEntries, AreEntriesRefused}
-use Rattle.cedar_conversion_parts.specs.Heads.{IsHead, IsHeadRefused}
-use Rattle.cedar_conversion_parts.specs.SoFar.{SoFar}
+use Rattle.cedar_grammar.specs.Loose as loose
+use Rattle.cedar_grammar.specs.Converting.{or_tree, ands_tree, and_tree, relations_tree, add_tree, mults_tree, mult_tree, unaries_tree, member_tree, accesses_tree, exprs_trees, rec_inits_trees}
+use Rattle.cedar_cst.specs.LeafView.{view_add_op, view_mult_op}
+use Rattle.cedar_cst.specs.View.{shown_expr, shown_or, shown_and, shown_relation, shown_add, shown_mult, shown_unary, shown_member, shown_mem_access, shown_rec_init}
+use Rattle.cedar_conversion.specs.Building.{IsBuilt, IsRefused, AreBuilt, AreRefused}
+use Rattle.cedar_conversion.specs.Entries.{AreEntries, AreEntriesRefused}
+use Rattle.cedar_conversion.specs.Heads.{IsHead, IsHeadRefused}
+use Rattle.cedar_conversion.specs.SoFar.{SoFar}
 use Rattle.cedar_conversion.proofs.Trees.{items_rest, entries_rest}
 use Rattle.cedar_conversion.proofs.expressions.+to_expr.Given as goal
 

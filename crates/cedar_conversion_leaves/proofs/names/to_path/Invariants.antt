@@ -2,8 +2,8 @@ use Rattle.std.proofs.Common.{◌≡◌, map, drop, Some, ◌++◌, false}
 use Rattle.std.specs.Prelude.{Option, None}
 use Rattle.cedar_names.specs.Names.{is_reserved_name}
 use Rattle.cedar_grammar.specs.Reading.{◌>>=◌}
-use Rattle.cedar_loose_grammar.specs.Converting.{ident_text, each}
-use Rattle.cedar_nodes.specs.View.{shown_ident}
+use Rattle.cedar_grammar.specs.Converting.{ident_text, each}
+use Rattle.cedar_cst.specs.LeafView.{shown_ident}
 use Rattle.cedar_conversion_leaves.proofs.names.to_path.Given as goal
 
 abbrev pub invariant-words : goal.invariant-words

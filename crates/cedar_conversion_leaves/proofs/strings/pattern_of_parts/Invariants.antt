@@ -1,6 +1,6 @@
 use Rattle.std.proofs.Common.{◌≡◌, ◌++◌, map, drop}
 use Rattle.cedar_grammar.specs.Escape.{pattern_elem}
-use Rattle.cedar_cst.specs.Parts.{part_view}
+use Rattle.cedar_tokens.specs.Parts.{part_view}
 use Rattle.cedar_literals.specs.Patterns.{elem_of}
 use Rattle.cedar_conversion_leaves.proofs.strings.pattern_of_parts.Given as goal
 

@@ -1,7 +1,7 @@
 use Rattle.std.proofs.Common.{rules}
 use Rattle.std.specs.FinSet as set
 use Rattle.std.proofs.lemmas.Map.Made.{map_same_pairs}
-use Rattle.cedar_entity.specs.Data.{without}
+use Rattle.cedar_entities.specs.Data.{without}
 use Rattle.cedar_entities.proofs.Removing.{cut}
 use Rattle.cedar_entities.proofs.edits.cut_all.Goals as goal
 

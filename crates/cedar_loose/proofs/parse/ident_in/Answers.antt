@@ -1,6 +1,6 @@
 use Rattle.std.proofs.lemmas.Result.{err_from_is_err_and}
-use Rattle.cedar_nodes.specs.View.{shown_ident}
-use Rattle.cedar_loose_grammar.specs.LooseReading.{read_ident}
+use Rattle.cedar_cst.specs.LeafView.{shown_ident}
+use Rattle.cedar_grammar.specs.LooseReading.{read_ident}
 use Rattle.cedar_loose.specs.Texts.{flat}
 use Rattle.cedar_loose.proofs.Limits.{is_read, is_outside, no_tokens_outside, ident_never}
 use Rattle.cedar_loose.proofs.parse.ident_in.Goals as goal

@@ -1,10 +1,10 @@
 use Rattle.std.proofs.Common.{◌-◌, Ok, map, sym, ap, ◌∙◌}
 use Rattle.std.proofs.lemmas.Result.{err_from_is_err_and}
 use Rattle.cedar_grammar.specs.ReadingPolicies.{is_more}
-use Rattle.cedar_loose_grammar.specs.Loose as loose
-use Rattle.cedar_loose_grammar.specs.LooseReading.{◌>>◌, mapped, whole, each_of, policy_of, read_policies}
-use Rattle.cedar_syntax.specs.View.{shown_policy, view_policies}
-use Rattle.cedar_syntax.proofs.Views.{seen}
+use Rattle.cedar_grammar.specs.Loose as loose
+use Rattle.cedar_grammar.specs.LooseReading.{◌>>◌, mapped, whole, each_of, policy_of, read_policies}
+use Rattle.cedar_cst.specs.View.{shown_policy, view_policies}
+use Rattle.cedar_cst.proofs.Views.{seen}
 use Rattle.cedar_loose_expressions.proofs.Loops.{first_fails, mapped_fails}
 use Rattle.cedar_loose_expressions.proofs.Cases.{fails_as}
 use Rattle.cedar_loose.proofs.Limits.{all_read, not_all_read, policies_within, policies_zero}

@@ -1,6 +1,6 @@
 use Rattle.std.proofs.lemmas.Result.{err_from_is_err_and}
-use Rattle.cedar_syntax.specs.View.{shown_primary}
-use Rattle.cedar_loose_grammar.specs.LooseReading.{read_primary}
+use Rattle.cedar_cst.specs.View.{shown_primary}
+use Rattle.cedar_grammar.specs.LooseReading.{read_primary}
 use Rattle.cedar_loose.proofs.Limits.{is_read, is_refused, no_tokens}
 use Rattle.cedar_loose.proofs.parse.primary_in.Goals as goal
 

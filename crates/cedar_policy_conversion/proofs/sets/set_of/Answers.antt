@@ -1,8 +1,8 @@
 use Rattle.std.proofs.Common.{map, take, refl, sym, ap, ◌∙◌, subst, arith}
 use Rattle.std.proofs.lemmas.List.{length-map, length-take-le}
-use Rattle.cedar_syntax.specs.View.{shown_policy}
+use Rattle.cedar_cst.specs.View.{shown_policy}
 use Rattle.cedar_conversion_leaves.specs.Converts.{Finds}
-use Rattle.cedar_policy_conversion_parts.proofs.Gathering.{seen_more}
+use Rattle.cedar_policy_parts_conversion.proofs.Gathering.{seen_more}
 use Rattle.cedar_policy_conversion.proofs.Numbering.{entries_more, entries_of, free_in}
 use Rattle.cedar_policy_conversion.proofs.sets.set_of.Goals as goal
 

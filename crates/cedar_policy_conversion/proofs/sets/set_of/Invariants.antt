@@ -1,5 +1,5 @@
 use Rattle.std.proofs.Common.{map, take}
-use Rattle.cedar_syntax.specs.View.{shown_policy}
+use Rattle.cedar_cst.specs.View.{shown_policy}
 use Rattle.cedar_conversion_leaves.specs.Converts.{Finds}
 use Rattle.cedar_policy_conversion.proofs.Numbering.{entries_of}
 use Rattle.cedar_policy_conversion.proofs.sets.set_of.Given as goal

@@ -1,12 +1,12 @@
 use Rattle.std.proofs.Common.{◌≡◌, ◌<◌, ◌^◌, arith, [], ◌∷◌, ◌++◌, Some, None, Ok, Err, sym, ap, ◌∙◌, subst}
 use Rattle.std.specs.Prelude.{IfOk}
 use Rattle.std.specs.Option.{option_map}
-use Rattle.cedar_loose_grammar.specs.Converting.{policy_syntax}
-use Rattle.cedar_syntax.specs.View.{shown_policy}
+use Rattle.cedar_grammar.specs.Converting.{policy_syntax}
+use Rattle.cedar_cst.specs.View.{shown_policy}
 use Rattle.cedar_world.specs.PolicyEdits.{numbered}
-use Rattle.cedar_conversion_faults.specs.Reasons.{reason}
+use Rattle.cedar_conversion_leaves.specs.Reasons.{reason}
 use Rattle.cedar_conversion_leaves.specs.Converts.{Finds}
-use Rattle.cedar_policy_conversion_parts.proofs.Gathering.{a_pair, both_found, flat_ok, lacks_more, no_pair, paired, passed}
+use Rattle.cedar_policy_parts_conversion.proofs.Gathering.{a_pair, both_found, flat_ok, lacks_more, no_pair, paired, passed}
 use Rattle.cedar_policy_set.specs.Entries.{bound_at}
 use Rattle.cedar_policy_set.specs.Texts.{text_entry}
 use Rattle.cedar_policy_conversion.specs.Kinds.{entry_made, id_made}

@@ -1,15 +1,15 @@
 use Rattle.std.proofs.Common.{Ok, Err, map}
 use Rattle.std.specs.Option.{option_map}
-use Rattle.cedar_loose_grammar.specs.Converting.{effect, scope_syntax}
-use Rattle.cedar_nodes.specs.View.{shown_ident}
-use Rattle.cedar_syntax.specs.View.{shown_annotation, shown_cond, shown_variable_def}
+use Rattle.cedar_grammar.specs.Converting.{effect, scope_syntax}
+use Rattle.cedar_cst.specs.LeafView.{shown_ident}
+use Rattle.cedar_cst.specs.View.{shown_annotation, shown_cond, shown_variable_def}
 use Rattle.cedar_trees.specs.Bare.{bare}
-use Rattle.cedar_policies.specs.Effects.{effect_of}
-use Rattle.cedar_conversion_faults.specs.Reasons.{reason}
-use Rattle.cedar_scope_conversion.specs.Scopes.{scope_of}
-use Rattle.cedar_policy_conversion_parts.specs.Clauses.{clauses_of}
-use Rattle.cedar_policy_conversion_parts.specs.Notes.{notes_of}
-use Rattle.cedar_policy_conversion_parts.proofs.Gathering.{both_found, lacks_more, paired, passed}
+use Rattle.cedar_policy_parts.specs.Effects.{effect_of}
+use Rattle.cedar_conversion_leaves.specs.Reasons.{reason}
+use Rattle.cedar_policy_parts_conversion.specs.Scopes.{scope_of}
+use Rattle.cedar_policy_parts_conversion.specs.Clauses.{clauses_of}
+use Rattle.cedar_policy_parts_conversion.specs.Notes.{notes_of}
+use Rattle.cedar_policy_parts_conversion.proofs.Gathering.{both_found, lacks_more, paired, passed}
 use Rattle.cedar_policy_conversion.specs.Parts.{parts_syntax}
 use Rattle.cedar_policy_conversion.proofs.Wholes.{a_policy, loose_parts, no_policy}
 use Rattle.cedar_policy_conversion.proofs.templates.to_parts.Goals as goal

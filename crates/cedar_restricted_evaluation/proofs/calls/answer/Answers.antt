@@ -1,5 +1,5 @@
 use Rattle.cedar_language.specs.Order.{all_of}
-use Rattle.cedar_partial_values.specs.PartialValues.{partial_of}
+use Rattle.cedar_restricted.specs.PartialValues.{partial_of}
 use Rattle.cedar_restricted_evaluation.proofs.Naming.{unknown_called}
 use Rattle.cedar_restricted_evaluation.proofs.calls.answer.Goals as goal
 

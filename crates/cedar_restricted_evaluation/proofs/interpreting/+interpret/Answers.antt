@@ -7,8 +7,8 @@ use Rattle.either.specs.declared.Either.TheVariants.{Left, Right}
 use Rattle.cedar_language.specs.Value.{Value, RecordOf}
 use Rattle.cedar_language.specs.Order.{all_of}
 use Rattle.cedar_values.specs.Kinds.{keys_of, values_of}
-use Rattle.cedar_partial_values.specs.Splitting.{IsSplitOf, ExpressEach, is_residual}
-use Rattle.cedar_errors.specs.Giving.{fails_on}
+use Rattle.cedar_restricted.specs.Splitting.{IsSplitOf, ExpressEach, is_residual}
+use Rattle.cedar_extensions.specs.Giving.{fails_on}
 use Rattle.std.proofs.lemmas.Grind.{common_steps}
 use Rattle.cedar_language.specs.Height.{height, heights}
 use Rattle.cedar_language.specs.Restricted.{is_restricted}
@@ -16,10 +16,10 @@ use Rattle.cedar_language.specs.Tree.{MakeSet, MakeRecord, Call, Apply}
 use Rattle.cedar_grammar.specs.Build.{trees, keys}
 use Rattle.cedar_trees.specs.Bare.{bare, bare_entries, record_tree}
 use Rattle.cedar_trees.specs.declared.expr.Expr.{Expr}
-use Rattle.cedar_errors.specs.Failures.{failure_of}
-use Rattle.cedar_partial_values.specs.PartialValues.{partial_of}
-use Rattle.cedar_partial_values.specs.declared.partial_values.PartialValue.{PartialValue}
-use Rattle.cedar_partial_values.proofs.Writing.{cut_items}
+use Rattle.cedar_extensions.specs.Failures.{failure_of}
+use Rattle.cedar_restricted.specs.PartialValues.{partial_of}
+use Rattle.cedar_restricted.specs.declared.partial_values.PartialValue.{PartialValue}
+use Rattle.cedar_restricted.proofs.Writing.{cut_items}
 use Rattle.cedar_restricted_evaluation.specs.Findings.{Calls, IsFound, Errs, AreFound, SomeErrs}
 use Rattle.cedar_restricted_evaluation.proofs.Gathering.{values_length, exprs_length, next_restricted, next_fails, remains_next, remains_end, within_next, within_end, answered, always, passed}
 use Rattle.cedar_restricted_evaluation.proofs.Arms.{set_builds, record_builds, build_errs, build_waits, set_found, record_found, call_errs, call_waits, call_made, entries_length, expr_record, value_record, kept_tree, unknown_kept, found_as, tree-Set, tree-Record, lifted}

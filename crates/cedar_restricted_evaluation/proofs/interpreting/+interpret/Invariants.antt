@@ -2,7 +2,7 @@ use Rattle.std.proofs.Common.{◌≤◌, ◌+◌, ◌*◌, map, drop}
 use Rattle.cedar_language.specs.Height.{heights}
 use Rattle.cedar_grammar.specs.Build.{trees}
 use Rattle.cedar_trees.specs.Bare.{bare, bare_entries}
-use Rattle.cedar_partial_values.specs.PartialValues.{partial_of}
+use Rattle.cedar_restricted.specs.PartialValues.{partial_of}
 use Rattle.cedar_restricted_evaluation.proofs.Gathering.{Remains}
 use Rattle.cedar_restricted_evaluation.proofs.interpreting.+interpret.Given as goal
 

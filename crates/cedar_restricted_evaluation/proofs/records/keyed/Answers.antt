@@ -1,5 +1,5 @@
 use Rattle.std.proofs.Common.{◌≡◌, ◌∷◌, ap, length, arith, rules}
-use Rattle.cedar_partial_values.proofs.Rising.{put_next, texts_next}
+use Rattle.cedar_restricted.proofs.Rising.{put_next, texts_next}
 use Rattle.cedar_restricted_evaluation.proofs.Keying.{items_next}
 use Rattle.cedar_restricted_evaluation.proofs.records.keyed.Goals as goal
 

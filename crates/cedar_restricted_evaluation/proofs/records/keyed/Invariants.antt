@@ -1,5 +1,5 @@
 use Rattle.std.proofs.Common.{◌≡◌, ◌++◌, length, map}
-use Rattle.cedar_partial_values.proofs.Rising.{texts}
+use Rattle.cedar_restricted.proofs.Rising.{texts}
 use Rattle.cedar_restricted_evaluation.proofs.records.keyed.Given as goal
 
 abbrev pub invariant-loop-key : goal.invariant-loop-key

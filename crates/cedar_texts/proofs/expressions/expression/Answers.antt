@@ -1,5 +1,5 @@
 use Rattle.std.proofs.Common.{rules, ◌≡◌, Err}
-use Rattle.cedar_syntax.specs.View.{shown_expr}
+use Rattle.cedar_cst.specs.View.{shown_expr}
 use Rattle.cedar_texts.proofs.Texts.{unread, tree_read}
 use Rattle.cedar_texts.proofs.expressions.expression.Goals as goal
 

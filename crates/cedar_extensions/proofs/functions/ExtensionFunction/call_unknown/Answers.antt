@@ -1,4 +1,4 @@
-use Rattle.cedar_extensions.proofs.Calls.{called_others}
+use Rattle.cedar_extensions.proofs.BuiltInCalls.{called_others}
 use Rattle.cedar_extensions.proofs.functions.ExtensionFunction.call_unknown.Goals as goal
 
 pub returns-then-args-ne1-clause-meaning : goal.returns-then-args-ne1-clause-meaning

@@ -1,8 +1,8 @@
 use Rattle.std.proofs.Common.{◌+◌, ◌*◌, map, length}
-use Rattle.cedar_cst.specs.View.{mark_view}
+use Rattle.cedar_tokens.specs.View.{mark_view}
 use Rattle.cedar_grammar.specs.Token as token
-use Rattle.cedar_loose_grammar.specs.LooseReading.{links_of, items_of, each_of, or_op, and_op, rel_op, add_op, mult_op, begins_access, and_of, relation_of, add_of, mult_of, unary_of, access_of, rec_init_of, expr_at}
-use Rattle.cedar_syntax.specs.View.{shown_expr, shown_and, shown_relation, shown_mem_access, shown_rec_init}
+use Rattle.cedar_grammar.specs.LooseReading.{links_of, items_of, each_of, or_op, and_op, rel_op, add_op, mult_op, begins_access, and_of, relation_of, add_of, mult_of, unary_of, access_of, rec_init_of, expr_at}
+use Rattle.cedar_cst.specs.View.{shown_expr, shown_and, shown_relation, shown_mem_access, shown_rec_init}
 use Rattle.cedar_loose_expressions.specs.Links.{linked_add, linked_mult, linked_unary}
 use Rattle.cedar_loose_expressions.proofs.Loops.{Links, Items, Each, alone}
 use Rattle.cedar_loose_expressions.proofs.cursor.Cursor.+expression.Given as goal

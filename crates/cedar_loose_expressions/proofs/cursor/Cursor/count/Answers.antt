@@ -1,5 +1,5 @@
 use Rattle.std.proofs.Common.{sym, ◌∙◌, arith}
-use Rattle.cedar_cst.specs.View.{mark_view}
+use Rattle.cedar_tokens.specs.View.{mark_view}
 use Rattle.cedar_loose_expressions.proofs.Signs.{sign_more, sign_none}
 use Rattle.cedar_loose_expressions.proofs.cursor.Cursor.count.Goals as goal
 

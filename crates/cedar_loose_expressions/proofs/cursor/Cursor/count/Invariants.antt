@@ -1,6 +1,6 @@
 use Rattle.std.proofs.Common.{◌≡◌, ◌+◌, ◌≤◌, length}
 use Rattle.std.specs.Prelude.{min}
-use Rattle.cedar_cst.specs.View.{mark_view}
+use Rattle.cedar_tokens.specs.View.{mark_view}
 use Rattle.cedar_grammar.specs.Reading.{signs_of}
 use Rattle.cedar_loose_expressions.proofs.cursor.Cursor.count.Given as goal
 

@@ -1,8 +1,8 @@
 use Rattle.std.proofs.Common.{Ok, sym, ap, ◌∙◌}
 use Rattle.std.proofs.lemmas.Result.{err_from_is_err_and}
-use Rattle.cedar_loose_grammar.specs.Loose as loose
-use Rattle.cedar_loose_grammar.specs.LooseReading.{mapped, literal_of, named_of, primary_of}
-use Rattle.cedar_syntax.specs.View.{shown_primary}
+use Rattle.cedar_grammar.specs.Loose as loose
+use Rattle.cedar_grammar.specs.LooseReading.{mapped, literal_of, named_of, primary_of}
+use Rattle.cedar_cst.specs.View.{shown_primary}
 use Rattle.cedar_loose_expressions.specs.Steps.{slot_read}
 use Rattle.cedar_loose_expressions.proofs.Loops.{mapped_fails}
 use Rattle.cedar_loose_expressions.proofs.Cases.{fails_as, gives_as, primary_literal, primary_name, primary_slot}

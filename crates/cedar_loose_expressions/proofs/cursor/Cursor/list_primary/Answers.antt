@@ -1,8 +1,8 @@
 use Rattle.std.proofs.Common.{◌∙◌, refl}
 use Rattle.std.proofs.lemmas.Result.{IfOk-weaker}
-use Rattle.cedar_loose_grammar.specs.Loose as loose
-use Rattle.cedar_syntax.specs.View.{view_primary}
-use Rattle.cedar_syntax.proofs.Views.{seen, view_primary_e_list}
+use Rattle.cedar_grammar.specs.Loose as loose
+use Rattle.cedar_cst.specs.View.{view_primary}
+use Rattle.cedar_cst.proofs.Views.{seen, view_primary_e_list}
 use Rattle.cedar_loose_expressions.proofs.cursor.Cursor.list_primary.Goals as goal
 
 pub returns : goal.returns

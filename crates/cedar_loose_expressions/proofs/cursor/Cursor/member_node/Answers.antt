@@ -1,8 +1,8 @@
 use Rattle.std.proofs.Common.{map, ap, ◌∙◌}
 use Rattle.std.proofs.lemmas.Result.{IfOk-weaker}
-use Rattle.cedar_loose_grammar.specs.Loose as loose
-use Rattle.cedar_syntax.specs.View.{view_member, shown_primary, shown_mem_access}
-use Rattle.cedar_syntax.proofs.Views.{seen, view_member_roll}
+use Rattle.cedar_grammar.specs.Loose as loose
+use Rattle.cedar_cst.specs.View.{view_member, shown_primary, shown_mem_access}
+use Rattle.cedar_cst.proofs.Views.{seen, view_member_roll}
 use Rattle.cedar_loose_expressions.proofs.cursor.Cursor.member_node.Goals as goal
 
 pub returns : goal.returns

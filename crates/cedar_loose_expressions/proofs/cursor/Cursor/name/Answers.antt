@@ -1,10 +1,10 @@
 use Rattle.std.proofs.Common.{Ok, map, ap, sym, ◌∙◌, refl}
 use Rattle.std.proofs.lemmas.Result.{err_from_is_err_and}
 use Rattle.std.proofs.lemmas.List.{map_push}
-use Rattle.cedar_nodes.specs.View.{shown_ident, view_name}
-use Rattle.cedar_loose_grammar.specs.Loose as loose
-use Rattle.cedar_loose_grammar.specs.LooseReading.{name_of}
-use Rattle.cedar_syntax.proofs.Views.{seen}
+use Rattle.cedar_cst.specs.LeafView.{shown_ident, view_name}
+use Rattle.cedar_grammar.specs.Loose as loose
+use Rattle.cedar_grammar.specs.LooseReading.{name_of}
+use Rattle.cedar_cst.proofs.Views.{seen}
 use Rattle.cedar_loose_expressions.proofs.NameLoop.{words_start, words_first_fails, words_done, words_fail, words_fewer, words_more}
 use Rattle.cedar_loose_expressions.proofs.cursor.Cursor.name.Goals as goal
 

@@ -1,6 +1,6 @@
 use Rattle.std.proofs.Common.{map, length}
-use Rattle.cedar_nodes.specs.View.{shown_ident}
-use Rattle.cedar_loose_grammar.specs.LooseReading.{name_of}
+use Rattle.cedar_cst.specs.LeafView.{shown_ident}
+use Rattle.cedar_grammar.specs.LooseReading.{name_of}
 use Rattle.cedar_loose_expressions.proofs.NameLoop.{Words}
 use Rattle.cedar_loose_expressions.proofs.cursor.Cursor.name.Given as goal
 

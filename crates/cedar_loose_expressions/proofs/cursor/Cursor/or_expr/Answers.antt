@@ -1,8 +1,8 @@
 use Rattle.std.proofs.Common.{◌∙◌, refl}
 use Rattle.std.proofs.lemmas.Result.{IfOk-weaker}
-use Rattle.cedar_loose_grammar.specs.Loose as loose
-use Rattle.cedar_syntax.specs.View.{view_expr}
-use Rattle.cedar_syntax.proofs.Views.{seen, view_expr_expr, view_expr_impl_roll, view_expr_data_or}
+use Rattle.cedar_grammar.specs.Loose as loose
+use Rattle.cedar_cst.specs.View.{view_expr}
+use Rattle.cedar_cst.proofs.Views.{seen, view_expr_expr, view_expr_impl_roll, view_expr_data_or}
 use Rattle.cedar_loose_expressions.proofs.cursor.Cursor.or_expr.Goals as goal
 
 pub returns : goal.returns

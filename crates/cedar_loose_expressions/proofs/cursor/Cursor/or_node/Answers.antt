@@ -1,8 +1,8 @@
 use Rattle.std.proofs.Common.{◌∙◌}
 use Rattle.std.proofs.lemmas.Result.{IfOk-weaker}
-use Rattle.cedar_loose_grammar.specs.Loose as loose
-use Rattle.cedar_syntax.specs.View.{view_or}
-use Rattle.cedar_syntax.proofs.Views.{seen, view_or_roll}
+use Rattle.cedar_grammar.specs.Loose as loose
+use Rattle.cedar_cst.specs.View.{view_or}
+use Rattle.cedar_cst.proofs.Views.{seen, view_or_roll}
 use Rattle.cedar_loose_expressions.proofs.cursor.Cursor.or_node.Goals as goal
 
 pub returns : goal.returns

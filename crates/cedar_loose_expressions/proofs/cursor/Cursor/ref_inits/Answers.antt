@@ -2,9 +2,9 @@ use Rattle.std.proofs.Common.{map}
 use Rattle.std.proofs.lemmas.Result.{err_from_is_err_and}
 use Rattle.std.proofs.lemmas.List.{map_push}
 use Rattle.cedar_grammar.specs.Token as token
-use Rattle.cedar_nodes.specs.View.{shown_ref_init}
-use Rattle.cedar_loose_grammar.specs.LooseReading.{items_of, ref_init_of}
-use Rattle.cedar_loose_grammar.proofs.Rests.{ref_init-leaves}
+use Rattle.cedar_cst.specs.LeafView.{shown_ref_init}
+use Rattle.cedar_grammar.specs.LooseReading.{items_of, ref_init_of}
+use Rattle.cedar_grammar.proofs.Rests.{ref_init-leaves}
 use Rattle.cedar_loose_expressions.proofs.Loops.{items_start, items_closed, items_fail, items_last, items_comma_fails, items_fewer, items_more}
 use Rattle.cedar_loose_expressions.proofs.cursor.Cursor.ref_inits.Goals as goal
 

@@ -1,7 +1,7 @@
 use Rattle.std.proofs.Common.{map, length}
 use Rattle.cedar_grammar.specs.Token as token
-use Rattle.cedar_nodes.specs.View.{shown_ref_init}
-use Rattle.cedar_loose_grammar.specs.LooseReading.{items_of, ref_init_of}
+use Rattle.cedar_cst.specs.LeafView.{shown_ref_init}
+use Rattle.cedar_grammar.specs.LooseReading.{items_of, ref_init_of}
 use Rattle.cedar_loose_expressions.proofs.Loops.{Items}
 use Rattle.cedar_loose_expressions.proofs.cursor.Cursor.ref_inits.Given as goal
 

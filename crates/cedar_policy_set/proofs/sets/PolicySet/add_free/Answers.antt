@@ -1,7 +1,7 @@
 use Rattle.std.proofs.Common.{◌≡◌, ◌++◌, sym, subst, ◌∙◌}
 use Rattle.std.specs.Prelude.{OnOk}
 use Rattle.cedar_templates.specs.Templates.{template_id}
-use Rattle.cedar_links.specs.Policies.{policy_id, policy_template, policy_syntax, link_of, bindings_of}
+use Rattle.cedar_policies.specs.Policies.{policy_id, policy_template, policy_syntax, link_of, bindings_of}
 use Rattle.cedar_policy_set.specs.Bounds.{policy_entry}
 use Rattle.cedar_policy_set.specs.Entries.{Entries, IsWhole}
 use Rattle.cedar_policy_set.proofs.Additions.{differs_from, both_are, added_alone, whole_added}

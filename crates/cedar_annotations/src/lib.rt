@@ -1,5 +1,0 @@
-//! Annotations of policies.
-#![tactic(auto)]
-
-pub mod annotations;
-pub mod laws;

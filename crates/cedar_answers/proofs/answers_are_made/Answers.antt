@@ -1,5 +1,0 @@
-use Rattle.cedar_answers.proofs.Ids.{answers_are_made as law}
-use Rattle.cedar_answers.proofs.answers_are_made.Goals as goal
-
-pub returns : goal.returns
-returns c = law

@@ -1,5 +1,0 @@
-use Rattle.cedar_answers.proofs.Alike.{answers_read_what_is_in_force as law}
-use Rattle.cedar_answers.proofs.answers_read_what_is_in_force.Goals as goal
-
-pub returns : goal.returns
-returns c = law

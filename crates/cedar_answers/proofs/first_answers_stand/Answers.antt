@@ -1,5 +1,0 @@
-use Rattle.cedar_answers.proofs.First.{first_answers_stand as law}
-use Rattle.cedar_answers.proofs.first_answers_stand.Goals as goal
-
-pub returns : goal.returns
-returns c = law c.known_trees_settle.ensures

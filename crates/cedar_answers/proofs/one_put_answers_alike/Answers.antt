@@ -1,6 +1,0 @@
-use Rattle.cedar_answers.proofs.Alike.{answers_read_what_is_in_force as reads}
-use Rattle.cedar_answers.proofs.OnePut.{one_put_answers_alike as law}
-use Rattle.cedar_answers.proofs.one_put_answers_alike.Goals as goal
-
-pub returns : goal.returns
-returns c = law c.put_makes_again.ensures reads

@@ -1,5 +1,0 @@
-use Rattle.cedar_answers.proofs.Plain.{scopes_answer as law}
-use Rattle.cedar_answers.proofs.scopes_answer.Goals as goal
-
-pub returns : goal.returns
-returns c = law c.known_trees_settle.ensures

@@ -1,5 +1,0 @@
-use Rattle.cedar_answers.proofs.Unsatisfied.{unsatisfied_say_nothing as law}
-use Rattle.cedar_answers.proofs.unsatisfied_say_nothing.Goals as goal
-
-pub returns : goal.returns
-returns c = law

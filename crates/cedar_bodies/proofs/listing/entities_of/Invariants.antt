@@ -1,0 +1,7 @@
+use Rattle.std.proofs.Common.{map, drop}
+use Rattle.cedar_bodies.specs.Entities.{written_of}
+use Rattle.cedar_bodies.proofs.Listed.{IsUnderway}
+use Rattle.cedar_bodies.proofs.listing.entities_of.Given as goal
+
+abbrev pub invariant-loop-body : goal.invariant-loop-body
+invariant-loop-body l = IsUnderway l.extensions (map written_of l.bodies) (map written_of (drop l.body-index l.bodies)) l.entities.items l.holds_unknown

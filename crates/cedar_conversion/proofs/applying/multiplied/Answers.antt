@@ -1,0 +1,25 @@
+use Rattle.std.proofs.Common.{Some, ap}
+use Rattle.cedar_language.specs.Tree as tree
+use Rattle.cedar_grammar.specs.Build.{binary}
+use Rattle.cedar_conversion.specs.declared.applying.Joint.TheVariants as joint
+use Rattle.cedar_conversion.specs.Building.{IsBuilt, IsRefused}
+use Rattle.cedar_conversion.specs.Joints.{joined}
+use Rattle.cedar_conversion.proofs.Converting.{same_as, faulty}
+use Rattle.cedar_conversion.proofs.Made.{took, built_binary}
+use Rattle.cedar_conversion.proofs.applying.multiplied.Goals as goal
+
+pub returns-in-Times : goal.returns-in-Times
+returns-in-Times g c x y hx hy =
+    let o = g.B.ExprBuilder.operations in
+    let m = g.B.ExprBuilder.meaning in
+    let refusal = g.B.ExprBuilder.refusal in
+    let a = m c.args.left in
+    let b = m c.args.right in
+    same_as refusal (IsBuilt o m) (IsRefused o) c.taken.result (Some (binary tree.Mul x y)) _ (ap (λ op. joined (joint.Product op) x y) c.in-Times.is)
+    (took o m refusal c.taken.result _ (binary tree.Mul x y) (built_binary o tree.Mul x y a b hx hy) (c.taken.ensures _ c.mul.ensures))
+
+pub returns-in-Divide : goal.returns-in-Divide
+returns-in-Divide g c x y hx hy = faulty g.B.ExprBuilder.refusal (IsRefused g.B.ExprBuilder.operations) c.fault.result _ c.fault.ensures (ap (λ op. joined (joint.Product op) x y) c.in-Divide.is)
+
+pub returns-in-Mod : goal.returns-in-Mod
+returns-in-Mod g c x y hx hy = faulty g.B.ExprBuilder.refusal (IsRefused g.B.ExprBuilder.operations) c.fault-in-Mod.result _ c.fault-in-Mod.ensures (ap (λ op. joined (joint.Product op) x y) c.in-Mod.is)

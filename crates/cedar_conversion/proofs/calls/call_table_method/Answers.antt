@@ -1,0 +1,20 @@
+use Rattle.std.proofs.Common.{◌≡◌, Some, None, [], ◌∷◌, sym, ap, ◌∙◌, map, rules}
+use Rattle.std.specs.Prelude.{cond}
+use Rattle.cedar_language.specs.Tree as tree
+use Rattle.cedar_language.specs.Tree.{Tree}
+use Rattle.cedar_grammar.specs.Build.{trees}
+use Rattle.cedar_conversion.proofs.Made.{took_some, built_apply, built_more}
+use Rattle.cedar_conversion.proofs.calls.call_table_method.Goals as goal
+
+pub returns : goal.returns
+returns g c t xs ht hxs =
+    let o = g.B.ExprBuilder.operations in
+    let m = g.B.ExprBuilder.meaning in
+    let refusal = g.B.ExprBuilder.refusal in
+    let id = c.args.id in
+    let more : c.insert.new.self.items ≡ c.args.expr ∷ c.args.args.items = search rules in
+    let named : c.in_ok-function.function ≡ id ∷ [] = search rules in
+    let is = ap (λ b. cond b (Some (tree.Apply (tree.Call (id ∷ [])) (trees (t ∷ xs)))) None) (sym c.is_method.ensures ∙ c.if-not-is_method.false) in
+    took_some o m refusal c.taken.result _ (tree.Apply (tree.Call (id ∷ [])) (trees (t ∷ xs))) _ is
+    (built_apply o (tree.Call (id ∷ [])) (t ∷ xs) _ (built_more o t xs (m c.args.expr) (map m c.args.args.items) ht hxs) ∙ ap (λ ys. o.call (id ∷ []) (map m ys)) (sym more) ∙ ap (λ f. o.call f (map m c.insert.new.self.items)) (sym named))
+    (c.taken.ensures _ c.call_extension_fn.ensures)

@@ -1,0 +1,31 @@
+use Rattle.std.proofs.Common.{◌≡◌, Some, Ok, sym, ap, ◌∙◌, subst}
+use Rattle.cedar_language.specs.Tree as tree
+use Rattle.cedar_language.specs.Tree.{Tree}
+use Rattle.cedar_grammar.specs.Converting as converting
+use Rattle.cedar_grammar.specs.Converting.{head_tree, name_path, record_tree}
+use Rattle.cedar_conversion_leaves.specs.Reasons.{reason}
+use Rattle.cedar_conversion_leaves.specs.Converts.{Finds}
+use Rattle.cedar_conversion.specs.Heads.{IsHead, IsHeadRefused}
+use Rattle.cedar_conversion.proofs.Converting.{same_as, passed, lacks_more, then_some, early}
+use Rattle.cedar_conversion.proofs.Made.{took, built_literal}
+use Rattle.cedar_conversion.proofs.heads.entity_to_head.Goals as goal
+
+pub returns-in_err-uid : goal.returns-in_err-uid
+returns-in_err-uid g c v hv =
+    let o = g.B.ExprBuilder.operations in
+    let m = g.B.ExprBuilder.meaning in
+    let refusal = g.B.ExprBuilder.refusal in
+    let e = c.in_err-uid.field-0.0 in
+    passed refusal (IsHead o m) (IsHeadRefused o) c.from_residual.result e _ c.from_residual.ensures
+    (lacks_more refusal (IsHeadRefused o) (reason e) v _ (early v (λ u. Some (converting.a_tree (tree.Lit (tree.Entity u))))) (subst (λ r. Finds (λ x. x) r v) c.in_err-uid.was hv))
+
+pub returns : goal.returns
+returns g c v hv =
+    let o = g.B.ExprBuilder.operations in
+    let m = g.B.ExprBuilder.meaning in
+    let refusal = g.B.ExprBuilder.refusal in
+    let u = c.in_ok-uid.uid in
+    let t = tree.Lit (tree.Entity u) in
+    let is : v ≡ Some u = subst (λ r. Finds (λ x. x) r v) c.in_ok-uid.was hv in
+    same_as refusal (IsHead o m) (IsHeadRefused o) c.expr_to_head.result _ _ (then_some v u (λ x. Some (converting.a_tree (tree.Lit (tree.Entity x)))) is)
+    (c.expr_to_head.ensures (Some t) (took o m refusal c.taken.result _ t (built_literal o (tree.Entity u) ∙ ap (λ x. Ok (o.val (tree.Entity x))) (sym c.in_ok-shared.ensures.ok)) (c.taken.ensures _ c.val.ensures)))

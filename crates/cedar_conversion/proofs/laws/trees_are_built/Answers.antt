@@ -1,0 +1,5 @@
+use Rattle.cedar_conversion.proofs.Written.{trees_are_built}
+use Rattle.cedar_conversion.proofs.laws.trees_are_built.Goals as goal
+
+pub returns : goal.returns
+returns c = trees_are_built

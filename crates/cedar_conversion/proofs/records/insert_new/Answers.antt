@@ -1,0 +1,17 @@
+use Rattle.std.proofs.Common.{◌≡◌, false, sym, ap, ◌∙◌}
+use Rattle.std.specs.Rc.{rc_str_bytes}
+use Rattle.cedar_grammar.specs.Build.{keys}
+use Rattle.cedar_grammar.specs.Names.{is_among}
+use Rattle.cedar_conversion.specs.Entries.{keyed}
+use Rattle.cedar_conversion.proofs.Ordering.{insert_is_put, found_is_among, puts_not}
+use Rattle.cedar_conversion.proofs.records.insert_new.Goals as goal
+
+pub returns-then-contains_key : goal.returns-then-contains_key
+returns-then-contains_key g c =
+    puts_not c.fault.result _ c.fault.ensures (sym (found_is_among (rc_str_bytes c.args.key) c.args.map.now.entries) ∙ sym c.contains_key.ensures ∙ c.if-contains_key.true)
+
+pub returns : goal.returns
+returns g c =
+    let new : is_among (rc_str_bytes c.args.key) (keys (keyed c.args.map.now.entries)) ≡ false
+    = sym (found_is_among (rc_str_bytes c.args.key) c.args.map.now.entries) ∙ sym c.contains_key.ensures ∙ c.if-contains_key.false in
+    (new, ap keyed c.in_ok-insert.ensures.entries ∙ insert_is_put c.args.key c.args.expr c.args.map.now.entries new)

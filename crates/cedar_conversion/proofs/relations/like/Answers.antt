@@ -1,0 +1,31 @@
+use Rattle.std.proofs.Common.{◌≡◌, Some, Ok, [], ◌∷◌, sym, ap, ◌∙◌}
+use Rattle.cedar_language.specs.Tree as tree
+use Rattle.cedar_language.specs.Tree.{Tree}
+use Rattle.cedar_grammar.specs.Build.{unary}
+use Rattle.cedar_conversion.specs.Building.{IsBuilt, IsRefused}
+use Rattle.cedar_conversion.proofs.Converting.{passed, found, both_some, flat_err, flat_ok}
+use Rattle.cedar_conversion.proofs.Made.{took_some, built_unary}
+use Rattle.cedar_conversion.proofs.Refusing.{refused_as, refused_unary}
+use Rattle.cedar_conversion.proofs.relations.like.Goals as goal
+
+pub returns-in_err-target : goal.returns-in_err-target
+returns-in_err-target g c v w hv hw =
+    let o = g.B.ExprBuilder.operations in
+    let m = g.B.ExprBuilder.meaning in
+    let refusal = g.B.ExprBuilder.refusal in
+    let e = c.in_err-target.field-0.0 in
+    passed refusal (IsBuilt o m) (IsRefused o) c.from_residual.result e _ c.from_residual.ensures
+    (flat_err refusal (IsBuilt o m) (IsRefused o) (λ e s. e ≡ s) (λ s. ⊥) (IsRefused o) (λ x s. Some (unary (tree.Like s) x))
+    ((λ x s z is h. refused_as o (unary (tree.Like s) x) z is (refused_unary o (tree.Like s) x h)), (λ x s z is h. absurd h))
+    c.args.target c.args.pattern e v w c.in_err-target.ensures hv (found refusal (λ s. s) c.args.pattern w hw))
+
+pub returns : goal.returns
+returns g c v w hv hw =
+    let o = g.B.ExprBuilder.operations in
+    let m = g.B.ExprBuilder.meaning in
+    let refusal = g.B.ExprBuilder.refusal in
+    let h = flat_ok refusal (IsBuilt o m) (IsRefused o) (λ e s. e ≡ s) (λ s. ⊥) c.args.target c.args.pattern (c.in_ok-target.target, c.in_ok-target.pattern) v w c.in_ok-target.ensures hv (found refusal (λ p. p) c.args.pattern w hw) in
+    let x = h.0.value in
+    let q = h.1.value in
+    took_some o m refusal c.taken.result _ (unary (tree.Like q) x) _ (both_some v w x q (λ y r. Some (unary (tree.Like r) y)) h.0.is h.1.is)
+    (built_unary o (tree.Like q) x (m c.in_ok-target.target) h.0.stands ∙ ap (λ r. Ok (o.apply (tree.Like r) (m c.in_ok-target.target ∷ []))) (sym h.1.stands)) (c.taken.ensures _ c.like.ensures)

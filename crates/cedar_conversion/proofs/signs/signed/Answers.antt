@@ -1,0 +1,36 @@
+use Rattle.std.proofs.Common.{Some, sym, subst}
+use Rattle.std.specs.Prelude.{IfSome}
+use Rattle.cedar_conversion_leaves.specs.Reasons.{reason}
+use Rattle.cedar_conversion_leaves.specs.Converts.{Converts}
+use Rattle.cedar_conversion.specs.Building.{IsBuilt, IsRefused}
+use Rattle.cedar_conversion.specs.Joints.{repeated}
+use Rattle.cedar_conversion.proofs.Converting.{passed, failed, misses_more, then_some}
+use Rattle.cedar_conversion.proofs.Refusing.{refused_as, refused_repeated, refused_under}
+use Rattle.cedar_conversion.proofs.signs.signed.Goals as goal
+
+pub returns-in_err-first : goal.returns-in_err-first
+returns-in_err-first g c v hv =
+    let o = g.B.ExprBuilder.operations in
+    let m = g.B.ExprBuilder.meaning in
+    let refusal = g.B.ExprBuilder.refusal in
+    let s = c.args.sign in
+    let n = c.args.count in
+    let e = c.in_err-first.field-0.0 in
+    passed refusal (IsBuilt o m) (IsRefused o) c.from_residual.result e _ c.from_residual.ensures
+    (failed refusal (IsRefused o) (IsRefused o) (reason e) v (λ t. Some (repeated s n t)) (λ x z is h. refused_as o (repeated s n x) z is (refused_repeated o s n x h)) (subst (λ r. Converts (IsBuilt o m) (IsRefused o) refusal r v) c.in_err-first.was hv))
+
+pub returns-in_err-made : goal.returns-in_err-made
+returns-in_err-made g c v hv =
+    let o = g.B.ExprBuilder.operations in
+    let m = g.B.ExprBuilder.meaning in
+    let refusal = g.B.ExprBuilder.refusal in
+    let s = c.args.sign in
+    let n = c.args.count in
+    let i = c.signs._done in
+    let e = c.in_err-made.field-0.0 in
+    let first = subst (λ r. Converts (IsBuilt o m) (IsRefused o) refusal r v) c.in_ok-first.was hv in
+    let x = first.value in
+    passed refusal (IsBuilt o m) (IsRefused o) c.from_residual-in_err-made.result e _ c.from_residual-in_err-made.ensures
+    (misses_more refusal (IsRefused o) (IsRefused o) (reason e) (Some (repeated s 1 (repeated s i x))) _ (λ none. absurd (cc none))
+    (λ h. subst (λ z. IfSome z (IsRefused o)) (sym (then_some v x (λ t. Some (repeated s n t)) first.is)) (refused_under o s i n x c.signs-test.true h))
+    (c.in_err-made.ensures (repeated s i x) (c.signs.invariant x first.stands)))

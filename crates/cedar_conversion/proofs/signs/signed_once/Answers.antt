@@ -1,0 +1,21 @@
+use Rattle.std.proofs.Common.{Some, ap}
+use Rattle.cedar_language.specs.Tree as tree
+use Rattle.cedar_language.specs.Tree.{Tree}
+use Rattle.cedar_grammar.specs.Build.{unary}
+use Rattle.cedar_conversion.specs.Joints.{repeated}
+use Rattle.cedar_conversion.proofs.Made.{took_some, built_unary}
+use Rattle.cedar_conversion.proofs.signs.signed_once.Goals as goal
+
+pub returns-in-Bang : goal.returns-in-Bang
+returns-in-Bang g c t ht =
+    let o = g.B.ExprBuilder.operations in
+    let m = g.B.ExprBuilder.meaning in
+    let refusal = g.B.ExprBuilder.refusal in
+    took_some o m refusal c.taken.result _ (unary tree.Not t) _ (ap (λ s. Some (repeated s 1 t)) c.in-Bang.is) (built_unary o tree.Not t (m c.args.expr) ht) (c.taken.ensures _ c.not.ensures)
+
+pub returns-in-Minus : goal.returns-in-Minus
+returns-in-Minus g c t ht =
+    let o = g.B.ExprBuilder.operations in
+    let m = g.B.ExprBuilder.meaning in
+    let refusal = g.B.ExprBuilder.refusal in
+    took_some o m refusal c.taken-in-Minus.result _ (unary tree.Neg t) _ (ap (λ s. Some (repeated s 1 t)) c.in-Minus.is) (built_unary o tree.Neg t (m c.args.expr) ht) (c.taken-in-Minus.ensures _ c.neg.ensures)

@@ -1,0 +1,47 @@
+// What a builder gives.
+ghost use Rattle.std.specs.Prelude.{◌≡◌, List, [], ◌∷◌, ◌++◌, Option, Some, Result, IfErr};
+ghost use Rattle.cedar_language.specs.Tree.{Tree};
+ghost use Rattle.cedar_builders.specs.Operations.{Gives};
+ghost use Rattle.cedar_conversion_leaves.specs.Reasons.{reason, out_of_memory};
+ghost use Rattle.cedar_conversion_leaves.specs.Converts.{and_then};
+ghost use Rattle.cedar_conversion.specs.Building.{MakesTree, MakesTrees, Takes};
+
+use cedar_builders::expr_builder::ExprBuilder;
+use cedar_conversion_leaves::{ConversionError, flatten_tuple_2};
+use cedar_names::places::Loc;
+use std::alloc::Global;
+
+/// A builder at a copy of this place.
+pub(crate) fn builder_at<B: ExprBuilder>(
+    alloc: Global,
+    loc: Option<&Loc>,
+) -> Result<B, ConversionError<B::BuildError>>
+    ensures { IfErr result (λ error. reason error ≡ out_of_memory) }
+{
+    Ok(B::new(alloc).with_maybe_source_loc(loc.cloned()?))
+}
+
+/// What the builder gave, or its own error.
+pub(crate) fn taken<B: ExprBuilder>(
+    given: Result<B::Expr, B::BuildError>,
+) -> Result<B::Expr, ConversionError<B::BuildError>>
+    ensures { (meant : Result B.Meaning B.Refusal) → Gives B.meaning B.refusal given meant → Takes B.meaning B.refusal result meant }
+{
+    match given {
+        Ok(expr) => Ok(expr),
+        Err(error) => Err(ConversionError::Builder(error)),
+    }
+}
+
+/// One more expression at the end, or the faults of all.
+pub fn pushed<B: ExprBuilder>(
+    made: Result<Vec<B::Expr>, ConversionError<B::BuildError>>,
+    next: Result<B::Expr, ConversionError<B::BuildError>>,
+) -> Result<Vec<B::Expr>, ConversionError<B::BuildError>>
+    ensures { (v : Option (List Tree)) (w : Option Tree) → MakesTrees B.operations B.meaning B.refusal made v → MakesTree B.operations B.meaning B.refusal next w →
+        MakesTrees B.operations B.meaning B.refusal result (and_then v (λ xs. and_then w (λ x. Some (xs ++ x ∷ [])))) }
+{
+    let (mut made, next) = flatten_tuple_2(made, next)?;
+    made.push(next)?;
+    Ok(made)
+}

@@ -1,0 +1,198 @@
+// Calls of functions and methods.
+ghost use Rattle.std.specs.Prelude.{◌≡◌, ⊤, [], ◌∷◌, length, cond, Option, Some, None, List, MatchOption};
+ghost use Rattle.cedar_language.specs.Tree as tree;
+ghost use Rattle.cedar_language.specs.Tree.{Tree};
+ghost use Rattle.cedar_literals.specs.Operators.{binary_operator_of};
+ghost use Rattle.cedar_grammar.specs.Build.{method, with_argument, without_argument, trees};
+ghost use Rattle.cedar_grammar.specs.Names.{is_among};
+ghost use Rattle.cedar_grammar.specs.Converting as converting;
+ghost use Rattle.cedar_cst.specs.LeafView.{shown_name};
+ghost use Rattle.cedar_conversion_leaves.specs.Converts.{and_then};
+ghost use Rattle.cedar_conversion.specs.Building.{IsBuilt, MakesTree, AreBuilt, MakesTrees};
+ghost use Rattle.cedar_conversion.specs.Heads.{IsHead, MakesHead};
+
+use crate::building::{builder_at, taken};
+use crate::heads::{Head, expr_to_head};
+use cedar_builders::expr_builder::ExprBuilder;
+use cedar_conversion_leaves::{ConversionError, ExtStyles, ToASTErrorKind, to_name};
+use cedar_cst::cst;
+use cedar_cst::node::Node;
+use cedar_literals::operators::BinaryOp;
+use cedar_names::identifiers::UnreservedId;
+use cedar_names::names::Name;
+use cedar_names::places::Loc;
+use std::alloc::Global;
+
+// The call of a function by its name.
+fn call_function<B: ExprBuilder>(
+    alloc: Global,
+    styles: &ExtStyles,
+    loc: Option<&Loc>,
+    name: &Node<Option<cst::Name>>,
+    args: Vec<B::Expr>,
+) -> Result<B::Expr, ConversionError<B::BuildError>>
+    ensures { (xs : List Tree) → AreBuilt B.operations B.meaning args xs →
+        MakesTree B.operations B.meaning B.refusal result (converting.called styles.now (converting.a_name (shown_name name.now)) xs) }
+{
+    let function = to_name(alloc, name)?;
+    if !styles.is_function(&function) {
+        let kind = ToASTErrorKind::UnknownFunction { id: function };
+        return Err(ConversionError::fault(alloc, kind, loc));
+    }
+    let builder = builder_at::<B>(alloc, loc)?;
+    taken::<B>(builder.call_extension_fn(function, args))
+}
+
+// The one argument of a method, where it was given one.
+fn only<E: Drop>(mut args: Vec<E>) -> Option<E>
+    ensures { MatchOption result (length args.items ≡ 1 → ⊥) (λ arg. args.items ≡ arg ∷ []) }
+{
+    let arg = args.pop()?;
+    if args.is_empty() { Some(arg) } else { None }
+}
+
+// The call of a method with one argument.
+fn with_argument<B: ExprBuilder>(
+    alloc: Global,
+    loc: Option<&Loc>,
+    name: &'static str,
+    op: BinaryOp,
+    expr: B::Expr,
+    args: Vec<B::Expr>,
+) -> Result<B::Expr, ConversionError<B::BuildError>>
+    ensures { (t : Tree) (xs : List Tree) → IsBuilt B.operations B.meaning expr t → AreBuilt B.operations B.meaning args xs →
+        MakesTree B.operations B.meaning B.refusal result (with_argument (binary_operator_of op) t xs) }
+{
+    let got = args.len();
+    match only(args) {
+        Some(arg) => {
+            let builder = builder_at::<B>(alloc, loc)?;
+            taken::<B>(builder.binary_app(op, expr, arg))
+        }
+        None => {
+            let kind = ToASTErrorKind::WrongArity {
+                name,
+                expected: 1,
+                got,
+            };
+            Err(ConversionError::fault(alloc, kind, loc))
+        }
+    }
+}
+
+// The call of the method without arguments.
+fn is_empty<B: ExprBuilder>(
+    alloc: Global,
+    loc: Option<&Loc>,
+    expr: B::Expr,
+    args: Vec<B::Expr>,
+) -> Result<B::Expr, ConversionError<B::BuildError>>
+    ensures { (t : Tree) (xs : List Tree) → IsBuilt B.operations B.meaning expr t → AreBuilt B.operations B.meaning args xs →
+        MakesTree B.operations B.meaning B.refusal result (without_argument tree.IsEmpty t xs) }
+{
+    if args.is_empty() {
+        let builder = builder_at::<B>(alloc, loc)?;
+        return taken::<B>(builder.is_empty(expr));
+    }
+    let kind = ToASTErrorKind::WrongArity {
+        name: "isEmpty",
+        expected: 0,
+        got: args.len(),
+    };
+    Err(ConversionError::fault(alloc, kind, loc))
+}
+
+// The call of a method of the table.
+fn call_table_method<B: ExprBuilder>(
+    alloc: Global,
+    styles: &ExtStyles,
+    loc: Option<&Loc>,
+    expr: B::Expr,
+    id: UnreservedId,
+    args: Vec<B::Expr>,
+) -> Result<B::Expr, ConversionError<B::BuildError>>
+    ensures { (t : Tree) (xs : List Tree) → IsBuilt B.operations B.meaning expr t → AreBuilt B.operations B.meaning args xs →
+        MakesTree B.operations B.meaning B.refusal result
+        (cond (is_among id styles.now.methods) (Some (tree.Apply (tree.Call (id ∷ [])) (trees (t ∷ xs)))) None) }
+{
+    if !styles.is_method(&id) {
+        let kind = ToASTErrorKind::UnknownMethod { id };
+        return Err(ConversionError::fault(alloc, kind, loc));
+    }
+    let mut args = args;
+    args.insert(0, expr)?;
+    let function = Name::unqualified_name(alloc, id, loc.cloned()?)?;
+    let builder = builder_at::<B>(alloc, loc)?;
+    taken::<B>(builder.call_extension_fn(function, args))
+}
+
+// The call of a method: the language's own go before the table's.
+fn call_method<B: ExprBuilder>(
+    alloc: Global,
+    styles: &ExtStyles,
+    loc: Option<&Loc>,
+    expr: B::Expr,
+    id: UnreservedId,
+    args: Vec<B::Expr>,
+) -> Result<B::Expr, ConversionError<B::BuildError>>
+    ensures { (t : Tree) (xs : List Tree) → IsBuilt B.operations B.meaning expr t → AreBuilt B.operations B.meaning args xs →
+        MakesTree B.operations B.meaning B.refusal result (method styles.now id t xs) }
+{
+    match id.as_str() {
+        "contains" => with_argument::<B>(alloc, loc, "contains", BinaryOp::Contains, expr, args),
+        "containsAll" => {
+            with_argument::<B>(alloc, loc, "containsAll", BinaryOp::ContainsAll, expr, args)
+        }
+        "containsAny" => {
+            with_argument::<B>(alloc, loc, "containsAny", BinaryOp::ContainsAny, expr, args)
+        }
+        "getTag" => with_argument::<B>(alloc, loc, "getTag", BinaryOp::GetTag, expr, args),
+        "hasTag" => with_argument::<B>(alloc, loc, "hasTag", BinaryOp::HasTag, expr, args),
+        "isEmpty" => is_empty::<B>(alloc, loc, expr, args),
+        _ => call_table_method::<B>(alloc, styles, loc, expr, id, args),
+    }
+}
+
+// `head(args)` where both parts are there.
+fn called<B: ExprBuilder>(
+    alloc: Global,
+    styles: &ExtStyles,
+    loc: Option<&Loc>,
+    head: Head<'_, B::Expr>,
+    args: Vec<B::Expr>,
+) -> Result<B::Expr, ConversionError<B::BuildError>>
+    ensures { (h : converting.Head) (xs : List Tree) → IsHead B.operations B.meaning head.entry h → AreBuilt B.operations B.meaning args xs →
+        MakesTree B.operations B.meaning B.refusal result (converting.called styles.now h xs) }
+{
+    match head {
+        Head::Expr(_) => {
+            let kind = ToASTErrorKind::ExpressionCall;
+            Err(ConversionError::fault(alloc, kind, loc))
+        }
+        Head::Name(name) => call_function::<B>(alloc, styles, loc, name, args),
+        Head::Attribute(expr, id) => call_method::<B>(alloc, styles, loc, expr, id, args),
+    }
+}
+
+/// `head(args)`, or the faults of both.
+pub fn call<'a, B: ExprBuilder>(
+    alloc: Global,
+    styles: &ExtStyles,
+    loc: Option<&Loc>,
+    head: Result<Head<'_, B::Expr>, ConversionError<B::BuildError>>,
+    args: Result<Vec<B::Expr>, ConversionError<B::BuildError>>,
+) -> Result<Head<'a, B::Expr>, ConversionError<B::BuildError>>
+    ensures { (v : Option converting.Head) (w : Option (List Tree)) → MakesHead B.operations B.meaning B.refusal head.entry v → MakesTrees B.operations B.meaning B.refusal args w →
+        MakesHead B.operations B.meaning B.refusal result (and_then v (λ h. and_then w (λ xs. and_then (converting.called styles.now h xs) (λ t. Some (converting.a_tree t))))) }
+{
+    match head {
+        Ok(head) => match args {
+            Ok(args) => expr_to_head::<B>(called::<B>(alloc, styles, loc, head, args)),
+            Err(error) => Err(error),
+        },
+        Err(error) => match args {
+            Ok(_) => Err(error),
+            Err(other) => Err(error.and(other)),
+        },
+    }
+}

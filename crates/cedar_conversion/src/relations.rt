@@ -1,0 +1,105 @@
+// `has`, `like` and `is`.
+ghost use Rattle.std.specs.Prelude.{Option, Some, List};
+ghost use Rattle.cedar_language.specs.Tree as tree;
+ghost use Rattle.cedar_language.specs.Tree.{Tree, PatternElem};
+ghost use Rattle.cedar_language.specs.Uid.{Text, Name};
+ghost use Rattle.cedar_grammar.specs.Build as build;
+ghost use Rattle.cedar_grammar.specs.Build.{unary, is_in};
+ghost use Rattle.cedar_conversion_leaves.specs.Converts.{and_then, Finds};
+ghost use Rattle.cedar_conversion.specs.Building.{MakesTree};
+ghost use Rattle.cedar_conversion_leaves.specs.Fields.{path_texts};
+
+use crate::building::{builder_at, taken};
+use cedar_builders::expr_builder::ExprBuilder;
+use cedar_conversion_leaves::{ConversionError, flatten_tuple_2};
+use cedar_literals::patterns::Pattern;
+use cedar_literals::uids::EntityType;
+use cedar_names::names;
+use cedar_names::places::Loc;
+use cedar_trees::unknowns::NonEmpty;
+use std::alloc::Global;
+use std::rc::RcStr;
+
+/// `target has attrs`, or the faults of both.
+pub fn has<B: ExprBuilder>(
+    alloc: Global,
+    loc: Option<&Loc>,
+    target: Result<B::Expr, ConversionError<B::BuildError>>,
+    attrs: Result<NonEmpty<RcStr>, ConversionError<B::BuildError>>,
+) -> Result<B::Expr, ConversionError<B::BuildError>>
+    ensures { (v : Option Tree) (w : Option (List Text)) → MakesTree B.operations B.meaning B.refusal target v → Finds path_texts attrs w →
+        MakesTree B.operations B.meaning B.refusal result (and_then v (λ x. and_then w (λ ss. Some (build.has ss x)))) }
+{
+    let (target, attrs) = flatten_tuple_2(target, attrs)?;
+    let builder = builder_at::<B>(alloc, loc)?;
+    if attrs.tail.is_empty() {
+        taken::<B>(builder.has_attr(target, attrs.head))
+    } else {
+        taken::<B>(builder.extended_has_attr(target, attrs))
+    }
+}
+
+/// `target like pattern`, or the faults of both.
+pub fn like<B: ExprBuilder>(
+    alloc: Global,
+    loc: Option<&Loc>,
+    target: Result<B::Expr, ConversionError<B::BuildError>>,
+    pattern: Result<Pattern, ConversionError<B::BuildError>>,
+) -> Result<B::Expr, ConversionError<B::BuildError>>
+    ensures { (v : Option Tree) (w : Option (List PatternElem)) → MakesTree B.operations B.meaning B.refusal target v → Finds (λ p. p) pattern w →
+        MakesTree B.operations B.meaning B.refusal result (and_then v (λ x. and_then w (λ q. Some (unary (tree.Like q) x)))) }
+{
+    let (target, pattern) = flatten_tuple_2(target, pattern)?;
+    let builder = builder_at::<B>(alloc, loc)?;
+    taken::<B>(builder.like(target, pattern))
+}
+
+/// `target is name`, or the faults of both.
+pub fn is_type<B: ExprBuilder>(
+    alloc: Global,
+    loc: Option<&Loc>,
+    target: Result<B::Expr, ConversionError<B::BuildError>>,
+    name: Result<names::Name, ConversionError<B::BuildError>>,
+) -> Result<B::Expr, ConversionError<B::BuildError>>
+    ensures { (v : Option Tree) (w : Option Name) → MakesTree B.operations B.meaning B.refusal target v → Finds (λ p. p) name w →
+        MakesTree B.operations B.meaning B.refusal result (and_then v (λ x. and_then w (λ p. Some (unary (tree.Is p) x)))) }
+{
+    let (target, name) = flatten_tuple_2(target, name)?;
+    let builder = builder_at::<B>(alloc, loc)?;
+    taken::<B>(builder.is_entity_type(target, EntityType::from(name)))
+}
+
+/// `target is name in entity`, or the faults of all three.
+pub fn is_type_in<B: ExprBuilder>(
+    alloc: Global,
+    loc: Option<&Loc>,
+    target: Result<B::Expr, ConversionError<B::BuildError>>,
+    name: Result<names::Name, ConversionError<B::BuildError>>,
+    entity: Result<B::Expr, ConversionError<B::BuildError>>,
+) -> Result<B::Expr, ConversionError<B::BuildError>>
+    ensures { (v : Option Tree) (w : Option Name) (u : Option Tree) → MakesTree B.operations B.meaning B.refusal target v → Finds (λ p. p) name w → MakesTree B.operations B.meaning B.refusal entity u →
+        MakesTree B.operations B.meaning B.refusal result (and_then v (λ x. and_then w (λ p. and_then u (λ y. Some (is_in p x y))))) }
+{
+    let (target, (name, entity)) = flatten_tuple_2(target, flatten_tuple_2(name, entity))?;
+    let builder = builder_at::<B>(alloc, loc)?;
+    taken::<B>(builder.is_in_entity_type(target, EntityType::from(name), entity))
+}
+
+/// `if test then then_expr else else_expr`, or the faults of all three.
+pub fn ite<B: ExprBuilder>(
+    alloc: Global,
+    loc: Option<&Loc>,
+    test: Result<B::Expr, ConversionError<B::BuildError>>,
+    then_expr: Result<B::Expr, ConversionError<B::BuildError>>,
+    else_expr: Result<B::Expr, ConversionError<B::BuildError>>,
+) -> Result<B::Expr, ConversionError<B::BuildError>>
+    ensures { (u v w : Option Tree) → MakesTree B.operations B.meaning B.refusal test u → MakesTree B.operations B.meaning B.refusal then_expr v → MakesTree B.operations B.meaning B.refusal else_expr w →
+        MakesTree B.operations B.meaning B.refusal result (and_then u (λ x. and_then v (λ y. and_then w (λ z. Some (tree.If x y z))))) }
+{
+    let (test, (then_expr, else_expr)) = flatten_tuple_2(
+        test,
+        flatten_tuple_2(then_expr, else_expr),
+    )?;
+    let builder = builder_at::<B>(alloc, loc)?;
+    taken::<B>(builder.ite(test, then_expr, else_expr))
+}

@@ -1,5 +1,0 @@
-mod Rising
-mod Holding
-mod Fine
-mod Constructs
-pub mod Written

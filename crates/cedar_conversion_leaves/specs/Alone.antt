@@ -1,0 +1,52 @@
+-- What stands alone, one step at a time.
+use Rattle.std.specs.Prelude.{ℕ, Option, Some, None}
+use Rattle.cedar_language.specs.Uid.{Text}
+use Rattle.cedar_grammar.specs.Loose as loose
+use Rattle.cedar_grammar.specs.Converting.{ident_text}
+
+abbrev pub only_or : loose.Expr → Option loose.Or
+only_or (loose.or_expr o) = Some o
+only_or e = None
+
+abbrev pub only_and : loose.Or → Option loose.And
+only_and (loose.or a loose.no_ands) = Some a
+only_and o = None
+
+abbrev pub only_relation : loose.And → Option loose.Relation
+only_relation (loose.and a loose.no_relations) = Some a
+only_relation a = None
+
+abbrev pub only_add : loose.Relation → Option loose.Add
+only_add (loose.common a loose.no_adds) = Some a
+only_add r = None
+
+abbrev pub only_mult : loose.Add → Option loose.Mult
+only_mult (loose.add a loose.no_mults) = Some a
+only_mult a = None
+
+abbrev pub only_unary : loose.Mult → Option loose.Unary
+only_unary (loose.mult a loose.no_unaries) = Some a
+only_unary m = None
+
+-- without signs
+abbrev pub unsigned : loose.Unary → Option loose.Member
+unsigned (loose.unary None m) = Some m
+unsigned u = None
+
+-- the literal, or the name, that a primary is
+abbrev pub only_literal : loose.Primary → Option loose.Literal
+only_literal (loose.literal l) = Some l
+only_literal p = None
+
+abbrev pub only_name : loose.Primary → Option loose.Name
+only_name (loose.named n) = Some n
+only_name p = None
+
+abbrev pub number_of : loose.Literal → Option ℕ
+number_of (loose.num n) = Some n
+number_of l = None
+
+-- the word behind a dot
+abbrev pub access_word : loose.MemAccess → Option Text
+access_word (loose.field i) = ident_text i
+access_word x = None

@@ -1,4 +1,0 @@
-pub mod Converting
-pub mod Made
-pub mod Ordering
-pub mod Refusing

@@ -1,5 +1,0 @@
-use Rattle.std.proofs.Common.{◌≡◌, ◌++◌}
-use Rattle.cedar_conversion_parts.proofs.records.pairs_of.Given as goal
-
-abbrev pub invariant-entries : goal.invariant-entries
-invariant-entries g l = l.pairs.items ++ l.key-iterator ≡ l.fn.map.entries

@@ -1,5 +1,0 @@
-pub mod Building
-pub mod Entries
-pub mod Heads
-pub mod Joints
-pub mod SoFar

@@ -1,0 +1,82 @@
+// Errors of nodes.
+ghost use Rattle.std.specs.Prelude.{◌≡◌, IfOk};
+ghost use Rattle.std.specs.Option.{option_copied};
+
+use cedar_names::places::Loc;
+use std::alloc::{AllocError, Global};
+use std::error::Error;
+use std::fmt;
+use thiserror::Error;
+
+/// An error of one kind, and where it stands in a text, if that is known. `==` compares places too.
+#[derive(Clone, Debug, PartialEq, Eq)]
+pub struct PlacedError<K> {
+    pub kind: K,
+    pub loc: Option<Loc>,
+}
+
+// By hand, so that letting go of one is a call, whatever its kind holds.
+impl<K: Drop> Drop for PlacedError<K> {
+    fn drop(self) {
+        let PlacedError { kind: _, loc: _ } = self;
+    }
+}
+
+impl<K> PlacedError<K> {
+    /// The error of this kind at this place.
+    pub fn new(kind: K, loc: Option<Loc>) -> PlacedError<K>
+        ensures kind { result.kind ≡ kind }
+        ensures place { result.loc ≡ loc }
+    {
+        PlacedError { kind, loc }
+    }
+
+    /// The error of this kind at a copy of this place; refused for memory alone.
+    pub fn at(_alloc: Global, kind: K, loc: Option<&Loc>) -> Result<PlacedError<K>, AllocError>
+    where
+        K: Drop,
+        ensures kind { IfOk result (λ error. error.kind ≡ kind) }
+        ensures place { IfOk result (λ error. error.loc ≡ option_copied loc.entry) }
+    {
+        Ok(PlacedError {
+            kind,
+            loc: loc.cloned()?,
+        })
+    }
+
+    /// The kind.
+    pub fn kind(&self) -> &K
+        ensures { result.now ≡ self.now.kind }
+    {
+        &self.kind
+    }
+}
+
+impl<K: fmt::Display> fmt::Display for PlacedError<K> {
+    fn fmt<W: fmt::Write>(&self, f: &mut fmt::Formatter<W>) -> fmt::Result {
+        self.kind.fmt(f)
+    }
+}
+
+impl<K: Error> Error for PlacedError<K> {}
+
+/// Why a node doesn't give its value.
+#[derive(Debug, PartialEq, Eq, Drop, Error)]
+pub enum EmptyNodeError {
+    /// The node is empty. It stands at this place, if that is known.
+    #[error("a part of the text was not read")]
+    Empty(Option<Loc>),
+    /// Memory ran out.
+    #[error(transparent)]
+    Memory(AllocError),
+}
+
+impl From<AllocError> for EmptyNodeError {
+    ghost use Rattle.cedar_cst.specs.declared.errors.EmptyNodeError.TheVariants.{Memory};
+
+    ghost from_gives = { λ error made. made ≡ Memory error };
+
+    fn from(error: AllocError) -> EmptyNodeError {
+        EmptyNodeError::Memory(error)
+    }
+}

@@ -1,5 +1,0 @@
-use Rattle.cedar_early.proofs.Early.{early_answers_are_prompt as law}
-use Rattle.cedar_early.proofs.early_answers_are_prompt.Goals as goal
-
-pub returns : goal.returns
-returns c = law

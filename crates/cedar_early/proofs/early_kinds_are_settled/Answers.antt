@@ -1,5 +1,0 @@
-use Rattle.cedar_early.proofs.Early.{early_kinds_are_settled as law}
-use Rattle.cedar_early.proofs.early_kinds_are_settled.Goals as goal
-
-pub returns : goal.returns
-returns c = law

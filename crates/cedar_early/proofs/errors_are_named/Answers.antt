@@ -1,5 +1,0 @@
-use Rattle.cedar_early.proofs.Reauthorizing.{errors_are_named as law}
-use Rattle.cedar_early.proofs.errors_are_named.Goals as goal
-
-pub returns : goal.returns
-returns c = law

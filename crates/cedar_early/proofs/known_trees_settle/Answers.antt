@@ -1,5 +1,0 @@
-use Rattle.cedar_early.proofs.Mentions.{known_trees_settle as law}
-use Rattle.cedar_early.proofs.known_trees_settle.Goals as goal
-
-pub returns : goal.returns
-returns c = law

@@ -1,5 +1,0 @@
-use Rattle.cedar_early.proofs.Like.{like_trees_agree as law}
-use Rattle.cedar_early.proofs.like_trees_agree.Goals as goal
-
-pub returns : goal.returns
-returns c = law

@@ -1,5 +1,0 @@
-use Rattle.cedar_early.proofs.Known.{meaning_is_settled as law}
-use Rattle.cedar_early.proofs.meaning_is_settled.Goals as goal
-
-pub returns : goal.returns
-returns c = law

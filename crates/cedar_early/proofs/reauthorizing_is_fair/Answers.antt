@@ -1,5 +1,0 @@
-use Rattle.cedar_early.proofs.Reauthorizing.{reauthorizing_is_fair as law}
-use Rattle.cedar_early.proofs.reauthorizing_is_fair.Goals as goal
-
-pub returns : goal.returns
-returns c = law

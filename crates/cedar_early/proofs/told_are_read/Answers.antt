@@ -1,5 +1,0 @@
-use Rattle.cedar_early.proofs.Telling.{told_are_read as law}
-use Rattle.cedar_early.proofs.told_are_read.Goals as goal
-
-pub returns : goal.returns
-returns c = law

@@ -1,2 +1,0 @@
-mod EditedStores
-mod EditedBodies

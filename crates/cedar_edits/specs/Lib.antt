@@ -1,4 +1,0 @@
-pub mod Holding
-pub mod Refusals
-pub mod Stores
-pub mod Edits

@@ -1,0 +1,5 @@
+use Rattle.cedar_entities.proofs.Entries.{shown_at}
+use Rattle.cedar_entities.proofs.entity.Entity.get_tag.Goals as goal
+
+pub returns : goal.returns
+returns c = rw (← c.self.view_is) (shown_at c.deref.result.now c.self.inside.tags.value c.args.tag.now c.get.result c.deref.ensures c.get.ensures.value)

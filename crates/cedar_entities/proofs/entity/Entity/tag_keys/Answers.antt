@@ -1,0 +1,5 @@
+use Rattle.cedar_entities.proofs.Entries.{shown_names}
+use Rattle.cedar_entities.proofs.entity.Entity.tag_keys.Goals as goal
+
+pub returns : goal.returns
+returns c = rw (← c.self.view_is) (shown_names c.deref.result.now c.self.inside.tags.value c.keys.result c.deref.ensures c.keys.ensures.rest c.keys.ensures.ordered)

@@ -1,0 +1,9 @@
+use Rattle.cedar_restricted.specs.Views.{restricted_entries}
+use Rattle.cedar_entities.specs.Evaluated.{AreWithin}
+use Rattle.cedar_entities.proofs.Giving.{IsUnderway}
+use Rattle.cedar_entities.proofs.evaluated_attributes.evaluate_all.Given as goal
+
+abbrev pub invariant-loop-name : goal.invariant-loop-name
+invariant-loop-name l =
+    IsUnderway l.extensions l.fn.exprs.entries l.name-iterator l.values.entries ×
+    (AreWithin l.depth (restricted_entries l.name-iterator) → AreWithin l.depth (restricted_entries l.fn.exprs.entries))

@@ -1,0 +1,23 @@
+use Rattle.std.proofs.Common.{IfErr, sym, subst}
+use Rattle.std.specs.FinSet as set
+use Rattle.cedar_entities.specs.Attributes.{seen_entries}
+use Rattle.cedar_restricted.specs.Views.{restricted_entries}
+use Rattle.cedar_entities.specs.Refused.{IsCreationRefusal}
+use Rattle.cedar_entities.proofs.Giving.{have_values}
+use Rattle.cedar_entities.proofs.Refusing.{at_err, tag_refused, evaluated}
+use Rattle.cedar_entities.proofs.evaluation.EntityEvaluateEntity.new.Goals as goal
+
+pub returns-in_err-tags-clause-refused : goal.returns-in_err-tags-clause-refused
+returns-in_err-tags-clause-refused c =
+    let table = c.args.extensions.now in
+    let attributes = restricted_entries c.args.attrs.entries in
+    let tags = restricted_entries c.args.tags.entries in
+    let Refused = IsCreationRefusal table c.args.depth c.args.uid attributes tags in
+    at_err (λ r. IfErr r Refused) _ c.from_residual-in_err-tags.result c.from_residual-in_err-tags.ensures.1 (λ e is. subst Refused (sym is)
+    (tag_refused table c.args.depth c.args.uid c.in_ok-clone-2.field-0 c.in_ok-clone-2.ensures attributes tags
+    (have_values table attributes (seen_entries c.in_ok-attrs.attrs.entries) c.in_ok-attrs.ensures.given) c.in_err-tags.field-0.0 c.in_err-tags.ensures.refused))
+
+pub returns-clause-evaluated : goal.returns-clause-evaluated
+returns-clause-evaluated c =
+    evaluated c.args.extensions.now c.args.uid (restricted_entries c.args.attrs.entries) (restricted_entries c.args.tags.entries) c.in_ok-attrs.attrs.entries c.in_ok-tags.tags.entries
+    (set.from_list c.args.parents.keys) (set.from_list c.args.indirect_ancestors.keys) c.in_ok-new_with_attr_partial_value.field-0 c.in_ok-new_with_attr_partial_value.ensures c.in_ok-attrs.ensures.given c.in_ok-tags.ensures.given

@@ -1,0 +1,391 @@
+// Entities.
+ghost use Rattle.std.specs.Prelude.{◌≡◌, ◌↔◌, IsTrue, OnOk, OnErr, IfOk, map, if◌then◌else◌};
+ghost use Rattle.std.specs.Option.{option_map};
+ghost use Rattle.std.specs.FinMap as finite;
+ghost use Rattle.std.specs.FinSet as set;
+ghost use Rattle.std.specs.List.{list_all};
+ghost use Rattle.std.specs.Rc.{rc_str_bytes};
+ghost use Rattle.cedar_language.specs.Uid.{Uid};
+ghost use Rattle.cedar_restricted.specs.PartialValues.{partial_of};
+ghost use Rattle.cedar_entities.specs.Attributes.{attributes_of, seen_entries};
+ghost use Rattle.cedar_entities.specs.Data.{EntityData, bare_entity, ancestors_of, IsListOf, IsSameEntity, without};
+
+use crate::attributes::{Attributes, same_attributes};
+use cedar_literals::uids::EntityUID;
+use cedar_restricted::partial_values::PartialValue;
+use std::alloc::{AllocError, Global};
+use std::collections::{BTreeMap, HashSet, btree_map, hash_set};
+use std::hash::{Hash, Hasher};
+use std::marker::Model;
+use std::rc::{Rc, RcStr};
+
+/// An entity: its uid, its attributes and tags, its parents, and further ancestors that are kept beside
+/// them. Contracts see all these; `==` and hash see the uid alone. (Cedar language reference,
+/// "Entities".)
+pub struct Entity {
+    uid: EntityUID,
+    attrs: Attributes,
+    tags: Attributes,
+    parents: HashSet<EntityUID>,
+    indirect_ancestors: HashSet<EntityUID>,
+}
+
+impl Drop for Entity {
+    fn drop(self) {
+        let Entity {
+            uid: _,
+            attrs: _,
+            tags: _,
+            parents: _,
+            indirect_ancestors: _,
+        } = self;
+    }
+}
+
+impl Model for Entity {
+    ghost use Rattle.std.specs.FinSet as set;
+    ghost use Rattle.cedar_entities.specs.Attributes.{attributes_of};
+    ghost use Rattle.cedar_entities.specs.Data.{EntityData, data_code};
+
+    ghost Value = { EntityData };
+
+    ghost coded = { data_code };
+
+    ghost view = { λ a. record {
+      uid = a.uid;
+      attributes = attributes_of a.attrs.value.entries;
+      tags = attributes_of a.tags.value.entries;
+      parents = set.from_list a.parents.keys;
+      indirect = set.from_list a.indirect_ancestors.keys;
+    } };
+}
+
+// ---- makers and readers
+
+impl Entity {
+    /// The entity of this uid, without attributes, tags and ancestors; refused for memory alone.
+    pub fn with_uid(alloc: Global, uid: EntityUID) -> Result<Entity, AllocError>
+        ensures { IfOk result (λ entity. entity ≡ bare_entity uid) }
+    {
+        Entity::new_with_attr_partial_value(
+            alloc,
+            uid,
+            BTreeMap::new(alloc),
+            HashSet::new(alloc),
+            HashSet::new(alloc),
+            BTreeMap::new(alloc),
+        )
+    }
+
+    /// The entity of these parts; refused for memory alone.
+    pub fn new_with_attr_partial_value(
+        alloc: Global,
+        uid: EntityUID,
+        attrs: BTreeMap<RcStr, PartialValue>,
+        indirect_ancestors: HashSet<EntityUID>,
+        parents: HashSet<EntityUID>,
+        tags: BTreeMap<RcStr, PartialValue>,
+    ) -> Result<Entity, AllocError>
+        ensures { IfOk result (λ entity. entity ≡ record {
+          uid = uid;
+          attributes = attributes_of attrs.entries;
+          tags = attributes_of tags.entries;
+          parents = set.from_list parents.keys;
+          indirect = set.from_list indirect_ancestors.keys;
+        }) }
+    {
+        let attrs = Rc::new(alloc, attrs)?;
+        let tags = Rc::new(alloc, tags)?;
+        Ok(Entity {
+            uid,
+            attrs,
+            tags,
+            parents,
+            indirect_ancestors,
+        })
+    }
+
+    /// Its uid.
+    pub fn uid(&self) -> &EntityUID
+        ensures { result.now ≡ self.now.uid }
+    {
+        &self.uid
+    }
+
+    /// What it has as this attribute, if it has it.
+    pub fn get(&self, attr: &str) -> Option<&PartialValue>
+        ensures { option_map (λ v. partial_of v.now) result ≡ finite.get self.now.attributes attr.now }
+    {
+        self.attrs.get(attr)
+    }
+
+    /// What it has as this tag, if it has it.
+    pub fn get_tag(&self, tag: &str) -> Option<&PartialValue>
+        ensures { option_map (λ v. partial_of v.now) result ≡ finite.get self.now.tags tag.now }
+    {
+        self.tags.get(tag)
+    }
+
+    /// How many attributes it has.
+    pub fn attrs_len(&self) -> usize
+        ensures { result ≡ finite.len self.now.attributes }
+    {
+        self.attrs.len()
+    }
+
+    /// How many tags it has.
+    pub fn tags_len(&self) -> usize
+        ensures { result ≡ finite.len self.now.tags }
+    {
+        self.tags.len()
+    }
+
+    /// The names of its attributes, each below the next.
+    pub fn keys(&self) -> btree_map::Keys<'_, RcStr, PartialValue>
+        ensures { map rc_str_bytes result ≡ finite.keys self.now.attributes }
+    {
+        self.attrs.keys()
+    }
+
+    /// The names of its tags, each below the next.
+    pub fn tag_keys(&self) -> btree_map::Keys<'_, RcStr, PartialValue>
+        ensures { map rc_str_bytes result ≡ finite.keys self.now.tags }
+    {
+        self.tags.keys()
+    }
+
+    /// Its attributes, in the order of their names.
+    pub fn attrs(&self) -> btree_map::Iter<'_, RcStr, PartialValue>
+        ensures { seen_entries result ≡ finite.entries self.now.attributes }
+    {
+        self.attrs.iter()
+    }
+
+    /// Its tags, in the order of their names.
+    pub fn tags(&self) -> btree_map::Iter<'_, RcStr, PartialValue>
+        ensures { seen_entries result ≡ finite.entries self.now.tags }
+    {
+        self.tags.iter()
+    }
+
+    /// Whether the uid is one of its parents.
+    pub fn is_child_of(&self, uid: &EntityUID) -> bool
+        ensures { result ≡ set.contains self.now.parents uid.now }
+    {
+        self.parents.contains(uid)
+    }
+
+    /// Whether the uid is one of the ancestors that are kept beside its parents.
+    pub fn is_indirect_descendant_of(&self, uid: &EntityUID) -> bool
+        ensures { result ≡ set.contains self.now.indirect uid.now }
+    {
+        self.indirect_ancestors.contains(uid)
+    }
+
+    /// Whether the uid is one of its ancestors.
+    pub fn is_descendant_of(&self, uid: &EntityUID) -> bool
+        ensures { result ≡ set.contains (ancestors_of self.now) uid.now }
+    {
+        self.is_child_of(uid) || self.is_indirect_descendant_of(uid)
+    }
+
+    /// Its parents, in no stated order.
+    pub fn parents(&self) -> hash_set::Iter<'_, EntityUID>
+        ensures { IsListOf result self.now.parents }
+    {
+        self.parents.iter()
+    }
+
+    /// The ancestors that are kept beside its parents, in no stated order.
+    pub fn indirect_ancestors(&self) -> hash_set::Iter<'_, EntityUID>
+        ensures { IsListOf result self.now.indirect }
+    {
+        self.indirect_ancestors.iter()
+    }
+
+    /// Its uid, attributes, indirect ancestors, parents and tags.
+    pub fn into_inner(
+        self,
+    ) -> (
+        EntityUID,
+        Attributes,
+        HashSet<EntityUID>,
+        HashSet<EntityUID>,
+        Attributes,
+    )
+        ensures { self ≡ record {
+          uid = result.0;
+          attributes = attributes_of result.1.value.entries;
+          tags = attributes_of result.4.value.entries;
+          parents = set.from_list result.3.keys;
+          indirect = set.from_list result.2.keys;
+        } }
+    {
+        let Entity {
+            uid,
+            attrs,
+            tags,
+            parents,
+            indirect_ancestors,
+        } = self;
+        (uid, attrs, indirect_ancestors, parents, tags)
+    }
+}
+
+// ---- comparisons
+
+fn are_ancestors(uids: &HashSet<EntityUID>, of: &Entity) -> bool
+    ensures { result ≡ list_all (set.contains (ancestors_of of.now)) uids.now.keys }
+{
+    uids.iter().all(|uid| of.is_descendant_of(uid))
+}
+
+// Whether each ancestor of the first is one of the second.
+fn shares_ancestors(entity: &Entity, other: &Entity) -> bool
+    ensures { IsTrue result ↔ ((q : Uid) → IsTrue (set.contains (ancestors_of entity.now) q) → IsTrue (set.contains (ancestors_of other.now) q)) }
+{
+    are_ancestors(&entity.parents, other) && are_ancestors(&entity.indirect_ancestors, other)
+}
+
+fn have_same_ancestors(a: &Entity, b: &Entity) -> bool
+    ensures { IsTrue result ↔ (ancestors_of b.now ≡ ancestors_of a.now) }
+{
+    shares_ancestors(a, b) && shares_ancestors(b, a)
+}
+
+fn have_same_attributes(a: &Entity, b: &Entity) -> bool
+    ensures { IsTrue result ↔ ((b.now.attributes ≡ a.now.attributes) × (b.now.tags ≡ a.now.tags)) }
+{
+    same_attributes(&a.attrs, &b.attrs) && same_attributes(&a.tags, &b.tags)
+}
+
+impl Entity {
+    // Whether both have the same attributes, tags and ancestors.
+    fn is_version_of(&self, other: &Entity) -> bool
+        ensures { IsTrue result ↔ ((other.now.attributes ≡ self.now.attributes) × (other.now.tags ≡ self.now.tags)
+            × (ancestors_of other.now ≡ ancestors_of self.now)) }
+    {
+        have_same_attributes(self, other) && have_same_ancestors(self, other)
+    }
+
+    /// Whether both have the same uid, attributes, tags and ancestors. Two residuals are the same where
+    /// they have one shape.
+    pub fn deep_eq(&self, other: &Entity) -> bool
+        ensures { IsTrue result ↔ IsSameEntity self.now other.now }
+    {
+        self.uid == other.uid && self.is_version_of(other)
+    }
+}
+
+impl PartialEq for Entity {
+    ghost use Rattle.cedar_entities.specs.Sameness.{same_by_uid, same_by_uid_partial};
+
+    ghost eq = { same_by_uid };
+
+    ghost laws = { same_by_uid_partial };
+
+    fn eq(&self, other: &Entity) -> bool {
+        self.uid == other.uid
+    }
+}
+
+impl Eq for Entity {
+    ghost use Rattle.cedar_entities.specs.Sameness.{same_by_uid_equiv};
+
+    ghost laws = { same_by_uid_equiv };
+}
+
+impl Hash for Entity {
+    ghost use Rattle.cedar_entities.specs.Sameness.{hash_by_uid, hash_by_uid_alike};
+
+    ghost hash_input = { hash_by_uid };
+
+    ghost respects_eq = { hash_by_uid_alike.fed };
+
+    fn hash<H: Hasher>(&self, state: &mut H) {
+        self.uid.hash(state);
+    }
+}
+
+impl Clone for Entity {
+    ghost is_clone = { λ entity copy. copy ≡ entity };
+
+    fn clone(&self) -> Result<Entity, AllocError> {
+        Ok(Entity {
+            uid: Clone::clone(&self.uid)?,
+            attrs: self.attrs.clone()?,
+            tags: self.tags.clone()?,
+            parents: self.parents.clone()?,
+            indirect_ancestors: self.indirect_ancestors.clone()?,
+        })
+    }
+}
+
+// ---- changes
+
+impl Entity {
+    /// A copy that shares attributes and tags; refused for memory alone.
+    pub fn clone(&self, _alloc: Global) -> Result<Entity, AllocError>
+        ensures { IfOk result (λ copy. copy ≡ self.now) }
+    {
+        Clone::clone(self)
+    }
+
+    /// Keeps an ancestor beside the parents, unless it is a parent. Refused for memory alone; the entity
+    /// is then unchanged.
+    pub fn add_indirect_ancestor(&mut self, uid: EntityUID) -> Result<(), AllocError>
+        ensures added { OnOk result (self.new ≡ record self.old {
+          indirect = (if set.contains self.old.parents uid then self.old.indirect else set.insert self.old.indirect uid);
+        }) }
+        ensures err { OnErr result (self.new ≡ self.old) }
+    {
+        if !self.parents.contains(&uid) {
+            self.indirect_ancestors.insert(uid)?;
+        }
+        Ok(())
+    }
+
+    /// Adds a parent, which isn't kept beside the parents any more. Refused for memory alone; the entity
+    /// is then unchanged.
+    pub fn add_parent(&mut self, uid: EntityUID) -> Result<(), AllocError>
+        ensures added { OnOk result (self.new ≡ record self.old {
+          parents = set.insert self.old.parents uid;
+          indirect = set.remove self.old.indirect uid;
+        }) }
+        ensures err { OnErr result (self.new ≡ self.old) }
+    {
+        self.parents.reserve(1)?;
+        self.indirect_ancestors.remove(&uid);
+        self.parents.insert(uid)?;
+        Ok(())
+    }
+
+    /// Takes away an ancestor that is kept beside the parents, if it is one.
+    pub fn remove_indirect_ancestor(&mut self, uid: &EntityUID)
+        ensures { self.new ≡ record self.old { indirect = set.remove self.old.indirect uid.now } }
+    {
+        self.indirect_ancestors.remove(uid);
+    }
+
+    /// Takes away a parent, if it is one.
+    pub fn remove_parent(&mut self, uid: &EntityUID)
+        ensures { self.new ≡ record self.old { parents = set.remove self.old.parents uid.now } }
+    {
+        self.parents.remove(uid);
+    }
+
+    /// Takes these uids away from its parents and from the ancestors that are kept beside them.
+    pub fn remove_ancestors(&mut self, uids: &HashSet<EntityUID>)
+        ensures { self.new ≡ without (set.from_list uids.now.keys) self.old }
+    {
+        self.parents.retain(|uid| !uids.contains(uid));
+        self.indirect_ancestors.retain(|uid| !uids.contains(uid));
+    }
+
+    /// Takes away all ancestors that are kept beside the parents.
+    pub fn remove_all_indirect_ancestors(&mut self)
+        ensures { self.new ≡ record self.old { indirect = set.empty } }
+    {
+        self.indirect_ancestors.clear();
+    }
+}

@@ -1,3 +1,0 @@
-pub mod Shown
-mod Edited
-mod Fitting

@@ -1,5 +1,0 @@
-use Rattle.cedar_entities_world.proofs.Fitting.{adds}
-use Rattle.cedar_entities_world.proofs.adds_are_the_worlds.Goals as goal
-
-pub returns : goal.returns
-returns c = λ held old vs result shows left. adds held old shows vs c.edits_at_uids.ensures result left

@@ -1,3 +1,0 @@
-pub mod Uids
-mod Entries
-mod SameMaps

@@ -1,5 +1,0 @@
-use Rattle.cedar_entity.proofs.Uids.{list_of}
-use Rattle.cedar_entity.proofs.entity.Entity.indirect_ancestors.Goals as goal
-
-pub returns : goal.returns
-returns c = rw (← c.self.view_is) (list_of _ c.iter.result c.iter.ensures.rest c.iter.ensures.unique)

@@ -1,6 +1,0 @@
-use Rattle.std.proofs.Common.{sym, ◌∙◌}
-use Rattle.cedar_entity.proofs.Uids.{contains-listed}
-use Rattle.cedar_entity.proofs.entity.Entity.is_indirect_descendant_of.Goals as goal
-
-pub returns : goal.returns
-returns c = rw (← c.self.view_is) (c.contains.ensures ∙ sym (contains-listed _ c.args.uid.now))

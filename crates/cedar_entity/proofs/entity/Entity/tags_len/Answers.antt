@@ -1,5 +1,0 @@
-use Rattle.cedar_entity.proofs.Entries.{shown_len}
-use Rattle.cedar_entity.proofs.entity.Entity.tags_len.Goals as goal
-
-pub returns : goal.returns
-returns c = rw (← c.self.view_is) (shown_len c.deref.result.now c.self.inside.tags.value c.len.result c.deref.ensures c.len.ensures.len c.len.ensures.ordered)

@@ -1,5 +1,0 @@
-use Rattle.cedar_entity.proofs.Uids.{listed_all}
-use Rattle.cedar_entity.proofs.nodes.EntityTCNodeEntityUID.direct_edges.Goals as goal
-
-pub returns : goal.returns
-returns c = listed_all _ _ _ _ c.args.self.now.parents c.loop-uid.invariant c.in-None.ensures.steps.0 c.into_iter-uid-iterator.ensures.into_iter_gives c.parents-uid-items.ensures.members

@@ -1,7 +1,0 @@
-use Rattle.std.proofs.Common.{◌∙◌}
-use Rattle.cedar_entity.proofs.Uids.{contains-items}
-use Rattle.cedar_entity.specs.Data.{ancestors_of}
-use Rattle.cedar_entity.proofs.nodes.EntityTCNodeEntityUID.has_edge_to.Goals as goal
-
-pub returns : goal.returns
-returns c = c.is_descendant_of.ensures ∙ contains-items (ancestors_of c.args.self.now) c.args.k.now

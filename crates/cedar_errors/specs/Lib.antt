@@ -1,4 +1,0 @@
-pub mod Residuals
-pub mod Causes
-pub mod Failures
-pub mod Giving

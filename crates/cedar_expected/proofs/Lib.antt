@@ -1,2 +1,0 @@
-mod Any
-mod Bits

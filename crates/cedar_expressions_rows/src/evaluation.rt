@@ -1,0 +1,42 @@
+// What restricted expressions are evaluated to.
+use crate::partial_values::told;
+use crate::words::{Answer, no_case};
+use cedar_expressions::Extensions;
+use cedar_expressions::ast::{
+    BorrowedRestrictedExpr, Expr, PartialValue, RestrictedExpressionError,
+};
+use cedar_expressions::evaluator::{EvaluationError, interpret_restricted};
+use std::alloc::Global;
+
+fn told_answer(alloc: Global, found: Result<PartialValue, EvaluationError>) -> Answer {
+    match found {
+        Ok(partial) => told(alloc, &partial),
+        Err(error) => format!(in alloc; "refused: {error}"),
+    }
+}
+
+fn within(
+    alloc: Global,
+    depth: u32,
+    expr: Result<BorrowedRestrictedExpr<'_>, RestrictedExpressionError>,
+    table: &Extensions<'_>,
+) -> Answer {
+    match expr {
+        Ok(expr) => told_answer(alloc, interpret_restricted(alloc, expr, table, depth)),
+        Err(error) => error.to_string(alloc),
+    }
+}
+
+/// What the expression on top is evaluated to within this depth.
+pub(crate) fn answer(alloc: Global, depth: &str, stack: &[Expr], table: &Extensions<'_>) -> Answer {
+    let depth = depth.parse::<u32>().unwrap_or(0);
+    match stack.last() {
+        Some(expr) => within(
+            alloc,
+            depth,
+            BorrowedRestrictedExpr::new(alloc, expr),
+            table,
+        ),
+        None => no_case(alloc),
+    }
+}

@@ -1,0 +1,146 @@
+//! Answers lines of steps: a step is a section, a verb, and words with a bar between. What a step makes
+//! is kept, or stands on a stack; each line is printed again with the answer of its last step.
+#![tactic(auto)]
+
+mod builders;
+mod errors;
+mod evaluation;
+mod extensions;
+mod literals;
+mod names;
+mod partial_values;
+mod raw_names;
+mod registers;
+mod restricted;
+mod sections;
+mod shapes;
+mod substitution;
+mod trees;
+mod uids;
+mod validation;
+mod values;
+mod words;
+
+use crate::literals::Literals;
+use crate::names::Names;
+use crate::registers::Expressions;
+use crate::restricted::Restricted;
+use crate::uids::Uids;
+use crate::values::Stack;
+use crate::words::{Answer, Case};
+use std::alloc::Global;
+use std::io;
+
+/// What earlier steps left. The stacks of the expressions are empty where a line begins.
+struct Held {
+    names: Names,
+    uids: Uids,
+    literals: Literals,
+    values: Stack,
+    restricted: Restricted,
+    expressions: Expressions,
+}
+
+impl Drop for Held {
+    fn drop(self) {
+        let Held {
+            names: _,
+            uids: _,
+            literals: _,
+            values: _,
+            restricted: _,
+            expressions: _,
+        } = self;
+    }
+}
+
+/// The section that knows a verb.
+fn answer(alloc: Global, section: &str, case: &Case<'_>, held: &mut Held) -> Answer {
+    let (verb, one, other) = (case.verb, case.one.as_str(), case.other.as_str());
+    match section {
+        "names" => names::read(alloc, verb, one, &mut held.names),
+        "internal" => names::called(alloc, verb, &mut held.names),
+        "conversions" => names::converted(alloc, verb, &mut held.names),
+        "places" => names::placed(alloc, verb, one, other, &mut held.names),
+        "order" => names::compared(alloc, verb, &held.names),
+        "raw" => raw_names::answer(alloc, verb, one),
+        "uids" => uids::read(alloc, verb, one, &mut held.uids),
+        "qualified" => uids::qualified(alloc, &held.uids, &held.names),
+        "uid" => uids::called(alloc, verb, &mut held.uids),
+        "uid-order" => uids::compared(alloc, verb, &held.uids),
+        "patterns" => literals::patterns(alloc, verb, one, &mut held.literals),
+        "types" => literals::types(alloc, verb, one, &mut held.literals, &mut held.names),
+        "policies" => literals::policies(alloc, verb, one, &mut held.literals),
+        _ => of_values(alloc, section, case, held),
+    }
+}
+
+fn of_values(alloc: Global, section: &str, case: &Case<'_>, held: &mut Held) -> Answer {
+    let (verb, one, other) = (case.verb, case.one.as_str(), case.other.as_str());
+    match section {
+        "make" => values::made(alloc, verb, one, &mut held.uids.uid, &mut held.values),
+        "make-rank" => values::ranked(alloc, verb, one, other, &mut held.values),
+        "make-set" => values::set(alloc, verb, one, &mut held.values),
+        "make-literal-set" => values::literal_set(alloc, verb, one, &mut held.values),
+        "make-record" => values::record(alloc, verb, one, &mut held.values),
+        "top" => values::asked(alloc, verb, one, &mut held.values),
+        _ => of_restricted(alloc, section, case, held),
+    }
+}
+
+fn of_restricted(alloc: Global, section: &str, case: &Case<'_>, held: &mut Held) -> Answer {
+    let (verb, one, other) = (case.verb, case.one.as_str(), case.other.as_str());
+    let stack = &mut held.restricted;
+    let expressions = &mut held.expressions;
+    match section {
+        "restricted" => restricted::made(alloc, verb, one, &mut held.uids.uid, stack),
+        "restricted-of" => restricted::joined(alloc, verb, one, &mut held.names, stack),
+        "restricted-value" => restricted::of_values(alloc, verb, &mut held.values, stack),
+        "restricted-rank" => restricted::ranked(alloc, verb, one, other, stack),
+        "restricted-partial" => restricted::of_partials(alloc, &mut expressions.partials, stack),
+        "restricted-expr" => restricted::of_exprs(alloc, verb, &mut expressions.stack, stack),
+        "again" => restricted::again(alloc, verb, one, stack),
+        "changed" => restricted::changed(alloc, verb, stack),
+        "restricted-two" => restricted::compared(alloc, verb, stack),
+        "as" => restricted::read(alloc, verb, stack),
+        "lent-as" => restricted::read_lent(alloc, verb, stack),
+        _ => sections::answer(alloc, section, verb, one, other, expressions),
+    }
+}
+
+fn answered(alloc: Global, step: &str, held: &mut Held) -> Answer {
+    let (section, rest) = step.split_once(' ').unwrap_or((step, ""));
+    let case = words::read(alloc, rest)?;
+    answer(alloc, section, &case, held)
+}
+
+/// What the last step of a line answers.
+fn last_answer(alloc: Global, line: &str, held: &mut Held) -> Answer {
+    registers::clear(&mut held.expressions);
+    let mut answer = String::new(alloc);
+    for step in line.split("; ") {
+        answer = answered(alloc, step, held)?;
+    }
+    Ok(answer)
+}
+
+fn nothing(alloc: Global) -> Held {
+    Held {
+        names: names::none(),
+        uids: uids::none(),
+        literals: literals::none(),
+        values: Vec::new(alloc),
+        restricted: Vec::new(alloc),
+        expressions: registers::empty(alloc),
+    }
+}
+
+fn main(rt: HostRuntime) -> io::Result<()> {
+    let mut held = nothing(rt.alloc());
+    for line in rt.lines(rt.alloc()) {
+        let line = line?;
+        let answer = last_answer(rt.alloc(), line.as_str(), &mut held)?;
+        println!(rt; "{line} => {answer}")?;
+    }
+    Ok(())
+}

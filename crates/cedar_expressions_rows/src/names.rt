@@ -1,0 +1,146 @@
+// Identifiers, names and places.
+use crate::words::{Answer, alike, keep, no_case, number, said, show, tell};
+use cedar_expressions::ast::{AnyId, Id, InternalName, Name, UnreservedId, is_normalized_ident};
+use cedar_expressions::parser::{Loc, Span};
+use cedar_expressions::{FromIn, FromNormalizedStr};
+use std::alloc::{AllocError, Global};
+use std::rc::RcStr;
+
+/// What was read last of each kind.
+pub(crate) struct Names {
+    id: Option<Id>,
+    unreserved: Option<UnreservedId>,
+    pub(crate) internal: Option<InternalName>,
+    other: Option<InternalName>,
+    pub(crate) name: Option<Name>,
+    second: Option<Name>,
+}
+
+impl Drop for Names {
+    fn drop(self) {
+        let Names {
+            id: _,
+            unreserved: _,
+            internal: _,
+            other: _,
+            name: _,
+            second: _,
+        } = self;
+    }
+}
+
+pub(crate) fn none() -> Names {
+    Names {
+        id: None,
+        unreserved: None,
+        internal: None,
+        other: None,
+        name: None,
+        second: None,
+    }
+}
+
+pub(crate) fn read(alloc: Global, verb: &str, text: &str, held: &mut Names) -> Answer {
+    match verb {
+        "any-id" => show(alloc, AnyId::from_normalized_str(alloc, text)),
+        "id" => keep(alloc, &mut held.id, Id::from_normalized_str(alloc, text)),
+        "unreserved-id" => keep(
+            alloc,
+            &mut held.unreserved,
+            UnreservedId::from_normalized_str(alloc, text),
+        ),
+        "ident" => said(alloc, is_normalized_ident(text)),
+        "internal-name" => keep(
+            alloc,
+            &mut held.internal,
+            InternalName::from_normalized_str(alloc, text),
+        ),
+        "other" => keep(
+            alloc,
+            &mut held.other,
+            InternalName::from_normalized_str(alloc, text),
+        ),
+        "unqualified" => show(alloc, InternalName::parse_unqualified_name(alloc, text)),
+        "name" => keep(
+            alloc,
+            &mut held.name,
+            Name::from_normalized_str(alloc, text),
+        ),
+        _ => keep(
+            alloc,
+            &mut held.second,
+            Name::from_normalized_str(alloc, text),
+        ),
+    }
+}
+
+/// What is made of the names held.
+pub(crate) fn called(alloc: Global, verb: &str, held: &mut Names) -> Answer {
+    let (Some(internal), Some(other)) = (&held.internal, &held.other) else {
+        return no_case(alloc);
+    };
+    match verb {
+        "copied" => show(alloc, internal.clone(alloc)),
+        "namespace" => show(alloc, internal.namespace(alloc)),
+        _ => show(alloc, internal.qualify_with(alloc, Some(other))),
+    }
+}
+
+/// An identifier is made a name, and a name an identifier.
+pub(crate) fn converted(alloc: Global, verb: &str, held: &mut Names) -> Answer {
+    match verb {
+        "name-of-id" => match held.unreserved.take() {
+            Some(id) => keep(alloc, &mut held.name, Name::from_in(alloc, id)),
+            None => no_case(alloc),
+        },
+        "id-of-name" => match held.name.take() {
+            Some(name) => keep(
+                alloc,
+                &mut held.unreserved,
+                UnreservedId::from_in(alloc, name),
+            ),
+            None => no_case(alloc),
+        },
+        "internal-of-id" => match held.id.take() {
+            Some(id) => keep(alloc, &mut held.internal, InternalName::from_in(alloc, id)),
+            None => no_case(alloc),
+        },
+        _ => match held.internal.take() {
+            Some(name) => keep(alloc, &mut held.id, Id::from_in(alloc, name)),
+            None => no_case(alloc),
+        },
+    }
+}
+
+/// The place in a text of four bytes, `aéb`.
+pub(crate) fn loc(alloc: Global, start: &str, end: &str) -> Result<Loc, AllocError> {
+    let (start, end) = (number(start), number(end));
+    Loc::new(alloc, Span { start, end }, RcStr::from_str(alloc, "aéb")?)
+}
+
+pub(crate) fn placed(
+    alloc: Global,
+    verb: &str,
+    start: &str,
+    end: &str,
+    held: &mut Names,
+) -> Answer {
+    let loc = loc(alloc, start, end)?;
+    match &held.name {
+        Some(name) if verb == "place" => {
+            keep(alloc, &mut held.second, name.with_loc(alloc, Some(&loc)))
+        }
+        _ => tell(alloc, loc.snippet()),
+    }
+}
+
+pub(crate) fn compared(alloc: Global, verb: &str, held: &Names) -> Answer {
+    let (Some(name), Some(second)) = (&held.name, &held.second) else {
+        return no_case(alloc);
+    };
+    match verb {
+        "below" => said(alloc, name < second),
+        "alike" => said(alloc, alike(name, second)),
+        _ => said(alloc, second.loc().is_some()),
+    }
+}

@@ -1,0 +1,255 @@
+// Values that are written and read back, the arguments of calls that make them, and partial values.
+use crate::registers::{count_of, mapped, paired, place, put, separate, told_place, top};
+use crate::trees::{literal, unknown};
+use crate::words::{Answer, no_case, number, said, taken};
+use cedar_expressions::FromIn;
+use cedar_expressions::ast::{
+    Argument, Expr, ExtensionValue, Literal, Name, NotValue, ParseNameError, PartialValue,
+    RepresentableExtensionValue, ToExpr, TryFromExpr, Unknown, Value, ValueKind, split,
+};
+use either::Either;
+use std::alloc::{AllocError, Global};
+use std::fmt::Display;
+use std::rc::Rc;
+
+/// The rank that `low` makes of these arguments.
+fn rank(alloc: Global, args: Vec<Argument>) -> Result<RepresentableExtensionValue, ParseNameError> {
+    let typename = Name::parse_unqualified_name(alloc, "rank")?;
+    let low = Name::parse_unqualified_name(alloc, "low")?;
+    let value = ExtensionValue::new(typename, true, Vec::from_array(alloc, [7])?);
+    Ok(RepresentableExtensionValue::new(value, low, args))
+}
+
+fn ranked(alloc: Global, args: Vec<Argument>) -> Result<Argument, ParseNameError> {
+    Ok(Argument::ExtensionValue(Rc::new(alloc, rank(alloc, args)?)?))
+}
+
+fn literal_argument(literal: Result<Literal, ParseNameError>) -> Result<Argument, ParseNameError> {
+    Ok(Argument::Lit(literal?))
+}
+
+/// An argument of this kind, made of those on top.
+fn argument_of(
+    alloc: Global,
+    verb: &str,
+    word: &str,
+    arguments: &mut Vec<Argument>,
+) -> Result<Argument, ParseNameError> {
+    match verb {
+        "set" => {
+            let items = taken(alloc, number(word), arguments)?;
+            Ok(Argument::Set(Rc::new(alloc, items)?))
+        }
+        "record" => {
+            let items = taken(alloc, count_of(word), arguments)?;
+            let pairs = paired(alloc, word, items)?;
+            Ok(Argument::Record(mapped(alloc, pairs)?))
+        }
+        "rank" => ranked(alloc, taken(alloc, number(word), arguments)?),
+        _ => literal_argument(literal(alloc, verb, word)),
+    }
+}
+
+fn push_argument(
+    alloc: Global,
+    argument: Result<Argument, ParseNameError>,
+    arguments: &mut Vec<Argument>,
+) -> Answer {
+    match argument {
+        Ok(argument) => {
+            let written = argument.to_expr(alloc)?.to_string(alloc)?;
+            arguments.push(argument)?;
+            Ok(written)
+        }
+        Err(error) => error.to_string(alloc),
+    }
+}
+
+/// Puts an argument on its stack, and says how it is written.
+pub(crate) fn argument(
+    alloc: Global,
+    verb: &str,
+    word: &str,
+    arguments: &mut Vec<Argument>,
+) -> Answer {
+    let argument = argument_of(alloc, verb, word, arguments);
+    push_argument(alloc, argument, arguments)
+}
+
+fn literal_value(literal: Result<Literal, ParseNameError>) -> Result<Value, ParseNameError> {
+    Ok(Value::from(literal?))
+}
+
+fn rank_value(
+    alloc: Global,
+    rank: Result<RepresentableExtensionValue, ParseNameError>,
+) -> Result<Value, ParseNameError> {
+    let kind = ValueKind::ExtensionValue(Rc::new(alloc, rank?)?);
+    Ok(Value::new(kind, None))
+}
+
+/// The value of arguments on top.
+pub(crate) fn rank_of(
+    alloc: Global,
+    count: &str,
+    arguments: &mut Vec<Argument>,
+    values: &mut Vec<Value>,
+) -> Answer {
+    let args = taken(alloc, number(count), arguments)?;
+    put(alloc, values, rank_value(alloc, rank(alloc, args)))
+}
+
+pub(crate) fn value(alloc: Global, verb: &str, word: &str, values: &mut Vec<Value>) -> Answer {
+    match verb {
+        "set" => {
+            let items = taken(alloc, number(word), values)?;
+            put(alloc, values, Value::set(alloc, items, None))
+        }
+        "record" => {
+            let items = taken(alloc, count_of(word), values)?;
+            let pairs = paired(alloc, word, items)?;
+            put(alloc, values, Value::record(alloc, pairs, None))
+        }
+        _ => put(alloc, values, literal_value(literal(alloc, verb, word))),
+    }
+}
+
+/// Puts what writes the value on top on the stack of expressions.
+pub(crate) fn written(
+    alloc: Global,
+    verb: &str,
+    values: &[Value],
+    stack: &mut Vec<Expr>,
+) -> Answer {
+    let Some(value) = values.last() else {
+        return no_case(alloc);
+    };
+    match (verb, value.value_kind()) {
+        ("kind", kind) => put(alloc, stack, kind.to_expr(alloc)),
+        ("rank", ValueKind::ExtensionValue(rank)) => put(alloc, stack, rank.to_expr(alloc)),
+        _ => put(alloc, stack, value.to_expr(alloc)),
+    }
+}
+
+fn kind_read(kind: Result<ValueKind, NotValue>) -> Result<Value, NotValue> {
+    Ok(Value::new(kind?, None))
+}
+
+/// Puts the value that is read of the expression on top on the stack of values.
+pub(crate) fn read(alloc: Global, verb: &str, stack: &[Expr], values: &mut Vec<Value>) -> Answer {
+    let Some(expr) = stack.last() else {
+        return no_case(alloc);
+    };
+    match verb {
+        "kind" => put(
+            alloc,
+            values,
+            kind_read(ValueKind::try_from_expr(alloc, expr)),
+        ),
+        _ => put(alloc, values, Value::try_from_expr(alloc, expr)),
+    }
+}
+
+/// Whether the two values on top are equal, and whether their kinds are.
+pub(crate) fn compared(alloc: Global, verb: &str, values: &[Value]) -> Answer {
+    match values {
+        [.., a, b] if verb == "kinds" => said(alloc, a.value_kind() == b.value_kind()),
+        [.., a, b] => said(alloc, a == b),
+        _ => no_case(alloc),
+    }
+}
+
+pub(crate) fn told(alloc: Global, partial: &PartialValue) -> Answer {
+    match partial {
+        PartialValue::Value(value) => {
+            let place = told_place(alloc, value.source_loc())?;
+            format!(in alloc; "value {value} {place}")
+        }
+        PartialValue::Residual(expr) => {
+            let place = told_place(alloc, expr.source_loc())?;
+            format!(in alloc; "residual {expr} {place}")
+        }
+    }
+}
+
+fn hold(alloc: Global, partial: PartialValue, partials: &mut Vec<PartialValue>) -> Answer {
+    let text = told(alloc, &partial)?;
+    partials.push(partial)?;
+    Ok(text)
+}
+
+fn hold_unknown(
+    alloc: Global,
+    unknown: Result<Unknown, ParseNameError>,
+    partials: &mut Vec<PartialValue>,
+) -> Answer {
+    match unknown {
+        Ok(unknown) => hold(alloc, PartialValue::unknown(unknown), partials),
+        Err(error) => error.to_string(alloc),
+    }
+}
+
+/// A partial value of a value, of an expression, or of the name of an unknown.
+pub(crate) fn partial(
+    alloc: Global,
+    verb: &str,
+    word: &str,
+    stack: &mut Vec<Expr>,
+    values: &mut Vec<Value>,
+    partials: &mut Vec<PartialValue>,
+) -> Answer {
+    match verb {
+        "value" => match values.pop() {
+            Some(value) => hold(alloc, PartialValue::from(value), partials),
+            None => no_case(alloc),
+        },
+        "expr" => hold(alloc, PartialValue::from(top(stack)), partials),
+        _ => hold_unknown(alloc, unknown(alloc, word, ""), partials),
+    }
+}
+
+/// What is made of the partial value on top.
+pub(crate) fn converted(
+    alloc: Global,
+    verb: &str,
+    word: &str,
+    stack: &mut Vec<Expr>,
+    values: &mut Vec<Value>,
+    partials: &mut Vec<PartialValue>,
+) -> Answer {
+    let Some(partial) = partials.pop() else {
+        return no_case(alloc);
+    };
+    match verb {
+        "placed" => {
+            let place = place(alloc, word)?;
+            hold(alloc, partial.with_maybe_source_loc(place), partials)
+        }
+        "to_expr" => put(alloc, stack, partial.to_expr(alloc)),
+        "from_in" => put(alloc, stack, Expr::from_in(alloc, partial)),
+        _ => put(alloc, values, Value::try_from(partial)),
+    }
+}
+
+fn joined<T: Display + Drop>(alloc: Global, name: &str, items: Vec<T>) -> Answer {
+    let mut text = String::new(alloc);
+    for item in items {
+        separate(&mut text)?;
+        text.push_str(item.to_string(alloc)?.as_str())?;
+    }
+    format!(in alloc; "{name}: {text}")
+}
+
+fn told_split(alloc: Global, split: Result<Either<Vec<Value>, Vec<Expr>>, AllocError>) -> Answer {
+    match split {
+        Ok(Either::Left(values)) => joined(alloc, "values", values),
+        Ok(Either::Right(exprs)) => joined(alloc, "expressions", exprs),
+        Err(error) => Err(error),
+    }
+}
+
+/// The split of so many partial values.
+pub(crate) fn parted(alloc: Global, count: &str, partials: &mut Vec<PartialValue>) -> Answer {
+    let items = taken(alloc, number(count), partials)?;
+    told_split(alloc, split(alloc, items))
+}

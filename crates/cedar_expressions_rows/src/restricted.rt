@@ -1,0 +1,299 @@
+// Restricted expressions on a stack of their own, and what is read of the one on its top.
+use crate::names::{Names, loc};
+use crate::registers::{count_of, paired};
+use crate::values::{Stack, long, rank};
+use crate::words::{Answer, alike, maybe, no_case, number, push, said, taken};
+use cedar_expressions::FromIn;
+use cedar_expressions::ast::{
+    BorrowedRestrictedExpr, EntityUID, Expr, Literal, Name, ParseNameError, PartialValue,
+    RepresentableExtensionValue, RestrictedElements, RestrictedExpr, RestrictedExprShapeOnly,
+    RestrictedPairs, Unknown, ValueKind,
+};
+use std::alloc::{AllocError, Global};
+use std::convert::AsRef;
+use std::fmt::Display;
+use std::rc::RcStr;
+
+pub(crate) type Restricted = Vec<RestrictedExpr>;
+
+/// Puts what was made on the stack, which is told as an expression.
+fn put<T: AsRef<Expr> + Drop, E: Display + Drop>(
+    alloc: Global,
+    stack: &mut Vec<T>,
+    found: Result<T, E>,
+) -> Answer {
+    match found {
+        Ok(made) => {
+            let text = made.as_ref().to_string(alloc)?;
+            stack.push(made)?;
+            Ok(text)
+        }
+        Err(error) => format!(in alloc; "refused: {error}"),
+    }
+}
+
+fn val(literal: Result<Literal, AllocError>) -> Result<RestrictedExpr, AllocError> {
+    Ok(RestrictedExpr::val(literal?))
+}
+
+fn unknown(alloc: Global, name: &str) -> Result<RestrictedExpr, AllocError> {
+    let unknown = Unknown::new_untyped(RcStr::from_str(alloc, name)?);
+    Ok(RestrictedExpr::unknown(unknown))
+}
+
+pub(crate) fn made(
+    alloc: Global,
+    verb: &str,
+    text: &str,
+    uid: &mut Option<EntityUID>,
+    stack: &mut Restricted,
+) -> Answer {
+    match verb {
+        "bool" => put(alloc, stack, val(Ok(Literal::from(text == "true")))),
+        "long" => put(alloc, stack, val(Ok(long(text)))),
+        "text" => put(alloc, stack, val(Literal::from_in(alloc, text))),
+        "entity" => match uid.take() {
+            Some(uid) => put(alloc, stack, val(Literal::from_in(alloc, uid))),
+            None => no_case(alloc),
+        },
+        _ => put(alloc, stack, unknown(alloc, text)),
+    }
+}
+
+/// A construct of those on top: as many as the word says, or as it has keys.
+pub(crate) fn joined(
+    alloc: Global,
+    verb: &str,
+    word: &str,
+    names: &mut Names,
+    stack: &mut Restricted,
+) -> Answer {
+    match verb {
+        "set" => {
+            let items = taken(alloc, number(word), stack)?;
+            put(alloc, stack, RestrictedExpr::set(alloc, items))
+        }
+        "record" => {
+            let items = taken(alloc, count_of(word), stack)?;
+            let pairs = paired(alloc, word, items)?;
+            put(alloc, stack, RestrictedExpr::record(alloc, pairs))
+        }
+        _ => match names.name.take() {
+            Some(name) => {
+                let args = taken(alloc, number(word), stack)?;
+                let call = RestrictedExpr::call_extension_fn(alloc, name, args);
+                put(alloc, stack, call)
+            }
+            None => no_case(alloc),
+        },
+    }
+}
+
+fn of_kind(
+    alloc: Global,
+    kind: Result<ValueKind, AllocError>,
+) -> Result<RestrictedExpr, AllocError> {
+    RestrictedExpr::from_in(alloc, kind?)
+}
+
+/// What writes the value on top of the stack of values.
+pub(crate) fn of_values(
+    alloc: Global,
+    verb: &str,
+    values: &mut Stack,
+    stack: &mut Restricted,
+) -> Answer {
+    if verb == "kind" {
+        return match values.last() {
+            Some(top) => put(alloc, stack, of_kind(alloc, top.value_kind().clone(alloc))),
+            None => no_case(alloc),
+        };
+    }
+    match values.pop() {
+        Some(value) => put(alloc, stack, RestrictedExpr::from_in(alloc, value)),
+        None => no_case(alloc),
+    }
+}
+
+fn of_rank(
+    alloc: Global,
+    value: Result<RepresentableExtensionValue, ParseNameError>,
+) -> Result<RestrictedExpr, ParseNameError> {
+    Ok(RestrictedExpr::from_in(alloc, value?)?)
+}
+
+pub(crate) fn ranked(
+    alloc: Global,
+    text: &str,
+    key: &str,
+    func: &str,
+    stack: &mut Restricted,
+) -> Answer {
+    put(alloc, stack, of_rank(alloc, rank(alloc, key, func, text)))
+}
+
+/// What the partial value on top of their stack is.
+pub(crate) fn of_partials(
+    alloc: Global,
+    partials: &mut Vec<PartialValue>,
+    stack: &mut Restricted,
+) -> Answer {
+    match partials.pop() {
+        Some(partial) => put(alloc, stack, RestrictedExpr::from_in(alloc, partial)),
+        None => no_case(alloc),
+    }
+}
+
+/// Of the expression on top of their stack, or back.
+pub(crate) fn of_exprs(
+    alloc: Global,
+    verb: &str,
+    exprs: &mut Vec<Expr>,
+    stack: &mut Restricted,
+) -> Answer {
+    if verb == "into" {
+        return match stack.pop() {
+            Some(made) => push(alloc, exprs, Ok::<_, AllocError>(Expr::from(made))),
+            None => no_case(alloc),
+        };
+    }
+    match exprs.pop() {
+        Some(expr) => put(alloc, stack, RestrictedExpr::new(alloc, expr)),
+        None => no_case(alloc),
+    }
+}
+
+/// One of the parts that a construct has.
+fn part<'a>(verb: &str, whole: &'a RestrictedExpr, n: usize) -> Option<BorrowedRestrictedExpr<'a>> {
+    match verb {
+        "item" => whole.as_set_elements()?.nth(n),
+        "argument" => whole.as_extn_fn_call()?.1.nth(n),
+        "entry" => match whole.as_record_pairs()?.nth(n) {
+            Some((_key, part)) => Some(part),
+            None => None,
+        },
+        _ => Some(whole.as_borrowed()),
+    }
+}
+
+/// Puts on the stack what is made of that on its top.
+pub(crate) fn again(alloc: Global, verb: &str, text: &str, stack: &mut Restricted) -> Answer {
+    let Some(top) = stack.last() else {
+        return no_case(alloc);
+    };
+    let made = match verb {
+        "copy" => top.clone(alloc),
+        _ => match part(verb, top, number(text)) {
+            Some(part) => part.to_owned(alloc),
+            None => return no_case(alloc),
+        },
+    };
+    put(alloc, stack, made)
+}
+
+pub(crate) fn changed(alloc: Global, verb: &str, stack: &mut Restricted) -> Answer {
+    let loc = match verb {
+        "placed" => Some(loc(alloc, "0", "1")?),
+        _ => None,
+    };
+    match stack.pop() {
+        Some(top) if verb != "drop" => put(
+            alloc,
+            stack,
+            Ok::<_, AllocError>(top.with_maybe_source_loc(loc)),
+        ),
+        _ => said(alloc, stack.is_empty()),
+    }
+}
+
+pub(crate) fn compared(alloc: Global, verb: &str, stack: &Restricted) -> Answer {
+    let [.., low, high] = stack.as_slice() else {
+        return no_case(alloc);
+    };
+    match verb {
+        "alike" => said(alloc, alike(low, high)),
+        "placed" => said(alloc, high.source_loc().is_some()),
+        _ => {
+            let low = RestrictedExprShapeOnly::new(low.as_borrowed());
+            let high = RestrictedExprShapeOnly::new(high.as_borrowed());
+            said(alloc, alike(&low, &high))
+        }
+    }
+}
+
+pub(crate) fn read(alloc: Global, verb: &str, stack: &Restricted) -> Answer {
+    let Some(top) = stack.last() else {
+        return no_case(alloc);
+    };
+    match verb {
+        "bool" => maybe(alloc, top.as_bool()),
+        "long" => maybe(alloc, top.as_long()),
+        "text" => maybe(alloc, top.as_string()),
+        "entity" => maybe(alloc, top.as_euid()),
+        "unknown" => maybe(alloc, top.as_unknown()),
+        "set" => items(alloc, top.as_set_elements()),
+        "record" => pairs(alloc, top.as_record_pairs()),
+        _ => call(alloc, top.as_extn_fn_call()),
+    }
+}
+
+/// The same of what is lent.
+pub(crate) fn read_lent(alloc: Global, verb: &str, stack: &Restricted) -> Answer {
+    let Some(top) = stack.last() else {
+        return no_case(alloc);
+    };
+    let top = top.as_borrowed();
+    match verb {
+        "bool" => maybe(alloc, top.as_bool()),
+        "long" => maybe(alloc, top.as_long()),
+        "text" => maybe(alloc, top.as_string()),
+        "entity" => maybe(alloc, top.as_euid()),
+        "unknown" => maybe(alloc, top.as_unknown()),
+        "set" => items(alloc, top.as_set_elements()),
+        "record" => pairs(alloc, top.as_record_pairs()),
+        _ => call(alloc, top.as_extn_fn_call()),
+    }
+}
+
+fn add(
+    alloc: Global,
+    text: &mut String,
+    item: BorrowedRestrictedExpr<'_>,
+) -> Result<(), AllocError> {
+    text.push_str(item.as_expr().to_string(alloc)?.as_str())?;
+    text.push(';')
+}
+
+fn items(alloc: Global, items: Option<RestrictedElements<'_>>) -> Answer {
+    let Some(items) = items else {
+        return String::from_str(alloc, "none");
+    };
+    let mut text = String::new(alloc);
+    for item in items {
+        add(alloc, &mut text, item)?;
+    }
+    Ok(text)
+}
+
+fn pairs(alloc: Global, pairs: Option<RestrictedPairs<'_>>) -> Answer {
+    let Some(pairs) = pairs else {
+        return String::from_str(alloc, "none");
+    };
+    let mut text = String::new(alloc);
+    for (key, item) in pairs {
+        text.push_str(key.as_str())?;
+        text.push('=')?;
+        add(alloc, &mut text, item)?;
+    }
+    Ok(text)
+}
+
+fn call(alloc: Global, call: Option<(&Name, RestrictedElements<'_>)>) -> Answer {
+    match call {
+        Some((name, args)) => {
+            let args = items(alloc, Some(args))?;
+            format!(in alloc; "{name} {args}")
+        }
+        None => String::from_str(alloc, "none"),
+    }
+}

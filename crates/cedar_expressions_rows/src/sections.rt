@@ -1,0 +1,119 @@
+// Which section knows a step.
+use crate::registers::Expressions;
+use crate::words::Answer;
+use crate::{
+    builders, errors, evaluation, extensions, partial_values, shapes, substitution, trees,
+    validation,
+};
+use std::alloc::Global;
+
+pub(crate) fn answer(
+    alloc: Global,
+    section: &str,
+    verb: &str,
+    one: &str,
+    other: &str,
+    held: &mut Expressions,
+) -> Answer {
+    match section {
+        "leaf" => trees::leaf(alloc, verb, one, other, &mut held.stack),
+        "same" => trees::unknowns(alloc, verb, one, other),
+        "unary" => trees::unary(alloc, verb, one, &mut held.stack),
+        "binary" => trees::binary(alloc, verb, &mut held.stack),
+        "ternary" => trees::ternary(alloc, verb, &mut held.stack),
+        "attribute" => trees::attribute(alloc, verb, one, &mut held.stack),
+        "call" => trees::call(alloc, verb, one, &mut held.stack),
+        "set" => trees::set(alloc, verb, &mut held.stack),
+        "record" => trees::record(alloc, verb, one, &mut held.stack),
+        "key" => trees::key(alloc, verb, one),
+        "ask" => trees::asked(alloc, verb, one, &mut held.stack),
+        "data" => trees::data(alloc, verb, one),
+        "chain" => shapes::chain(alloc, verb, one, &mut held.stack),
+        "shape" => shapes::kept(alloc, verb, &mut held.stack, &mut held.kept),
+        "shapes" => shapes::compared(alloc, verb, &held.stack),
+        "walk" => shapes::walked(alloc, verb, &held.stack, &held.table),
+        "build" => built(alloc, verb, one, other, held),
+        _ => valued(alloc, section, verb, one, other, held),
+    }
+}
+
+/// The steps of the builder name what is built before the verb.
+fn built(alloc: Global, kind: &str, one: &str, other: &str, held: &mut Expressions) -> Answer {
+    let (verb, word) = one.split_once(' ').unwrap_or((one, other));
+    let builder = held.builder.clone()?;
+    let stack = &mut held.stack;
+    match kind {
+        "leaf" => builders::leaf(alloc, verb, word, builder, stack),
+        "unary" => builders::unary(alloc, verb, word, builder, stack),
+        "binary" => builders::binary(alloc, verb, builder, stack),
+        "ternary" => builders::ternary(alloc, builder, stack),
+        "attribute" => builders::attribute(alloc, verb, word, builder, stack),
+        "type" => builders::typed(alloc, verb, word, builder, stack),
+        "call" => builders::call(alloc, verb, word, builder, stack),
+        "set" => builders::set(alloc, verb, builder, stack),
+        "record" => builders::record(alloc, verb, word, builder, stack),
+        "kind" => builders::kind(alloc, verb, builder, stack),
+        "data" => builders::data(alloc, verb),
+        _ => builders::moved(alloc, verb, word, stack, &mut held.builder),
+    }
+}
+
+fn valued(
+    alloc: Global,
+    section: &str,
+    verb: &str,
+    one: &str,
+    other: &str,
+    held: &mut Expressions,
+) -> Answer {
+    let (stack, values) = (&mut held.stack, &mut held.values);
+    match section {
+        "tell" => substitution::tell_value(alloc, verb, values, &mut held.told_values),
+        "tell-expr" => substitution::tell_expr(alloc, verb, stack, &mut held.told_exprs),
+        "rebuild" => substitution::rebuilt(alloc, verb, stack, &held.told_exprs),
+        "rebuild-chain" => substitution::rebuilt_chain(alloc, verb, stack, &held.told_exprs),
+        "substitute" => substitution::substituted(alloc, verb, stack, &held.told_values),
+        "stand" => substitution::one(alloc, verb, one, other, stack, &held.told_values),
+        "argument" => partial_values::argument(alloc, verb, one, &mut held.arguments),
+        "rank" => partial_values::rank_of(alloc, verb, &mut held.arguments, values),
+        "value" => partial_values::value(alloc, verb, one, values),
+        "write" => partial_values::written(alloc, verb, values, stack),
+        "read" => partial_values::read(alloc, verb, stack, values),
+        "equal" => partial_values::compared(alloc, verb, values),
+        "partial" => partial_values::partial(alloc, verb, one, stack, values, &mut held.partials),
+        "convert" => partial_values::converted(alloc, verb, one, stack, values, &mut held.partials),
+        "split" => partial_values::parted(alloc, verb, &mut held.partials),
+        _ => judged(alloc, section, verb, one, other, held),
+    }
+}
+
+fn judged(
+    alloc: Global,
+    section: &str,
+    verb: &str,
+    one: &str,
+    other: &str,
+    held: &mut Expressions,
+) -> Answer {
+    let errors = &mut held.errors;
+    match section {
+        "missing" => errors::missing(alloc, verb, one, other, errors),
+        "mistyped" => errors::mistyped(alloc, verb, one, &held.values, errors),
+        "overflow" => errors::overflown(alloc, verb, one, other, errors),
+        "failed" => errors::called(alloc, verb, one, other, errors),
+        "left" => errors::left(alloc, verb, one, other, &mut held.stack, errors),
+        "error" => errors::asked(alloc, verb, one, errors),
+        "take" => extensions::taken(alloc, verb, &mut held.table),
+        "table" => extensions::sought(alloc, verb, one, &held.table),
+        "make-function" => extensions::made(alloc, verb, one, &mut held.functions),
+        "function" => extensions::asked(alloc, verb, &held.functions, &held.values),
+        "make-extension" => {
+            extensions::extension(alloc, verb, one, &mut held.functions, &mut held.extension)
+        }
+        "extension" => extensions::read(alloc, verb, one, &held.extension),
+        "twice" => extensions::refusal(alloc, verb, one),
+        "gather" => extensions::gathered(alloc, verb),
+        "evaluate" => evaluation::answer(alloc, verb, &held.stack, &held.table),
+        _ => validation::answer(alloc, &held.stack, &held.table),
+    }
+}

@@ -1,0 +1,150 @@
+// Entity uids, their types and slots.
+use crate::names::{Names, loc};
+use crate::words::{Answer, alike, keep, no_case, said, show, tell};
+use cedar_expressions::FromNormalizedStr;
+use cedar_expressions::ast::{
+    Eid, EntityType, EntityUID, ParseNameError, Slot, SlotId, StaticallyTyped,
+};
+use std::alloc::{AllocError, Global};
+use std::rc::RcStr;
+
+/// What was read last.
+pub(crate) struct Uids {
+    pub(crate) uid: Option<EntityUID>,
+    second: Option<EntityUID>,
+    entity_type: Option<EntityType>,
+}
+
+impl Drop for Uids {
+    fn drop(self) {
+        let Uids {
+            uid: _,
+            second: _,
+            entity_type: _,
+        } = self;
+    }
+}
+
+pub(crate) fn none() -> Uids {
+    Uids {
+        uid: None,
+        second: None,
+        entity_type: None,
+    }
+}
+
+pub(crate) fn read(alloc: Global, verb: &str, text: &str, held: &mut Uids) -> Answer {
+    match verb {
+        "entity-type" => keep(
+            alloc,
+            &mut held.entity_type,
+            EntityType::from_normalized_str(alloc, text),
+        ),
+        "escaped" => show(
+            alloc,
+            Eid::new(RcStr::from_str(alloc, text)?).escaped(alloc),
+        ),
+        "reread" => keep(
+            alloc,
+            &mut held.uid,
+            EntityUID::from_normalized_str(alloc, text),
+        ),
+        "reserved" => reserved(alloc, EntityUID::from_normalized_str(alloc, text)),
+        "user" => keep(
+            alloc,
+            &mut held.uid,
+            EntityUID::with_eid_and_type(alloc, "User", text),
+        ),
+        "second-user" => {
+            keep(
+                alloc,
+                &mut held.second,
+                EntityUID::with_eid_and_type(alloc, "User", text),
+            )
+        }
+        "slot" => show(alloc, Ok::<_, AllocError>(slot(text))),
+        _ => slots(alloc),
+    }
+}
+
+fn reserved(alloc: Global, read: Result<EntityUID, ParseNameError>) -> Answer {
+    match &read {
+        Err(ParseNameError::Reserved(error)) => format!(in alloc; "{}", error.name()),
+        _ => no_case(alloc),
+    }
+}
+
+fn slot(text: &str) -> SlotId {
+    if text == "principal" {
+        SlotId::principal()
+    } else {
+        SlotId::resource()
+    }
+}
+
+fn slots(alloc: Global) -> Answer {
+    let placed = Slot {
+        id: SlotId::principal(),
+        loc: Some(loc(alloc, "0", "1")?),
+    };
+    let bare = Slot {
+        id: SlotId::principal(),
+        loc: None,
+    };
+    said(alloc, alike(&placed, &bare))
+}
+
+pub(crate) fn qualified(alloc: Global, held: &Uids, names: &Names) -> Answer {
+    let (Some(entity_type), Some(name)) = (&held.entity_type, &names.name) else {
+        return no_case(alloc);
+    };
+    show(alloc, entity_type.qualify_with(alloc, Some(name)))
+}
+
+pub(crate) fn called(alloc: Global, verb: &str, held: &mut Uids) -> Answer {
+    let Some(uid) = &held.uid else {
+        return no_case(alloc);
+    };
+    match verb {
+        "eid" => tell(alloc, uid.eid().as_str()),
+        "static-type" => show(alloc, uid.type_of(alloc)),
+        "copied-uid" => keep(alloc, &mut held.second, uid.clone(alloc)),
+        "type-of-uid" => keep(alloc, &mut held.entity_type, uid.entity_type().clone(alloc)),
+        "placed-type" => {
+            let loc = loc(alloc, "0", "1")?;
+            keep(
+                alloc,
+                &mut held.entity_type,
+                uid.entity_type().with_loc(alloc, Some(&loc)),
+            )
+        }
+        _ => put_together(alloc, held),
+    }
+}
+
+/// The second uid is that of the type held, at a place.
+fn put_together(alloc: Global, held: &mut Uids) -> Answer {
+    let loc = loc(alloc, "0", "1")?;
+    match (held.entity_type.take(), held.second.take()) {
+        (Some(entity_type), Some(second)) => {
+            let eid = second.components().1;
+            let uid = EntityUID::from_components(entity_type, eid, Some(loc));
+            keep(alloc, &mut held.second, Ok::<_, AllocError>(uid))
+        }
+        _ => no_case(alloc),
+    }
+}
+
+pub(crate) fn compared(alloc: Global, verb: &str, held: &Uids) -> Answer {
+    let (Some(uid), Some(second)) = (&held.uid, &held.second) else {
+        return no_case(alloc);
+    };
+    match verb {
+        "uid-below" => said(alloc, uid < second),
+        "uids-alike" => said(alloc, alike(uid, second)),
+        _ => said(
+            alloc,
+            second.loc().is_some() && second.entity_type().loc().is_some(),
+        ),
+    }
+}

@@ -1,0 +1,20 @@
+// Which calls are valid.
+use crate::words::{Answer, no_case};
+use cedar_expressions::Extensions;
+use cedar_expressions::ast::{Expr, ExprValidation, ExprValidationError};
+use std::alloc::Global;
+
+fn told(alloc: Global, found: Result<(), ExprValidationError>) -> Answer {
+    match found {
+        Ok(()) => String::from_str(alloc, "valid"),
+        Err(error) => error.to_string(alloc),
+    }
+}
+
+/// What validating the expression on top against the table says.
+pub(crate) fn answer(alloc: Global, stack: &[Expr], table: &Extensions<'_>) -> Answer {
+    match stack.last() {
+        Some(expr) => told(alloc, expr.try_validate(alloc, table)),
+        None => no_case(alloc),
+    }
+}

@@ -1,7 +1,0 @@
-//! Tests of frames and of the lines that answer them.
-#![tactic(auto)]
-
-#[cfg(test)]
-mod frames;
-#[cfg(test)]
-mod replies;

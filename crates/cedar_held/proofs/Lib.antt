@@ -1,0 +1,12 @@
+mod Keeping
+mod Refusing
+mod Linked
+mod Removed
+mod Loaded
+mod EditedStores
+mod EditedBodies
+pub mod Answering
+pub mod Choosing
+pub mod InForce
+pub mod Within
+pub mod Written

@@ -1,0 +1,9 @@
+use Rattle.std.proofs.Common.{Ok, Err, refl}
+use Rattle.cedar_held.proofs.EditedStores.{adds, add_refused}
+use Rattle.cedar_held.proofs.stores.with_added.Goals as goal
+
+pub returns-in-Ok-clause-edited : goal.returns-in-Ok-clause-edited
+returns-in-Ok-clause-edited c = λ old vs shows same. adds c.args.store.now c.in_ok-copy.copy c.in_ok-copy.ensures old shows c.args.versions.items vs same (Ok c.in-Ok.store) c.adds_are_the_worlds.ensures c.requires.closed (c.in-Ok.ensures.added refl)
+
+pub returns-in-Err-clause-edited : goal.returns-in-Err-clause-edited
+returns-in-Err-clause-edited c = rw c.refusal.ensures (λ old vs shows same. add_refused old vs c.in-Err.error (adds c.args.store.now c.in_ok-copy.copy c.in_ok-copy.ensures old shows c.args.versions.items vs same (Err c.in-Err.error) c.adds_are_the_worlds.ensures c.requires.closed (c.in-Err.ensures.added refl)))

@@ -1,0 +1,9 @@
+use Rattle.std.proofs.Common.{Ok, Err, refl}
+use Rattle.cedar_held.proofs.EditedStores.{puts, put_refused}
+use Rattle.cedar_held.proofs.stores.with_put.Goals as goal
+
+pub returns-in-Ok-clause-edited : goal.returns-in-Ok-clause-edited
+returns-in-Ok-clause-edited c = λ old vs shows same. puts c.args.store.now c.in_ok-copy.copy c.in_ok-copy.ensures old shows c.args.versions.items vs same (Ok c.in-Ok.store) c.puts_are_the_worlds.ensures (c.in-Ok.ensures.put refl)
+
+pub returns-in-Err-clause-edited : goal.returns-in-Err-clause-edited
+returns-in-Err-clause-edited c = rw c.refusal.ensures (λ old vs shows same. put_refused old vs c.in-Err.error (puts c.args.store.now c.in_ok-copy.copy c.in_ok-copy.ensures old shows c.args.versions.items vs same (Err c.in-Err.error) c.puts_are_the_worlds.ensures (c.in-Err.ensures.put refl)))

@@ -1,0 +1,120 @@
+// The policies that a session holds.
+ghost use Rattle.std.specs.Prelude.{◌≡◌, List, IfOk, OnErr};
+ghost use Rattle.std.specs.FinMap as finite;
+ghost use Rattle.std.specs.Rc.{rc_str_bytes};
+ghost use Rattle.cedar_world.specs.PolicyEdits.{Loads};
+ghost use Rattle.cedar_world.specs.Syntax.{PolicySyntax};
+ghost use Rattle.cedar_policy_set.specs.Texts.{text_entries, HaveSlots, HaveNoClauses};
+ghost use Rattle.cedar_policy_set.specs.Worlds.{policies_in};
+ghost use Rattle.cedar_bodies.specs.Links.{link_of};
+ghost use Rattle.cedar_held.specs.PolicyEdits.{LinksBody, UnlinksId, RemovesStatic, RemovesTemplate};
+ghost use Rattle.cedar_held.specs.HoldingPolicies.{IsHeld, IsText};
+
+use crate::linking::link;
+use crate::loading::load;
+use crate::removing::{remove_static, remove_template, unlink};
+use cedar_bodies::LinkBody;
+use cedar_policy_parts::PolicyID;
+use cedar_policy_set::sets::PolicySet;
+use cedar_replies::Refusal;
+use std::alloc::{AllocError, Global};
+use std::marker::Model;
+use std::rc::RcStr;
+
+/// The policies, templates and links that a session holds: none has clauses, and each template has
+/// slots. Contracts see them as the world does: what each id is bound to, in no order, and of a link the
+/// id of its template. (Cedar language reference, "Policies" and "Policy templates".)
+#[derive(Drop)]
+pub struct HeldPolicies {
+    set: PolicySet,
+}
+
+impl Model for HeldPolicies {
+    ghost use Rattle.cedar_world.specs.World as world;
+    ghost use Rattle.cedar_policy_set.specs.Worlds.{policies_in};
+    ghost use Rattle.cedar_held.specs.HoldingPolicies.{IsHeld, policies_code};
+
+    ghost Value = { world.Policies };
+
+    ghost coded = { policies_code };
+
+    ghost view = { λ held. policies_in held.set };
+
+    ghost invariant = { λ held. IsHeld held.set };
+}
+
+impl HeldPolicies {
+    /// No policies; takes no memory.
+    pub fn new(alloc: Global) -> HeldPolicies
+        ensures { result ≡ finite.empty }
+    {
+        HeldPolicies {
+            set: PolicySet::new(alloc),
+        }
+    }
+
+    /// The set of these policies.
+    pub fn set(&self) -> &PolicySet
+        ensures policies { policies_in result.now ≡ self.now }
+        ensures slots { HaveSlots result.now }
+        ensures clauses { HaveNoClauses result.now }
+    {
+        &self.set
+    }
+
+    /// Puts the policies of a text, each under its own number, to those that are held; answers the ids
+    /// under which they now stand, in the text's order. A policy whose number is bound here to something
+    /// else gets the next number that is free here and in the text. Refused for memory alone, and then
+    /// nothing changes.
+    pub fn load(&mut self, alloc: Global, policies: PolicySet) -> Result<Vec<PolicyID>, AllocError>
+        requires { IsText policies }
+        ensures loaded { IfOk result (λ ids. (ss : List PolicySyntax) → policies ≡ text_entries 0 ss → Loads self.old ss ids.items self.new) }
+        ensures err { OnErr result (self.new ≡ self.old) }
+    {
+        load(alloc, &mut self.set, &policies)
+    }
+
+    /// Binds the id of a body to the link that it states.
+    ///
+    /// It is refused `NoSuchTemplate` where the template's id isn't bound, `NotTemplate` where it is
+    /// bound to something else, `Arity` where the entities aren't for exactly the template's slots,
+    /// `IdConflict` where the link's id is bound, and `Memory` where there was none. The first of these
+    /// that stands is answered, but that `Memory` may stand in place of any. A refused link changes
+    /// nothing. (Cedar language reference, "Policy templates".)
+    pub fn link(&mut self, alloc: Global, body: &LinkBody<'_>) -> Result<(), Refusal>
+        ensures { LinksBody (link_of body.now) self.old result self.new }
+    {
+        link(alloc, &mut self.set, body)
+    }
+
+    /// Takes a link away.
+    ///
+    /// It is refused `NoSuchPolicy` where the id isn't bound, `NotLink` where it is bound to something
+    /// else, and `Memory` where there was none. A refused call changes nothing.
+    pub fn unlink(&mut self, id: &RcStr) -> Result<(), Refusal>
+        ensures { UnlinksId (rc_str_bytes id.now) self.old result self.new }
+    {
+        unlink(&mut self.set, id)
+    }
+
+    /// Takes a static policy away.
+    ///
+    /// It is refused `NoSuchPolicy` where the id isn't bound, `NotStatic` where it is bound to something
+    /// else, and `Memory` where there was none. A refused call changes nothing.
+    pub fn remove_static(&mut self, id: &RcStr) -> Result<(), Refusal>
+        ensures { RemovesStatic (rc_str_bytes id.now) self.old result self.new }
+    {
+        remove_static(&mut self.set, id)
+    }
+
+    /// Takes a template away that no link names.
+    ///
+    /// It is refused `NoSuchTemplate` where the id isn't bound, `NotTemplate` where it is bound to
+    /// something else, `HasLinks` where a link names it, and `Memory` where there was none. A refused call
+    /// changes nothing.
+    pub fn remove_template(&mut self, id: &RcStr) -> Result<(), Refusal>
+        ensures { RemovesTemplate (rc_str_bytes id.now) self.old result self.new }
+    {
+        remove_template(&mut self.set, id)
+    }
+}

@@ -1,5 +1,0 @@
-mod Keeping
-mod Refusing
-mod Linked
-mod Removed
-mod Loaded

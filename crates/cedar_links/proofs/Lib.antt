@@ -1,3 +1,0 @@
-pub mod Arity
-pub mod Unbound
-pub mod Standing

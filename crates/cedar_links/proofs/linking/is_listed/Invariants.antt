@@ -1,8 +1,0 @@
-use Rattle.std.proofs.Common.{◌≡◌, drop}
-use Rattle.std.specs.List.{list_any}
-use Rattle.cedar_world.specs.Syntax.{is_slot}
-use Rattle.cedar_templates.specs.Slots.{slot_ids}
-use Rattle.cedar_links.proofs.linking.is_listed.Given as goal
-
-abbrev pub invariant-loop-listed : goal.invariant-loop-listed
-invariant-loop-listed l = list_any (is_slot l.slot) (slot_ids l.slots) ≡ list_any (is_slot l.slot) (slot_ids (drop l.listed-index l.slots))

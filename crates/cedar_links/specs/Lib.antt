@@ -1,4 +1,0 @@
-pub mod Policies
-pub mod SamePolicies
-pub mod Linking
-pub mod Unknowns

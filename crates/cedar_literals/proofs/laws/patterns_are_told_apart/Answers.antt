@@ -1,5 +1,0 @@
-use Rattle.cedar_literals.proofs.Told.{told_apart}
-use Rattle.cedar_literals.proofs.laws.patterns_are_told_apart.Goals as goal
-
-pub returns : goal.returns
-returns c = told_apart

@@ -1,0 +1,26 @@
+-- What errors of the parser say.
+
+use Rattle.cedar_names.specs.declared.places.Span.{Span}
+use Rattle.cedar_tokens.specs.declared.expected_kinds.Kinds.{Kinds}
+use Rattle.cedar_loose.specs.declared.errors.ToCSTError.{ToCSTError}
+use Rattle.cedar_loose.specs.declared.errors.ParseError.{ParseError}
+use Rattle.cedar_loose.specs.declared.errors.ParseError.TheVariants as error
+
+-- why a text isn't parsed
+pub data Cause : Type 0 where
+  outside_the_grammar : Cause
+  nested_too_deep : Cause
+  out_of_memory : Cause
+
+abbrev pub cause_of : ParseError → Cause
+cause_of (error.ToCST e) = outside_the_grammar
+cause_of error.Depth = nested_too_deep
+cause_of error.Memory = out_of_memory
+
+-- where an error stands
+abbrev pub span_of : ToCSTError → Span
+span_of e = e.loc.span
+
+-- the kinds of tokens that may stand there
+abbrev pub expected_of : ToCSTError → Kinds
+expected_of e = e.expected

@@ -1,0 +1,154 @@
+// Why a text has no tree.
+ghost use Rattle.std.specs.Prelude.{◌≡◌, [], Some, IfOk, is_some};
+ghost use Rattle.cedar_tokens.specs.Kinds.{names_of};
+ghost use Rattle.cedar_tokens.specs.Shown.{shows};
+ghost use Rattle.cedar_loose.specs.Errors.{span_of, expected_of};
+
+use cedar_names::places::{Loc, Span};
+use cedar_tokens::{ExpectedTokenConfig, Kinds, expected_to_string};
+use cedar_trees::unknowns::NonEmpty;
+use std::alloc::{AllocError, Global};
+use std::error::Error;
+use std::fmt;
+use thiserror::Error;
+
+/// What stands where nothing can be read on.
+#[derive(Clone, Copy, Debug, PartialEq, Eq)]
+enum Cause {
+    /// No token at all.
+    InvalidToken,
+    /// A token that can't stand there.
+    UnrecognizedToken,
+    /// The end of the text.
+    UnrecognizedEof,
+}
+
+/// The text is outside the loose grammar. `==` compares places and expected kinds too.
+#[derive(Debug, PartialEq, Eq, Drop)]
+pub struct ToCSTError {
+    cause: Cause,
+    loc: Loc,
+    /// The kinds of tokens that may stand at the place.
+    expected: Kinds,
+}
+
+impl ToCSTError {
+    /// No token stands at this place.
+    pub fn invalid_token(loc: Loc) -> ToCSTError
+        ensures place { span_of result ≡ loc.span }
+        ensures expected { expected_of result ≡ Kinds.NONE }
+    {
+        ToCSTError {
+            cause: Cause::InvalidToken,
+            loc,
+            expected: Kinds::NONE,
+        }
+    }
+
+    /// The token at this place can't stand there, but one of these kinds may.
+    pub fn unrecognized_token(loc: Loc, expected: Kinds) -> ToCSTError
+        ensures place { span_of result ≡ loc.span }
+        ensures expected { expected_of result ≡ expected }
+    {
+        ToCSTError {
+            cause: Cause::UnrecognizedToken,
+            loc,
+            expected,
+        }
+    }
+
+    /// The text can't end at this place, but a token of one of these kinds may follow.
+    pub fn unrecognized_eof(loc: Loc, expected: Kinds) -> ToCSTError
+        ensures place { span_of result ≡ loc.span }
+        ensures expected { expected_of result ≡ expected }
+    {
+        ToCSTError {
+            cause: Cause::UnrecognizedEof,
+            loc,
+            expected,
+        }
+    }
+
+    /// Where the text is outside the grammar: the token that can't stand there, or the byte at which
+    /// there is no token or the text ends.
+    pub fn primary_source_span(&self) -> Option<Span>
+        ensures { result ≡ Some (span_of self.now) }
+    {
+        Some(self.loc.span())
+    }
+
+    /// The kinds of tokens that may stand where the text is outside the grammar, as the reader looked for
+    /// them; none where no token begins, or a number is too large.
+    pub fn expected(&self) -> Kinds
+        ensures { result ≡ expected_of self.now }
+    {
+        self.expected
+    }
+
+    /// The expected kinds as a text, `expected a, b, or c`; none where the config shows none of them.
+    /// Refused for memory alone.
+    pub fn label(
+        &self,
+        alloc: Global,
+        config: &ExpectedTokenConfig,
+    ) -> Result<Option<String>, AllocError>
+        ensures { IfOk result (λ told. is_some told ≡ shows config.now (names_of (expected_of self.now))) }
+    {
+        let names = self.expected.names(alloc)?;
+        expected_to_string(alloc, &names, config)
+    }
+}
+
+impl Error for ToCSTError {}
+
+impl fmt::Display for ToCSTError {
+    fn fmt<W: fmt::Write>(&self, f: &mut fmt::Formatter<W>) -> fmt::Result {
+        match self.cause {
+            Cause::InvalidToken => f.write_str("invalid token"),
+            Cause::UnrecognizedEof => f.write_str("unexpected end of input"),
+            Cause::UnrecognizedToken => match self.loc.snippet() {
+                Some(token) => write!(f, "unexpected token `{token}`"),
+                None => f.write_str("unexpected token"),
+            },
+        }
+    }
+}
+
+/// Why a text isn't parsed.
+#[derive(Debug, PartialEq, Eq, Drop, Error)]
+pub enum ParseError {
+    /// The text is outside the loose grammar.
+    #[error(transparent)]
+    ToCST(ToCSTError),
+    /// The text's nesting passes the limit.
+    #[error("the text is nested too deep")]
+    Depth,
+    /// Memory ran out.
+    #[error("out of memory")]
+    Memory,
+}
+
+/// Errors of one text: at least one.
+#[derive(Debug, PartialEq, Eq, Drop)]
+pub struct ParseErrors(pub NonEmpty<ParseError>);
+
+impl ParseErrors {
+    /// One error alone. It takes no memory.
+    pub fn one(alloc: Global, error: ParseError) -> ParseErrors
+        ensures first { result.0.head ≡ error }
+        ensures alone { result.0.tail.items ≡ [] }
+    {
+        ParseErrors(NonEmpty {
+            head: error,
+            tail: Vec::new(alloc),
+        })
+    }
+}
+
+impl Error for ParseErrors {}
+
+impl fmt::Display for ParseErrors {
+    fn fmt<W: fmt::Write>(&self, f: &mut fmt::Formatter<W>) -> fmt::Result {
+        self.0.head.fmt(f)
+    }
+}

@@ -1,4 +1,0 @@
-pub mod Loose
-pub mod LooseReading
-pub mod Converting
-pub mod Laws

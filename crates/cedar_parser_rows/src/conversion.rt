@@ -1,0 +1,159 @@
+// Texts that are read and converted, and printed again; and texts that mean nothing, with their faults.
+use crate::refusing::NoCalls;
+use crate::words::{Answer, tell};
+use cedar_builders::own_builder::ExprBuilder;
+use cedar_conversion::to_expr;
+use cedar_conversion_leaves::{ConversionError, ExtStyles, ToASTError};
+use cedar_cst::cst;
+use cedar_cst::node::Node;
+use cedar_loose::{parse_expr, parse_policies, parse_policy};
+use cedar_names::errors::ParseNameError;
+use cedar_names::reading::FromNormalizedStr;
+use cedar_policy_conversion::{to_policy, to_policy_or_template, to_policy_template, to_policyset};
+use cedar_policy_parts::PolicyID;
+use cedar_policy_parts_conversion::PolicyError;
+use cedar_policy_set::sets::PolicySet;
+use cedar_templates::static_policies::StaticPolicy;
+use cedar_templates::templates::Template;
+use either::Either;
+use std::alloc::Global;
+use std::fmt::Display;
+
+/// How deep a text may be nested.
+const DEPTH: u32 = 16;
+
+/// No functions and no methods.
+pub(crate) fn none(alloc: Global) -> ExtStyles {
+    ExtStyles::new(Vec::new(alloc), Vec::new(alloc))
+}
+
+/// The functions and methods that texts may call from now on.
+pub(crate) fn listed(
+    alloc: Global,
+    functions: &str,
+    methods: &str,
+    held: &mut ExtStyles,
+) -> Answer {
+    match styles(alloc, functions, methods) {
+        Ok(styles) => {
+            *held = styles;
+            String::from_str(alloc, "kept")
+        }
+        Err(error) => tell(alloc, error),
+    }
+}
+
+fn styles(alloc: Global, functions: &str, methods: &str) -> Result<ExtStyles, ParseNameError> {
+    let functions = names(alloc, functions)?;
+    Ok(ExtStyles::new(functions, names(alloc, methods)?))
+}
+
+/// What stands between the commas.
+fn names<T: FromNormalizedStr + Drop>(
+    alloc: Global,
+    texts: &str,
+) -> Result<Vec<T>, ParseNameError> {
+    let mut names = Vec::new(alloc);
+    for text in texts.split(',') {
+        names.push(T::from_normalized_str(alloc, text)?)?;
+    }
+    Ok(names)
+}
+
+/// The expression of a text, made by a builder that keeps it or by one that refuses calls.
+pub(crate) fn expression(alloc: Global, verb: &str, text: &str, styles: &ExtStyles) -> Answer {
+    let tree = match parse_expr(alloc, text, DEPTH) {
+        Ok(tree) => tree,
+        Err(errors) => return errors.to_string(alloc),
+    };
+    match verb {
+        "made" => converted(alloc, to_expr::<ExprBuilder>(alloc, &tree, styles)),
+        _ => converted(alloc, to_expr::<NoCalls>(alloc, &tree, styles)),
+    }
+}
+
+/// The policy set of a text.
+pub(crate) fn policies(alloc: Global, text: &str, styles: &ExtStyles) -> Answer {
+    let tree = match parse_policies(alloc, text, DEPTH) {
+        Ok(tree) => tree,
+        Err(errors) => return errors.to_string(alloc),
+    };
+    match to_policyset(alloc, &tree, styles) {
+        Ok(set) => each(alloc, &set),
+        Err(error) => faults(alloc, &error),
+    }
+}
+
+/// The static policy or template of a text, under the id `p`.
+pub(crate) fn policy(alloc: Global, verb: &str, text: &str, styles: &ExtStyles) -> Answer {
+    match parse_policy(alloc, text, DEPTH) {
+        Ok(tree) => policy_of(alloc, verb, &tree, styles),
+        Err(errors) => errors.to_string(alloc),
+    }
+}
+
+fn policy_of(
+    alloc: Global,
+    verb: &str,
+    tree: &Node<Option<cst::Policy>>,
+    styles: &ExtStyles,
+) -> Answer {
+    let id = PolicyID::from_string(alloc, "p")?;
+    match verb {
+        "static" => converted(alloc, to_policy(alloc, tree, id, styles)),
+        "template" => converted(alloc, to_policy_template(alloc, tree, id, styles)),
+        _ => sorted(alloc, to_policy_or_template(alloc, tree, id, styles)),
+    }
+}
+
+/// What was made, as it is printed, or all faults.
+fn converted<T: Display + Drop, E: Display + Drop>(
+    alloc: Global,
+    found: Result<T, ConversionError<E>>,
+) -> Answer {
+    match found {
+        Ok(value) => value.to_string(alloc),
+        Err(error) => faults(alloc, &error),
+    }
+}
+
+/// Which of the two was made, or all faults.
+fn sorted(alloc: Global, found: Result<Either<StaticPolicy, Template>, PolicyError>) -> Answer {
+    match found {
+        Ok(Either::Left(policy)) => format!(in alloc; "static {policy}"),
+        Ok(Either::Right(template)) => format!(in alloc; "template {template}"),
+        Err(error) => faults(alloc, &error),
+    }
+}
+
+/// The policies and templates of a set, each after its id.
+fn each(alloc: Global, set: &PolicySet) -> Answer {
+    let mut told = String::new(alloc);
+    for template in set.all_templates() {
+        let next = format!(in alloc; "{}: {template} ", template.id())?;
+        told.push_str(next.as_str())?;
+    }
+    Ok(told)
+}
+
+/// All faults in their order, or the builder's own error.
+fn faults<E: Display>(alloc: Global, error: &ConversionError<E>) -> Answer {
+    let ConversionError::Faults(faults) = error else {
+        return error.to_string(alloc);
+    };
+    let mut told = fault(alloc, &faults.head)?;
+    for next in &faults.tail {
+        let next = fault(alloc, next)?;
+        told.push_str("; ")?;
+        told.push_str(next.as_str())?;
+    }
+    Ok(told)
+}
+
+/// A fault with its place.
+fn fault(alloc: Global, fault: &ToASTError) -> Answer {
+    match &fault.loc {
+        Some(loc) => format!(in alloc; "{}..{}: {fault}", loc.start(), loc.end()),
+        None => format!(in alloc; "nowhere: {fault}"),
+    }
+}

@@ -1,0 +1,375 @@
+-- What later values settle of a residual.
+use Rattle.std.proofs.Common.{◌≡◌, ◌≢◌, Bool, true, false, not, cond, Option, Some, None, List, [], ◌∷◌, refl, sym, ap, subst}
+use Rattle.cedar_language.specs.Uid.{Text, Name}
+use Rattle.cedar_language.specs.Tree.{Literal, Boolean, Long, String, Entity, Variable, Principal, Action, Resource, Context, SlotId, Operator, Not, Neg, IsEmpty, Equal, Less, LessEq, Add, Sub, Mul, In, Contains, ContainsAll, ContainsAny, GetTag, HasTag, GetAttr, HasAttr, HasPath, Like, MakeSet, MakeRecord, Call, Tree, Lit, Var, Slot, Unknown, If, And, Or, Apply, Trees, no_trees, a_tree, EntityType}
+use Rattle.cedar_language.specs.Tree as tree
+use Rattle.cedar_language.specs.Value.{Value, Plain, no_values}
+use Rattle.cedar_language.specs.Order.{same_text, same_name}
+use Rattle.cedar_language.specs.Facts.{Facts}
+use Rattle.cedar_language.specs.Operators.{applied}
+use Rattle.cedar_partial_evaluation.specs.Settling.{Settling, Open, Errs, Is, Settlings, SomeOpen, SomeErrs, AllAre, kindless, Below, boolean, and_settled, or_settled, if_settled, and_more, apply_settled, LeafSettlings, or_entry, settled_in, all_settled_in}
+use Rattle.cedar_partial_evaluation.specs.MadeAgain.{HoldsMade}
+use Rattle.cedar_partial_evaluation.specs.Partial.{Answer, Evaluated, ResidualTree, Failed, Answers, AllEvaluated, SomeResiduals, SomeFailed, best_effort, last_answer, and_answer, or_answer, if_answer, and_next, is_projectable, are_projectable, LeafAnswers, built_answer, projected_in, all_projected_in, found_tree, entry_answer, attribute_answer, has_entry_answer, has_answer, is_answer, stated_type, types_differ, equal_answer, residual_answer, apply_answer, partial_in, all_partial_in}
+use Rattle.cedar_partial_evaluation.specs.Fair.{IsOfType, read, read_all, IsMadeAnswer, AreMadeLeaves}
+use Rattle.cedar_partial_evaluation.specs.Seam.{Carries, ResidualsSettle}
+use Rattle.cedar_partial_evaluation.proofs.MadeAgain.{AreMadeAnswers, made, all_made, plain_made, all_plain_made}
+use Rattle.cedar_partial_evaluation.proofs.Sound.{tree_of_is, trees_of_are, errs_more, found_is_at, not_found_is_at, and_true, kindless_answer, other_type}
+
+abbrev pub BelowAll : Settlings → Settlings → Type 0
+BelowAll SomeOpen ys = Unit {0}
+BelowAll SomeErrs ys = SomeErrs ≡ ys
+BelowAll (AllAre vs) ys = AllAre vs ≡ ys
+
+pub below_refl : (x : Settling) → Below x x
+below_refl Open = tt
+below_refl Errs = refl
+below_refl (Is v) = refl
+
+pub below_is : (x y : Settling) → x ≡ y → Below x y
+below_is x y e = rw e (below_refl y)
+
+pub below_trans : (x y z : Settling) → Below x y → Below y z → Below x z
+below_trans Open y z h k = tt
+below_trans Errs y z h k = let P : Settling → Type 0 = λ w. Below w z in subst P (sym h) k
+below_trans (Is v) y z h k = let P : Settling → Type 0 = λ w. Below w z in subst P (sym h) k
+
+pub boolean_mono : (x y : Settling) → Below x y → Below (boolean x) (boolean y)
+boolean_mono Open y h = tt
+boolean_mono Errs y h = rw (← h) refl
+boolean_mono (Is v) y h = below_is (boolean (Is v)) (boolean y) (ap boolean h)
+
+pub and_mono : (x y z w : Settling) → Below x z → Below y w → Below (and_settled x y) (and_settled z w)
+and_mono Open y z w h k = tt
+and_mono Errs y z w h k = rw (← h) refl
+and_mono (Is (Plain (Boolean true))) y z w h k = rw (← h) (boolean_mono y w k)
+and_mono (Is (Plain (Boolean false))) y z w h k = rw (← h) refl
+and_mono (Is _) y z w h k = rw (← h) refl
+
+pub or_mono : (x y z w : Settling) → Below x z → Below y w → Below (or_settled x y) (or_settled z w)
+or_mono Open y z w h k = tt
+or_mono Errs y z w h k = rw (← h) refl
+or_mono (Is (Plain (Boolean false))) y z w h k = rw (← h) (boolean_mono y w k)
+or_mono (Is (Plain (Boolean true))) y z w h k = rw (← h) refl
+or_mono (Is _) y z w h k = rw (← h) refl
+
+pub if_mono : (x y u z w v : Settling) → Below x z → Below y w → Below u v → Below (if_settled x y u) (if_settled z w v)
+if_mono Open y u z w v h k l = tt
+if_mono Errs y u z w v h k l = rw (← h) refl
+if_mono (Is (Plain (Boolean true))) y u z w v h k l = rw (← h) k
+if_mono (Is (Plain (Boolean false))) y u z w v h k l = rw (← h) l
+if_mono (Is _) y u z w v h k l = rw (← h) refl
+
+more_errs : (x : Settling) → and_more x SomeErrs ≡ SomeErrs
+more_errs x = refl
+
+pub refused_more : (x : Settling) (xs : Settlings) → Below x Errs → BelowAll (and_more x xs) SomeErrs
+refused_more x SomeErrs h = refl
+refused_more Errs SomeOpen h = refl
+refused_more Errs (AllAre vs) h = refl
+refused_more Open SomeOpen h = tt
+refused_more Open (AllAre vs) h = tt
+refused_more (Is v) SomeOpen h = tt
+refused_more (Is v) (AllAre vs) h = cc
+
+pub more_mono : (x z : Settling) (xs zs : Settlings) → Below x z → BelowAll xs zs → BelowAll (and_more x xs) (and_more z zs)
+more_mono x z SomeErrs zs h k = rw (← k) refl
+more_mono Errs z SomeOpen zs h k = rw (← h) (sym (errs_more zs))
+more_mono Errs z (AllAre vs) zs h k = rw (← h) (sym (errs_more zs))
+more_mono Open z SomeOpen zs h k = tt
+more_mono Open z (AllAre vs) zs h k = tt
+more_mono (Is v) z SomeOpen zs h k = tt
+more_mono (Is v) z (AllAre vs) zs h k = rw (← h, ← k) refl
+
+pub apply_mono : (facts : Facts) (op : Operator) (xs zs : Settlings) → BelowAll xs zs → Below (apply_settled facts op xs) (apply_settled facts op zs)
+apply_mono facts op SomeOpen zs h = tt
+apply_mono facts op SomeErrs zs h = rw (← h) refl
+apply_mono facts op (AllAre vs) zs h = rw (← h) (below_refl (kindless (applied facts op vs)))
+
+-- an entry of a plain record is plain
+pub entry_step : (b : Bool) (s t : Tree) (o : Option Tree) → is_projectable s ≡ true → (o ≡ Some t → is_projectable t ≡ true) → cond b (Some s) o ≡ Some t → is_projectable t ≡ true
+entry_step true s t o h f e = let q : s ≡ t = cc in rw q at h
+entry_step false s t o h f e = f e
+
+pub plain_entry : (ks : List Text) (ts : Trees) (a : Text) (t : Tree) → are_projectable ts ≡ true → found_tree ks ts a ≡ Some t → is_projectable t ≡ true
+plain_entry [] ts a t h e = cc
+plain_entry (k ∷ ks) no_trees a t h e = cc
+plain_entry (k ∷ ks) (a_tree s ts) a t h e =
+    let (hs, hts) = and_true (is_projectable s) (are_projectable ts) h in
+    entry_step (same_text k a) s t (found_tree ks ts a) hs (plain_entry ks ts a t hts) e
+
+module _ (facts : Facts) (good : HoldsMade facts) (later : LeafSettlings) (holds : LeafAnswers) (carries : Carries facts later holds) (leaves : AreMadeLeaves facts holds) where
+  raised : (op : Operator) (ts : Trees) (x : Settling) → Below x (or_entry later op ts x)
+  raised (GetAttr a) (a_tree (Var Context) no_trees) Open = tt
+  raised (HasAttr a) (a_tree (Var Context) no_trees) Open = tt
+  raised op ts x = below_refl x
+
+  raised_to : (op : Operator) (ts : Trees) (x y : Settling) → Below x y → Below x (or_entry later op ts y)
+  raised_to op ts x y h = below_trans x y (or_entry later op ts y) h (raised op ts y)
+
+  best_effort_carries : (q : Answer) (t : Tree) → IsMadeAnswer facts q → Below (settled_in facts later t) (read facts later q) →
+      Below (settled_in facts later t) (settled_in facts later (best_effort facts q t))
+  best_effort_carries (Evaluated v) t m h = rw (tree_of_is facts later v m) h
+  best_effort_carries (ResidualTree r) t m h = h
+  best_effort_carries (Failed k) t m h = below_refl (settled_in facts later t)
+
+  last_carries : (f : Tree → Tree) (y : Settling) (q : Answer) →
+      ((t : Tree) → settled_in facts later (f t) ≡ boolean (settled_in facts later t)) →
+      Below y (read facts later q) → Below (boolean y) (read facts later (last_answer f q))
+  last_carries f y (Evaluated (Plain (Boolean b))) e h = boolean_mono y (Is (Plain (Boolean b))) h
+  last_carries f y (Evaluated v) e h = boolean_mono y (Is v) h
+  last_carries f y (ResidualTree l) e h = rw (e l) (boolean_mono y (settled_in facts later l) h)
+  last_carries f y (Failed k) e h = boolean_mono y Errs h
+
+  and_carries : (p q : Answer) (l r : Tree) → IsMadeAnswer facts q → Below (settled_in facts later l) (read facts later p) → Below (settled_in facts later r) (read facts later q) →
+      Below (settled_in facts later (And l r)) (read facts later (and_answer facts p q r))
+  and_carries (ResidualTree s) q l r m h k = and_mono _ _ _ _ h (best_effort_carries q r m k)
+  and_carries (Evaluated (Plain (Boolean true))) q l r m h k =
+      below_trans _ (boolean (settled_in facts later r)) _ (and_mono _ _ (Is (Plain (Boolean true))) _ h (below_refl (settled_in facts later r)))
+      (last_carries (And (Lit (Boolean true))) (settled_in facts later r) q (λ t. refl) k)
+  and_carries (Evaluated (Plain (Boolean false))) q l r m h k = and_mono _ _ (Is (Plain (Boolean false))) _ h k
+  and_carries (Evaluated v) q l r m h k = and_mono _ _ (Is v) _ h k
+  and_carries (Failed e) q l r m h k = and_mono _ _ Errs _ h k
+
+  or_carries : (p q : Answer) (l r : Tree) → IsMadeAnswer facts q → Below (settled_in facts later l) (read facts later p) → Below (settled_in facts later r) (read facts later q) →
+      Below (settled_in facts later (Or l r)) (read facts later (or_answer facts p q r))
+  or_carries (ResidualTree s) q l r m h k = or_mono _ _ _ _ h (best_effort_carries q r m k)
+  or_carries (Evaluated (Plain (Boolean false))) q l r m h k =
+      below_trans _ (boolean (settled_in facts later r)) _ (or_mono _ _ (Is (Plain (Boolean false))) _ h (below_refl (settled_in facts later r)))
+      (last_carries (Or (Lit (Boolean false))) (settled_in facts later r) q (λ t. refl) k)
+  or_carries (Evaluated (Plain (Boolean true))) q l r m h k = or_mono _ _ (Is (Plain (Boolean true))) _ h k
+  or_carries (Evaluated v) q l r m h k = or_mono _ _ (Is v) _ h k
+  or_carries (Failed e) q l r m h k = or_mono _ _ Errs _ h k
+
+  if_carries : (p q s : Answer) (t y n : Tree) → IsMadeAnswer facts q → IsMadeAnswer facts s → Below (settled_in facts later t) (read facts later p) → Below (settled_in facts later y) (read facts later q) →
+      Below (settled_in facts later n) (read facts later s) → Below (settled_in facts later (If t y n)) (read facts later (if_answer facts p q s y n))
+  if_carries (ResidualTree r) q s t y n m o h k l = if_mono _ _ _ _ _ _ h (best_effort_carries q y m k) (best_effort_carries s n o l)
+  if_carries (Evaluated (Plain (Boolean true))) q s t y n m o h k l = if_mono _ _ _ (Is (Plain (Boolean true))) _ _ h k l
+  if_carries (Evaluated (Plain (Boolean false))) q s t y n m o h k l = if_mono _ _ _ (Is (Plain (Boolean false))) _ _ h k l
+  if_carries (Evaluated v) q s t y n m o h k l = if_mono _ _ _ (Is v) _ _ h k l
+  if_carries (Failed e) q s t y n m o h k l = if_mono _ _ _ Errs _ _ h k l
+
+  more_carries : (p : Answer) (ps : Answers) (t : Tree) (ts : Trees) → IsMadeAnswer facts p → AreMadeAnswers facts good ps → Below (settled_in facts later t) (read facts later p) →
+      BelowAll (all_settled_in facts later ts) (read_all facts later ps) →
+      BelowAll (all_settled_in facts later (a_tree t ts)) (read_all facts later (and_next facts p ps))
+  more_carries (Evaluated v) (AllEvaluated vs) t ts m n h k = more_mono _ _ _ _ h k
+  more_carries (Evaluated v) (SomeResiduals rs) t ts m n h k = rw (tree_of_is facts later v m) (more_mono _ _ _ _ h k)
+  more_carries (Evaluated v) (SomeFailed e) t ts m n h k = more_mono _ (Is v) _ _ h k
+  more_carries (ResidualTree r) (AllEvaluated vs) t ts m n h k = rw (trees_of_are facts later vs n) (more_mono _ _ _ _ h k)
+  more_carries (ResidualTree r) (SomeResiduals rs) t ts m n h k = more_mono _ _ _ _ h k
+  more_carries (ResidualTree r) (SomeFailed e) t ts m n h k = more_mono _ (settled_in facts later r) _ _ h k
+  more_carries (Failed e) ps t ts m n h k = refused_more _ _ h
+
+  -- a plain tree never errs
+  leaf_not : (x : Settling) → x ≢ Errs → (x ≡ Errs → ⊥)
+  leaf_not x n = n
+
+  abbrev DontErr : Settlings → Type 0
+  DontErr SomeErrs = ⊥
+  DontErr _ = Unit {0}
+
+  abbrev DoesntErr : Settling → Type 0
+  DoesntErr Errs = ⊥
+  DoesntErr _ = Unit {0}
+
+  doesnt_err : (x : Settling) → x ≢ Errs → DoesntErr x
+  doesnt_err Open n = tt
+  doesnt_err Errs n = n refl
+  doesnt_err (Is v) n = tt
+
+  more_dont : (x : Settling) (xs : Settlings) → DoesntErr x → DontErr xs → DontErr (and_more x xs)
+  more_dont x SomeErrs h k = k
+  more_dont Errs xs h k = absurd h
+  more_dont Open SomeOpen h k = tt
+  more_dont Open (AllAre vs) h k = tt
+  more_dont (Is v) SomeOpen h k = tt
+  more_dont (Is v) (AllAre vs) h k = tt
+
+  set_doesnt : (xs : Settlings) → DontErr xs → DoesntErr (apply_settled facts MakeSet xs)
+  set_doesnt SomeOpen h = tt
+  set_doesnt SomeErrs h = h
+  set_doesnt (AllAre vs) h = tt
+
+  record_doesnt : (ks : List Text) (xs : Settlings) → DontErr xs → DoesntErr (apply_settled facts (MakeRecord ks) xs)
+  record_doesnt ks SomeOpen h = tt
+  record_doesnt ks SomeErrs h = h
+  record_doesnt ks (AllAre vs) h = tt
+
+  mutual
+    plain_doesnt : (t : Tree) → is_projectable t ≡ true → DoesntErr (settled_in facts later t)
+    plain_doesnt (Lit l) h = tt
+    plain_doesnt (Unknown n ty) h = doesnt_err (later.unknown n ty) (carries.name_never_errs n ty)
+    plain_doesnt (Var v) h = doesnt_err (later.variable v) (carries.never_errs v)
+    plain_doesnt (Apply MakeSet ts) h = set_doesnt (all_settled_in facts later ts) (all_plain_dont ts h)
+    plain_doesnt (Apply (MakeRecord ks) ts) h = record_doesnt ks (all_settled_in facts later ts) (all_plain_dont ts h)
+    plain_doesnt _ h = cc
+
+    all_plain_dont : (ts : Trees) → are_projectable ts ≡ true → DontErr (all_settled_in facts later ts)
+    all_plain_dont no_trees h = tt
+    all_plain_dont (a_tree t ts) h =
+        let (ht, hts) = and_true (is_projectable t) (are_projectable ts) h in
+        more_dont (settled_in facts later t) (all_settled_in facts later ts) (plain_doesnt t ht) (all_plain_dont ts hts)
+
+  built_carries : (op : Operator) (xs : Settlings) (ps : Answers) → BelowAll xs (read_all facts later ps) →
+      Below (apply_settled facts op xs) (read facts later (built_answer facts op ps))
+  built_carries op xs (AllEvaluated vs) h = below_trans _ _ _ (apply_mono facts op xs (AllAre vs) h) (below_is _ _ (kindless_answer facts later (applied facts op vs)))
+  built_carries op xs (SomeResiduals rs) h = raised_to op rs _ _ (apply_mono facts op xs (all_settled_in facts later rs) h)
+  built_carries op xs (SomeFailed k) h = apply_mono facts op xs SomeErrs h
+
+  -- for plain trees alone the context's entries play no part
+  mutual
+    pub plain_carried : (t : Tree) → is_projectable t ≡ true → Below (settled_in facts later t) (read facts later (projected_in facts holds t))
+    plain_carried (Lit l) h = refl
+    plain_carried (Unknown n ty) h = carries.unknown n ty
+    plain_carried (Var v) h = carries.variable v
+    plain_carried (Apply MakeSet ts) h = built_carries MakeSet (all_settled_in facts later ts) (all_projected_in facts holds ts) (all_plain_carried ts h)
+    plain_carried (Apply (MakeRecord ks) ts) h =
+        built_carries (MakeRecord ks) (all_settled_in facts later ts) (all_projected_in facts holds ts) (all_plain_carried ts h)
+    plain_carried _ h = cc
+
+    all_plain_carried : (ts : Trees) → are_projectable ts ≡ true → BelowAll (all_settled_in facts later ts) (read_all facts later (all_projected_in facts holds ts))
+    all_plain_carried no_trees h = refl
+    all_plain_carried (a_tree t ts) h =
+        let (ht, hts) = and_true (is_projectable t) (are_projectable ts) h in
+        more_carries (projected_in facts holds t) (all_projected_in facts holds ts) t ts (plain_made facts good holds leaves t) (all_plain_made facts good holds leaves ts) (plain_carried t ht) (all_plain_carried ts hts)
+
+  absent_carries : (a : Text) (ks : List Text) (rs : Trees) → found_tree ks rs a ≡ None → (xs : Settlings) → all_settled_in facts later rs ≡ xs →
+      Below (apply_settled facts (GetAttr a) (and_more (apply_settled facts (MakeRecord ks) xs) (AllAre no_values))) Errs
+  absent_carries a ks rs e SomeOpen h = tt
+  absent_carries a ks rs e SomeErrs h = refl
+  absent_carries a ks rs e (AllAre vs) h = rw (not_found_is_at facts later ks rs vs a h e) refl
+
+  projected : (a : Text) (ks : List Text) (rs : Trees) (t : Tree) → found_tree ks rs a ≡ Some t → (xs : Settlings) → all_settled_in facts later rs ≡ xs → DontErr xs →
+      Below (apply_settled facts (GetAttr a) (and_more (apply_settled facts (MakeRecord ks) xs) (AllAre no_values))) (settled_in facts later t)
+  projected a ks rs t e SomeOpen h d = tt
+  projected a ks rs t e SomeErrs h d = absurd d
+  projected a ks rs t e (AllAre vs) h d = let (v, f, is) = found_is_at facts later ks rs vs a t h e in rw (f, is) refl
+
+  entry_carries : (a : Text) (ks : List Text) (rs : Trees) (plain : Bool) (o : Option Tree) → are_projectable rs ≡ plain → found_tree ks rs a ≡ o →
+      Below (apply_settled facts (GetAttr a) (and_more (settled_in facts later (Apply (MakeRecord ks) rs)) (AllAre no_values)))
+      (read facts later (entry_answer facts holds a (Apply (MakeRecord ks) rs) plain o))
+  entry_carries a ks rs plain None h e = absent_carries a ks rs e (all_settled_in facts later rs) refl
+  entry_carries a ks rs true (Some t) h e =
+      below_trans _ (settled_in facts later t) _ (projected a ks rs t e (all_settled_in facts later rs) refl (all_plain_dont rs h))
+      (plain_carried t (plain_entry ks rs a t h e))
+  entry_carries a ks rs false (Some t) h e = below_refl _
+
+  attribute_carries : (a : Text) (r : Tree) →
+      Below (apply_settled facts (GetAttr a) (and_more (settled_in facts later r) (AllAre no_values))) (read facts later (attribute_answer facts holds a r))
+  attribute_carries a (Apply (MakeRecord ks) rs) = entry_carries a ks rs (are_projectable rs) (found_tree ks rs a) refl refl
+  attribute_carries a r = raised (GetAttr a) (a_tree r no_trees) _
+
+  present_has : (a : Text) (ks : List Text) (rs : Trees) (t : Tree) → found_tree ks rs a ≡ Some t → (xs : Settlings) → all_settled_in facts later rs ≡ xs → DontErr xs →
+      Below (apply_settled facts (HasAttr a) (and_more (apply_settled facts (MakeRecord ks) xs) (AllAre no_values))) (Is (Plain (Boolean true)))
+  present_has a ks rs t e SomeOpen h d = tt
+  present_has a ks rs t e SomeErrs h d = absurd d
+  present_has a ks rs t e (AllAre vs) h d = let (v, f, is) = found_is_at facts later ks rs vs a t h e in rw f refl
+
+  absent_has : (a : Text) (ks : List Text) (rs : Trees) → found_tree ks rs a ≡ None → (xs : Settlings) → all_settled_in facts later rs ≡ xs → DontErr xs →
+      Below (apply_settled facts (HasAttr a) (and_more (apply_settled facts (MakeRecord ks) xs) (AllAre no_values))) (Is (Plain (Boolean false)))
+  absent_has a ks rs e SomeOpen h d = tt
+  absent_has a ks rs e SomeErrs h d = absurd d
+  absent_has a ks rs e (AllAre vs) h d = rw (not_found_is_at facts later ks rs vs a h e) refl
+
+  has_entry_carries : (a : Text) (ks : List Text) (rs : Trees) (plain : Bool) (o : Option Tree) → are_projectable rs ≡ plain → found_tree ks rs a ≡ o →
+      Below (apply_settled facts (HasAttr a) (and_more (settled_in facts later (Apply (MakeRecord ks) rs)) (AllAre no_values)))
+      (read facts later (has_entry_answer a (Apply (MakeRecord ks) rs) plain o))
+  has_entry_carries a ks rs true None h e = absent_has a ks rs e (all_settled_in facts later rs) refl (all_plain_dont rs h)
+  has_entry_carries a ks rs true (Some t) h e = present_has a ks rs t e (all_settled_in facts later rs) refl (all_plain_dont rs h)
+  has_entry_carries a ks rs false o h e = below_refl _
+
+  has_carries : (a : Text) (r : Tree) →
+      Below (apply_settled facts (HasAttr a) (and_more (settled_in facts later r) (AllAre no_values))) (read facts later (has_answer a r))
+  has_carries a (Apply (MakeRecord ks) rs) = has_entry_carries a ks rs (are_projectable rs) (found_tree ks rs a) refl refl
+  has_carries a r = raised (HasAttr a) (a_tree r no_trees) _
+
+  -- an unknown with a stated type is open, or an entity of that type
+  typed_carries : (ty u : Name) (x : Settling) → x ≢ Errs → ((w : Value) → x ≡ Is w → IsOfType u w) →
+      Below (apply_settled facts (tree.Is ty) (and_more x (AllAre no_values))) (Is (Plain (Boolean (same_name u ty))))
+  typed_carries ty u Open n f = tt
+  typed_carries ty u Errs n f = absurd (n refl)
+  typed_carries ty u (Is w) n f = let (v, is, of_type) = f w refl in rw (is, of_type) refl
+
+  type_carries : (ty : Name) (r : Tree) →
+      Below (apply_settled facts (tree.Is ty) (and_more (settled_in facts later r) (AllAre no_values))) (read facts later (is_answer ty r))
+  type_carries ty (Unknown n (Some (EntityType u))) =
+      typed_carries ty u (later.unknown n (Some (EntityType u))) (carries.name_never_errs n (Some (EntityType u))) (λ w e. carries.typed n u w e)
+  type_carries ty r = raised (tree.Is ty) (a_tree r no_trees) _
+
+  -- open, or an entity of the type
+  abbrev MayBe : Name → Settling → Type 0
+  MayBe u Open = Unit {0}
+  MayBe u Errs = ⊥
+  MayBe u (Is w) = IsOfType u w
+
+  may_be : (u : Name) (x : Settling) → x ≢ Errs → ((w : Value) → x ≡ Is w → IsOfType u w) → MayBe u x
+  may_be u Open n f = tt
+  may_be u Errs n f = n refl
+  may_be u (Is w) n f = f w refl
+
+  stated_carries : (r : Tree) (u : Name) → stated_type r ≡ Some u → MayBe u (settled_in facts later r)
+  stated_carries (Lit (Entity e)) u h = let g : e.type_name ≡ u = cc in (e, refl, g)
+  stated_carries (Unknown n (Some (EntityType ty))) u h =
+      let g : ty ≡ u = cc in
+      let P : Name → Type 0 = λ z. MayBe z (later.unknown n (Some (EntityType ty))) in
+      subst P g (may_be ty (later.unknown n (Some (EntityType ty))) (carries.name_never_errs n (Some (EntityType ty))) (λ w e. carries.typed n ty w e))
+  stated_carries _ u h = cc
+
+  differ_carries : (u w : Name) (x y : Settling) → MayBe u x → MayBe w y → not (same_name u w) ≡ true →
+      Below (apply_settled facts Equal (and_more x (and_more y (AllAre no_values)))) (Is (Plain (Boolean false)))
+  differ_carries u w Open Open h k d = tt
+  differ_carries u w Open (Is b) h k d = tt
+  differ_carries u w (Is a) Open h k d = tt
+  differ_carries u w (Is v) (Is z) (a, at, ta) (b, bt, tb) d = rw (at, bt, other_type a b u w ta tb d) refl
+  differ_carries u w Errs y h k d = absurd h
+  differ_carries u w x Errs h k d = absurd k
+
+  equal_by : (r s : Tree) (o q : Option Name) → stated_type r ≡ o → stated_type s ≡ q → types_differ o q ≡ true →
+      Below (apply_settled facts Equal (and_more (settled_in facts later r) (and_more (settled_in facts later s) (AllAre no_values)))) (Is (Plain (Boolean false)))
+  equal_by r s (Some u) (Some w) e f h = differ_carries u w (settled_in facts later r) (settled_in facts later s) (stated_carries r u e) (stated_carries s w f) h
+  equal_by r s (Some u) None e f h = cc
+  equal_by r s None q e f h = cc
+
+  equal_carries : (r s : Tree) (b : Bool) → types_differ (stated_type r) (stated_type s) ≡ b →
+      Below (apply_settled facts Equal (and_more (settled_in facts later r) (and_more (settled_in facts later s) (AllAre no_values)))) (read facts later (equal_answer b r s))
+  equal_carries r s true h = equal_by r s (stated_type r) (stated_type s) refl refl h
+  equal_carries r s false h = raised Equal (a_tree r (a_tree s no_trees)) _
+
+  pub left_carries : (op : Operator) (rs : Trees) →
+      Below (apply_settled facts op (all_settled_in facts later rs)) (read facts later (residual_answer facts holds op rs))
+  left_carries (GetAttr a) (a_tree r no_trees) = attribute_carries a r
+  left_carries (HasAttr a) (a_tree r no_trees) = has_carries a r
+  left_carries (tree.Is ty) (a_tree r no_trees) = type_carries ty r
+  left_carries Equal (a_tree r (a_tree s no_trees)) = equal_carries r s (types_differ (stated_type r) (stated_type s)) refl
+  left_carries op rs = raised op rs (apply_settled facts op (all_settled_in facts later rs))
+
+  apply_carries : (op : Operator) (xs : Settlings) (ps : Answers) → BelowAll xs (read_all facts later ps) →
+      Below (apply_settled facts op xs) (read facts later (apply_answer facts holds op ps))
+  apply_carries op xs (AllEvaluated vs) h = below_trans _ _ _ (apply_mono facts op xs (AllAre vs) h) (below_is _ _ (kindless_answer facts later (applied facts op vs)))
+  apply_carries op xs (SomeResiduals rs) h = below_trans _ _ _ (apply_mono facts op xs (all_settled_in facts later rs) h) (left_carries op rs)
+  apply_carries op xs (SomeFailed k) h = apply_mono facts op xs SomeErrs h
+
+  entry_carried : (op : Operator) (ts : Trees) (x : Settling) → Below x (read facts later (apply_answer facts holds op (all_partial_in facts holds ts))) →
+      Below (or_entry later op ts x) (read facts later (apply_answer facts holds op (all_partial_in facts holds ts)))
+  entry_carried (GetAttr a) (a_tree (Var Context) no_trees) Open m = carries.in_context a
+  entry_carried (HasAttr a) (a_tree (Var Context) no_trees) Open m = carries.has_in_context a
+  entry_carried op ts x m = m
+
+  mutual
+    carried : (t : Tree) → Below (settled_in facts later t) (read facts later (partial_in facts holds t))
+    carried (Lit l) = refl
+    carried (Unknown n ty) = carries.unknown n ty
+    carried (Slot s) = carries.slot s
+    carried (Var v) = carries.variable v
+    carried (And l r) = and_carries (partial_in facts holds l) (partial_in facts holds r) l r (made facts good holds leaves r) (carried l) (carried r)
+    carried (Or l r) = or_carries (partial_in facts holds l) (partial_in facts holds r) l r (made facts good holds leaves r) (carried l) (carried r)
+    carried (If t y n) = if_carries (partial_in facts holds t) (partial_in facts holds y) (partial_in facts holds n) t y n (made facts good holds leaves y) (made facts good holds leaves n) (carried t) (carried y) (carried n)
+    carried (Apply op ts) =
+        entry_carried op ts (apply_settled facts op (all_settled_in facts later ts))
+        (apply_carries op (all_settled_in facts later ts) (all_partial_in facts holds ts) (all_carried ts))
+
+    all_carried : (ts : Trees) → BelowAll (all_settled_in facts later ts) (read_all facts later (all_partial_in facts holds ts))
+    all_carried no_trees = refl
+    all_carried (a_tree t ts) = more_carries (partial_in facts holds t) (all_partial_in facts holds ts) t ts (made facts good holds leaves t) (all_made facts good holds leaves ts) (carried t) (all_carried ts)
+
+pub residuals_settle : ResidualsSettle
+residuals_settle facts good later holds carries leaves t = carried facts good later holds carries leaves t

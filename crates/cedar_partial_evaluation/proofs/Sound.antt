@@ -1,0 +1,165 @@
+-- What trees for values settle to, and what is settled where nothing is open.
+use Rattle.std.proofs.Common.{◌≡◌, ◌≢◌, Bool, true, false, not, cond, ◌&&◌, Option, Some, None, List, [], ◌∷◌, refl, sym, ◌∙◌, ap}
+use Rattle.cedar_language.specs.Uid.{Text, Name, Uid}
+use Rattle.cedar_language.specs.Tree.{Boolean, Entity, Operator, Tree, Trees, no_trees, a_tree}
+use Rattle.cedar_language.specs.Value.{Value, Plain, SetOf, RecordOf, ExtensionOf, Values, no_values, a_value, Outcome, Gives, Fails}
+use Rattle.cedar_language.specs.Order.{same, same_text, same_name}
+use Rattle.cedar_language.specs.Facts.{Facts}
+use Rattle.cedar_language.specs.Operators.{found, applied}
+use Rattle.cedar_partial_evaluation.specs.Settling.{Settling, Open, Errs, Is, Settlings, SomeOpen, SomeErrs, AllAre, kindless, boolean, and_settled, or_settled, if_settled, and_more, apply_settled, LeafSettlings, settled_in, all_settled_in}
+use Rattle.cedar_partial_evaluation.specs.MadeAgain.{tree_of, trees_of, IsMadeAgain, AreMadeAgain}
+use Rattle.cedar_partial_evaluation.specs.Partial.{answer_of, found_tree}
+use Rattle.cedar_partial_evaluation.specs.Fair.{read}
+use Rattle.cedar_language.proofs.Rising.{rising_same}
+use Rattle.cedar_language.specs.OrderLaws.{same_is}
+use Rattle.std.specs.Cmp.Lexicographic.{pointwise_decides, bytes_decides}
+use Rattle.std.proofs.Common.{true≢false}
+
+abbrev set_is : Values → Settling
+set_is vs = Is (SetOf vs)
+
+-- a value's tree has the value, whatever stands around
+mutual
+  pub tree_of_is : (facts : Facts) (around : LeafSettlings) (v : Value) → IsMadeAgain facts v → settled_in facts around (tree_of facts v) ≡ Is v
+  tree_of_is facts around (Plain l) h = refl
+  tree_of_is facts around (SetOf vs) h = rw (trees_of_are facts around vs h.1) (ap set_is (rising_same vs h.0))
+  tree_of_is facts around (RecordOf ks vs) h = rw (trees_of_are facts around vs h) refl
+  tree_of_is facts around (ExtensionOf e) h = h around
+
+  pub trees_of_are : (facts : Facts) (around : LeafSettlings) (vs : Values) → AreMadeAgain facts vs → all_settled_in facts around (trees_of facts vs) ≡ AllAre vs
+  trees_of_are facts around no_values h = refl
+  trees_of_are facts around (a_value v vs) h = rw (tree_of_is facts around v h.0, trees_of_are facts around vs h.1) refl
+
+abbrev pub is_closed : Settling → Bool
+is_closed Open = false
+is_closed _ = true
+
+abbrev pub are_closed : Settlings → Bool
+are_closed SomeOpen = false
+are_closed _ = true
+
+not_open_closed : (x : Settling) → x ≢ Open → is_closed x ≡ true
+not_open_closed Open n = absurd (n refl)
+not_open_closed Errs n = refl
+not_open_closed (Is v) n = refl
+
+boolean_closed : (x : Settling) → is_closed x ≡ true → is_closed (boolean x) ≡ true
+boolean_closed Open h = h
+boolean_closed Errs h = refl
+boolean_closed (Is (Plain (Boolean b))) h = refl
+boolean_closed (Is _) h = refl
+
+pub and_closed : (x y : Settling) → is_closed x ≡ true → is_closed y ≡ true → is_closed (and_settled x y) ≡ true
+and_closed Open y h k = h
+and_closed Errs y h k = refl
+and_closed (Is (Plain (Boolean true))) y h k = boolean_closed y k
+and_closed (Is (Plain (Boolean false))) y h k = refl
+and_closed (Is _) y h k = refl
+
+pub or_closed : (x y : Settling) → is_closed x ≡ true → is_closed y ≡ true → is_closed (or_settled x y) ≡ true
+or_closed Open y h k = h
+or_closed Errs y h k = refl
+or_closed (Is (Plain (Boolean false))) y h k = boolean_closed y k
+or_closed (Is (Plain (Boolean true))) y h k = refl
+or_closed (Is _) y h k = refl
+
+pub if_closed : (x y z : Settling) → is_closed x ≡ true → is_closed y ≡ true → is_closed z ≡ true → is_closed (if_settled x y z) ≡ true
+if_closed Open y z h k l = h
+if_closed Errs y z h k l = refl
+if_closed (Is (Plain (Boolean true))) y z h k l = k
+if_closed (Is (Plain (Boolean false))) y z h k l = l
+if_closed (Is _) y z h k l = refl
+
+pub more_closed : (x : Settling) (xs : Settlings) → is_closed x ≡ true → are_closed xs ≡ true → are_closed (and_more x xs) ≡ true
+more_closed x SomeErrs h k = refl
+more_closed Errs SomeOpen h k = refl
+more_closed Errs (AllAre vs) h k = refl
+more_closed Open SomeOpen h k = h
+more_closed Open (AllAre vs) h k = h
+more_closed (Is v) SomeOpen h k = k
+more_closed (Is v) (AllAre vs) h k = refl
+
+kindless_closed : (o : Outcome) → is_closed (kindless o) ≡ true
+kindless_closed (Gives v) = refl
+kindless_closed (Fails k) = refl
+
+pub apply_closed : (facts : Facts) (op : Operator) (xs : Settlings) → are_closed xs ≡ true → is_closed (apply_settled facts op xs) ≡ true
+apply_closed facts op SomeOpen h = h
+apply_closed facts op SomeErrs h = refl
+apply_closed facts op (AllAre vs) h = kindless_closed (applied facts op vs)
+
+-- both operands of and_more are values where the whole is
+pub more_are : (x : Settling) (xs : Settlings) (ws : Values) → and_more x xs ≡ AllAre ws →
+    (v : Value) × (vs : Values) × (x ≡ Is v) × (xs ≡ AllAre vs) × (ws ≡ a_value v vs)
+more_are x SomeErrs ws h = cc
+more_are Errs SomeOpen ws h = cc
+more_are Errs (AllAre vs) ws h = cc
+more_are Open SomeOpen ws h = cc
+more_are Open (AllAre vs) ws h = cc
+more_are (Is v) SomeOpen ws h = cc
+more_are (Is v) (AllAre vs) ws h = (v, vs, refl, refl, cc)
+
+pub errs_more : (xs : Settlings) → and_more Errs xs ≡ SomeErrs
+errs_more SomeErrs = refl
+errs_more SomeOpen = refl
+errs_more (AllAre vs) = refl
+
+-- an entry is the first of the keys, or among the others
+found_step : (facts : Facts) (around : LeafSettlings) (b : Bool) (s t : Tree) (o : Option Tree) (v : Value) (p : Option Value) →
+    settled_in facts around s ≡ Is v →
+    (o ≡ Some t → (w : Value) × (p ≡ Some w) × (settled_in facts around t ≡ Is w)) →
+    cond b (Some s) o ≡ Some t → (w : Value) × (cond b (Some v) p ≡ Some w) × (settled_in facts around t ≡ Is w)
+found_step facts around true s t o v p h f e = let q : s ≡ t = cc in (v, refl, rw q at h)
+found_step facts around false s t o v p h f e = f e
+
+not_found_step : (b : Bool) (s : Tree) (o : Option Tree) (v : Value) (p : Option Value) → (o ≡ None → p ≡ None) →
+    cond b (Some s) o ≡ None → cond b (Some v) p ≡ None
+not_found_step true s o v p f e = cc
+not_found_step false s o v p f e = f e
+
+pub kindless_answer : (facts : Facts) (around : LeafSettlings) (o : Outcome) → kindless o ≡ read facts around (answer_of o)
+kindless_answer facts around (Gives v) = refl
+kindless_answer facts around (Fails k) = refl
+
+pub and_true : (x y : Bool) → (x && y) ≡ true → (x ≡ true) × (y ≡ true)
+and_true true y h = (refl, h)
+and_true false y h = cc
+
+-- operands that are looked at as the entries of a record
+pub found_is_at : (facts : Facts) (around : LeafSettlings) (ks : List Text) (ts : Trees) (vs : Values) (a : Text) (t : Tree) → all_settled_in facts around ts ≡ AllAre vs →
+    found_tree ks ts a ≡ Some t → (v : Value) × (found ks vs a ≡ Some v) × (settled_in facts around t ≡ Is v)
+found_is_at facts around [] ts vs a t h e = cc
+found_is_at facts around (k ∷ ks) no_trees vs a t h e = cc
+found_is_at facts around (k ∷ ks) (a_tree s ts) vs a t h e =
+    let (v, ws, hs, hts, is) = more_are (settled_in facts around s) (all_settled_in facts around ts) vs h in
+    rw is (found_step facts around (same_text k a) s t (found_tree ks ts a) v (found ks ws a) hs (found_is_at facts around ks ts ws a t hts) e)
+
+pub not_found_is_at : (facts : Facts) (around : LeafSettlings) (ks : List Text) (ts : Trees) (vs : Values) (a : Text) → all_settled_in facts around ts ≡ AllAre vs →
+    found_tree ks ts a ≡ None → found ks vs a ≡ None
+not_found_is_at facts around [] ts vs a h e = refl
+not_found_is_at facts around (k ∷ ks) no_trees no_values a h e = refl
+not_found_is_at facts around (k ∷ ks) no_trees (a_value v vs) a h e = cc
+not_found_is_at facts around (k ∷ ks) (a_tree s ts) vs a h e =
+    let (v, ws, hs, hts, is) = more_are (settled_in facts around s) (all_settled_in facts around ts) vs h in
+    rw is (not_found_step (same_text k a) s (found_tree ks ts a) v (found ks ws a) (not_found_is_at facts around ks ts ws a hts) e)
+
+-- entities of different types are different
+same_or : (b : Bool) (P : Type 0) → (b ≡ true → P) → (P → ⊥) → b ≡ false
+same_or true P f g = absurd (g (f refl))
+same_or false P f g = refl
+
+abbrev uid_at : Value → Uid
+uid_at (Plain (Entity u)) = u
+uid_at _ = record { type_name = []; id = [] }
+
+other_name : (x y : Name) → not (same_name x y) ≡ true → x ≢ y
+other_name x y h e =
+    let is : same_name x y ≡ true = (pointwise_decides bytes_decides x y).1 e in
+    let no' : not (same_name x y) ≡ false = rw is refl in
+    true≢false (sym h ∙ no')
+
+pub other_type : (a b : Uid) (u w : Name) → a.type_name ≡ u → b.type_name ≡ w → not (same_name u w) ≡ true → same (Plain (Entity a)) (Plain (Entity b)) ≡ false
+other_type a b u w e f h =
+    same_or (same (Plain (Entity a)) (Plain (Entity b))) (a ≡ b)
+    (λ i. ap uid_at (same_is (Plain (Entity a)) (Plain (Entity b)) i))
+    (λ i. other_name u w h (sym e ∙ ap (λ x. x.type_name) i ∙ f))

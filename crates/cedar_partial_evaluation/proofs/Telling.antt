@@ -1,0 +1,138 @@
+-- Residuals and contexts evaluated again.
+use Rattle.std.proofs.Common.{◌≡◌, true, Option, Some, None, List, refl, sym, ◌∙◌, Bool, false, ap}
+use Rattle.std.specs.FinMap as finite
+use Rattle.cedar_language.specs.Uid.{Text, Name}
+use Rattle.cedar_language.specs.Tree.{MakeSet, MakeRecord, Call, Tree, Lit, Unknown, Apply, Trees, no_trees, a_tree, ValueType}
+use Rattle.cedar_language.specs.Value.{Value, Values, no_values, a_value, Kind, Outcome, Gives, Fails}
+use Rattle.cedar_language.specs.Facts.{Facts}
+use Rattle.cedar_language.specs.Operators.{applied}
+use Rattle.cedar_partial_evaluation.specs.Settling.{Settling, Open, Errs, Is, Below, LeafSettlings, settled_in}
+use Rattle.cedar_partial_evaluation.specs.MadeAgain.{tree_of, trees_of, IsMadeAgain, AreMadeAgain, HoldsMade}
+use Rattle.cedar_partial_evaluation.specs.Partial.{Answer, Evaluated, ResidualTree, Failed, Answers, AllEvaluated, SomeResiduals, SomeFailed, answer_of, best_effort, and_next, apply_answer, partial_in, all_partial_in}
+use Rattle.cedar_partial_evaluation.specs.Fair.{read, IsMadeAnswer}
+use Rattle.cedar_partial_evaluation.specs.Prompt.{Meets}
+use Rattle.cedar_partial_evaluation.specs.Question.{Told, value_held, name_held, settled_names, held_names, settled_of, held_of, Extends, AreMadeTold, is_restricted, are_restricted}
+use Rattle.cedar_partial_evaluation.specs.Unknowns.{fits}
+use Rattle.cedar_partial_evaluation.specs.Filling.{request_filled, filled}
+use Rattle.cedar_language.specs.Meaning.{meaning}
+use Rattle.cedar_partial_evaluation.specs.Telling.{ToldAreRead, SettledIsMeant, LaterAnswersAreFair, LaterAnswersArePrompt, ContextsStay}
+use Rattle.cedar_partial_evaluation.proofs.Sound.{and_true, tree_of_is}
+use Rattle.cedar_partial_evaluation.proofs.MadeAgain.{AreMadeAnswers, made, all_made}
+use Rattle.cedar_partial_evaluation.proofs.Seam.{below_is, below_trans, residuals_settle}
+use Rattle.cedar_partial_evaluation.proofs.Prompt.{is_prompt}
+use Rattle.cedar_partial_evaluation.proofs.Question.{meets_below, telling_carries, held_made, names_made, names_shown}
+use Rattle.cedar_partial_evaluation.proofs.Filling.{below_closed, means_filled, reads_below, answers_are_fair, answers_prompt}
+
+meets_read : (facts : Facts) (around : LeafSettlings) (errs_as : Kind → Type 0) (x : Settling) (p : Answer) → Meets errs_as x p → Below x (read facts around p)
+meets_read facts around errs_as Open p m = tt
+meets_read facts around errs_as Errs p (k, e, is) = rw e refl
+meets_read facts around errs_as (Is v) p m = rw m refl
+
+pub told_are_read : ToldAreRead
+told_are_read = record {
+  fitting = λ facts q slots told n ty v e fit. rw (e, fit) refl;
+  other = λ facts q slots told n ty v e fit. rw (e, fit) refl;
+}
+
+pub settled_is_meant : SettledIsMeant
+settled_is_meant facts good q slots told filling known extends are_made ok fills t given =
+    below_trans _ _ _
+    (meets_read facts (filled facts q slots filling) _ (settled_in facts (settled_of facts q slots told) t) (partial_in facts (held_of facts q slots told) t) (answers_prompt facts good q slots told are_made ok t))
+    (below_is _ _ (sym (answers_are_fair facts good q slots told filling known extends are_made fills t given)))
+
+pub later_answers_are_fair : LaterAnswersAreFair
+later_answers_are_fair facts good q slots told later filling known e further are_made then_made fills t r given h =
+    let first : settled_in facts (filled facts q slots filling) t ≡ settled_in facts (filled facts q slots filling) r =
+    rw h at (answers_are_fair facts good q slots told filling known (λ n v i. further n v (e n v i)) are_made fills t given) in
+    first ∙ below_closed _ _ (meaning facts (request_filled known slots filling) t) (sym first ∙ means_filled facts q filling known fills slots t given)
+    (reads_below facts q filling known fills good slots later further then_made r)
+
+pub later_answers_are_prompt : LaterAnswersArePrompt
+later_answers_are_prompt facts good q slots told later e are_made then_made now then t r h =
+    let carried : Below (settled_in facts (settled_of facts q slots later) t) (settled_in facts (settled_of facts q slots later) r) =
+    rw h at (residuals_settle facts good (settled_of facts q slots later) (held_of facts q slots told) (telling_carries facts good q slots told later e are_made now then) (held_made facts good q slots told are_made) t) in
+    below_trans _ (settled_in facts (settled_of facts q slots later) r) _ carried
+    (meets_below _ _ _ (answers_prompt facts good q slots later then_made then r))
+
+module _ (facts : Facts) (good : HoldsMade facts) (told later : Told) (extends : Extends told later) (are_made : AreMadeTold facts told) (then_made : AreMadeTold facts later) where
+  value_again : (v : Value) → IsMadeAgain facts v → partial_in facts (held_names later) (tree_of facts v) ≡ Evaluated v
+  value_again v m =
+      rw (tree_of_is facts (settled_names later) v m) at
+      (is_prompt facts good (settled_names later) (held_names later) (names_shown facts later) (names_made facts later then_made) (tree_of facts v))
+
+  values_again : (vs : Values) → AreMadeAgain facts vs → all_partial_in facts (held_names later) (trees_of facts vs) ≡ AllEvaluated vs
+  values_again no_values m = refl
+  values_again (a_value v vs) m = rw (value_again v m.0, values_again vs m.1) refl
+
+  -- a value that doesn't fit is refused again
+  told_again : (n : Text) (ty : Option ValueType) (v : Value) (b : Bool) → fits ty v ≡ b → finite.get later n ≡ Some v → IsMadeAgain facts v →
+      partial_in facts (held_names later) (best_effort facts (value_held b v) (Unknown n ty)) ≡ value_held b v
+  told_again n ty v true fit l m = value_again v m
+  told_again n ty v false fit l m = rw (l, fit) refl
+
+  name_again : (n : Text) (ty : Option ValueType) (o : Option Value) → finite.get told n ≡ o →
+      partial_in facts (held_names later) (best_effort facts (name_held o n ty) (Unknown n ty)) ≡ name_held (finite.get later n) n ty
+  name_again n ty (Some v) h = told_again n ty v (fits ty v) refl (extends n v h) (are_made n v h) ∙ ap (λ (o : Option Value). name_held o n ty) (sym (extends n v h))
+  name_again n ty None h = refl
+
+  -- how operands stand once more values are told
+  abbrev StandAgain : Trees → Answers → Type 0
+  StandAgain ts (AllEvaluated vs) = all_partial_in facts (held_names later) ts ≡ AllEvaluated vs
+  StandAgain ts (SomeResiduals rs) = all_partial_in facts (held_names later) rs ≡ all_partial_in facts (held_names later) ts
+  StandAgain ts (SomeFailed k) = Unit {0}
+
+  abbrev StandsAgain : Tree → Answer → Type 0
+  StandsAgain t p = partial_in facts (held_names later) (best_effort facts p t) ≡ partial_in facts (held_names later) t
+
+  next_again : (t : Tree) (ts : Trees) (p : Answer) (ps : Answers) → IsMadeAnswer facts p → AreMadeAnswers facts good ps → StandsAgain t p → StandAgain ts ps → StandAgain (a_tree t ts) (and_next facts p ps)
+  next_again t ts (Failed k) ps m n h i = tt
+  next_again t ts (Evaluated v) (AllEvaluated vs) m n h i = let e : partial_in facts (held_names later) t ≡ Evaluated v = sym h ∙ value_again v m in rw (e, i) refl
+  next_again t ts (Evaluated v) (SomeResiduals rs) m n h i = rw (h, i) refl
+  next_again t ts (Evaluated v) (SomeFailed k) m n h i = tt
+  next_again t ts (ResidualTree r) (AllEvaluated vs) m n h i = rw (h, values_again vs n, i) refl
+  next_again t ts (ResidualTree r) (SomeResiduals rs) m n h i = rw (h, i) refl
+  next_again t ts (ResidualTree r) (SomeFailed k) m n h i = tt
+
+  outcome_again : (t : Tree) (o : Outcome) → IsMadeAnswer facts (answer_of o) → partial_in facts (held_names later) t ≡ answer_of o → StandsAgain t (answer_of o)
+  outcome_again t (Gives v) m h = value_again v m ∙ sym h
+  outcome_again t (Fails k) m h = refl
+
+  set_again : (ts : Trees) (ps : Answers) → IsMadeAnswer facts (apply_answer facts (held_names told) MakeSet ps) → StandAgain ts ps → StandsAgain (Apply MakeSet ts) (apply_answer facts (held_names told) MakeSet ps)
+  set_again ts (AllEvaluated vs) m h = outcome_again (Apply MakeSet ts) (applied facts MakeSet vs) m (rw h refl)
+  set_again ts (SomeResiduals rs) m h = rw h refl
+  set_again ts (SomeFailed k) m h = refl
+
+  record_again : (ks : List Text) (ts : Trees) (ps : Answers) → IsMadeAnswer facts (apply_answer facts (held_names told) (MakeRecord ks) ps) → StandAgain ts ps → StandsAgain (Apply (MakeRecord ks) ts) (apply_answer facts (held_names told) (MakeRecord ks) ps)
+  record_again ks ts (AllEvaluated vs) m h = outcome_again (Apply (MakeRecord ks) ts) (applied facts (MakeRecord ks) vs) m (rw h refl)
+  record_again ks ts (SomeResiduals rs) m h = rw h refl
+  record_again ks ts (SomeFailed k) m h = refl
+
+  call_again : (f : Name) (ts : Trees) (ps : Answers) → IsMadeAnswer facts (apply_answer facts (held_names told) (Call f) ps) → StandAgain ts ps → StandsAgain (Apply (Call f) ts) (apply_answer facts (held_names told) (Call f) ps)
+  call_again f ts (AllEvaluated vs) m h = outcome_again (Apply (Call f) ts) (applied facts (Call f) vs) m (rw h refl)
+  call_again f ts (SomeResiduals rs) m h = rw h refl
+  call_again f ts (SomeFailed k) m h = refl
+
+  abbrev Was : Tree → Answer
+  Was t = partial_in facts (held_names told) t
+
+  was_made : (t : Tree) → IsMadeAnswer facts (partial_in facts (held_names told) t)
+  was_made t = made facts good (held_names told) (names_made facts told are_made) t
+
+  mutual
+    again : (t : Tree) → is_restricted t ≡ true → StandsAgain t (partial_in facts (held_names told) t)
+    again (Lit l) h = refl
+    again (Unknown n ty) h = name_again n ty (finite.get told n) refl
+    again (Apply MakeSet ts) h = set_again ts (all_partial_in facts (held_names told) ts) (was_made (Apply MakeSet ts)) (all_again ts h)
+    again (Apply (MakeRecord ks) ts) h = record_again ks ts (all_partial_in facts (held_names told) ts) (was_made (Apply (MakeRecord ks) ts)) (all_again ts h)
+    again (Apply (Call f) ts) h = call_again f ts (all_partial_in facts (held_names told) ts) (was_made (Apply (Call f) ts)) (all_again ts h)
+    again _ h = cc
+
+    all_again : (ts : Trees) → are_restricted ts ≡ true → StandAgain ts (all_partial_in facts (held_names told) ts)
+    all_again no_trees h = refl
+    all_again (a_tree t ts) h =
+        let (ht, hts) = and_true (is_restricted t) (are_restricted ts) h in
+        next_again t ts (partial_in facts (held_names told) t) (all_partial_in facts (held_names told) ts) (was_made t)
+        (all_made facts good (held_names told) (names_made facts told are_made) ts) (again t ht) (all_again ts hts)
+
+pub contexts_stay : ContextsStay
+contexts_stay facts good told later extends are_made then_made t h = again facts good told later extends are_made then_made t h

@@ -1,0 +1,263 @@
+-- What later values settle of residuals without slots.
+use Rattle.std.proofs.Common.{◌≡◌, Bool, true, false, Option, Some, None, refl, sym, ap, inl, inr, ◌∙◌}
+use Rattle.cedar_language.specs.Uid.{Text, Uid}
+use Rattle.cedar_language.specs.Tree.{Boolean, Context, Operator, GetAttr, HasAttr, MakeRecord, Tree, Lit, Var, Slot, Unknown, If, And, Or, Apply, Trees, no_trees, a_tree}
+use Rattle.cedar_language.specs.Value.{Plain, no_values, UnlinkedSlot}
+use Rattle.cedar_language.specs.Facts.{Facts}
+use Rattle.cedar_language.specs.Operators.{applied}
+use Rattle.cedar_language.specs.Meaning.{Slots, slot_outcome, meaning}
+use Rattle.cedar_partial_evaluation.specs.Settling.{Settling, Open, Errs, Is, Settlings, SomeErrs, AllAre, kindless, Below, boolean, apply_settled, LeafSettlings, or_entry, settled_in, all_settled_in}
+use Rattle.cedar_partial_evaluation.specs.MadeAgain.{HoldsMade}
+use Rattle.cedar_partial_evaluation.specs.Partial.{Answer, Evaluated, ResidualTree, Failed, Answers, AllEvaluated, SomeResiduals, SomeFailed, answer_of, best_effort, last_answer, and_answer, or_answer, if_answer, and_next, are_projectable, LeafAnswers, built_answer, projected_in, all_projected_in, found_tree, entry_answer, attribute_answer, residual_answer, apply_answer, partial_in, all_partial_in}
+use Rattle.cedar_partial_evaluation.specs.Fair.{read, read_all, IsMadeAnswer, AreMadeLeaves}
+use Rattle.cedar_partial_evaluation.specs.Seam.{Carries}
+use Rattle.cedar_partial_evaluation.specs.Unbound.{unbound, UnboundAnswersAreFair}
+use Rattle.cedar_partial_evaluation.specs.UnboundSeam.{CarriesUnbound, UnboundResidualsSettle, UnboundAnswersArePrompt}
+use Rattle.cedar_partial_evaluation.specs.Filling.{IsFilling, request_filled, filled, GivesEach}
+use Rattle.cedar_language.specs.Authorization as authorization
+use Rattle.cedar_partial_evaluation.specs.Linking.{no_slots}
+use Rattle.cedar_partial_evaluation.specs.Question.{Question, Told, Extends, AreMadeTold, IsAccepted, settled_of, held_of, variable_held}
+use Rattle.cedar_partial_evaluation.proofs.Question.{meets_below, weak_carries, telling_carries, held_made}
+use Rattle.cedar_partial_evaluation.proofs.Filling.{below_closed, context_not, means_filled, reads_below, answers_prompt}
+use Rattle.cedar_partial_evaluation.proofs.MadeAgain.{AreMadeAnswers, made, all_made}
+use Rattle.cedar_partial_evaluation.proofs.Sound.{tree_of_is, trees_of_are, kindless_answer}
+use Rattle.cedar_partial_evaluation.proofs.Seam.{BelowAll, below_refl, below_is, below_trans, boolean_mono, and_mono, or_mono, if_mono, refused_more, more_mono, apply_mono, left_carries}
+use Rattle.cedar_partial_evaluation.proofs.Unbound.{Worse, AllWorse, and_worse, or_worse, if_worse, more_worse, apply_worse}
+
+still_below : (x y : Settling) → Below x Errs → Worse x y → Below x y
+still_below Open y h w = tt
+still_below Errs y h (inl e) = sym e
+still_below Errs y h (inr e) = sym e
+still_below (Is v) y h w = cc
+
+-- the same with no slot bound
+abbrev without : LeafAnswers → LeafAnswers
+without holds = record { variable = holds.variable; unknown = holds.unknown; slot = λ s. Failed UnlinkedSlot }
+
+module _ (facts : Facts) (holds : LeafAnswers) where
+  mutual
+    plain_same : (t : Tree) → projected_in facts (without holds) t ≡ projected_in facts holds t
+    plain_same (Lit l) = refl
+    plain_same (Var v) = refl
+    plain_same (Unknown n ty) = refl
+    plain_same (Apply op ts) = ap (built_answer facts op) (all_plain_same ts)
+    plain_same _ = refl
+
+    all_plain_same : (ts : Trees) → all_projected_in facts (without holds) ts ≡ all_projected_in facts holds ts
+    all_plain_same no_trees = refl
+    all_plain_same (a_tree t ts) = rw (plain_same t, all_plain_same ts) refl
+
+  entry_same : (a : Text) (r : Tree) (b : Bool) (o : Option Tree) → entry_answer facts (without holds) a r b o ≡ entry_answer facts holds a r b o
+  entry_same a r b None = refl
+  entry_same a r true (Some t) = plain_same t
+  entry_same a r false (Some t) = refl
+
+  attribute_same : (a : Text) (r : Tree) → attribute_answer facts (without holds) a r ≡ attribute_answer facts holds a r
+  attribute_same a (Apply (MakeRecord ks) rs) = entry_same a (Apply (MakeRecord ks) rs) (are_projectable rs) (found_tree ks rs a)
+  attribute_same a _ = refl
+
+  left_same : (op : Operator) (rs : Trees) → residual_answer facts (without holds) op rs ≡ residual_answer facts holds op rs
+  left_same (GetAttr a) (a_tree r no_trees) = attribute_same a r
+  left_same _ _ = refl
+
+  apply_same : (op : Operator) (ps : Answers) → apply_answer facts (without holds) op ps ≡ apply_answer facts holds op ps
+  apply_same op (AllEvaluated vs) = refl
+  apply_same op (SomeResiduals rs) = left_same op rs
+  apply_same op (SomeFailed k) = refl
+
+module _ (facts : Facts) (good : HoldsMade facts) (later : LeafSettlings) (holds : LeafAnswers) (carries : CarriesUnbound facts later holds) (leaves : AreMadeLeaves facts holds) where
+  same_entry : (op : Operator) (ts : Trees) (x : Settling) → or_entry (unbound later) op ts x ≡ or_entry later op ts x
+  same_entry (GetAttr a) (a_tree (Var Context) no_trees) Open = refl
+  same_entry (HasAttr a) (a_tree (Var Context) no_trees) Open = refl
+  same_entry op ts x = refl
+
+  errs_entry : (op : Operator) (ts : Trees) → or_entry (unbound later) op ts Errs ≡ Errs
+  errs_entry (GetAttr a) (a_tree (Var Context) no_trees) = refl
+  errs_entry (HasAttr a) (a_tree (Var Context) no_trees) = refl
+  errs_entry op ts = refl
+
+  entry_worse : (op : Operator) (ts : Trees) (x y : Settling) → Worse x y → Worse (or_entry later op ts x) (or_entry (unbound later) op ts y)
+  entry_worse op ts x y (inl e) = inl (rw e (same_entry op ts x))
+  entry_worse op ts x y (inr e) = inr (rw e (errs_entry op ts))
+
+  mutual
+    worse : (t : Tree) → Worse (settled_in facts later t) (settled_in facts (unbound later) t)
+    worse (Lit l) = inl refl
+    worse (Var v) = inl refl
+    worse (Slot s) = inr refl
+    worse (Unknown n ty) = inl refl
+    worse (If t y n) = if_worse _ _ _ _ _ _ (worse t) (worse y) (worse n)
+    worse (And l r) = and_worse _ _ _ _ (worse l) (worse r)
+    worse (Or l r) = or_worse _ _ _ _ (worse l) (worse r)
+    worse (Apply op ts) =
+        entry_worse op ts _ _ (apply_worse facts op (all_settled_in facts later ts) (all_settled_in facts (unbound later) ts) (all_worse ts))
+
+    all_worse : (ts : Trees) → AllWorse (all_settled_in facts later ts) (all_settled_in facts (unbound later) ts)
+    all_worse no_trees = inl refl
+    all_worse (a_tree t ts) = more_worse _ _ _ _ (worse t) (all_worse ts)
+
+  without_carries : Carries facts (unbound later) (without holds)
+  without_carries = record {
+    variable = carries.variable;
+    never_errs = carries.never_errs;
+    unknown = carries.unknown;
+    name_never_errs = carries.name_never_errs;
+    typed = carries.typed;
+    slot = λ s. refl;
+    in_context = λ a. rw (apply_same facts holds (GetAttr a) (and_next facts (holds.variable Context) (AllEvaluated no_values))) (carries.in_context a);
+    has_in_context = λ a. rw (apply_same facts holds (HasAttr a) (and_next facts (holds.variable Context) (AllEvaluated no_values))) (carries.has_in_context a);
+  }
+
+  without_leaves : AreMadeLeaves facts (without holds)
+  without_leaves = record { variable = leaves.variable; unknown = leaves.unknown; slot = λ s. tt }
+
+  left_below : (op : Operator) (rs : Trees) →
+      Below (apply_settled facts op (all_settled_in facts (unbound later) rs)) (read facts (unbound later) (residual_answer facts holds op rs))
+  left_below op rs = rw (left_same facts holds op rs) at (left_carries facts good (unbound later) (without holds) without_carries without_leaves op rs)
+
+  best_effort_carries : (q : Answer) (t : Tree) → IsMadeAnswer facts q → Below (settled_in facts later t) (read facts (unbound later) q) →
+      Below (settled_in facts later t) (settled_in facts (unbound later) (best_effort facts q t))
+  best_effort_carries (Evaluated v) t m h = rw (tree_of_is facts (unbound later) v m) h
+  best_effort_carries (ResidualTree r) t m h = h
+  best_effort_carries (Failed k) t m h = still_below _ _ h (worse t)
+
+  last_carries : (f : Tree → Tree) (y : Settling) (q : Answer) →
+      ((t : Tree) → settled_in facts (unbound later) (f t) ≡ boolean (settled_in facts (unbound later) t)) →
+      Below y (read facts (unbound later) q) → Below (boolean y) (read facts (unbound later) (last_answer f q))
+  last_carries f y (Evaluated (Plain (Boolean b))) e h = boolean_mono y (Is (Plain (Boolean b))) h
+  last_carries f y (Evaluated v) e h = boolean_mono y (Is v) h
+  last_carries f y (ResidualTree l) e h = rw (e l) (boolean_mono y (settled_in facts (unbound later) l) h)
+  last_carries f y (Failed k) e h = boolean_mono y Errs h
+
+  and_carries : (p q : Answer) (l r : Tree) → IsMadeAnswer facts q → Below (settled_in facts later l) (read facts (unbound later) p) → Below (settled_in facts later r) (read facts (unbound later) q) →
+      Below (settled_in facts later (And l r)) (read facts (unbound later) (and_answer facts p q r))
+  and_carries (ResidualTree s) q l r m h k = and_mono _ _ _ _ h (best_effort_carries q r m k)
+  and_carries (Evaluated (Plain (Boolean true))) q l r m h k =
+      below_trans _ (boolean (settled_in facts later r)) _ (and_mono _ _ (Is (Plain (Boolean true))) _ h (below_refl (settled_in facts later r)))
+      (last_carries (And (Lit (Boolean true))) (settled_in facts later r) q (λ t. refl) k)
+  and_carries (Evaluated (Plain (Boolean false))) q l r m h k = and_mono _ _ (Is (Plain (Boolean false))) _ h k
+  and_carries (Evaluated v) q l r m h k = and_mono _ _ (Is v) _ h k
+  and_carries (Failed e) q l r m h k = and_mono _ _ Errs _ h k
+
+  or_carries : (p q : Answer) (l r : Tree) → IsMadeAnswer facts q → Below (settled_in facts later l) (read facts (unbound later) p) → Below (settled_in facts later r) (read facts (unbound later) q) →
+      Below (settled_in facts later (Or l r)) (read facts (unbound later) (or_answer facts p q r))
+  or_carries (ResidualTree s) q l r m h k = or_mono _ _ _ _ h (best_effort_carries q r m k)
+  or_carries (Evaluated (Plain (Boolean false))) q l r m h k =
+      below_trans _ (boolean (settled_in facts later r)) _ (or_mono _ _ (Is (Plain (Boolean false))) _ h (below_refl (settled_in facts later r)))
+      (last_carries (Or (Lit (Boolean false))) (settled_in facts later r) q (λ t. refl) k)
+  or_carries (Evaluated (Plain (Boolean true))) q l r m h k = or_mono _ _ (Is (Plain (Boolean true))) _ h k
+  or_carries (Evaluated v) q l r m h k = or_mono _ _ (Is v) _ h k
+  or_carries (Failed e) q l r m h k = or_mono _ _ Errs _ h k
+
+  if_carries : (p q s : Answer) (t y n : Tree) → IsMadeAnswer facts q → IsMadeAnswer facts s → Below (settled_in facts later t) (read facts (unbound later) p) → Below (settled_in facts later y) (read facts (unbound later) q) →
+      Below (settled_in facts later n) (read facts (unbound later) s) → Below (settled_in facts later (If t y n)) (read facts (unbound later) (if_answer facts p q s y n))
+  if_carries (ResidualTree r) q s t y n m o h k l = if_mono _ _ _ _ _ _ h (best_effort_carries q y m k) (best_effort_carries s n o l)
+  if_carries (Evaluated (Plain (Boolean true))) q s t y n m o h k l = if_mono _ _ _ (Is (Plain (Boolean true))) _ _ h k l
+  if_carries (Evaluated (Plain (Boolean false))) q s t y n m o h k l = if_mono _ _ _ (Is (Plain (Boolean false))) _ _ h k l
+  if_carries (Evaluated v) q s t y n m o h k l = if_mono _ _ _ (Is v) _ _ h k l
+  if_carries (Failed e) q s t y n m o h k l = if_mono _ _ _ Errs _ _ h k l
+
+  more_carries : (p : Answer) (ps : Answers) (t : Tree) (ts : Trees) → IsMadeAnswer facts p → AreMadeAnswers facts good ps → Below (settled_in facts later t) (read facts (unbound later) p) →
+      BelowAll (all_settled_in facts later ts) (read_all facts (unbound later) ps) →
+      BelowAll (all_settled_in facts later (a_tree t ts)) (read_all facts (unbound later) (and_next facts p ps))
+  more_carries (Evaluated v) (AllEvaluated vs) t ts m n h k = more_mono _ _ _ _ h k
+  more_carries (Evaluated v) (SomeResiduals rs) t ts m n h k = rw (tree_of_is facts (unbound later) v m) (more_mono _ _ _ _ h k)
+  more_carries (Evaluated v) (SomeFailed e) t ts m n h k = more_mono _ (Is v) _ _ h k
+  more_carries (ResidualTree r) (AllEvaluated vs) t ts m n h k = rw (trees_of_are facts (unbound later) vs n) (more_mono _ _ _ _ h k)
+  more_carries (ResidualTree r) (SomeResiduals rs) t ts m n h k = more_mono _ _ _ _ h k
+  more_carries (ResidualTree r) (SomeFailed e) t ts m n h k = more_mono _ (settled_in facts (unbound later) r) _ _ h k
+  more_carries (Failed e) ps t ts m n h k = refused_more _ _ h
+
+  apply_carries : (op : Operator) (xs : Settlings) (ps : Answers) → BelowAll xs (read_all facts (unbound later) ps) →
+      Below (apply_settled facts op xs) (read facts (unbound later) (apply_answer facts holds op ps))
+  apply_carries op xs (AllEvaluated vs) h = below_trans _ _ _ (apply_mono facts op xs (AllAre vs) h) (below_is _ _ (kindless_answer facts (unbound later) (applied facts op vs)))
+  apply_carries op xs (SomeResiduals rs) h = below_trans _ _ _ (apply_mono facts op xs (all_settled_in facts (unbound later) rs) h) (left_below op rs)
+  apply_carries op xs (SomeFailed k) h = apply_mono facts op xs SomeErrs h
+
+  entry_carried : (op : Operator) (ts : Trees) (x : Settling) → Below x (read facts (unbound later) (apply_answer facts holds op (all_partial_in facts holds ts))) →
+      Below (or_entry later op ts x) (read facts (unbound later) (apply_answer facts holds op (all_partial_in facts holds ts)))
+  entry_carried (GetAttr a) (a_tree (Var Context) no_trees) Open m = carries.in_context a
+  entry_carried (HasAttr a) (a_tree (Var Context) no_trees) Open m = carries.has_in_context a
+  entry_carried op ts x m = m
+
+  mutual
+    carried : (t : Tree) → Below (settled_in facts later t) (read facts (unbound later) (partial_in facts holds t))
+    carried (Lit l) = refl
+    carried (Unknown n ty) = carries.unknown n ty
+    carried (Slot s) = carries.slot s
+    carried (Var v) = carries.variable v
+    carried (And l r) = and_carries (partial_in facts holds l) (partial_in facts holds r) l r (made facts good holds leaves r) (carried l) (carried r)
+    carried (Or l r) = or_carries (partial_in facts holds l) (partial_in facts holds r) l r (made facts good holds leaves r) (carried l) (carried r)
+    carried (If t y n) = if_carries (partial_in facts holds t) (partial_in facts holds y) (partial_in facts holds n) t y n (made facts good holds leaves y) (made facts good holds leaves n) (carried t) (carried y) (carried n)
+    carried (Apply op ts) =
+        entry_carried op ts (apply_settled facts op (all_settled_in facts later ts))
+        (apply_carries op (all_settled_in facts later ts) (all_partial_in facts holds ts) (all_carried ts))
+
+    all_carried : (ts : Trees) → BelowAll (all_settled_in facts later ts) (read_all facts (unbound later) (all_partial_in facts holds ts))
+    all_carried no_trees = refl
+    all_carried (a_tree t ts) = more_carries (partial_in facts holds t) (all_partial_in facts holds ts) t ts (made facts good holds leaves t) (all_made facts good holds leaves ts) (carried t) (all_carried ts)
+
+pub unbound_residuals_settle : UnboundResidualsSettle
+unbound_residuals_settle facts good later holds carries leaves t = carried facts good later holds carries leaves t
+
+slot_below : (facts : Facts) (around : LeafSettlings) (o : Option Uid) → Below (kindless (slot_outcome o)) (read facts around (answer_of (slot_outcome o)))
+slot_below facts around (Some u) = refl
+slot_below facts around None = refl
+
+question_carries : (facts : Facts) (good : HoldsMade facts) (q : Question) (slots : Slots) (told later : Told) → Extends told later → AreMadeTold facts told →
+    IsAccepted facts told q.context → IsAccepted facts later q.context → CarriesUnbound facts (settled_of facts q slots later) (held_of facts q slots told)
+question_carries facts good q slots told later e are_made now then =
+    let c : Carries facts (settled_of facts q no_slots later) (held_of facts q no_slots told) = telling_carries facts good q no_slots told later e are_made now then in
+    record {
+      variable = c.variable;
+      never_errs = c.never_errs;
+      unknown = c.unknown;
+      name_never_errs = c.name_never_errs;
+      typed = c.typed;
+      slot = λ s. slot_below facts (unbound (settled_of facts q slots later)) (slots s);
+      in_context = λ a. rw (apply_same facts (held_of facts q slots told) (GetAttr a) (and_next facts (variable_held facts q told Context) (AllEvaluated no_values))) at (c.in_context a);
+      has_in_context = λ a. rw (apply_same facts (held_of facts q slots told) (HasAttr a) (and_next facts (variable_held facts q told Context) (AllEvaluated no_values))) at (c.has_in_context a);
+    }
+
+pub unbound_answers_are_prompt : UnboundAnswersArePrompt
+unbound_answers_are_prompt facts good q slots told later e are_made then_made now then t r h =
+    let carried : Below (settled_in facts (settled_of facts q slots later) t) (settled_in facts (unbound (settled_of facts q slots later)) r) =
+    rw h at
+    (unbound_residuals_settle facts good (settled_of facts q slots later) (held_of facts q slots told) (question_carries facts good q slots told later e are_made now then)
+    (held_made facts good q slots told are_made) t) in
+    below_trans _ (settled_in facts (settled_of facts q no_slots later) r) _ carried (meets_below _ _ _ (answers_prompt facts good q no_slots later then_made then r))
+
+-- ---- under a filling
+
+filling_carries : (facts : Facts) (good : HoldsMade facts) (q : Question) (slots : Slots) (told filling : Told) (known : authorization.Known) → Extends told filling → AreMadeTold facts told →
+    IsFilling facts q filling known → CarriesUnbound facts (filled facts q slots filling) (held_of facts q slots told)
+filling_carries facts good q slots told filling known extends are_made fills =
+    let c : Carries facts (filled facts q no_slots filling) (held_of facts q no_slots told) = weak_carries facts good q no_slots told filling extends are_made (context_not facts q filling known fills) in
+    record {
+      variable = c.variable;
+      never_errs = c.never_errs;
+      unknown = c.unknown;
+      name_never_errs = c.name_never_errs;
+      typed = c.typed;
+      slot = λ s. slot_below facts (unbound (filled facts q slots filling)) (slots s);
+      in_context = λ a. tt;
+      has_in_context = λ a. tt;
+    }
+
+-- a residual means without slots what its tree means with them
+pub residual_means : (facts : Facts) (good : HoldsMade facts) (q : Question) (slots : Slots) (told filling : Told) (known : authorization.Known) → Extends told filling → AreMadeTold facts told →
+    IsFilling facts q filling known → (t r : Tree) → GivesEach filling t → partial_in facts (held_of facts q slots told) t ≡ ResidualTree r →
+    settled_in facts (filled facts q slots filling) t ≡ settled_in facts (filled facts q no_slots filling) r
+residual_means facts good q slots told filling known extends are_made fills t r given h =
+    let carried : Below (settled_in facts (filled facts q slots filling) t) (settled_in facts (filled facts q no_slots filling) r) =
+    rw h at
+    (unbound_residuals_settle facts good (filled facts q slots filling) (held_of facts q slots told)
+    (filling_carries facts good q slots told filling known extends are_made fills) (held_made facts good q slots told are_made) t) in
+    below_closed _ _ (meaning facts (request_filled known slots filling) t) (means_filled facts q filling known fills slots t given) carried
+
+pub unbound_answers_are_fair : UnboundAnswersAreFair
+unbound_answers_are_fair facts good q slots told later filling known e further are_made then_made fills t r given h =
+    let means : settled_in facts (filled facts q slots filling) t ≡ kindless (meaning facts (request_filled known slots filling) t) = means_filled facts q filling known fills slots t given in
+    let first : settled_in facts (filled facts q slots filling) t ≡ settled_in facts (filled facts q no_slots filling) r =
+    residual_means facts good q slots told filling known (λ n v i. further n v (e n v i)) are_made fills t r given h in
+    first ∙ below_closed _ _ (meaning facts (request_filled known slots filling) t) (sym first ∙ means) (reads_below facts q filling known fills good no_slots later further then_made r)

@@ -1,0 +1,5 @@
+use Rattle.cedar_partial_evaluation.proofs.Early.{early_answers_are_prompt as law}
+use Rattle.cedar_partial_evaluation.proofs.early_answers_are_prompt.Goals as goal
+
+pub returns : goal.returns
+returns c = law

@@ -1,0 +1,5 @@
+use Rattle.cedar_partial_evaluation.proofs.Early.{early_kinds_are_settled as law}
+use Rattle.cedar_partial_evaluation.proofs.early_kinds_are_settled.Goals as goal
+
+pub returns : goal.returns
+returns c = law

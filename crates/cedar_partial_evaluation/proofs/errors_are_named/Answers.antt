@@ -1,0 +1,5 @@
+use Rattle.cedar_partial_evaluation.proofs.Reauthorizing.{errors_are_named as law}
+use Rattle.cedar_partial_evaluation.proofs.errors_are_named.Goals as goal
+
+pub returns : goal.returns
+returns c = law

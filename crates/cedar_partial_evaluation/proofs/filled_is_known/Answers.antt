@@ -1,0 +1,5 @@
+use Rattle.cedar_partial_evaluation.proofs.Early.{filled_is_known as law}
+use Rattle.cedar_partial_evaluation.proofs.filled_is_known.Goals as goal
+
+pub returns : goal.returns
+returns c = law

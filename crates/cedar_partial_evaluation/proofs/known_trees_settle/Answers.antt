@@ -1,0 +1,5 @@
+use Rattle.cedar_partial_evaluation.proofs.Mentions.{known_trees_settle as law}
+use Rattle.cedar_partial_evaluation.proofs.known_trees_settle.Goals as goal
+
+pub returns : goal.returns
+returns c = law

@@ -1,0 +1,5 @@
+use Rattle.cedar_partial_evaluation.proofs.Like.{like_trees_agree as law}
+use Rattle.cedar_partial_evaluation.proofs.like_trees_agree.Goals as goal
+
+pub returns : goal.returns
+returns c = law

@@ -1,0 +1,5 @@
+use Rattle.cedar_partial_evaluation.proofs.Linking.{linking_is_writing as law}
+use Rattle.cedar_partial_evaluation.proofs.linking_is_writing.Goals as goal
+
+pub returns : goal.returns
+returns c = law

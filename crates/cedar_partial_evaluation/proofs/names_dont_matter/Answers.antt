@@ -1,0 +1,5 @@
+use Rattle.cedar_partial_evaluation.proofs.Mentions.{names_dont_matter as law}
+use Rattle.cedar_partial_evaluation.proofs.names_dont_matter.Goals as goal
+
+pub returns : goal.returns
+returns c = law

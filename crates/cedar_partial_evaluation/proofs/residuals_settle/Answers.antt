@@ -1,0 +1,5 @@
+use Rattle.cedar_partial_evaluation.proofs.Seam.{residuals_settle as law}
+use Rattle.cedar_partial_evaluation.proofs.residuals_settle.Goals as goal
+
+pub returns : goal.returns
+returns c = law

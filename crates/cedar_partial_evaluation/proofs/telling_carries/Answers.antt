@@ -1,0 +1,5 @@
+use Rattle.cedar_partial_evaluation.proofs.Question.{telling_carries as law}
+use Rattle.cedar_partial_evaluation.proofs.telling_carries.Goals as goal
+
+pub returns : goal.returns
+returns c = law

@@ -1,0 +1,5 @@
+use Rattle.cedar_partial_evaluation.proofs.UnboundSeam.{unbound_residuals_settle as law}
+use Rattle.cedar_partial_evaluation.proofs.unbound_residuals_settle.Goals as goal
+
+pub returns : goal.returns
+returns c = law

@@ -1,0 +1,5 @@
+use Rattle.cedar_partial_evaluation.proofs.Mentions.{without_unknowns as law}
+use Rattle.cedar_partial_evaluation.proofs.without_unknowns.Goals as goal
+
+pub returns : goal.returns
+returns c = law

@@ -1,0 +1,5 @@
+use Rattle.cedar_partial_evaluation.proofs.Like.{written_is_answered as law}
+use Rattle.cedar_partial_evaluation.proofs.written_is_answered.Goals as goal
+
+pub returns : goal.returns
+returns c = law

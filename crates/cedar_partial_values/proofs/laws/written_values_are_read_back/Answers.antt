@@ -1,9 +1,0 @@
-use Rattle.std.proofs.Common.{}
-use Rattle.cedar_partial_values.proofs.ReadBack.{back, not_back}
-use Rattle.cedar_partial_values.proofs.laws.written_values_are_read_back.Goals as goal
-
-pub returns-clause-read : goal.returns-clause-read
-returns-clause-read c = back c.sets_are_finite.ensures
-
-pub returns-clause-extensions : goal.returns-clause-extensions
-returns-clause-extensions c = not_back

@@ -1,9 +1,0 @@
-use Rattle.std.proofs.Common.{}
-use Rattle.cedar_partial_values.proofs.Splits.{any_residual}
-use Rattle.cedar_partial_values.proofs.split.split.Goals as goal
-
-pub values-requires : goal.values-requires
-values-requires c = any_residual c.args.items.items c.deref.result.now c.has_residual.result _ c.deref.ensures.value c.has_residual.ensures c.if-has_residual.false
-
-pub returns-in_ok-exprs : goal.returns-in_ok-exprs
-returns-in_ok-exprs c = (any_residual c.args.items.items c.deref.result.now c.has_residual.result _ c.deref.ensures.value c.has_residual.ensures c.if-has_residual.true, c.in_ok-exprs.ensures)

@@ -1,5 +1,0 @@
-pub mod Expressing
-pub mod PartialValues
-pub mod Reading
-pub mod Splitting
-pub mod Laws

@@ -1,0 +1,8 @@
+use Rattle.std.proofs.Common.{◌≡◌, take}
+use Rattle.std.specs.Prelude.{filter, is_some, not}
+use Rattle.cedar_world.specs.Syntax.{binding_of}
+use Rattle.cedar_templates.specs.Slots.{slot_ids}
+use Rattle.cedar_policies.proofs.linking.unbound_slots.Given as goal
+
+abbrev pub invariant-loop-slot : goal.invariant-loop-slot
+invariant-loop-slot l = l.unbound.items ≡ filter (λ s. not (is_some (binding_of l.values s))) (slot_ids (take l.slot-index l.slots))

@@ -1,0 +1,107 @@
+// Why a template isn't linked.
+use cedar_literals::slots::SlotId;
+use cedar_policy_parts::PolicyID;
+use std::alloc::{AllocError, AllocFailed};
+use std::error::Error;
+use std::fmt;
+
+/// Why a template isn't linked.
+#[derive(Debug, PartialEq, Eq, Drop)]
+pub enum LinkingError {
+    /// The slots given aren't exactly the template's.
+    ArityError {
+        /// The slots that lack an entity.
+        unbound_values: Vec<SlotId>,
+        /// The slots that an entity is given for, and that the template doesn't have.
+        extra_values: Vec<SlotId>,
+    },
+    /// No template has this id.
+    NoSuchTemplate {
+        /// The id.
+        id: PolicyID,
+    },
+    /// The id of the link is bound already.
+    PolicyIdConflict {
+        /// The id.
+        id: PolicyID,
+    },
+    /// Memory ran out.
+    Memory(AllocError),
+}
+
+impl fmt::Display for LinkingError {
+    fn fmt<W: fmt::Write>(&self, f: &mut fmt::Formatter<W>) -> fmt::Result {
+        match self {
+            LinkingError::ArityError {
+                unbound_values,
+                extra_values,
+            } => write_arity(f, unbound_values, extra_values),
+            LinkingError::NoSuchTemplate { id } => {
+                write!(f, "failed to find a template with id `{id}`")
+            }
+            LinkingError::PolicyIdConflict { id } => write!(
+                f,
+                "template-linked policy id `{id}` conflicts with an existing policy id"
+            ),
+            LinkingError::Memory(error) => write!(f, "{error}"),
+        }
+    }
+}
+
+impl Error for LinkingError {}
+
+fn write_arity<W: fmt::Write>(
+    f: &mut fmt::Formatter<W>,
+    unbound: &[SlotId],
+    extra: &[SlotId],
+) -> fmt::Result {
+    if !unbound.is_empty() {
+        write!(f, "the following slots were not provided as arguments: ")?;
+        write_separated(f, unbound)?;
+    }
+    if !unbound.is_empty() && !extra.is_empty() {
+        write!(f, ". ")?;
+    }
+    if !extra.is_empty() {
+        write!(
+            f,
+            "the following slots were provided as arguments, but did not exist in the template: "
+        )?;
+        write_separated(f, extra)?;
+    }
+    Ok(())
+}
+
+// The slots, with a comma between each two.
+fn write_separated<W: fmt::Write>(f: &mut fmt::Formatter<W>, slots: &[SlotId]) -> fmt::Result {
+    let Some((first, rest)) = slots.split_first() else {
+        return Ok(());
+    };
+    write!(f, "{first}")?;
+    for slot in rest {
+        write!(f, ",{slot}")?;
+    }
+    Ok(())
+}
+
+impl From<AllocError> for LinkingError {
+    ghost use Rattle.std.specs.Prelude.{◌≡◌};
+    ghost use Rattle.cedar_policies.specs.declared.errors.LinkingError.TheVariants.{Memory};
+
+    ghost from_gives = { λ error made. made ≡ Memory error };
+
+    fn from(error: AllocError) -> LinkingError {
+        LinkingError::Memory(error)
+    }
+}
+
+impl<T: Drop> From<AllocFailed<T>> for LinkingError {
+    ghost use Rattle.std.specs.Prelude.{◌≡◌, alloc_error};
+    ghost use Rattle.cedar_policies.specs.declared.errors.LinkingError.TheVariants.{Memory};
+
+    ghost from_gives = { λ _ made. made ≡ Memory alloc_error };
+
+    fn from(_error: AllocFailed<T>) -> LinkingError {
+        LinkingError::Memory(AllocError)
+    }
+}

@@ -1,4 +1,0 @@
-pub mod Gathering
-pub mod Joining
-mod Ordering
-mod Words

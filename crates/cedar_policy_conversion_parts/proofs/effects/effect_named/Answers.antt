@@ -1,6 +1,0 @@
-use Rattle.std.proofs.Common.{sym}
-use Rattle.cedar_policy_conversion_parts.proofs.Words.{no_effect}
-use Rattle.cedar_policy_conversion_parts.proofs.effects.effect_named.Goals as goal
-
-pub returns-in_default : goal.returns-in_default
-returns-in_default c = sym (no_effect c.args.text.now c.in_default.not-permit c.in_default.not-forbid)

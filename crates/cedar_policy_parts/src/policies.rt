@@ -1,0 +1,62 @@
+// Policies and templates that aren't what they should be.
+use cedar_literals::slots::Slot;
+use cedar_literals::uids::EntityUID;
+use cedar_trees::unknowns::NonEmpty;
+use std::error::Error;
+use std::fmt;
+use std::rc::Rc;
+use thiserror::Error;
+
+/// A scope names entities as actions that are none.
+#[derive(Debug, PartialEq, Eq, Drop)]
+pub struct InvalidActionType {
+    /// Those whose type's last identifier isn't `Action`.
+    pub euids: NonEmpty<Rc<EntityUID>>,
+}
+
+impl fmt::Display for InvalidActionType {
+    fn fmt<W: fmt::Write>(&self, f: &mut fmt::Formatter<W>) -> fmt::Result {
+        let first = &self.euids.head;
+        match self.euids.tail.split_last() {
+            None => write!(
+                f,
+                "expected an entity uid with type `Action` but got `{first}`"
+            ),
+            Some((last, between)) => {
+                write!(
+                    f,
+                    "expected entity uids with type `Action` but got `{first}`"
+                )?;
+                for euid in between {
+                    write!(f, ", `{euid}`")?;
+                }
+                write!(f, " and `{last}`")
+            }
+        }
+    }
+}
+
+impl Error for InvalidActionType {}
+
+/// A slot stands in a clause.
+#[derive(Debug, PartialEq, Eq, Drop, Error)]
+#[error("found template slot {} in a `{clause_type}` clause", .slot.id)]
+pub struct SlotsInConditionClause {
+    /// The slot.
+    pub slot: Slot,
+    /// How the clause begins.
+    pub clause_type: &'static str,
+}
+
+/// A template stands where a static policy should.
+#[derive(Debug, PartialEq, Eq, Drop, Error)]
+#[error("expected a static policy, got a template containing the slot {}", .slot.id)]
+pub struct ExpectedStaticPolicy {
+    /// The first slot of the template.
+    pub slot: Slot,
+}
+
+/// A static policy stands where a template should.
+#[derive(Clone, Copy, Debug, PartialEq, Eq, Error)]
+#[error("expected a template, got a static policy")]
+pub struct ExpectedTemplate;

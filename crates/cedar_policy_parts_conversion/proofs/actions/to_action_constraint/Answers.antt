@@ -1,0 +1,55 @@
+use Rattle.std.proofs.Common.{◌≡◌, ◌⊎◌, inl, inr, Some, sym, ap, ◌∙◌}
+use Rattle.cedar_language.specs.Tree as tree
+use Rattle.cedar_grammar.specs.Reading.{◌>>=◌}
+use Rattle.cedar_cst.specs.LeafView.{shown_ident}
+use Rattle.cedar_literals.specs.Variables.{variable_of}
+use Rattle.cedar_literals.specs.declared.variables.Var.{Var}
+use Rattle.cedar_literals.specs.declared.variables.Var.TheVariants as var
+use Rattle.cedar_constraints.specs.Actions.{action_of}
+use Rattle.cedar_conversion_leaves.specs.Reasons.{reason}
+use Rattle.cedar_conversion_leaves.specs.Words.{ident_variable}
+use Rattle.cedar_policy_parts_conversion.specs.Own.{asked_of, without}
+use Rattle.cedar_policy_parts_conversion.proofs.Finding.{passed, through, nothing, same_as}
+use Rattle.cedar_policy_parts_conversion.proofs.Owning.{asked_some}
+use Rattle.cedar_policy_parts_conversion.proofs.Asking.{action_own, action_not, no_action, named_action, typed_action}
+use Rattle.cedar_policy_parts_conversion.proofs.actions.to_action_constraint.Goals as goal
+
+pub returns-in_err-got : goal.returns-in_err-got
+returns-in_err-got g c =
+    let d = c.in-Some.def in
+    let e = c.in_err-got.field-0.0 in
+    passed action_of c.from_residual.result e _ c.from_residual.ensures
+    (through (reason e) (ident_variable (shown_ident d.variable) >>= asked_of) _ c.in_err-got.ensures (no_action c.args.node.now d c.in-Some.is))
+
+pub returns-in_err-no_type_name : goal.returns-in_err-no_type_name
+returns-in_err-no_type_name g c =
+    let d = c.in-Some.def in
+    let e = c.in_err-no_type_name.field-0.0 in
+    passed action_of c.from_residual-in_err-no_type_name.result e _ c.from_residual-in_err-no_type_name.ensures
+    (through (reason e) (without d.unused_type_name) _ c.in_err-no_type_name.ensures (named_action c.args.node.now d c.in-Some.is))
+
+is_another : (v : Var) → (v ≡ var.Principal) ⊎ ((v ≡ var.Resource) ⊎ (v ≡ var.Context)) → variable_of v ≡ tree.Action → ⊥
+is_another v (inl e) h = let same : tree.Principal ≡ tree.Action = ap variable_of (sym e) ∙ h in cc
+is_another v (inr (inl e)) h = let same : tree.Resource ≡ tree.Action = ap variable_of (sym e) ∙ h in cc
+is_another v (inr (inr e)) h = let same : tree.Context ≡ tree.Action = ap variable_of (sym e) ∙ h in cc
+
+pub returns-in-Principal : goal.returns-in-Principal
+returns-in-Principal g c =
+    let d = c.in-Some.def in
+    let o = ident_variable (shown_ident d.variable) in
+    let is : o ≡ Some (variable_of c.in_ok-got.got) = asked_some o (variable_of c.in_ok-got.got) c.in_ok-got.ensures in
+    let other : o ≡ Some tree.Action → ⊥ = λ h. (let same : variable_of c.in_ok-got.got ≡ tree.Action = cc (is, h) in is_another c.in_ok-got.got c.in-Principal.is same) in
+    nothing c.fault.result _ c.fault.ensures (action_not c.args.node.now d c.in-Some.is other)
+
+pub returns-in-None : goal.returns-in-None
+returns-in-None g c =
+    let d = c.in-Some.def in
+    let o = ident_variable (shown_ident d.variable) in
+    let is : o ≡ Some tree.Action = asked_some o (variable_of c.in_ok-got.got) c.in_ok-got.ensures ∙ ap (λ v. Some (variable_of v)) c.in-Action.is in
+    same_as action_of c.to_asked.result _ _ (action_own c.args.node.now d c.in-Some.is is c.in_ok-no_type_name.ensures c.in-None.is) c.to_asked.ensures
+
+pub returns-in-Some-entity_type : goal.returns-in-Some-entity_type
+returns-in-Some-entity_type g c =
+    let d = c.in-Some.def in
+    nothing c.fault-in-Some-entity_type.result _ c.fault-in-Some-entity_type.ensures
+    (typed_action c.args.node.now d c.in-Some.is (ap without c.in-Some-entity_type.is))

@@ -1,0 +1,30 @@
+use Rattle.std.proofs.Common.{◌≡◌, true, Some, None, sym, ap, ◌∙◌}
+use Rattle.std.specs.Prelude.{cond}
+use Rattle.cedar_grammar.specs.Policy.{the_slot}
+use Rattle.cedar_grammar.specs.Loose as loose
+use Rattle.cedar_grammar.specs.Converting.{is_own}
+use Rattle.cedar_cst.specs.Slots.{own_slot}
+use Rattle.cedar_cst.specs.LeafView.{view_slot}
+use Rattle.cedar_cst.proofs.Views.{seen}
+use Rattle.cedar_constraints.specs.Asked.{variable_asked}
+use Rattle.cedar_policy_parts_conversion.specs.Own.{own_word}
+use Rattle.cedar_policy_parts_conversion.proofs.Finding.{nothing}
+use Rattle.cedar_policy_parts_conversion.proofs.Owning.{own_slot_is, own_slot_not}
+use Rattle.cedar_policy_parts_conversion.proofs.references.slot_to_reference.Goals as goal
+
+pub returns-in_ok-cloned : goal.returns-in_ok-cloned
+returns-in_ok-cloned g c =
+    let v = c.args.v in
+    let s = c.in-Some.slot in
+    let own : own_slot (variable_asked v) ≡ Some (view_slot s) = ap own_slot (sym c.from.ensures) ∙ c.matches.ensures.0 c.if-matches.true in
+    ap (λ x. cond (is_own (own_word v) x) (Some the_slot) None) (seen loose.missing_slot view_slot c.args.node.now s c.in-Some.is)
+    ∙ ap (λ b. cond b (Some the_slot) None) (own_slot_is v (view_slot s) own)
+
+pub returns-else-matches : goal.returns-else-matches
+returns-else-matches g c =
+    let v = c.args.v in
+    let s = c.in-Some.slot in
+    let other : own_slot (variable_asked v) ≡ Some (view_slot s) → ⊥ = λ h. (let is : c.matches.result ≡ true = c.matches.ensures.1 (ap own_slot c.from.ensures ∙ h) in absurd (cc (is, c.if-matches.false))) in
+    nothing c.other_slot.result _ c.other_slot.ensures
+    (ap (λ x. cond (is_own (own_word v) x) (Some the_slot) None) (seen loose.missing_slot view_slot c.args.node.now s c.in-Some.is)
+    ∙ ap (λ b. cond b (Some the_slot) None) (own_slot_not v (view_slot s) other))

@@ -1,0 +1,5 @@
+pub mod Notes
+pub mod Clauses
+pub mod Own
+pub mod Entities
+pub mod Scopes

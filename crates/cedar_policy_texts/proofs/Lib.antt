@@ -1,3 +1,0 @@
-mod Templates
-mod Texts
-mod Readings

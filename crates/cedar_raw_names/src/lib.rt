@@ -1,4 +1,0 @@
-//! Names of a schema before they are resolved.
-#![tactic(auto)]
-
-pub mod raw_names;

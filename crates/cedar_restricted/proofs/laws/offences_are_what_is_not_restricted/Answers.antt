@@ -1,6 +1,0 @@
-use Rattle.std.proofs.Common.{}
-use Rattle.cedar_restricted.proofs.Offending.{no_offence}
-use Rattle.cedar_restricted.proofs.laws.offences_are_what_is_not_restricted.Goals as goal
-
-pub returns : goal.returns
-returns c = no_offence

@@ -1,0 +1,103 @@
+// What partial evaluation gives: values and residuals.
+ghost use Rattle.std.specs.Prelude.{◌≡◌};
+ghost use Rattle.cedar_language.specs.Tree as tree;
+ghost use Rattle.cedar_trees.specs.Unknowns.{unknown_name, unknown_type};
+ghost use Rattle.cedar_restricted.specs.PartialValues.{partial_of};
+ghost use Rattle.either.specs.declared.Either.TheVariants.{Right};
+
+use cedar_names::places::Loc;
+use cedar_trees::expr::Expr;
+use cedar_trees::unknowns::Unknown;
+use cedar_values::values::Value;
+use thiserror::Error;
+
+/// What an expression is evaluated to where some values aren't known. Contracts see the value, or the
+/// residual's tree, by `partial_of`.
+#[derive(Debug, Drop)]
+pub enum PartialValue {
+    /// A value.
+    Value(Value),
+    /// An expression that waits for values of its unknowns.
+    Residual(Expr),
+}
+
+impl PartialValue {
+    /// The residual that is this unknown.
+    pub fn unknown(unknown: Unknown) -> PartialValue
+        ensures { partial_of result ≡ Right (tree.Unknown (unknown_name unknown) (unknown_type unknown)) }
+    {
+        PartialValue::Residual(Expr::unknown(unknown))
+    }
+
+    /// The same at another place, or at none.
+    pub fn with_maybe_source_loc(self, loc: Option<Loc>) -> PartialValue
+        ensures { partial_of result ≡ partial_of self }
+    {
+        match self {
+            PartialValue::Value(value) => PartialValue::Value(value.with_maybe_source_loc(loc)),
+            PartialValue::Residual(expr) => {
+                PartialValue::Residual(expr.with_maybe_source_loc(loc))
+            }
+        }
+    }
+}
+
+impl From<Value> for PartialValue {
+    ghost use Rattle.std.specs.Prelude.{◌≡◌};
+    ghost use Rattle.cedar_restricted.specs.PartialValues.{partial_of};
+    ghost use Rattle.either.specs.declared.Either.TheVariants.{Left};
+
+    ghost from_gives = { λ value partial. partial_of partial ≡ Left value };
+
+    fn from(value: Value) -> PartialValue {
+        PartialValue::Value(value)
+    }
+}
+
+impl From<Expr> for PartialValue {
+    ghost use Rattle.std.specs.Prelude.{◌≡◌};
+    ghost use Rattle.cedar_trees.specs.Bare.{bare};
+    ghost use Rattle.cedar_restricted.specs.PartialValues.{partial_of};
+    ghost use Rattle.either.specs.declared.Either.TheVariants.{Right};
+
+    ghost from_gives = { λ expr partial. partial_of partial ≡ Right (bare expr) };
+
+    /// The expression as a residual.
+    fn from(expr: Expr) -> PartialValue {
+        PartialValue::Residual(expr)
+    }
+}
+
+/// A residual stands where a value is wanted.
+#[derive(Debug, Drop, Error)]
+#[error("value contains a residual expression")]
+pub struct ContainsUnknown {
+    /// The residual.
+    pub residual: Expr,
+}
+
+/// Why a partial value is no value.
+#[derive(Debug, Drop, Error)]
+pub enum PartialValueToValueError {
+    /// It is a residual.
+    #[error(transparent)]
+    ContainsUnknown(ContainsUnknown),
+}
+
+impl TryFrom<PartialValue> for Value {
+    type Error = PartialValueToValueError;
+
+    ghost use Rattle.cedar_restricted.specs.PartialValues.{IsValueOf};
+
+    ghost try_from_gives = { IsValueOf };
+
+    /// The value; refused where it is a residual.
+    fn try_from(partial: PartialValue) -> Result<Value, PartialValueToValueError> {
+        match partial {
+            PartialValue::Value(value) => Ok(value),
+            PartialValue::Residual(residual) => Err(PartialValueToValueError::ContainsUnknown(
+                ContainsUnknown { residual },
+            )),
+        }
+    }
+}

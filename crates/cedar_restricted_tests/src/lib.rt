@@ -1,5 +1,0 @@
-//! Tests of restricted expressions.
-#![tactic(auto)]
-
-#[cfg(test)]
-mod restricted;

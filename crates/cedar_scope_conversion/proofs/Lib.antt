@@ -1,6 +1,0 @@
-pub mod Acting
-pub mod Asking
-pub mod Finding
-pub mod Owning
-pub mod Parens
-pub mod Parts

@@ -1,5 +1,0 @@
-use Rattle.cedar_scope_conversion.proofs.Finding.{is_fault}
-use Rattle.cedar_scope_conversion.proofs.constraints.other_variable.Goals as goal
-
-pub returns-in-Err : goal.returns-in-Err
-returns-in-Err g c = is_fault c.in-Err.error _ c.in-Err.ensures

@@ -1,7 +1,0 @@
-use Rattle.std.proofs.Common.{◌≡◌, ◌++◌, drop}
-use Rattle.cedar_constraints.specs.Actions.{held_uids}
-use Rattle.cedar_scope_conversion.specs.Entities.{others}
-use Rattle.cedar_scope_conversion.proofs.entities.other_entities.Given as goal
-
-abbrev pub invariant-uids : goal.invariant-uids
-invariant-uids l = held_uids l.others.items ++ others (drop l.uid-index l.uid-items) ≡ others l.uid-items

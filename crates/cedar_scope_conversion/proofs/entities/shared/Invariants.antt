@@ -1,6 +1,0 @@
-use Rattle.std.proofs.Common.{◌≡◌, ◌++◌}
-use Rattle.cedar_constraints.specs.Actions.{held_uids}
-use Rattle.cedar_scope_conversion.proofs.entities.shared.Given as goal
-
-abbrev pub invariant-loop-uid : goal.invariant-loop-uid
-invariant-loop-uid l = held_uids l.euids.items ++ l.uid-iterator.rest.items ≡ l.fn.uids.items

@@ -1,0 +1,99 @@
+// Frames that are read, texts that are put, and the names of verbs.
+use crate::devices::{Broken, Drip, Narrow};
+use crate::words::{Answer, bytes, number, one_line, parted, plain, tell};
+use cedar_frames::{Next, ReadFailed, Verb, Watched, next_frame, put, put_quoted, read_byte};
+use std::alloc::Global;
+use std::io::{Read, Write};
+
+pub(crate) fn answer(alloc: Global, text: &str) -> Answer {
+    let (verb, text) = parted(text);
+    match verb {
+        "quoted" => quoted(alloc, text),
+        "put" => put_twice(alloc, number(text)),
+        "flush" => flushed(alloc, number(text)),
+        "verb" => named(alloc, Verb::named(text.as_bytes())),
+        _ => given(alloc, verb, text),
+    }
+}
+
+/// What a device gives for bytes by some steps.
+fn given(alloc: Global, device: &str, text: &str) -> Answer {
+    let (steps, text) = parted(text);
+    let given = bytes(alloc, text)?;
+    match device {
+        "whole" => by_steps(alloc, given.as_slice(), steps),
+        "drip" => by_steps(alloc, Drip(given.as_slice()), steps),
+        _ => by_steps(alloc, Broken(given.as_slice()), steps),
+    }
+}
+
+/// What a reader gives, by a letter for each call: `f` for the next frame, and `b` for a byte.
+fn by_steps<R: Read + Drop>(alloc: Global, reader: R, steps: &str) -> Answer {
+    let mut reader = Watched::new(reader);
+    let mut text = String::new(alloc);
+    for step in steps.chars() {
+        let found = if step == 'f' {
+            next_told(alloc, next_frame(alloc, &mut reader))?
+        } else {
+            tell(alloc, read_byte(&mut reader))?
+        };
+        text.push_str(found.as_str())?;
+        text.push_str("; ")?;
+    }
+    text.push_str(if reader.failed() { "failed" } else { "sound" })?;
+    Ok(text)
+}
+
+fn next_told(alloc: Global, next: Result<Next, ReadFailed>) -> Answer {
+    match &next {
+        Ok(Next::Frame(verb, Some(body))) => {
+            let verb = verb.name();
+            let body = one_line(alloc, body.as_slice())?;
+            format!(in alloc; "{verb} {body}")
+        }
+        Ok(Next::Fault(fault)) => String::from_str(alloc, fault.name()),
+        other => format!(in alloc; "{other:?}"),
+    }
+}
+
+fn quoted(alloc: Global, text: &str) -> Answer {
+    let text = plain(alloc, text)?;
+    let mut written = Vec::new(alloc);
+    let mut writer = Watched::new(&mut written);
+    put_quoted(&mut writer, text.as_str());
+    let failed = writer.failed();
+    let written = one_line(alloc, written.as_slice())?;
+    format!(in alloc; "{written} {failed}")
+}
+
+/// What a writer with this room takes of three texts, and whether it failed.
+fn put_twice(alloc: Global, room: usize) -> Answer {
+    let mut narrow = Narrow::with_room(alloc, room);
+    let mut writer = Watched::new(&mut narrow);
+    put(&mut writer, b"end\n");
+    put(&mut writer, b"end\n");
+    put(&mut writer, b"");
+    let failed = writer.failed();
+    let taken = one_line(alloc, narrow.taken.as_slice())?;
+    format!(in alloc; "{taken} {failed}")
+}
+
+/// Whether a writer with this room takes nothing, whether it then has failed, and the same of a flush.
+fn flushed(alloc: Global, room: usize) -> Answer {
+    let mut writer = Watched::new(Narrow::with_room(alloc, room));
+    let is_written = writer.write(b"").is_ok();
+    let failed = writer.failed();
+    let is_flushed = writer.flush().is_ok();
+    let failed_then = writer.failed();
+    format!(in alloc; "{is_written} {failed} {is_flushed} {failed_then}")
+}
+
+/// A verb, how it is spelled, and whether it is offered.
+fn named(alloc: Global, verb: Option<Verb>) -> Answer {
+    let Some(verb) = verb else {
+        return String::from_str(alloc, "none");
+    };
+    let name = verb.name();
+    let is_offered = verb.is_offered();
+    format!(in alloc; "{verb:?} {name} {is_offered}")
+}

@@ -1,0 +1,117 @@
+// Runs of a session over memory, and of the program's work, at devices of each kind.
+use crate::devices::{Broken, Drip, Narrow};
+use crate::words::{Answer, bytes, number, one_line, parted};
+use cedar_frames::Watched;
+use cedar_session::{End, RunError, Session, program, run};
+use std::alloc::{AllocError, Global};
+use std::io::{Read, Write};
+
+/// The frame of a command.
+fn frame(alloc: Global, verb: &str, body: &[u8]) -> Result<Vec<u8>, AllocError> {
+    let count = body.len();
+    let head = format!(in alloc; "{verb} {count}\n")?;
+    let mut frame = Vec::new(alloc);
+    frame.extend_from_slice(head.as_bytes())?;
+    frame.extend_from_slice(body)?;
+    frame.push(b'\n')?;
+    Ok(frame)
+}
+
+fn ended<R: Read + Drop, W: Write>(
+    session: &mut Session<'_, '_>,
+    reader: R,
+    writer: &mut W,
+) -> Result<End, RunError> {
+    let mut reader = Watched::new(reader);
+    let mut writer = Watched::new(writer);
+    run(session, &mut reader, &mut writer)
+}
+
+/// What was written, and how the run ended.
+fn told(alloc: Global, written: &[u8], end: Result<End, RunError>) -> Answer {
+    let written = one_line(alloc, written)?;
+    format!(in alloc; "{written} {end:?}")
+}
+
+/// The line that answers a command, where a run of its frame alone ends well.
+pub(crate) fn of_command(verb: &str, body: &str, session: &mut Session<'_, '_>) -> Answer {
+    let alloc = session.allocator();
+    let body = bytes(alloc, body)?;
+    let frame = frame(alloc, verb, body.as_slice())?;
+    let mut written = Vec::new(alloc);
+    let end = ended(session, frame.as_slice(), &mut written);
+    match written.as_slice().strip_suffix(b"\nend\n") {
+        Some(line) if matches!(end, Ok(End::Clean)) => one_line(alloc, line),
+        _ => told(alloc, written.as_slice(), end),
+    }
+}
+
+/// A run over any bytes: whole, a byte at a time, with a reader that breaks behind them, or with a writer
+/// that has room for so many bytes.
+pub(crate) fn at_devices(text: &str, session: &mut Session<'_, '_>) -> Answer {
+    let alloc = session.allocator();
+    let (device, text) = parted(text);
+    if device == "narrow" {
+        return at_narrow(text, session);
+    }
+    let given = bytes(alloc, text)?;
+    let mut written = Vec::new(alloc);
+    let end = match device {
+        "whole" => ended(session, given.as_slice(), &mut written),
+        "drip" => ended(session, Drip(given.as_slice()), &mut written),
+        _ => ended(session, Broken(given.as_slice()), &mut written),
+    };
+    told(alloc, written.as_slice(), end)
+}
+
+fn at_narrow(text: &str, session: &mut Session<'_, '_>) -> Answer {
+    let alloc = session.allocator();
+    let (room, text) = parted(text);
+    let given = bytes(alloc, text)?;
+    let mut narrow = Narrow::with_room(alloc, number(room));
+    let end = ended(session, given.as_slice(), &mut narrow);
+    told(alloc, narrow.taken.as_slice(), end)
+}
+
+/// The program's status, and what it writes on `errors`.
+fn status<R: Read + Drop, W: Write>(
+    alloc: Global,
+    arguments: usize,
+    reader: R,
+    writer: &mut W,
+    errors: &mut Vec<u8>,
+) -> u8 {
+    let mut reader = Watched::new(reader);
+    let mut writer = Watched::new(writer);
+    program(alloc, arguments, &mut reader, &mut writer, errors)
+}
+
+/// The status, what was written, and what was written on `errors`.
+fn status_told(alloc: Global, status: u8, written: &[u8], errors: &[u8]) -> Answer {
+    let written = one_line(alloc, written)?;
+    let errors = one_line(alloc, errors)?;
+    format!(in alloc; "{status}|{written}|{errors}")
+}
+
+/// The program's work with so many arguments; or with none, at a writer that has room for so many bytes,
+/// and at a reader that breaks behind its bytes or does not.
+pub(crate) fn of_program(alloc: Global, text: &str) -> Answer {
+    let (device, text) = parted(text);
+    let (count, text) = parted(text);
+    let given = bytes(alloc, text)?;
+    let mut errors = Vec::new(alloc);
+    if device == "whole" {
+        let mut written = Vec::new(alloc);
+        let given = given.as_slice();
+        let status = status(alloc, number(count), given, &mut written, &mut errors);
+        return status_told(alloc, status, written.as_slice(), errors.as_slice());
+    }
+    let mut narrow = Narrow::with_room(alloc, number(count));
+    let status = if device == "narrow" {
+        status(alloc, 0, given.as_slice(), &mut narrow, &mut errors)
+    } else {
+        let broken = Broken(given.as_slice());
+        status(alloc, 0, broken, &mut narrow, &mut errors)
+    };
+    status_told(alloc, status, narrow.taken.as_slice(), errors.as_slice())
+}

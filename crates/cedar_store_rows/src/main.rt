@@ -1,0 +1,122 @@
+//! Answers cases, one a line: a section, a verb, and words between bars. What a verb makes is kept, or
+//! stands on a stack; every line is printed again with its answer.
+#![tactic(auto)]
+
+mod entities;
+mod expressions;
+mod graphs;
+mod scopes;
+mod sets;
+mod stores;
+mod templates;
+mod words;
+
+use crate::entities::Made;
+use crate::expressions::Stack;
+use crate::graphs::Graph;
+use crate::scopes::Scope;
+use crate::sets::Sets;
+use crate::stores::Stores;
+use crate::templates::Policies;
+use crate::words::{Answer, Case};
+use cedar_extensions::extensions::Extensions;
+use cedar_store::ast::SlotEnv;
+use std::alloc::Global;
+use std::collections::HashMap;
+use std::io;
+
+/// What earlier lines left.
+struct Held {
+    graph: Graph,
+    stack: Stack,
+    made: Made,
+    stores: Stores,
+    scope: Scope,
+    bindings: SlotEnv,
+    policies: Policies,
+    sets: Sets,
+}
+
+impl Drop for Held {
+    fn drop(self) {
+        let Held {
+            graph: _,
+            stack: _,
+            made: _,
+            stores: _,
+            scope: _,
+            bindings: _,
+            policies: _,
+            sets: _,
+        } = self;
+    }
+}
+
+fn nothing(alloc: Global) -> Held {
+    Held {
+        graph: HashMap::new(alloc),
+        stack: Vec::new(alloc),
+        made: entities::none(alloc),
+        stores: stores::none(alloc),
+        scope: scopes::any(alloc),
+        bindings: SlotEnv::new(),
+        policies: templates::none(),
+        sets: sets::none(alloc),
+    }
+}
+
+/// The section that knows a verb of graphs, entities and stores.
+fn answer(alloc: Global, case: &Case<'_>, table: &Extensions<'_>, held: &mut Held) -> Answer {
+    let entities = &mut held.made.entities;
+    match case.section {
+        "graph" => graphs::answer(alloc, case, &mut held.graph),
+        "expr" => expressions::answer(alloc, case, &mut held.stack),
+        "part" => entities::part(alloc, case, &mut held.stack, &mut held.made),
+        "make" => entities::make(alloc, case, table, &mut held.made),
+        "bare" => entities::bare(alloc, case, entities),
+        "edit" => entities::edit(alloc, case, entities),
+        "entity" => entities::ask(alloc, case, entities),
+        "take" => entities::take(alloc, case.verb, table, entities),
+        "fill" => stores::fill(alloc, case.verb, entities, &mut held.stores),
+        "stored" => stores::edit(alloc, case, &mut held.stores),
+        "store" => stores::ask(alloc, case, table, &mut held.stores),
+        _ => policies(alloc, case, table, held),
+    }
+}
+
+/// That of scopes, policies and their sets.
+fn policies(alloc: Global, case: &Case<'_>, table: &Extensions<'_>, held: &mut Held) -> Answer {
+    let (scope, made) = (&mut held.scope, &mut held.policies);
+    match case.section {
+        "annotation" => scopes::annotate(alloc, case, &mut scope.annotations),
+        "principal" => scopes::principal(alloc, case, &mut scope.principal),
+        "action" => scopes::action(alloc, case, &mut scope.action),
+        "resource" => scopes::resource(alloc, case, &mut scope.resource),
+        "bind" => scopes::bind(alloc, case, &mut held.bindings),
+        "new" => templates::make(alloc, case, scope, &mut held.stack, made),
+        "clause" => templates::clause(alloc, case, &mut held.stack, &mut made.policy),
+        "template" => templates::ask(alloc, case, table, made),
+        "turn" => templates::turn(alloc, case.verb, made),
+        "shared" => templates::link(alloc, case, &mut held.bindings, made),
+        "static" => templates::own(alloc, case.verb, made),
+        "policy" => templates::policy(alloc, case.verb, made.policy.as_ref()),
+        "add" => sets::add(alloc, case.verb, made, &mut held.sets),
+        "in-set" => sets::edit(alloc, case, &mut held.bindings, &mut held.sets),
+        "merged" => sets::merge(alloc, case.verb, &mut held.sets),
+        _ => sets::ask(alloc, case.verb, table, &mut held.sets),
+    }
+}
+
+fn main(rt: HostRuntime) -> io::Result<()> {
+    let table = Extensions::all_available(rt.alloc())?;
+    let mut held = nothing(rt.alloc());
+    for line in rt.lines(rt.alloc()) {
+        let line = line?;
+        let case = words::read(line.as_str());
+        match answer(rt.alloc(), &case, &table, &mut held) {
+            Ok(answer) => println!(rt; "{line} => {answer}")?,
+            Err(error) => println!(rt; "{line} => {error}")?,
+        }
+    }
+    Ok(())
+}

@@ -1,0 +1,179 @@
+// Annotations, the constraints of a scope, and what slots are bound to.
+use crate::expressions::slot;
+use crate::words::{Answer, Case, put, show, text, told, uid};
+use cedar_literals::slots::Slot;
+use cedar_literals::uids::{EntityType, EntityUID};
+use cedar_names::errors::ParseNameError;
+use cedar_names::identifiers::AnyId;
+use cedar_names::names::Name;
+use cedar_names::places::{Loc, Span};
+use cedar_names::reading::FromNormalizedStr;
+use cedar_store::ast::{
+    ActionConstraint, Annotation, Annotations, PrincipalConstraint, PrincipalOrResource,
+    ResourceConstraint, SlotEnv,
+};
+use std::alloc::{AllocError, Global};
+use std::collections::BTreeMap;
+use std::mem;
+use std::rc::{Rc, RcStr};
+
+/// What the next policy is made of.
+#[derive(Drop)]
+pub(crate) struct Scope {
+    pub(crate) annotations: Annotations,
+    pub(crate) principal: PrincipalConstraint,
+    pub(crate) action: ActionConstraint,
+    pub(crate) resource: ResourceConstraint,
+}
+
+pub(crate) fn any(alloc: Global) -> Scope {
+    Scope {
+        annotations: Annotations::new(alloc),
+        principal: PrincipalConstraint::any(),
+        action: ActionConstraint::any(),
+        resource: ResourceConstraint::any(),
+    }
+}
+
+fn annotation(alloc: Global, value: &str) -> Result<Annotation, AllocError> {
+    let span = Span { start: 0, end: 7 };
+    let place = Loc::new(alloc, span, RcStr::from_str(alloc, "@k(\"v\")")?)?;
+    Annotation::new(RcStr::from_str(alloc, value)?, Some(place)).clone(alloc)
+}
+
+fn annotated(alloc: Global, key: &str, value: &str) -> Result<Annotations, ParseNameError> {
+    let mut entries = BTreeMap::new(alloc);
+    entries.insert(
+        AnyId::from_normalized_str(alloc, key)?,
+        annotation(alloc, value)?,
+    )?;
+    Ok(Annotations::from(entries))
+}
+
+/// Each key with its value.
+fn entries(alloc: Global, annotations: Annotations) -> Answer {
+    let mut text = String::new(alloc);
+    for (key, annotation) in annotations {
+        write!(text, "{key} {};", annotation.val())?;
+    }
+    Ok(text)
+}
+
+pub(crate) fn annotate(alloc: Global, case: &Case<'_>, at: &mut Annotations) -> Answer {
+    match case.verb {
+        "one" => put(alloc, at, annotated(alloc, case.one, case.two)?),
+        "take" => entries(alloc, mem::replace(at, Annotations::new(alloc))),
+        _ => show(alloc, Annotation::with_optional_value(alloc, None, None)),
+    }
+}
+
+fn shared(alloc: Global, word: &str) -> Result<Rc<EntityUID>, ParseNameError> {
+    Ok(Rc::new(alloc, uid(alloc, word)?)?)
+}
+
+fn entity_type(alloc: Global, word: &str) -> Result<Rc<EntityType>, ParseNameError> {
+    let entity_type = EntityType::from(Name::from_normalized_str(alloc, word)?);
+    Ok(Rc::new(alloc, entity_type)?)
+}
+
+fn constrained(alloc: Global, case: &Case<'_>) -> Result<PrincipalConstraint, ParseNameError> {
+    match case.verb {
+        "any" => Ok(PrincipalConstraint::any()),
+        "eq" => Ok(PrincipalConstraint::is_eq(shared(alloc, case.one)?)),
+        "eq-slot" => Ok(PrincipalConstraint::is_eq_slot()),
+        "in" => Ok(PrincipalConstraint::is_in(shared(alloc, case.one)?)),
+        "in-slot" => Ok(PrincipalConstraint::is_in_slot()),
+        "is" => {
+            let entity_type = entity_type(alloc, case.one)?;
+            Ok(PrincipalConstraint::is_entity_type(entity_type))
+        }
+        "is-in" => {
+            let entity_type = entity_type(alloc, case.one)?;
+            let uid = shared(alloc, case.two)?;
+            Ok(PrincipalConstraint::is_entity_type_in(entity_type, uid))
+        }
+        _ => {
+            let entity_type = entity_type(alloc, case.one)?;
+            Ok(PrincipalConstraint::is_entity_type_in_slot(entity_type))
+        }
+    }
+}
+
+pub(crate) fn principal(alloc: Global, case: &Case<'_>, at: &mut PrincipalConstraint) -> Answer {
+    match case.verb {
+        "copy" => show(alloc, at.clone(alloc)),
+        "condition" => show(alloc, at.as_expr(alloc)),
+        "fill" => {
+            let uid = shared(alloc, case.one)?;
+            let open = mem::replace(at, PrincipalConstraint::any());
+            put(alloc, at, open.with_filled_slot(uid))
+        }
+        "as-resource" => {
+            let constraint = mem::replace(at, PrincipalConstraint::any()).into_inner();
+            show(
+                alloc,
+                constraint.display(alloc, PrincipalOrResource::Resource),
+            )
+        }
+        _ => put(alloc, at, constrained(alloc, case)?),
+    }
+}
+
+fn show_slot(alloc: Global, slot: Result<Option<Slot>, AllocError>) -> Answer {
+    match slot? {
+        Some(slot) => told(alloc, &slot.id),
+        None => text(alloc, "none"),
+    }
+}
+
+pub(crate) fn resource(alloc: Global, case: &Case<'_>, at: &mut ResourceConstraint) -> Answer {
+    match case.verb {
+        "copy" => show(alloc, at.clone(alloc)),
+        "condition" => show(alloc, at.as_expr(alloc)),
+        "slot" => show_slot(alloc, at.slot(alloc)),
+        "any" => put(alloc, at, ResourceConstraint::any()),
+        "eq-slot" => put(alloc, at, ResourceConstraint::is_eq_slot()),
+        "in-slot" => put(alloc, at, ResourceConstraint::is_in_slot()),
+        _ => {
+            let uid = shared(alloc, case.one)?;
+            put(alloc, at, ResourceConstraint::is_eq(uid))
+        }
+    }
+}
+
+fn all_shared(alloc: Global, words: &str) -> Result<Vec<Rc<EntityUID>>, ParseNameError> {
+    let mut all = Vec::new(alloc);
+    for word in words.split(',') {
+        all.push(shared(alloc, word)?)?;
+    }
+    Ok(all)
+}
+
+pub(crate) fn action(alloc: Global, case: &Case<'_>, at: &mut ActionConstraint) -> Answer {
+    match case.verb {
+        "copy" => show(alloc, at.clone(alloc)),
+        "condition" => show(alloc, at.as_expr(alloc)),
+        "check" => {
+            let constraint = mem::replace(at, ActionConstraint::any());
+            show(alloc, constraint.contains_only_action_types(alloc))
+        }
+        "any" => put(alloc, at, ActionConstraint::any()),
+        "in" => put(
+            alloc,
+            at,
+            ActionConstraint::is_in(all_shared(alloc, case.one)?),
+        ),
+        _ => {
+            let uid = shared(alloc, case.one)?;
+            put(alloc, at, ActionConstraint::is_eq(uid))
+        }
+    }
+}
+
+pub(crate) fn bind(alloc: Global, case: &Case<'_>, at: &mut SlotEnv) -> Answer {
+    let before = at.insert(slot(case.verb), uid(alloc, case.one)?);
+    match before {
+        Some(uid) => told(alloc, &uid),
+        None => show(alloc, at.clone(alloc)),
+    }
+}

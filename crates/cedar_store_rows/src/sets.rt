@@ -1,0 +1,176 @@
+// Policy sets, their edits, and how one is merged into another.
+use crate::templates::Policies;
+use crate::words::{Answer, Case, done, listed, no_case, text, told};
+use cedar_extensions::extensions::Extensions;
+use cedar_store::ast::{
+    LinkedPolicies, Merging, Policy, PolicyID, PolicySet, PolicySetGetLinksError,
+    PolicySetTemplateRemovalError, Renaming, SlotEnv, Template, renaming_of,
+};
+use std::alloc::{AllocError, Global};
+use std::fmt::Display;
+use std::mem;
+use std::rc::Rc;
+
+/// The set at hand, and the one that is merged into it.
+pub(crate) struct Sets {
+    set: PolicySet,
+    theirs: PolicySet,
+}
+
+impl Drop for Sets {
+    fn drop(self) {
+        let Sets { set: _, theirs: _ } = self;
+    }
+}
+
+pub(crate) fn none(alloc: Global) -> Sets {
+    Sets {
+        set: PolicySet::new(alloc),
+        theirs: PolicySet::new(alloc),
+    }
+}
+
+/// What was made is added.
+pub(crate) fn add(alloc: Global, verb: &str, policies: &mut Policies, held: &mut Sets) -> Answer {
+    let set = &mut held.set;
+    match verb {
+        "template" => match policies.template.take() {
+            Some(template) => done(alloc, set.add_template(alloc, template)),
+            None => no_case(alloc),
+        },
+        "static" => match policies.own.take() {
+            Some(own) => done(alloc, set.add_static(alloc, own)),
+            None => no_case(alloc),
+        },
+        "policy" => match policies.policy.take() {
+            Some(policy) => done(alloc, set.add(alloc, policy)),
+            None => no_case(alloc),
+        },
+        "swap" => {
+            mem::swap(set, &mut held.theirs);
+            text(alloc, "ok")
+        }
+        _ => {
+            *set = PolicySet::new(alloc);
+            text(alloc, "ok")
+        }
+    }
+}
+
+/// The id of what was taken out.
+fn policy_id<E: Display + Drop>(alloc: Global, policy: Result<Policy, E>) -> Answer {
+    match policy {
+        Ok(policy) => told(alloc, policy.id()),
+        Err(error) => told(alloc, &error),
+    }
+}
+
+fn template_id(
+    alloc: Global,
+    template: Result<Rc<Template>, PolicySetTemplateRemovalError>,
+) -> Answer {
+    match template {
+        Ok(template) => told(alloc, template.id()),
+        Err(error) => told(alloc, &error),
+    }
+}
+
+fn links(alloc: Global, links: Result<LinkedPolicies<'_>, PolicySetGetLinksError>) -> Answer {
+    match links {
+        Ok(links) => listed(alloc, links.collect(alloc)),
+        Err(error) => told(alloc, &error),
+    }
+}
+
+/// The set is edited by ids.
+pub(crate) fn edit(
+    alloc: Global,
+    case: &Case<'_>,
+    bindings: &mut SlotEnv,
+    held: &mut Sets,
+) -> Answer {
+    let set = &mut held.set;
+    let id = PolicyID::from_string(alloc, case.one)?;
+    match case.verb {
+        "link" => {
+            let new_id = PolicyID::from_string(alloc, case.two)?;
+            let bindings = mem::replace(bindings, SlotEnv::new());
+            done(alloc, set.link(alloc, id, new_id, bindings))
+        }
+        "unlink" => policy_id(alloc, set.unlink(&id)),
+        "remove-static" => policy_id(alloc, set.remove_static(&id)),
+        "remove-template" => template_id(alloc, set.remove_template(&id)),
+        _ => links(alloc, set.get_linked_policies(&id)),
+    }
+}
+
+fn policy_written(text: &mut String, policy: &Policy) -> Result<(), AllocError> {
+    let (id, template, effect) = (policy.id(), policy.template().id(), policy.effect());
+    write!(text, "{id} {effect} of {template};")
+}
+
+/// The ids of policies, each with that of its template and its effect.
+fn policies(alloc: Global, policies: Result<Vec<&Policy>, AllocError>) -> Answer {
+    let mut text = String::new(alloc);
+    for policy in &policies? {
+        policy_written(&mut text, policy)?;
+    }
+    Ok(text)
+}
+
+/// The same of a set that is given up.
+fn given_up(alloc: Global, set: PolicySet) -> Answer {
+    let mut text = String::new(alloc);
+    for policy in set.into_policies() {
+        policy_written(&mut text, &policy)?;
+    }
+    Ok(text)
+}
+
+pub(crate) fn ask(
+    alloc: Global,
+    verb: &str,
+    extensions: &Extensions<'_>,
+    held: &mut Sets,
+) -> Answer {
+    let set = &mut held.set;
+    match verb {
+        "show" => told(alloc, set),
+        "len" => told(alloc, &set.len()),
+        "policies" => policies(alloc, set.policies().collect(alloc)),
+        "static-policies" => policies(alloc, set.static_policies().collect(alloc)),
+        "all-templates" => listed(alloc, set.all_templates().map(Template::id).collect(alloc)),
+        "templates" => listed(alloc, set.templates().map(Template::id).collect(alloc)),
+        "validate" => done(alloc, set.try_validate(alloc, extensions)),
+        _ => given_up(alloc, mem::replace(set, PolicySet::new(alloc))),
+    }
+}
+
+/// Each id that is renamed, with its new one.
+fn renamed<E: Display + Drop>(alloc: Global, renaming: Result<Renaming, E>) -> Answer {
+    let renaming = match renaming {
+        Ok(renaming) => renaming,
+        Err(error) => return told(alloc, &error),
+    };
+    let mut text = String::new(alloc);
+    for (old, new) in &renaming {
+        write!(text, "{old} to {new};")?;
+    }
+    Ok(text)
+}
+
+fn joined(alloc: Global, held: &mut Sets) -> Result<(), AllocError> {
+    let renaming = renaming_of(alloc, &held.set, &held.theirs)?;
+    held.set.join(alloc, &held.theirs, &renaming)
+}
+
+/// The other set is merged into the one at hand.
+pub(crate) fn merge(alloc: Global, verb: &str, held: &mut Sets) -> Answer {
+    let Sets { set, theirs } = held;
+    match verb {
+        "renaming" => renamed(alloc, renaming_of(alloc, set, theirs)),
+        "merge" => renamed(alloc, set.merge_policyset(alloc, theirs, true)),
+        "merge-as-named" => renamed(alloc, set.merge_policyset(alloc, theirs, false)),
+        _ => done(alloc, joined(alloc, held)),
+    }
+}

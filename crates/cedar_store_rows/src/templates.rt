@@ -1,0 +1,248 @@
+// Templates, static policies and links.
+use crate::expressions::Stack;
+use crate::scopes::{self, Scope};
+use crate::words::{Answer, Case, keep, no_case, said, show, text, told};
+use cedar_extensions::extensions::Extensions;
+use cedar_literals::uids::EntityUID;
+use cedar_names::conversions::FromIn;
+use cedar_store::ast::{
+    Effect, Policy, PolicyID, SlotEnv, StaticPolicy, Template, TemplateLinks,
+    TemplateValidationError, UnexpectedSlotError,
+};
+use cedar_trees::expr::Expr;
+use std::alloc::{AllocError, Global};
+use std::collections::BTreeSet;
+use std::mem;
+use std::rc::Rc;
+
+/// What was made last of each kind.
+pub(crate) struct Policies {
+    pub(crate) template: Option<Template>,
+    second: Option<Template>,
+    shared: Option<Rc<Template>>,
+    pub(crate) own: Option<StaticPolicy>,
+    pub(crate) policy: Option<Policy>,
+}
+
+impl Drop for Policies {
+    fn drop(self) {
+        let Policies {
+            template: _,
+            second: _,
+            shared: _,
+            own: _,
+            policy: _,
+        } = self;
+    }
+}
+
+pub(crate) fn none() -> Policies {
+    Policies {
+        template: None,
+        second: None,
+        shared: None,
+        own: None,
+        policy: None,
+    }
+}
+
+fn effect(word: &str) -> Effect {
+    if word == "permit" {
+        Effect::Permit
+    } else {
+        Effect::Forbid
+    }
+}
+
+fn template(
+    alloc: Global,
+    id: PolicyID,
+    effect: Effect,
+    scope: Scope,
+    clause: Option<Expr>,
+) -> Result<Template, AllocError> {
+    Template::new(
+        alloc,
+        id,
+        None,
+        scope.annotations,
+        effect,
+        scope.principal,
+        scope.action,
+        scope.resource,
+        clause,
+    )
+}
+
+fn static_policy(
+    alloc: Global,
+    id: PolicyID,
+    effect: Effect,
+    scope: Scope,
+    clause: Option<Expr>,
+) -> Result<StaticPolicy, UnexpectedSlotError> {
+    StaticPolicy::new(
+        alloc,
+        id,
+        None,
+        scope.annotations,
+        effect,
+        scope.principal,
+        scope.action,
+        scope.resource,
+        clause,
+    )
+}
+
+/// A policy of the scope at hand, whose clause is the topmost expression.
+pub(crate) fn make(
+    alloc: Global,
+    case: &Case<'_>,
+    scope: &mut Scope,
+    stack: &mut Stack,
+    held: &mut Policies,
+) -> Answer {
+    let id = PolicyID::from_string(alloc, case.one)?;
+    let effect = effect(case.two);
+    let scope = mem::replace(scope, scopes::any(alloc));
+    let clause = stack.pop();
+    match case.verb {
+        "template" => {
+            let template = template(alloc, id, effect, scope, clause);
+            keep(alloc, &mut held.template, template)
+        }
+        _ => {
+            let own = static_policy(alloc, id, effect, scope, clause);
+            keep(alloc, &mut held.own, own)
+        }
+    }
+}
+
+/// The policy whose one clause is the topmost expression.
+pub(crate) fn clause(
+    alloc: Global,
+    case: &Case<'_>,
+    stack: &mut Stack,
+    at: &mut Option<Policy>,
+) -> Answer {
+    let id = PolicyID::from_string(alloc, case.one)?;
+    let effect = effect(case.verb);
+    match stack.pop() {
+        Some(when) => keep(
+            alloc,
+            at,
+            Policy::from_when_clause(alloc, effect, when, id, None),
+        ),
+        None => no_case(alloc),
+    }
+}
+
+fn valid(alloc: Global, answer: Result<(), TemplateValidationError>) -> Answer {
+    match answer {
+        Ok(()) => text(alloc, "valid"),
+        Err(error) => told(alloc, &error),
+    }
+}
+
+/// What is asked of the template.
+pub(crate) fn ask(
+    alloc: Global,
+    case: &Case<'_>,
+    extensions: &Extensions<'_>,
+    held: &mut Policies,
+) -> Answer {
+    let Some(template) = &held.template else {
+        return no_case(alloc);
+    };
+    match case.verb {
+        "id" => told(alloc, template.id()),
+        "condition" => show(alloc, template.condition(alloc)),
+        "validate" => valid(alloc, template.try_validate(alloc, extensions)),
+        "rename" => {
+            let id = PolicyID::from_string(alloc, case.one)?;
+            keep(alloc, &mut held.second, template.new_id(alloc, id))
+        }
+        _ => match &held.second {
+            Some(second) => of_two(alloc, case.verb, template, second),
+            None => no_case(alloc),
+        },
+    }
+}
+
+fn of_two(alloc: Global, verb: &str, template: &Template, second: &Template) -> Answer {
+    match verb {
+        "same-syntax" => said(alloc, template.has_same_syntax(second)),
+        "second-id" => told(alloc, second.id()),
+        _ => said(alloc, template == second),
+    }
+}
+
+/// The template is shared, or made a static policy.
+pub(crate) fn turn(alloc: Global, verb: &str, held: &mut Policies) -> Answer {
+    let Some(template) = held.template.take() else {
+        return no_case(alloc);
+    };
+    match verb {
+        "share" => keep(alloc, &mut held.shared, Rc::new(alloc, template)),
+        _ => keep(alloc, &mut held.own, StaticPolicy::try_from(template)),
+    }
+}
+
+/// What was shared is made a policy, by its own id or by another one and bindings.
+pub(crate) fn link(
+    alloc: Global,
+    case: &Case<'_>,
+    bindings: &mut SlotEnv,
+    held: &mut Policies,
+) -> Answer {
+    let id = PolicyID::from_string(alloc, case.one)?;
+    let Some(template) = held.shared.take() else {
+        return no_case(alloc);
+    };
+    let at = &mut held.policy;
+    match case.verb {
+        "link" => {
+            let bindings = mem::replace(bindings, SlotEnv::new());
+            keep(alloc, at, Template::link(alloc, template, id, bindings))
+        }
+        _ => keep(alloc, at, Template::try_as_policy(template)),
+    }
+}
+
+fn show_linked(alloc: Global, linked: Result<(Rc<Template>, Policy), AllocError>) -> Answer {
+    let (template, policy) = linked?;
+    Ok(format!(in alloc; "{}: {policy}", template.id())?)
+}
+
+/// The static policy is made a policy.
+pub(crate) fn own(alloc: Global, verb: &str, held: &mut Policies) -> Answer {
+    let Some(own) = held.own.take() else {
+        return no_case(alloc);
+    };
+    match verb {
+        "link" => show_linked(alloc, Template::link_static_policy(alloc, own)),
+        _ => keep(alloc, &mut held.policy, Policy::from_in(alloc, own)),
+    }
+}
+
+fn show_uids(alloc: Global, uids: Result<BTreeSet<EntityUID>, AllocError>) -> Answer {
+    let mut text = String::new(alloc);
+    for uid in &uids? {
+        write!(text, "{uid};")?;
+    }
+    Ok(text)
+}
+
+/// What is asked of the policy.
+pub(crate) fn policy(alloc: Global, verb: &str, policy: Option<&Policy>) -> Answer {
+    let Some(policy) = policy else {
+        return no_case(alloc);
+    };
+    match verb {
+        "id" => told(alloc, policy.id()),
+        "is-static" => said(alloc, policy.is_static()),
+        "condition" => show(alloc, policy.condition(alloc)),
+        "principal" => show(alloc, policy.principal_constraint(alloc)),
+        _ => show_uids(alloc, policy.unknown_entities(alloc)),
+    }
+}

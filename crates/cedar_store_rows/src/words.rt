@@ -1,0 +1,156 @@
+// A line's verb and words, and how an answer is told. What is made by a call goes to a generic function,
+// by value, so that no function which makes the call lets go of anything.
+use cedar_literals::uids::EntityUID;
+use cedar_names::errors::ParseNameError;
+use std::alloc::{AllocError, Global};
+use std::collections::HashSet;
+use std::fmt::Display;
+
+/// An answer, or why a word isn't a name.
+pub(crate) type Answer = Result<String, ParseNameError>;
+
+/// A section, its verb and three words, each empty where the line has none.
+#[derive(Drop)]
+pub(crate) struct Case<'a> {
+    pub(crate) section: &'a str,
+    pub(crate) verb: &'a str,
+    pub(crate) one: &'a str,
+    pub(crate) two: &'a str,
+    pub(crate) three: &'a str,
+}
+
+fn cut<'a>(text: &'a str, separator: char) -> (&'a str, &'a str) {
+    text.split_once(separator).unwrap_or((text, ""))
+}
+
+pub(crate) fn read(line: &str) -> Case<'_> {
+    let (section, rest) = cut(line, ' ');
+    let (verb, words) = cut(rest, ' ');
+    let (one, words) = cut(words, '|');
+    let (two, three) = cut(words, '|');
+    Case {
+        section,
+        verb,
+        one,
+        two,
+        three,
+    }
+}
+
+pub(crate) fn text(alloc: Global, text: &str) -> Answer {
+    Ok(String::from_str(alloc, text)?)
+}
+
+pub(crate) fn said(alloc: Global, holds: bool) -> Answer {
+    text(alloc, if holds { "true" } else { "false" })
+}
+
+pub(crate) fn no_case(alloc: Global) -> Answer {
+    text(alloc, "no case")
+}
+
+/// The text of what is lent.
+pub(crate) fn told<T: Display>(alloc: Global, value: &T) -> Answer {
+    Ok(value.to_string(alloc)?)
+}
+
+fn refused<E: Display + Drop>(alloc: Global, error: E) -> Answer {
+    Ok(format!(in alloc; "refused: {error}")?)
+}
+
+/// The text of what was made, or the error.
+pub(crate) fn show<T: Display + Drop, E: Display + Drop>(
+    alloc: Global,
+    found: Result<T, E>,
+) -> Answer {
+    match found {
+        Ok(value) => told(alloc, &value),
+        Err(error) => refused(alloc, error),
+    }
+}
+
+/// That it was done, or the error.
+pub(crate) fn done<E: Display + Drop>(alloc: Global, found: Result<(), E>) -> Answer {
+    match found {
+        Ok(()) => text(alloc, "ok"),
+        Err(error) => refused(alloc, error),
+    }
+}
+
+/// Keeps what was made.
+pub(crate) fn keep<T: Display + Drop, E: Display + Drop>(
+    alloc: Global,
+    at: &mut Option<T>,
+    found: Result<T, E>,
+) -> Answer {
+    match found {
+        Ok(value) => {
+            let text = value.to_string(alloc)?;
+            *at = Some(value);
+            Ok(text)
+        }
+        Err(error) => refused(alloc, error),
+    }
+}
+
+/// The same in the place of another value.
+pub(crate) fn put<T: Display + Drop>(alloc: Global, at: &mut T, value: T) -> Answer {
+    *at = value;
+    told(alloc, at)
+}
+
+/// Puts what was made on the stack.
+pub(crate) fn push<T: Display + Drop, E: Display + Drop>(
+    alloc: Global,
+    stack: &mut Vec<T>,
+    found: Result<T, E>,
+) -> Answer {
+    match found {
+        Ok(value) => {
+            let text = value.to_string(alloc)?;
+            stack.push(value)?;
+            Ok(text)
+        }
+        Err(error) => refused(alloc, error),
+    }
+}
+
+/// The texts behind one another.
+pub(crate) fn listed<T: Display>(alloc: Global, items: Result<Vec<&T>, AllocError>) -> Answer {
+    let mut text = String::new(alloc);
+    for item in &items? {
+        write!(text, "{item};")?;
+    }
+    Ok(text)
+}
+
+/// The same in their order.
+pub(crate) fn sorted<T: Display + Ord>(
+    alloc: Global,
+    items: Result<Vec<&T>, AllocError>,
+) -> Answer {
+    let mut items = items?;
+    items.sort_unstable();
+    listed(alloc, Ok(items))
+}
+
+pub(crate) fn number(text: &str) -> i64 {
+    text.parse::<i64>().unwrap_or(0)
+}
+
+/// The uid of a type and an id with a dot between them.
+pub(crate) fn uid(alloc: Global, word: &str) -> Result<EntityUID, ParseNameError> {
+    let (entity_type, id) = cut(word, '.');
+    EntityUID::with_eid_and_type(alloc, entity_type, id)
+}
+
+/// Those of the words between commas.
+pub(crate) fn uids(alloc: Global, words: &str) -> Result<HashSet<EntityUID>, ParseNameError> {
+    let mut all = HashSet::new(alloc);
+    for word in words.split(',') {
+        if !word.is_empty() {
+            all.insert(uid(alloc, word)?)?;
+        }
+    }
+    Ok(all)
+}

@@ -1,0 +1,14 @@
+mod Rests
+mod Runs
+mod Blanks
+mod OtherWords
+mod MarkReading
+mod Insides
+mod Ascii
+mod KindReading
+mod Reading
+mod Unread
+mod PartReading
+mod Unescaping
+mod Any
+mod Bits

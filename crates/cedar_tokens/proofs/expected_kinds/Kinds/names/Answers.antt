@@ -1,0 +1,4 @@
+use Rattle.cedar_tokens.proofs.expected_kinds.Kinds.names.Goals as goal
+
+pub returns : goal.returns
+returns c = c.names_in.ensures

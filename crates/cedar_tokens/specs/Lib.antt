@@ -1,0 +1,13 @@
+pub mod Rest
+pub mod Class
+pub mod View
+pub mod Marks
+pub mod Strings
+pub mod Reads
+pub mod Places
+pub mod Refusal
+pub mod Parts
+pub mod Spelling
+pub mod Unread
+pub mod Kinds
+pub mod Shown

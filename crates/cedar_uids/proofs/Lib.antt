@@ -1,4 +1,0 @@
-pub mod Sameness
-pub mod Escaping
-pub mod ReadingBack
-pub mod Cutting

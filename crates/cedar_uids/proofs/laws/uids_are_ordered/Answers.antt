@@ -1,9 +1,0 @@
-use Rattle.cedar_uids.specs.Laws.{uid_cmp_total}
-use Rattle.cedar_uids.proofs.Sameness.{uid_cmp_same}
-use Rattle.cedar_uids.proofs.laws.uids_are_ordered.Goals as goal
-
-pub returns-clause-total : goal.returns-clause-total
-returns-clause-total c = uid_cmp_total
-
-pub returns-clause-same : goal.returns-clause-same
-returns-clause-same c = uid_cmp_same

@@ -1,8 +1,0 @@
-use Rattle.cedar_uids.proofs.Escaping.{with_one, with_two}
-use Rattle.cedar_uids.proofs.unescaping.number.Goals as goal
-
-pub returns-in-len1 : goal.returns-in-len1
-returns-in-len1 c = with_one c.args.code.now c.in-len1.len_at_least c.in-len1.len_below c.digit.result c.digit.ensures
-
-pub returns-in-len2 : goal.returns-in-len2
-returns-in-len2 c = with_two c.args.code.now c.in-len2.len_at_least c.in-len2.len_below c.two_digits.result c.two_digits.ensures

@@ -1,5 +1,0 @@
-//! Expressions of Cedar validated against a table of extension functions.
-#![tactic(auto)]
-
-pub mod errors;
-pub mod validation;

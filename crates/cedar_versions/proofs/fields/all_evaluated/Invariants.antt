@@ -1,8 +1,0 @@
-use Rattle.cedar_versions.proofs.Entries.{IsUnderway}
-use Rattle.cedar_versions.proofs.fields.all_evaluated.Given as goal
-
-abbrev pub invariant-loop-name : goal.invariant-loop-name
-invariant-loop-name l =
-    goal.iterator-loop-name.can_next l.name-iterator ×
-    goal.iterator-loop-name.is_finite l.name-iterator ×
-    IsUnderway l.extensions l.entries.entries l.name-iterator l.values.entries l.holds_unknown

@@ -1,5 +1,0 @@
-use Rattle.cedar_versions.proofs.Reading as reading
-use Rattle.cedar_versions.proofs.laws.trees_are_read.Goals as goal
-
-pub returns : goal.returns
-returns c = λ by no_text t h. reading.trees_are_read by no_text t h

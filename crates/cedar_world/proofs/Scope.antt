@@ -1,0 +1,257 @@
+-- How far scopes are settled.
+use Rattle.std.proofs.Common.{◌≡◌, ◌↔◌, Bool, true, false, ◌&&◌, ◌||◌, Option, Some, None, IsTrue, List, [], ◌∷◌, ◌++◌, map, refl, sym, ◌∙◌, ap, subst}
+use Rattle.std.specs.List.{list_any}
+use Rattle.std.specs.FinMap as finite
+use Rattle.std.specs.declared.cmp.Ordering.{Ordering}
+use Rattle.std.specs.declared.cmp.Ordering.TheVariants as ordering
+use Rattle.std.specs.Cmp.{both_ways}
+use Rattle.std.specs.Cmp.Lexicographic.{pointwise_decides, bytes_decides}
+use Rattle.cedar_language.specs.Uid.{Text, Uid}
+use Rattle.cedar_language.specs.Tree.{Boolean, Entity, Variable, Principal, Action, Resource, SlotId, PrincipalSlot, ResourceSlot, Tree, Lit}
+use Rattle.cedar_language.specs.Value.{Value, Plain, Values, no_values, a_value, Gives}
+use Rattle.cedar_language.specs.Order.{same, same_text, same_name, same_uid, value_cmp, placed, put, rising}
+use Rattle.cedar_language.specs.OrderLaws.{value_cmp_same, same_is, is_same}
+use Rattle.cedar_language.specs.Facts.{Facts}
+use Rattle.cedar_language.specs.Operators.{and_uid, uids_in, is_within, is_within_some}
+use Rattle.cedar_partial_evaluation.specs.Settling.{Settling, Open, Is, AllAre, and_settled, LeafSettlings, settled_in, all_settled_in}
+use Rattle.cedar_partial_evaluation.specs.Mentions.{mentions_only, all_mention_only}
+use Rattle.cedar_partial_evaluation.specs.Question.{part_settled, settled_of}
+use Rattle.cedar_grammar.specs.Build.{trees, conjunction}
+use Rattle.cedar_grammar.specs.Policy.{Target, the_entity, the_slot, Constraint, anything, equals, within, of_type, of_type_within, ActionConstraint, any_action, action_equals, action_within_any, target_tree, constraint_tree, action_tree, scope_tree, with_body, constraint_slots}
+use Rattle.cedar_world.specs.Orders.{text_cmp}
+use Rattle.cedar_world.specs.Syntax.{PolicySyntax, condition, are_some, is_template}
+use Rattle.cedar_world.specs.Asking.{Part, Given, Missing, Question}
+use Rattle.cedar_world.specs.Standing.{settled_so_far, StandsSoFar, still_open, decided}
+use Rattle.cedar_world.specs.Scope.{meets, met, action_met, and_then_met, scope_met, standing_met, ScopesSettle}
+use Rattle.cedar_world.proofs.Lists.{or_false, and_left, and_right, and_both}
+
+-- ---- entities
+
+name_decides : (a b : _) → IsTrue (same_name a b) ↔ (a ≡ b)
+name_decides a b = pointwise_decides bytes_decides a b
+
+decides_equality : (a b : Uid) → IsTrue (same_uid a b) ↔ (a ≡ b)
+decides_equality a b = (
+  λ h.
+      let types : a.type_name ≡ b.type_name = (name_decides a.type_name b.type_name).0 (and_left (same_name a.type_name b.type_name) _ h) in
+      let ids : a.id ≡ b.id = (bytes_decides a.id b.id).0 (and_right (same_name a.type_name b.type_name) _ h) in
+      λ i. record { type_name = types i; id = ids i },
+  λ e. and_both (same_name a.type_name b.type_name) (same_text a.id b.id) ((name_decides a.type_name b.type_name).1 (ap (λ (u : Uid). u.type_name) e)) ((bytes_decides a.id b.id).1 (ap (λ (u : Uid). u.id) e)),
+)
+
+entity_equal : (a b : Uid) → same (Plain (Entity a)) (Plain (Entity b)) ≡ same_uid a b
+entity_equal a b =
+    both_ways (same (Plain (Entity a)) (Plain (Entity b))) (same_uid a b)
+    (λ h. let e : Plain (Entity a) ≡ Plain (Entity b) = same_is _ _ h in let is : a ≡ b = cc in (decides_equality a b).1 is)
+    (λ h. is_same _ _ (ap (λ u. Plain (Entity u)) ((decides_equality a b).0 h)))
+
+-- ---- conjunctions
+
+folded : (facts : Facts) (around : LeafSettlings) (l r : Tree) → settled_in facts around (conjunction l r) ≡ and_settled (settled_in facts around l) (settled_in facts around r)
+folded facts around (Lit (Boolean true)) (Lit (Boolean b)) = refl
+folded facts around (Lit (Boolean false)) (Lit (Boolean b)) = refl
+folded facts around _ _ = refl
+
+-- ---- `in` without ancestors
+
+is_equality : (facts : Facts) → ((a b : Uid) → facts.reaches a b ≡ false) → is_within facts ≡ same_uid
+is_equality facts none =
+    let is : (a b : Uid) → is_within facts a b ≡ same_uid a b = λ a b. ap (λ r. same_uid a b || r) (none a b) ∙ or_false (same_uid a b) in
+    λ i a b. is a b i
+
+-- ---- a set of entities
+
+abbrev entities : List Uid → Values
+entities [] = no_values
+entities (u ∷ us) = a_value (Plain (Entity u)) (entities us)
+
+all_literals : (facts : Facts) (around : LeafSettlings) (us : List Uid) → all_settled_in facts around (trees (map (λ u. Lit (Entity u)) us)) ≡ AllAre (entities us)
+all_literals facts around [] = refl
+all_literals facts around (u ∷ us) = rw (all_literals facts around us) refl
+
+-- the values are entities, among which one is found just where it is found among these
+record AreUids (facts : Facts) (vs : Values) (is_found : Uid → Bool) : Type 0 where
+  uids : List Uid
+  uids_are : uids_in vs ≡ Some uids
+  found : (a : Uid) → is_within_some facts a uids ≡ is_found a
+
+or_same : (p r : Bool) → (p || r) ≡ (p || (p || r))
+or_same true r = refl
+or_same false r = refl
+
+or_swapped : (p q r : Bool) → (p || (q || r)) ≡ (q || (p || r))
+or_swapped true true r = refl
+or_swapped true false r = refl
+or_swapped false q r = refl
+
+module _ (facts : Facts) (u : Uid) where
+  abbrev with_u : List Uid → Uid → Bool
+  with_u cs a = is_within facts a u || is_within_some facts a cs
+
+  put_placed : (o : Ordering) (x : Uid) (ws : Values) (cs : List Uid) → value_cmp (Plain (Entity u)) (Plain (Entity x)) ≡ o → uids_in ws ≡ Some cs → AreUids facts (put (Plain (Entity u)) ws) (with_u cs) →
+      AreUids facts (placed o (Plain (Entity u)) (Plain (Entity x)) ws (put (Plain (Entity u)) ws)) (with_u (x ∷ cs))
+  put_placed ordering.Less x ws cs e h rest = record { uids = u ∷ x ∷ cs; uids_are = rw h refl; found = λ a. refl }
+  put_placed ordering.Equal x ws cs e h rest =
+      let same : Plain (Entity u) ≡ Plain (Entity x) = value_cmp_same _ _ e in
+      let is : u ≡ x = cc in
+      record {
+        uids = x ∷ cs;
+        uids_are = rw h refl;
+        found = λ a. or_same (is_within facts a x) (is_within_some facts a cs) ∙ ap (λ y. is_within facts a y || is_within_some facts a (x ∷ cs)) (sym is);
+      }
+  put_placed ordering.Greater x ws cs e h rest = record {
+    uids = x ∷ rest.uids;
+    uids_are = rw (rest.uids_are) refl;
+    found = λ a. ap (λ b. is_within facts a x || b) (rest.found a) ∙ or_swapped (is_within facts a x) (is_within facts a u) (is_within_some facts a cs);
+  }
+
+  first_uid : (w : Value) (o : Option (List Uid)) (cs : List Uid) → and_uid w o ≡ Some cs → (x : Uid) × (rest : List Uid) × (w ≡ Plain (Entity x)) × (o ≡ Some rest) × (cs ≡ x ∷ rest)
+  first_uid (Plain (Entity x)) (Some rest) cs h = (x, rest, refl, refl, cc)
+  first_uid (Plain (Entity x)) None cs h = cc
+  first_uid _ o cs h = cc
+
+  put_uids : (ws : Values) (cs : List Uid) → uids_in ws ≡ Some cs → AreUids facts (put (Plain (Entity u)) ws) (with_u cs)
+  put_uids no_values cs h = let none : cs ≡ [] = cc in record { uids = u ∷ []; uids_are = refl; found = λ a. rw none refl }
+  put_uids (a_value w ws) cs h =
+      let (x, rest, w_is, rest_is, cs_is) = first_uid w (uids_in ws) cs h in
+      let here = put_placed (value_cmp (Plain (Entity u)) (Plain (Entity x))) x ws rest refl rest_is (put_uids ws rest rest_is) in
+      subst (λ (y : Value). AreUids facts (put (Plain (Entity u)) (a_value y ws)) (with_u cs)) (sym w_is)
+      (subst (λ (ys : List Uid). AreUids facts (put (Plain (Entity u)) (a_value (Plain (Entity x)) ws)) (with_u ys)) (sym cs_is) here)
+
+rising_uids : (facts : Facts) (us : List Uid) → AreUids facts (rising (entities us)) (λ a. list_any (is_within facts a) us)
+rising_uids facts [] = record { uids = []; uids_are = refl; found = λ a. refl }
+rising_uids facts (u ∷ us) =
+    let rest = rising_uids facts us in
+    let more = put_uids facts u (rising (entities us)) rest.uids rest.uids_are in
+    record { uids = more.uids; uids_are = more.uids_are; found = λ a. more.found a ∙ ap (λ b. is_within facts a u || b) (rest.found a) }
+
+-- ---- constraints
+
+abbrev known : Option Bool → Settling
+known (Some b) = Is (Plain (Boolean b))
+known None = Open
+
+and_known : (o p : Option Bool) → and_settled (known o) (known p) ≡ known (and_then_met o p)
+and_known (Some true) (Some b) = refl
+and_known (Some true) None = refl
+and_known (Some false) p = refl
+and_known None p = refl
+
+and_both_known : (a b : Bool) → and_settled (known (Some a)) (known (Some b)) ≡ known (Some (a && b))
+and_both_known true b = refl
+and_both_known false b = refl
+
+module _ (facts : Facts) (around : LeafSettlings) (v : Variable) where
+  constraint_given : (slot : SlotId) (c : Constraint) (u : Uid) → constraint_slots slot c ≡ [] → around.variable v ≡ Is (Plain (Entity u)) → settled_in facts around (constraint_tree v slot c) ≡ known (Some (meets (is_within facts) c u))
+  constraint_given slot anything u h e = refl
+  constraint_given slot (equals (the_entity x)) u h e = rw e (ap (λ b. Is (Plain (Boolean b))) (entity_equal u x))
+  constraint_given slot (within (the_entity x)) u h e = rw e refl
+  constraint_given slot (of_type name) u h e = rw e refl
+  constraint_given slot (of_type_within name (the_entity x)) u h e = rw e (and_both_known (same_name u.type_name name) (is_within facts u x))
+  constraint_given slot (equals the_slot) u h e = cc
+  constraint_given slot (within the_slot) u h e = cc
+  constraint_given slot (of_type_within name the_slot) u h e = cc
+
+  constraint_settled : (slot : SlotId) (c : Constraint) (part : Part) → constraint_slots slot c ≡ [] → around.variable v ≡ part_settled part None → settled_in facts around (constraint_tree v slot c) ≡ known (met (is_within facts) c part)
+  constraint_settled slot anything part h e = refl
+  constraint_settled slot (equals x) (Given u) h e = constraint_given slot (equals x) u h e
+  constraint_settled slot (within x) (Given u) h e = constraint_given slot (within x) u h e
+  constraint_settled slot (of_type name) (Given u) h e = constraint_given slot (of_type name) u h e
+  constraint_settled slot (of_type_within name x) (Given u) h e = constraint_given slot (of_type_within name x) u h e
+  constraint_settled slot (equals (the_entity x)) (Missing type) h e = rw e refl
+  constraint_settled slot (within (the_entity x)) (Missing type) h e = rw e refl
+  constraint_settled slot (of_type name) (Missing type) h e = rw e refl
+  constraint_settled slot (of_type_within name x) (Missing type) h e = rw e refl
+  constraint_settled slot (equals the_slot) (Missing type) h e = cc
+  constraint_settled slot (within the_slot) (Missing type) h e = cc
+
+action_settled : (facts : Facts) (around : LeafSettlings) (c : ActionConstraint) (part : Part) → around.variable Action ≡ part_settled part None → settled_in facts around (action_tree c) ≡ known (action_met (is_within facts) c part)
+action_settled facts around any_action part e = refl
+action_settled facts around (action_equals x) (Given u) e = rw e (ap (λ b. Is (Plain (Boolean b))) (entity_equal u x))
+action_settled facts around (action_equals x) (Missing type) e = rw e refl
+action_settled facts around (action_within_any us) (Given u) e =
+    let rest = rising_uids facts us in
+    rw (e, all_literals facts around us, rest.uids_are) (ap (λ b. Is (Plain (Boolean b))) (rest.found u))
+action_settled facts around (action_within_any us) (Missing type) e = rw (e, all_literals facts around us) refl
+
+-- ---- conditions
+
+first_none : (xs ys : List SlotId) → are_some (xs ++ ys) ≡ false → xs ≡ []
+first_none [] ys h = refl
+first_none (x ∷ xs) ys h = cc
+
+later_none : (xs ys : List SlotId) → are_some (xs ++ ys) ≡ false → ys ≡ []
+later_none [] [] h = refl
+later_none [] (y ∷ ys) h = cc
+later_none (x ∷ xs) ys h = cc
+
+module _ (facts : Facts) (q : Question) (s : PolicySyntax) (static : is_template s ≡ false) where
+  abbrev around : LeafSettlings
+  around = settled_of facts q (λ s. None) finite.empty
+
+  part_untold : (p : Part) (n : Text) → part_settled p (finite.get {R = text_cmp} finite.empty n) ≡ part_settled p None
+  part_untold p n = ap (part_settled p) (finite.get-empty text_cmp n)
+
+  both_known : (l r : Tree) (o p : Option Bool) → settled_in facts around l ≡ known o → settled_in facts around r ≡ known p → settled_in facts around (conjunction l r) ≡ known (and_then_met o p)
+  both_known l r o p h k =
+      folded facts around l r ∙ ap (λ x. and_settled x (settled_in facts around r)) h ∙ ap (and_settled (known o)) k ∙ and_known o p
+
+  scope_settled : settled_in facts around (scope_tree s) ≡ known (scope_met (is_within facts) s q)
+  scope_settled =
+      let principal : settled_in facts around (constraint_tree Principal PrincipalSlot s.principal) ≡ known (met (is_within facts) s.principal q.principal) =
+      constraint_settled facts around Principal PrincipalSlot s.principal q.principal (first_none (constraint_slots PrincipalSlot s.principal) (constraint_slots ResourceSlot s.resource) static) (part_untold q.principal _) in
+      let action : settled_in facts around (action_tree s.action) ≡ known (action_met (is_within facts) s.action q.action) = action_settled facts around s.action q.action (part_untold q.action _) in
+      let resource : settled_in facts around (constraint_tree Resource ResourceSlot s.resource) ≡ known (met (is_within facts) s.resource q.resource) =
+      constraint_settled facts around Resource ResourceSlot s.resource q.resource (later_none (constraint_slots PrincipalSlot s.principal) (constraint_slots ResourceSlot s.resource) static) (part_untold q.resource _) in
+      both_known (conjunction (constraint_tree Principal PrincipalSlot s.principal) (action_tree s.action)) (constraint_tree Resource ResourceSlot s.resource)
+      (and_then_met (met (is_within facts) s.principal q.principal) (action_met (is_within facts) s.action q.action)) (met (is_within facts) s.resource q.resource)
+      (both_known (constraint_tree Principal PrincipalSlot s.principal) (action_tree s.action) (met (is_within facts) s.principal q.principal) (action_met (is_within facts) s.action q.action) principal action) resource
+
+  settles_as : (o : Option Bool) → settled_so_far facts q finite.empty (condition s) ≡ known o → StandsSoFar facts q finite.empty s (standing_met o)
+  settles_as (Some true) h = decided (Gives (Plain (Boolean true))) h refl
+  settles_as (Some false) h = decided (Gives (Plain (Boolean false))) h refl
+  settles_as None h = still_open h
+
+  stands : s.body ≡ None → StandsSoFar facts q finite.empty s (standing_met (scope_met (is_within facts) s q))
+  stands none = settles_as (scope_met (is_within facts) s q) (ap (λ b. settled_in facts around (with_body (scope_tree s) b)) none ∙ scope_settled)
+
+-- ---- no unknown is named
+
+conjunction_names : (l r : Tree) → mentions_only (λ v. true) true l ≡ true → mentions_only (λ v. true) true r ≡ true → mentions_only (λ v. true) true (conjunction l r) ≡ true
+conjunction_names (Lit (Boolean a)) (Lit (Boolean b)) h k = refl
+conjunction_names l r h k = and_both (mentions_only (λ v. true) true l) (mentions_only (λ v. true) true r) h k
+
+target_names : (slot : SlotId) (x : Target) → mentions_only (λ v. true) true (target_tree slot x) ≡ true
+target_names slot (the_entity u) = refl
+target_names slot the_slot = refl
+
+constraint_names : (v : Variable) (slot : SlotId) (c : Constraint) → mentions_only (λ v. true) true (constraint_tree v slot c) ≡ true
+constraint_names v slot anything = refl
+constraint_names v slot (equals x) = rw (target_names slot x) refl
+constraint_names v slot (within x) = rw (target_names slot x) refl
+constraint_names v slot (of_type name) = refl
+constraint_names v slot (of_type_within name x) = rw (target_names slot x) refl
+
+literals_name : (us : List Uid) → all_mention_only (λ v. true) true (trees (map (λ u. Lit (Entity u)) us)) ≡ true
+literals_name [] = refl
+literals_name (u ∷ us) = literals_name us
+
+action_names : (c : ActionConstraint) → mentions_only (λ v. true) true (action_tree c) ≡ true
+action_names any_action = refl
+action_names (action_equals u) = refl
+action_names (action_within_any us) = rw (literals_name us) refl
+
+names_nothing : (s : PolicySyntax) → s.body ≡ None → mentions_only (λ v. true) true (condition s) ≡ true
+names_nothing s none =
+    ap (λ b. mentions_only (λ v. true) true (with_body (scope_tree s) b)) none
+    ∙ conjunction_names (conjunction (constraint_tree Principal PrincipalSlot s.principal) (action_tree s.action)) (constraint_tree Resource ResourceSlot s.resource)
+    (conjunction_names (constraint_tree Principal PrincipalSlot s.principal) (action_tree s.action) (constraint_names Principal PrincipalSlot s.principal) (action_names s.action)) (constraint_names Resource ResourceSlot s.resource)
+
+pub scopes_settle : ScopesSettle
+scopes_settle = record {
+  stands = stands;
+  folded = folded;
+  names_nothing = names_nothing;
+  is_equality = is_equality;
+  decides_equality = decides_equality;
+}

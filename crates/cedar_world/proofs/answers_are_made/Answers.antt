@@ -1,0 +1,5 @@
+use Rattle.cedar_world.proofs.Ids.{answers_are_made as law}
+use Rattle.cedar_world.proofs.answers_are_made.Goals as goal
+
+pub returns : goal.returns
+returns c = law

@@ -1,0 +1,39 @@
+-- The answer to a question that was just asked stands by how each policy in force stands.
+use Rattle.std.specs.Prelude.{◌≡◌, true, Some, List}
+use Rattle.std.specs.FinMap as map
+use Rattle.cedar_language.specs.Uid.{Text}
+use Rattle.cedar_language.specs.Facts.{Facts}
+use Rattle.cedar_language.specs.Answering.{Judged}
+use Rattle.cedar_language.specs.Authorization.{Known}
+use Rattle.cedar_partial_evaluation.specs.Mentions.{mentions_only}
+use Rattle.cedar_world.specs.Answer.{Answer}
+use Rattle.cedar_world.specs.Syntax.{PolicySyntax, condition}
+use Rattle.cedar_world.specs.World.{World, in_force_at}
+use Rattle.cedar_world.specs.Asking.{Entries, NoContext, WithEntries, Question}
+use Rattle.cedar_world.specs.Question.{IsKnown}
+use Rattle.cedar_world.specs.Bodies.{are_restricted}
+use Rattle.cedar_world.specs.Setting.{Setting}
+use Rattle.cedar_world.specs.Fillings.{IsFilling}
+use Rattle.cedar_world.specs.Step.{IsFirstAnswer}
+use Rattle.cedar_world.specs.Standing.{Judges, Says}
+use Rattle.cedar_world.specs.WorldFacts.{AreFactsOf}
+
+-- a given context is data alone: literals, unknown names, lists, records and calls
+abbrev pub IsData : Entries → Type 0
+IsData NoContext = Unit {0}
+IsData (WithEntries ks ts) = are_restricted ts ≡ true
+
+-- where nothing is unknown, the context means a value
+abbrev pub HasRequest : Setting → Question → Type 0
+HasRequest by q = IsKnown q → (request : Known) × IsFilling by q map.empty request
+
+-- no condition in force names an unknown
+abbrev pub NamesNoUnknown : World → Type 0
+NamesNoUnknown world = (id : Text) (s : PolicySyntax) → in_force_at world.policies id ≡ Some s → mentions_only (λ v. true) true (condition s) ≡ true
+
+-- what the rules say of the policies in force, as each stands when the question is asked, is a first answer
+abbrev pub FirstAnswersStand : Type 0
+FirstAnswersStand =
+    (by : Setting) (world : World) (facts : Facts) (q : Question) (js : List Judged) (answer : Answer)
+    → AreFactsOf by world facts → NamesNoUnknown world → IsData q.context → HasRequest by q
+    → Judges world facts q map.empty js → Says js answer → IsFirstAnswer by world q answer
