@@ -21,93 +21,103 @@ fn write_expr<T, W: fmt::Write>(expr: &Expr<T>, f: &mut fmt::Formatter<W>) -> fm
             then_expr,
             else_expr,
         } => {
-            write!(f, "if ")?;
-            write_operand(test_expr, f)?;
-            write!(f, " then ")?;
-            write_operand(then_expr, f)?;
-            write!(f, " else ")?;
-            write_operand(else_expr, f)
+            write_after("if ", test_expr, f)?;
+            write_after(" then ", then_expr, f)?;
+            write_after(" else ", else_expr, f)
         }
         ExprKind::And { left, right } => {
             write_operand(left, f)?;
-            write!(f, " && ")?;
-            write_operand(right, f)
+            write_after(" && ", right, f)
         }
         ExprKind::Or { left, right } => {
             write_operand(left, f)?;
-            write!(f, " || ")?;
-            write_operand(right, f)
+            write_after(" || ", right, f)
         }
-        ExprKind::UnaryApp {
-            op: UnaryOp::Not,
-            arg,
-        } => {
-            write!(f, "!")?;
-            write_operand(arg, f)
+        ExprKind::UnaryApp { op, arg } => write_unary(*op, arg, f),
+        ExprKind::BinaryApp { op, arg1, arg2 } => {
+            write_operand(arg1, f)?;
+            write_second(*op, arg2, f)
         }
+        ExprKind::ExtensionFunctionApp { fn_name, args } => {
+            write!(f, "{fn_name}")?;
+            write_items("(", args, ")", f)
+        }
+        ExprKind::Set(items) => write_items("[", items, "]", f),
+        ExprKind::Record(entries) => write_entries(entries, f),
+        ExprKind::GetAttr { expr: operand, .. }
+        | ExprKind::HasAttr { expr: operand, .. }
+        | ExprKind::ExtHasAttr { expr: operand, .. }
+        | ExprKind::Like { expr: operand, .. }
+        | ExprKind::Is { expr: operand, .. } => {
+            write_operand(operand, f)?;
+            write_asked(&expr.expr_kind, f)
+        }
+    }
+}
+
+// An operand behind the text that leads to it.
+#[cycle(write_exprs)]
+fn write_after<T, W: fmt::Write>(
+    text: &str,
+    expr: &Expr<T>,
+    f: &mut fmt::Formatter<W>,
+) -> fmt::Result {
+    f.write_str(text)?;
+    write_operand(expr, f)
+}
+
+// An expression in parentheses.
+#[cycle(write_exprs)]
+fn write_enclosed<T, W: fmt::Write>(expr: &Expr<T>, f: &mut fmt::Formatter<W>) -> fmt::Result {
+    write!(f, "(")?;
+    write_expr(expr, f)?;
+    write!(f, ")")
+}
+
+#[cycle(write_exprs)]
+fn write_unary<T, W: fmt::Write>(
+    op: UnaryOp,
+    arg: &Expr<T>,
+    f: &mut fmt::Formatter<W>,
+) -> fmt::Result {
+    match op {
+        UnaryOp::Not => write_after("!", arg, f),
         // always in parentheses: a sign before a number would be a part of it
-        ExprKind::UnaryApp {
-            op: UnaryOp::Neg,
-            arg,
-        } => {
-            write!(f, "-(")?;
-            write_expr(arg, f)?;
-            write!(f, ")")
+        UnaryOp::Neg => {
+            write!(f, "-")?;
+            write_enclosed(arg, f)
         }
-        ExprKind::UnaryApp {
-            op: UnaryOp::IsEmpty,
-            arg,
-        } => {
+        UnaryOp::IsEmpty => {
             write_operand(arg, f)?;
             write!(f, ".isEmpty()")
         }
-        ExprKind::BinaryApp { op, arg1, arg2 } => {
-            write_operand(arg1, f)?;
-            if !is_method(*op) {
-                write!(f, " {op} ")?;
-                return write_operand(arg2, f);
-            }
-            write!(f, ".{op}(")?;
-            write_expr(arg2, f)?;
-            write!(f, ")")
-        }
-        ExprKind::ExtensionFunctionApp { fn_name, args } => {
-            write!(f, "{fn_name}(")?;
-            write_items(args, f)?;
-            write!(f, ")")
-        }
-        ExprKind::GetAttr { expr, attr } => {
-            write_operand(expr, f)?;
-            let attr = Escaped::new(attr.as_str());
-            write!(f, "[\"{attr}\"]")
-        }
-        ExprKind::HasAttr { expr, attr } => {
-            write_operand(expr, f)?;
-            let attr = Escaped::new(attr.as_str());
-            write!(f, " has \"{attr}\"")
-        }
-        ExprKind::ExtHasAttr { expr, attrs } => {
-            write_operand(expr, f)?;
-            write_path(attrs, f)
-        }
-        ExprKind::Like { expr, pattern } => {
-            write_operand(expr, f)?;
-            write!(f, " like \"{pattern}\"")
-        }
-        ExprKind::Is { expr, entity_type } => {
-            write_operand(expr, f)?;
-            write!(f, " is {entity_type}")
-        }
-        ExprKind::Set(items) => {
-            write!(f, "[")?;
-            write_items(items, f)?;
-            write!(f, "]")
-        }
-        ExprKind::Record(entries) => {
-            write!(f, "{{")?;
-            write_entries(entries, f)?;
-            write!(f, "}}")
-        }
+    }
+}
+
+// An operator and its second operand.
+#[cycle(write_exprs)]
+fn write_second<T, W: fmt::Write>(
+    op: BinaryOp,
+    arg: &Expr<T>,
+    f: &mut fmt::Formatter<W>,
+) -> fmt::Result {
+    if is_method(op) {
+        write!(f, ".{op}")?;
+        return write_enclosed(arg, f);
+    }
+    write!(f, " {op} ")?;
+    write_operand(arg, f)
+}
+
+// What is asked of an operand that stands before it.
+fn write_asked<T, W: fmt::Write>(kind: &ExprKind<T>, f: &mut fmt::Formatter<W>) -> fmt::Result {
+    match kind {
+        ExprKind::GetAttr { attr, .. } => write!(f, "[\"{}\"]", Escaped::new(attr.as_str())),
+        ExprKind::HasAttr { attr, .. } => write!(f, " has \"{}\"", Escaped::new(attr.as_str())),
+        ExprKind::ExtHasAttr { attrs, .. } => write_path(attrs, f),
+        ExprKind::Like { pattern, .. } => write!(f, " like \"{pattern}\""),
+        ExprKind::Is { entity_type, .. } => write!(f, " is {entity_type}"),
+        _ => Ok(()),
     }
 }
 
@@ -117,20 +127,24 @@ fn write_operand<T, W: fmt::Write>(expr: &Expr<T>, f: &mut fmt::Formatter<W>) ->
     if stands_alone(&expr.expr_kind) {
         return write_expr(expr, f);
     }
-    write!(f, "(")?;
-    write_expr(expr, f)?;
-    write!(f, ")")
+    write_enclosed(expr, f)
 }
 
 #[cycle(write_exprs)]
-fn write_items<T, W: fmt::Write>(items: &[Expr<T>], f: &mut fmt::Formatter<W>) -> fmt::Result {
+fn write_items<T, W: fmt::Write>(
+    open: &str,
+    items: &[Expr<T>],
+    close: &str,
+    f: &mut fmt::Formatter<W>,
+) -> fmt::Result {
+    f.write_str(open)?;
     let mut is_first = true;
     for item in items {
         write_separator(is_first, f)?;
         write_expr(item, f)?;
         is_first = false;
     }
-    Ok(())
+    f.write_str(close)
 }
 
 #[cycle(write_exprs)]
@@ -138,6 +152,7 @@ fn write_entries<T, W: fmt::Write>(
     entries: &BTreeMap<RcStr, Expr<T>>,
     f: &mut fmt::Formatter<W>,
 ) -> fmt::Result {
+    write!(f, "{{")?;
     let mut is_first = true;
     for (key, expr) in entries {
         write_separator(is_first, f)?;
@@ -146,7 +161,7 @@ fn write_entries<T, W: fmt::Write>(
         write_expr(expr, f)?;
         is_first = false;
     }
-    Ok(())
+    write!(f, "}}")
 }
 
 fn write_separator<W: fmt::Write>(is_first: bool, f: &mut fmt::Formatter<W>) -> fmt::Result {
