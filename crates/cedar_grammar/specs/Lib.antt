@@ -15,3 +15,4 @@ pub mod Loose
 pub mod LooseReading
 pub mod Converting
 pub mod LooseLaws
+pub mod Calls

@@ -5,3 +5,4 @@ mod Standing
 pub mod Rows
 pub mod Rising
 mod Sets
+mod Height

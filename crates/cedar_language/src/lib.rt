@@ -5,6 +5,7 @@ ghost use Rattle.std.specs.Cmp.{IsTotalOrder};
 ghost use Rattle.std.specs.FinMap.{IsAntisymmetric};
 ghost use Rattle.cedar_language.specs.Answering.{RulesAreFair, RulesAreSharp, RulesAreExact, SessionsKeep};
 ghost use Rattle.cedar_language.specs.Authorization.{StandingsAreMeant};
+ghost use Rattle.cedar_language.specs.Height.{LinkingKeepsHeight};
 ghost use Rattle.cedar_language.specs.Means.{MeaningIsMeant};
 ghost use Rattle.cedar_language.specs.Order.{value_cmp};
 ghost use Rattle.cedar_language.specs.Pattern.{DecidesMatches};
@@ -54,4 +55,9 @@ pub fn rules_are_sharp()
 /// Where no policy is open, decision and reasons are those under the filling.
 pub fn rules_are_exact()
     ensures { RulesAreExact }
+{}
+
+/// A policy with the entities written in the places of its slots is as high as with its slots.
+pub fn linking_keeps_height()
+    ensures { LinkingKeepsHeight }
 {}

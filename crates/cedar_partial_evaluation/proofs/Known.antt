@@ -102,7 +102,7 @@ settled_is : (facts : Facts) (request : Request) (t : Tree) → settled_in facts
 settled_is facts request t =
     settled_at facts request (leaf_settlings_of request) Any (λ v. refl) (λ n ty h. refl) (λ s. refl) (λ a. refl) (λ a. refl) t (each_passes Any (λ n ty. tt) t)
 
-all_settled_is : (facts : Facts) (request : Request) (ts : Trees) → all_settled_in facts (leaf_settlings_of request) ts ≡ kindless_all (meanings facts request ts)
+pub all_settled_is : (facts : Facts) (request : Request) (ts : Trees) → all_settled_in facts (leaf_settlings_of request) ts ≡ kindless_all (meanings facts request ts)
 all_settled_is facts request ts =
     all_settled_at facts request (leaf_settlings_of request) Any (λ v. refl) (λ n ty h. refl) (λ s. refl) (λ a. refl) (λ a. refl) ts (all_pass Any (λ n ty. tt) ts)
 
@@ -171,11 +171,11 @@ known_is_meaning facts request t = answered_at facts request (leaf_answers_of re
 
 -- ---- kinds
 
-is_value : (o : Outcome) (v : Value) → kindless o ≡ Is v → o ≡ Gives v
+pub is_value : (o : Outcome) (v : Value) → kindless o ≡ Is v → o ≡ Gives v
 is_value (Gives w) v h = cc
 is_value (Fails k) v h = cc
 
-are_values : (os : Outcomes) (vs : Values) → kindless_all os ≡ AllAre vs → os ≡ GivesAll vs
+pub are_values : (os : Outcomes) (vs : Values) → kindless_all os ≡ AllAre vs → os ≡ GivesAll vs
 are_values (GivesAll ws) vs h = cc
 are_values (OneFails k) vs h = cc
 
@@ -183,23 +183,23 @@ pub never_open : (o : Outcome) → kindless o ≢ Open
 never_open (Gives w) h = cc
 never_open (Fails k) h = cc
 
-unbound_is : (o : Option Uid) → kindless (slot_outcome o) ≡ Errs → slot_outcome o ≡ Fails UnlinkedSlot
+pub unbound_is : (o : Option Uid) → kindless (slot_outcome o) ≡ Errs → slot_outcome o ≡ Fails UnlinkedSlot
 unbound_is (Some u) h = cc
 unbound_is None h = refl
 
-and_not : (v : Value) (b : Outcome) → IsNotBoolean v → and_of (Gives v) b ≡ Fails TypeError
+pub and_not : (v : Value) (b : Outcome) → IsNotBoolean v → and_of (Gives v) b ≡ Fails TypeError
 and_not (Plain (Boolean x)) b h = absurd h
 and_not _ b h = refl
 
-or_not : (v : Value) (b : Outcome) → IsNotBoolean v → or_of (Gives v) b ≡ Fails TypeError
+pub or_not : (v : Value) (b : Outcome) → IsNotBoolean v → or_of (Gives v) b ≡ Fails TypeError
 or_not (Plain (Boolean x)) b h = absurd h
 or_not _ b h = refl
 
-if_not : (v : Value) (b c : Outcome) → IsNotBoolean v → if_of (Gives v) b c ≡ Fails TypeError
+pub if_not : (v : Value) (b c : Outcome) → IsNotBoolean v → if_of (Gives v) b c ≡ Fails TypeError
 if_not (Plain (Boolean x)) b c h = absurd h
 if_not _ b c h = refl
 
-boolean_not : (v : Value) → IsNotBoolean v → boolean_of (Gives v) ≡ Fails TypeError
+pub boolean_not : (v : Value) → IsNotBoolean v → boolean_of (Gives v) ≡ Fails TypeError
 boolean_not (Plain (Boolean x)) h = absurd h
 boolean_not _ h = refl
 

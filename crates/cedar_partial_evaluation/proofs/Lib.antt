@@ -14,3 +14,9 @@ mod Linking
 mod Unbound
 mod UnboundSeam
 mod Reauthorizing
+mod Leaves
+mod Errors
+mod ReadUnknowns
+mod LinkingEarly
+mod Alike
+mod DataErrors

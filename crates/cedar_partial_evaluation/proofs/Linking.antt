@@ -4,8 +4,8 @@ use Rattle.cedar_language.specs.Uid.{Uid}
 use Rattle.cedar_language.specs.Tree.{Context, SlotId, Operator, GetAttr, HasAttr, Tree, Lit, Var, Slot, Unknown, If, And, Or, Apply, Trees, no_trees, a_tree}
 use Rattle.cedar_language.specs.Facts.{Facts}
 use Rattle.cedar_language.specs.Meaning.{Slots, Request, slot_outcome, apply_of, meaning, meanings}
-use Rattle.cedar_partial_evaluation.specs.Settling.{Settling, Open, Errs, Is, kindless, apply_settled, or_entry, settled_in, all_settled_in}
-use Rattle.cedar_partial_evaluation.specs.Question.{Question, Told, settled_of}
+use Rattle.cedar_partial_evaluation.specs.Settling.{Settling, Open, Errs, Is, kindless, apply_settled, LeafSettlings, or_entry, settled_in, all_settled_in}
+use Rattle.cedar_partial_evaluation.specs.Question.{settled_of}
 use Rattle.cedar_partial_evaluation.specs.Linking.{bound_slot, bound_tree, bound_trees, no_slots, without_slots, LinkingIsWriting}
 
 module _ (facts : Facts) (request : Request) where
@@ -28,20 +28,30 @@ module _ (facts : Facts) (request : Request) where
     all_mean no_trees = refl
     all_mean (a_tree t ts) = rw (means t, all_mean ts) refl
 
-module _ (facts : Facts) (q : Question) (slots : Slots) (told : Told) where
-  slot_settles : (s : SlotId) (o : Option Uid) → kindless (slot_outcome o) ≡ settled_in facts (settled_of facts q no_slots told) (bound_slot s o)
+-- leaves, once slots are bound to these entities
+abbrev pub with_slots : LeafSettlings → Slots → LeafSettlings
+with_slots around slots = record {
+  variable = around.variable;
+  unknown = around.unknown;
+  slot = λ s. kindless (slot_outcome (slots s));
+  in_context = around.in_context;
+  has_in_context = around.has_in_context;
+}
+
+module _ (facts : Facts) (around : LeafSettlings) (slots : Slots) where
+  slot_settles : (s : SlotId) (o : Option Uid) → kindless (slot_outcome o) ≡ settled_in facts (with_slots around no_slots) (bound_slot s o)
   slot_settles s (Some u) = refl
   slot_settles s None = refl
 
   slot_entry : (op : Operator) (s : SlotId) (o : Option Uid) (ts us : Trees) (x : Settling) →
-      or_entry (settled_of facts q slots told) op (a_tree (Slot s) ts) x ≡ or_entry (settled_of facts q no_slots told) op (a_tree (bound_slot s o) us) x
+      or_entry (with_slots around slots) op (a_tree (Slot s) ts) x ≡ or_entry (with_slots around no_slots) op (a_tree (bound_slot s o) us) x
   slot_entry (GetAttr a) s (Some u) ts us x = refl
   slot_entry (HasAttr a) s (Some u) ts us x = refl
   slot_entry (GetAttr a) s None ts us x = refl
   slot_entry (HasAttr a) s None ts us x = refl
   slot_entry op s o ts us x = refl
 
-  linked_entry : (op : Operator) (ts : Trees) (x : Settling) → or_entry (settled_of facts q slots told) op ts x ≡ or_entry (settled_of facts q no_slots told) op (bound_trees slots ts) x
+  linked_entry : (op : Operator) (ts : Trees) (x : Settling) → or_entry (with_slots around slots) op ts x ≡ or_entry (with_slots around no_slots) op (bound_trees slots ts) x
   linked_entry op no_trees x = refl
   linked_entry op (a_tree (Slot s) ts) x = slot_entry op s (slots s) ts (bound_trees slots ts) x
   linked_entry (GetAttr a) (a_tree (Var Context) no_trees) Open = refl
@@ -59,7 +69,7 @@ module _ (facts : Facts) (q : Question) (slots : Slots) (told : Told) where
   linked_entry op (a_tree _ ts) x = refl
 
   mutual
-    settles : (t : Tree) → settled_in facts (settled_of facts q slots told) t ≡ settled_in facts (settled_of facts q no_slots told) (bound_tree slots t)
+    pub settles : (t : Tree) → settled_in facts (with_slots around slots) t ≡ settled_in facts (with_slots around no_slots) (bound_tree slots t)
     settles (Lit l) = refl
     settles (Var v) = refl
     settles (Slot s) = slot_settles s (slots s)
@@ -68,12 +78,15 @@ module _ (facts : Facts) (q : Question) (slots : Slots) (told : Told) where
     settles (And l r) = rw (settles l, settles r) refl
     settles (Or l r) = rw (settles l, settles r) refl
     settles (Apply op ts) =
-        linked_entry op ts (apply_settled facts op (all_settled_in facts (settled_of facts q slots told) ts)) ∙
-        ap (λ xs. or_entry (settled_of facts q no_slots told) op (bound_trees slots ts) (apply_settled facts op xs)) (all_settle ts)
+        linked_entry op ts (apply_settled facts op (all_settled_in facts (with_slots around slots) ts)) ∙
+        ap (λ xs. or_entry (with_slots around no_slots) op (bound_trees slots ts) (apply_settled facts op xs)) (all_settle ts)
 
-    all_settle : (ts : Trees) → all_settled_in facts (settled_of facts q slots told) ts ≡ all_settled_in facts (settled_of facts q no_slots told) (bound_trees slots ts)
+    pub all_settle : (ts : Trees) → all_settled_in facts (with_slots around slots) ts ≡ all_settled_in facts (with_slots around no_slots) (bound_trees slots ts)
     all_settle no_trees = refl
     all_settle (a_tree t ts) = rw (settles t, all_settle ts) refl
 
 pub linking_is_writing : LinkingIsWriting
-linking_is_writing = record { means = means; settles = settles }
+linking_is_writing = record {
+  means = means;
+  settles = λ facts q slots told t. settles facts (settled_of facts q slots told) slots t;
+}

@@ -150,7 +150,7 @@ held_made facts good q slots told h = record {
 }
 
 -- entries of what the operands left
-next_known : (facts : Facts) (p : Answer) (ps : Answers) (vs : Values) → and_next facts p ps ≡ AllEvaluated vs → (v : Value) × (ws : Values) × (p ≡ Evaluated v) × (ps ≡ AllEvaluated ws) × (vs ≡ a_value v ws)
+pub next_known : (facts : Facts) (p : Answer) (ps : Answers) (vs : Values) → and_next facts p ps ≡ AllEvaluated vs → (v : Value) × (ws : Values) × (p ≡ Evaluated v) × (ps ≡ AllEvaluated ws) × (vs ≡ a_value v ws)
 next_known facts (Evaluated v) (AllEvaluated ws) vs h = (v, ws, refl, refl, cc)
 next_known facts (Evaluated v) (SomeResiduals rs) vs h = cc
 next_known facts (Evaluated v) (SomeFailed k) vs h = cc

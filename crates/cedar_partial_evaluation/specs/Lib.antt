@@ -15,3 +15,10 @@ pub mod Linking
 pub mod Unbound
 pub mod UnboundSeam
 pub mod Reauthorizing
+pub mod Leaves
+pub mod Errors
+pub mod ReadUnknowns
+pub mod LinkingEarly
+pub mod Alike
+pub mod DataErrors
+pub mod EarlyRows

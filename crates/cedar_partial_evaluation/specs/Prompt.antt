@@ -19,31 +19,43 @@ abbrev pub false_value : Value
 false_value = Plain (Boolean false)
 
 -- `ErrsAs .. t k`: the tree settles to the error k; `everywhere t`: t errs in every filling
-mutual
-  pub data ErrsAs (facts : Facts) (around : LeafSettlings) (everywhere : Tree → Type 0) : Tree → Kind → Type 0 where
-    unbound : {s : SlotId} → around.slot s ≡ Errs → ErrsAs facts around everywhere (Slot s) UnlinkedSlot
-    and_left : {l r : Tree} {k : Kind} → ErrsAs facts around everywhere l k → ErrsAs facts around everywhere (And l r) k
-    and_right : {l r : Tree} {k : Kind} → settled_in facts around l ≡ Is true_value → ErrsAs facts around everywhere r k → ErrsAs facts around everywhere (And l r) k
-    and_left_type : {l r : Tree} {v : Value} → settled_in facts around l ≡ Is v → IsNotBoolean v → ErrsAs facts around everywhere (And l r) TypeError
-    and_right_type : {l r : Tree} {v : Value} → settled_in facts around l ≡ Is true_value → settled_in facts around r ≡ Is v → IsNotBoolean v → ErrsAs facts around everywhere (And l r) TypeError
-    or_left : {l r : Tree} {k : Kind} → ErrsAs facts around everywhere l k → ErrsAs facts around everywhere (Or l r) k
-    or_right : {l r : Tree} {k : Kind} → settled_in facts around l ≡ Is false_value → ErrsAs facts around everywhere r k → ErrsAs facts around everywhere (Or l r) k
-    or_left_type : {l r : Tree} {v : Value} → settled_in facts around l ≡ Is v → IsNotBoolean v → ErrsAs facts around everywhere (Or l r) TypeError
-    or_right_type : {l r : Tree} {v : Value} → settled_in facts around l ≡ Is false_value → settled_in facts around r ≡ Is v → IsNotBoolean v → ErrsAs facts around everywhere (Or l r) TypeError
-    if_test : {t y n : Tree} {k : Kind} → ErrsAs facts around everywhere t k → ErrsAs facts around everywhere (If t y n) k
-    if_type : {t y n : Tree} {v : Value} → settled_in facts around t ≡ Is v → IsNotBoolean v → ErrsAs facts around everywhere (If t y n) TypeError
-    if_then : {t y n : Tree} {k : Kind} → settled_in facts around t ≡ Is true_value → ErrsAs facts around everywhere y k → ErrsAs facts around everywhere (If t y n) k
-    if_else : {t y n : Tree} {k : Kind} → settled_in facts around t ≡ Is false_value → ErrsAs facts around everywhere n k → ErrsAs facts around everywhere (If t y n) k
-    operands : {op : Operator} {ts : Trees} {k : Kind} → FirstErrsAs facts around everywhere ts k → ErrsAs facts around everywhere (Apply op ts) k
-    operator : {op : Operator} {ts : Trees} {vs : Values} {k : Kind} → all_settled_in facts around ts ≡ AllAre vs → applied facts op vs ≡ Fails k → ErrsAs facts around everywhere (Apply op ts) k
-    no_entry : {a : Text} → around.in_context a ≡ Errs → ErrsAs facts around everywhere (Apply (GetAttr a) (a_tree (Var Context) no_trees)) RecordAttrDoesNotExist
+module _ (facts : Facts) (around : LeafSettlings) (everywhere : Tree → Type 0) where
+  mutual
+    pub data ErrsAs : Tree → Kind → Type 0 where
+      unbound : {s : SlotId} → around.slot s ≡ Errs → ErrsAs (Slot s) UnlinkedSlot
+      and_left : {l r : Tree} {k : Kind} → ErrsAs l k → ErrsAs (And l r) k
+      and_right : {l r : Tree} {k : Kind} → settled_in facts around l ≡ Is true_value → ErrsAs r k → ErrsAs (And l r) k
+      and_left_type : {l r : Tree} {v : Value} → settled_in facts around l ≡ Is v → IsNotBoolean v →
+          ErrsAs (And l r) TypeError
+      and_right_type : {l r : Tree} {v : Value} → settled_in facts around l ≡ Is true_value →
+          settled_in facts around r ≡ Is v → IsNotBoolean v → ErrsAs (And l r) TypeError
+      or_left : {l r : Tree} {k : Kind} → ErrsAs l k → ErrsAs (Or l r) k
+      or_right : {l r : Tree} {k : Kind} → settled_in facts around l ≡ Is false_value → ErrsAs r k → ErrsAs (Or l r) k
+      or_left_type : {l r : Tree} {v : Value} → settled_in facts around l ≡ Is v → IsNotBoolean v →
+          ErrsAs (Or l r) TypeError
+      or_right_type : {l r : Tree} {v : Value} → settled_in facts around l ≡ Is false_value →
+          settled_in facts around r ≡ Is v → IsNotBoolean v → ErrsAs (Or l r) TypeError
+      if_test : {t y n : Tree} {k : Kind} → ErrsAs t k → ErrsAs (If t y n) k
+      if_type : {t y n : Tree} {v : Value} → settled_in facts around t ≡ Is v → IsNotBoolean v →
+          ErrsAs (If t y n) TypeError
+      if_then : {t y n : Tree} {k : Kind} → settled_in facts around t ≡ Is true_value → ErrsAs y k → ErrsAs (If t y n) k
+      if_else : {t y n : Tree} {k : Kind} → settled_in facts around t ≡ Is false_value → ErrsAs n k →
+          ErrsAs (If t y n) k
+      operands : {op : Operator} {ts : Trees} {k : Kind} → FirstErrsAs ts k → ErrsAs (Apply op ts) k
+      operator : {op : Operator} {ts : Trees} {vs : Values} {k : Kind} → all_settled_in facts around ts ≡ AllAre vs →
+          applied facts op vs ≡ Fails k → ErrsAs (Apply op ts) k
+      no_entry : {a : Text} → around.in_context a ≡ Errs →
+          ErrsAs (Apply (GetAttr a) (a_tree (Var Context) no_trees)) RecordAttrDoesNotExist
 
-  -- the first operand that settles to an error, open ones passed over; behind one that errs everywhere any kind
-  pub data FirstErrsAs (facts : Facts) (around : LeafSettlings) (everywhere : Tree → Type 0) : Trees → Kind → Type 0 where
-    here : {t : Tree} {ts : Trees} {k : Kind} → ErrsAs facts around everywhere t k → FirstErrsAs facts around everywhere (a_tree t ts) k
-    behind_value : {t : Tree} {ts : Trees} {v : Value} {k : Kind} → settled_in facts around t ≡ Is v → FirstErrsAs facts around everywhere ts k → FirstErrsAs facts around everywhere (a_tree t ts) k
-    behind_open : {t : Tree} {ts : Trees} {k : Kind} → settled_in facts around t ≡ Open → FirstErrsAs facts around everywhere ts k → FirstErrsAs facts around everywhere (a_tree t ts) k
-    behind_erring : {t : Tree} {ts : Trees} {k l : Kind} → settled_in facts around t ≡ Open → everywhere t → FirstErrsAs facts around everywhere ts k → FirstErrsAs facts around everywhere (a_tree t ts) l
+    -- the first operand that settles to an error, open ones passed over; behind one that errs everywhere any kind
+    pub data FirstErrsAs : Trees → Kind → Type 0 where
+      here : {t : Tree} {ts : Trees} {k : Kind} → ErrsAs t k → FirstErrsAs (a_tree t ts) k
+      behind_value : {t : Tree} {ts : Trees} {v : Value} {k : Kind} → settled_in facts around t ≡ Is v →
+          FirstErrsAs ts k → FirstErrsAs (a_tree t ts) k
+      behind_open : {t : Tree} {ts : Trees} {k : Kind} → settled_in facts around t ≡ Open → FirstErrsAs ts k →
+          FirstErrsAs (a_tree t ts) k
+      behind_erring : {t : Tree} {ts : Trees} {k l : Kind} → settled_in facts around t ≡ Open → everywhere t →
+          FirstErrsAs ts k → FirstErrsAs (a_tree t ts) l
 
 abbrev pub without_kind : Answer → Settling
 without_kind (Evaluated v) = Is v

@@ -3,6 +3,13 @@
 
 ghost use Rattle.cedar_partial_evaluation.specs.Like.{LikeTreesAgreeAlways, WrittenIsAnswered};
 ghost use Rattle.cedar_partial_evaluation.specs.Mentions.{KnownTreesSettle, NamesDontMatter, WithoutUnknowns};
+ghost use Rattle.cedar_partial_evaluation.specs.Leaves.{KnownIsNeverLeft, LeavesDontMatter, MentionedIsMeant};
+ghost use Rattle.cedar_partial_evaluation.specs.Errors.{SettlingIsOne};
+ghost use Rattle.cedar_partial_evaluation.specs.Alike.{LikenessIsAlwaysKept, ProjectingIsEvaluating, GatheredAlwaysSplits};
+ghost use Rattle.cedar_partial_evaluation.specs.ReadUnknowns.{UnknownsAreRead};
+ghost use Rattle.cedar_partial_evaluation.specs.DataErrors.{DataErrsInParts};
+ghost use Rattle.cedar_partial_evaluation.specs.EarlyRows.{EarlyRows};
+ghost use Rattle.cedar_partial_evaluation.specs.LinkingEarly.{LinkingIsWritingEarly};
 ghost use Rattle.cedar_partial_evaluation.specs.Linking.{LinkingIsWriting};
 ghost use Rattle.cedar_partial_evaluation.specs.Partial.{KnownIsMeaning};
 ghost use Rattle.cedar_partial_evaluation.specs.Prompt.{IsPrompt, KindsAreMeant};
@@ -179,4 +186,59 @@ pub fn reauthorizing_is_exact()
 /// Where no unknown stands in a tree, any values give each of its unknowns one.
 pub fn without_unknowns()
     ensures { WithoutUnknowns }
+{}
+
+/// A tree that mentions only what is known is never left.
+pub fn known_is_never_left()
+    ensures { KnownIsNeverLeft }
+{}
+
+/// Leaves that a tree doesn't mention have nothing to do with what is answered, settled and meant of it.
+pub fn leaves_dont_matter()
+    ensures { LeavesDontMatter }
+{}
+
+/// A tree that mentions nothing missing is answered by what it means, whatever stands for what is missing.
+pub fn mentioned_is_meant()
+    ensures { MentionedIsMeant }
+{}
+
+/// A tree settles to an error exactly where it settles to some kind of it.
+pub fn settling_is_one()
+    ensures { SettlingIsOne }
+{}
+
+/// Answers that are the same but for how extension values are written stay so under every construct.
+pub fn likeness_is_kept()
+    ensures { LikenessIsAlwaysKept }
+{}
+
+/// An entry that is projected is what its tree is evaluated to again.
+pub fn projecting_is_evaluating()
+    ensures { ProjectingIsEvaluating }
+{}
+
+/// What is split off evaluated operands is what is gathered of them.
+pub fn gathered_splits()
+    ensures { GatheredAlwaysSplits }
+{}
+
+/// With its slots bound, a policy stands early, and errs, as it does with the entities written in their places.
+pub fn linking_is_writing_early()
+    ensures { LinkingIsWritingEarly }
+{}
+
+/// Calls of `unknown` are read as unknowns: once, in data as anywhere, and nothing else is changed.
+pub fn unknowns_are_read()
+    ensures { UnknownsAreRead }
+{}
+
+/// Data is refused once values are told exactly where some part of it errs, all of whose names are told.
+pub fn data_errs_in_parts()
+    ensures { DataErrsInParts }
+{}
+
+/// Worked rows: what is answered and settled of small trees at small questions.
+pub fn early_rows()
+    ensures { EarlyRows }
 {}

@@ -6,14 +6,14 @@ use Rattle.cedar_language.specs.Facts.{Facts}
 use Rattle.cedar_language.specs.Answering.{Effect, Standing}
 use Rattle.cedar_language.specs.Authorization.{Known}
 use Rattle.cedar_world.specs.Answer.{Answer}
-use Rattle.cedar_world.specs.World.{World, Policy, Entities, AreFacts}
-use Rattle.cedar_world.specs.Asking.{Question}
+use Rattle.cedar_world.specs.World.{World, Asked, Policy, Entities, AreFacts}
+use Rattle.cedar_world.specs.Asking.{Question, Told}
 use Rattle.cedar_world.specs.Setting.{Setting}
-use Rattle.cedar_world.specs.Answers.{judge, answer_of, known_answer, IsKnownAnswer, IsDecided, IsOut, AllOut, SomeHolds, SaysDecided, SaysKinds}
+use Rattle.cedar_world.specs.Answers.{judge, answer_of, known_answer, IsKnownAnswer, IsDecided, IsOut, AllOut, SomeHolds, SaysDecided, SaysKinds, IsFair, NamesNoGhosts, IsPromptButKinds}
 use Rattle.cedar_world.specs.LinkLaws.{LinkingIsWriting}
 use Rattle.cedar_world.specs.Syntax.{linked}
-use Rattle.cedar_world.specs.Step.{IsFirstAnswer}
-use Rattle.cedar_world.specs.InForce.{AreAlike, AnswersReadWhatIsInForce, LinksAreAnsweredAsWritten}
+use Rattle.cedar_world.specs.Step.{IsFirstAnswer, IsLaterAnswer}
+use Rattle.cedar_world.specs.InForce.{AreAlike, AnswerAlike, AnswersReadWhatIsInForce, LinksAreAnsweredAsWritten}
 use Rattle.cedar_world.proofs.InForce.{listed, found_in_force, one_list}
 
 swapped : (world other : World) → AreAlike world other → AreAlike other world
@@ -33,8 +33,8 @@ module _ (by : Setting) (world other : World) (alike : AreAlike world other) whe
     is = known.is ∙ same_known by world other known.facts request alike;
   }
 
-  decided_there : (facts : Facts) (q : Question) (id : Text) (effect : Effect) (standing : Standing) → IsDecided by world facts q finite.empty id effect standing → IsDecided by other facts q finite.empty id effect standing
-  decided_there facts q id effect standing d = record {
+  decided_there : (facts : Facts) (q : Question) (told : Told) (id : Text) (effect : Effect) (standing : Standing) → IsDecided by world facts q told id effect standing → IsDecided by other facts q told id effect standing
+  decided_there facts q told id effect standing d = record {
     syntax = d.syntax;
     in_force = sym (alike.policies id) ∙ d.in_force;
     effect_is = d.effect_is;
@@ -43,52 +43,83 @@ module _ (by : Setting) (world other : World) (alike : AreAlike world other) whe
     standing_is = d.standing_is;
   }
 
-module _ (by : Setting) (world other : World) (alike : AreAlike world other) (facts : Facts) (q : Question) where
-  decided_back : (id : Text) (effect : Effect) (standing : Standing) → IsDecided by other facts q finite.empty id effect standing → IsDecided by world facts q finite.empty id effect standing
-  decided_back = decided_there by other world (swapped world other alike) facts q
+module _ (by : Setting) (world other : World) (alike : AreAlike world other) (facts : Facts) (q : Question) (told : Told) where
+  decided_back : (id : Text) (effect : Effect) (standing : Standing) → IsDecided by other facts q told id effect standing → IsDecided by world facts q told id effect standing
+  decided_back = decided_there by other world (swapped world other alike) facts q told
 
-  out_back : (id : Text) (effect : Effect) → IsOut by other facts q finite.empty id effect → IsOut by world facts q finite.empty id effect
+  out_back : (id : Text) (effect : Effect) → IsOut by other facts q told id effect → IsOut by world facts q told id effect
   out_back id effect (standing, not, d) = (standing, not, decided_back id effect standing d)
 
-  all_out_back : (effect : Effect) → AllOut by other facts q finite.empty effect → AllOut by world facts q finite.empty effect
+  all_out_back : (effect : Effect) → AllOut by other facts q told effect → AllOut by world facts q told effect
   all_out_back effect out id s h e = out_back id effect (out id s (sym (alike.policies id) ∙ h) e)
 
-  some_back : (effect : Effect) → SomeHolds by other facts q finite.empty effect → SomeHolds by world facts q finite.empty effect
+  some_back : (effect : Effect) → SomeHolds by other facts q told effect → SomeHolds by world facts q told effect
   some_back effect (id, d) = (id, decided_back id effect _ d)
 
-  decided_said : (answer : Answer) → SaysDecided by world facts q finite.empty answer → SaysDecided by other facts q finite.empty answer
+  decided_said : (answer : Answer) → SaysDecided by world facts q told answer → SaysDecided by other facts q told answer
   decided_said answer says = record {
     denies = λ h. says.denies (some_back _ h);
     denies_too = λ h. says.denies_too (all_out_back _ h);
     allows = λ h k. says.allows (all_out_back _ h) (some_back _ k);
     must_forbids = λ id d. says.must_forbids id (decided_back id _ _ d);
     must_permits = λ h id d. says.must_permits (all_out_back _ h) id (decided_back id _ _ d);
-    may = λ id h. ap is_some (sym (alike.policies id)) ∙ says.may id h;
     may_not = λ id effect o. says.may_not id effect (out_back id effect o);
     may_forbids = λ h id s k. says.may_forbids (some_back _ h) id s (alike.policies id ∙ k);
     erring = λ id effect k d. says.erring id effect k (decided_back id effect _ d);
   }
 
-  kinds_said : (answer : Answer) → SaysKinds by world facts q finite.empty answer → SaysKinds by other facts q finite.empty answer
+  kinds_said : (answer : Answer) → SaysKinds by world facts q told answer → SaysKinds by other facts q told answer
   kinds_said answer says id effect k d =
-      let (l, told, still) = says id effect k (decided_back id effect _ d) in
-      (l, told, decided_there by world other alike facts q id effect _ still)
+      let (l, named, still) = says id effect k (decided_back id effect _ d) in
+      (l, named, decided_there by world other alike facts q told id effect _ still)
 
-same_first : (by : Setting) (world other : World) (q : Question) (answer : Answer) → AreAlike world other → IsFirstAnswer by world q answer → IsFirstAnswer by other q answer
-same_first by world other q answer alike first =
+module _ (by : Setting) (world other : World) (alike : AreAlike world other) where
+  back : AreAlike other world
+  back = swapped world other alike
+
+  fair_there : (q : Question) (told : Told) (answer : Answer) → IsFair by world q told answer → IsFair by other q told answer
+  fair_there q told answer fair filling request whole agrees known = fair filling request whole agrees (known_there by other world back request whole known)
+
+  prompt_there : (q : Question) (told : Told) (answer : Answer) → IsPromptButKinds by world q told answer → IsPromptButKinds by other q told answer
+  prompt_there q told answer prompt facts are = decided_said by world other alike facts q told answer (prompt facts (facts_there by other world back facts are))
+
+  ghosts_there : (answer : Answer) → NamesNoGhosts by world answer → NamesNoGhosts by other answer
+  ghosts_there answer names = record {
+    must = names.must;
+    may = λ id h. ap is_some (sym (alike.policies id)) ∙ names.may id h;
+    erring = λ id h. ap is_some (sym (alike.policies id)) ∙ names.erring id h;
+  }
+
+  first_there : (q : Question) (answer : Answer) → IsFirstAnswer by world q answer → IsFirstAnswer by other q answer
+  first_there q answer first = record {
+    known = λ is. let (request, filling, known) = first.known is in (request, filling, known_there by world other alike request answer known);
+    fair = fair_there q finite.empty answer first.fair;
+    prompt = prompt_there q finite.empty answer first.prompt;
+    kinds = λ facts are. kinds_said by world other alike facts q finite.empty answer (first.kinds facts (facts_there by other world back facts are));
+    in_force = ghosts_there answer first.in_force;
+  }
+
+  later_there : (asked : Asked) (told : Told) (answer : Answer) → IsLaterAnswer by world asked told answer → IsLaterAnswer by other asked told answer
+  later_there asked told answer later = record {
+    follows = later.follows;
+    fair = fair_there asked.question told answer later.fair;
+    prompt = prompt_there asked.question told answer later.prompt;
+    whole = λ request whole filling known. later.whole request whole filling (known_there by other world back request whole known);
+    in_force = ghosts_there answer later.in_force;
+  }
+
+answer_alike : (by : Setting) (world other : World) → AreAlike world other → AnswerAlike by world other
+answer_alike by world other alike =
     let back : AreAlike other world = swapped world other alike in
     record {
-      known = λ is. let (request, filling, known) = first.known is in (request, filling, known_there by world other alike request answer known);
-      fair = λ filling request whole agrees known. first.fair filling request whole agrees (known_there by other world back request whole known);
-      prompt = λ facts are. decided_said by world other alike facts q answer (first.prompt facts (facts_there by other world back facts are));
-      kinds = λ facts are. kinds_said by world other alike facts q answer (first.kinds facts (facts_there by other world back facts are));
+      first = λ q answer. (first_there by world other alike q answer, first_there by other world back q answer);
+      later = λ asked told answer. (later_there by world other alike asked told answer, later_there by other world back asked told answer);
     }
 
 pub answers_read_what_is_in_force : AnswersReadWhatIsInForce
-answers_read_what_is_in_force = record { listed = listed; found = found_in_force; known = same_known; first = same_first }
+answers_read_what_is_in_force = record { listed = listed; found = found_in_force; known = same_known; alike = answer_alike }
 
 pub links_are_answered_as_written : LinkingIsWriting → LinksAreAnsweredAsWritten
-links_are_answered_as_written writing by world id template b s bound template_is exact q answer =
+links_are_answered_as_written writing by world id template b s bound template_is exact =
     let other : World = record world { policies = finite.insert world.policies id (Policy (linked b s)) } in
-    let alike : AreAlike other world = record { entities = refl; policies = writing world.policies id template b s bound template_is exact } in
-    (same_first by world other q answer (swapped other world alike), same_first by other world q answer alike)
+    answer_alike by world other (record { entities = refl; policies = λ i. sym (writing world.policies id template b s bound template_is exact i) })

@@ -1,11 +1,11 @@
 -- How a session that reads the body of a command shows its steps: which case comes first, and where none stands.
-use Rattle.std.proofs.Common.{◌≡◌, inl, ℕ, ◌<◌, ◌≤◌, false, true, Option, Some, None, refl, sym, ◌∙◌, ap, subst, true≢false, arith}
+use Rattle.std.proofs.Common.{◌≡◌, inl, ℕ, ◌<◌, ◌≤◌, false, true, Option, Some, None, sym, ◌∙◌, ap, subst, true≢false, arith}
 use Rattle.cedar_language.specs.Uid as uid
 use Rattle.cedar_language.specs.Tree.{Tree}
 use Rattle.cedar_language.specs.Height.{height}
 use Rattle.cedar_world.specs.World.{World}
 use Rattle.cedar_world.specs.Bodies.{is_restricted}
-use Rattle.cedar_world.specs.Setting.{Setting, IsBodyWithin, IsBody, BodyNestsWithin, BodiesAreOne}
+use Rattle.cedar_world.specs.Setting.{Setting, IsBodyWithin, IsBody, BodiesAreOne}
 use Rattle.cedar_world.specs.Commands.{Refusal, NotUtf8, Text, Depth, NotRestricted, Shape, rank}
 use Rattle.cedar_world.specs.Refusals.{BodyStands}
 use Rattle.cedar_world.proofs.Parts.{not_none, same_some}

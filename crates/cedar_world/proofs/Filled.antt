@@ -1,8 +1,7 @@
 -- The policies in force as they are judged when a question is asked, and once it is filled.
 use Rattle.std.proofs.Common.{◌≡◌, inl, inr, false, List, [], ◌∷◌, map, Option, Some, None, is_some, refl, sym, ◌∙◌, ap, subst}
-use Rattle.std.specs.FinMap as finite
 use Rattle.std.proofs.lemmas.List.Elements.{All-contains}
-use Rattle.cedar_language.specs.Uid.{Text, Name}
+use Rattle.cedar_language.specs.Uid.{Text}
 use Rattle.cedar_language.specs.Facts.{Facts}
 use Rattle.cedar_language.specs.Answering.{Standing, Unsatisfied, is_residual, Judged, ComesTo, StillErrs, Fills, Filled, nothing, a_policy, At, at_first, at_later, satisfied_forbid, satisfied_permit, known_decision, is_reason, IsFair}
 use Rattle.cedar_language.specs.Authorization.{Known, standing_of}
@@ -14,10 +13,10 @@ use Rattle.cedar_world.specs.Asking.{Question, Told}
 use Rattle.cedar_world.specs.Setting.{Setting, functions_alone, means}
 use Rattle.cedar_world.specs.Answers.{judge}
 use Rattle.cedar_world.specs.Standing.{IsJudged, Judges}
-use Rattle.cedar_world.specs.First.{IsData}
 use Rattle.cedar_world.proofs.Lists.{IsAmong, contained, contains, mapped, unmapped, AreAlike, some_alike}
 use Rattle.cedar_world.proofs.InForce.{listed_in_force, in_force_listed}
-use Rattle.cedar_world.proofs.Standings.{not_residual, standing_comes}
+use Rattle.cedar_world.proofs.Standings.{not_residual}
+use Rattle.cedar_world.proofs.Ways.{IsSound}
 
 -- ---- lists side by side
 
@@ -32,9 +31,9 @@ beside f (k ∷ js) j (inr a) = at_later (beside f js j a)
 
 -- ---- what the policies come to
 
-module _ (by : Setting) (world : World) (facts : Facts) (q : Question) (js : List Judged) (judges : Judges world facts q finite.empty js) where
-  pub judged : (j : Judged) → IsAmong j js → IsJudged world facts q finite.empty j
-  judged j a = All-contains (IsJudged world facts q finite.empty) js j judges.each (contains js j a)
+module _ (by : Setting) (world : World) (facts : Facts) (q : Question) (Stands : PolicySyntax → Standing → Type 0) (js : List Judged) (judges : Judges world Stands js) where
+  pub judged : (j : Judged) → IsAmong j js → IsJudged world Stands j
+  judged j a = All-contains (IsJudged world Stands) js j judges.each (contains js j a)
 
   -- the policy in force under an id is among them
   pub there : (id : Text) (s : PolicySyntax) → in_force_at world.policies id ≡ Some s → (j : Judged) × IsAmong j js × (j.id ≡ id)
@@ -58,7 +57,7 @@ module _ (by : Setting) (world : World) (facts : Facts) (q : Question) (js : Lis
     known_at None = refl
     known_at (Some s) = not_residual (means facts request (condition s))
 
-    is_known_as : (j : Judged) (h : IsJudged world facts q finite.empty j) → judge facts request (j.id, h.syntax) ≡ known_as j
+    is_known_as : (j : Judged) (h : IsJudged world Stands j) → judge facts request (j.id, h.syntax) ≡ known_as j
     is_known_as j h =
         let standing : standing_of (means facts request (condition h.syntax)) ≡ standing_at (in_force_at world.policies j.id) = ap standing_at (sym h.in_force) in
         λ i. record { id = j.id; effect = h.effect i; standing = standing i }
@@ -95,15 +94,15 @@ module _ (by : Setting) (world : World) (facts : Facts) (q : Question) (js : Lis
     pub same_reason : (x : Judged) → is_reason all_known x ≡ is_reason judged_known x
     same_reason x = rw (some_alike all_known judged_known known_alike satisfied_forbid) refl
 
-    module _ (same : (name : Name) → facts.function name ≡ (functions_alone by.functions).function name) (of_data : IsData q.context) (filling : Told) (fills : early.IsFilling (functions_alone by.functions) q filling request) where
+    module _ (sound : IsSound by world facts q Stands) (filling : Told) (fills : early.IsFilling (functions_alone by.functions) q filling request) where
       fills_one : (j : Judged) → IsAmong j js → Fills j (known_as j)
       fills_one j a =
           let h = judged j a in
           record {
             id = refl;
             effect = refl;
-            standing = subst (λ o. ComesTo j.standing (standing_at o)) (sym h.in_force) (standing_comes by facts same q of_data filling request fills h.syntax j.standing h.standing).0;
-            erring = subst (λ o. StillErrs j.standing (standing_at o)) (sym h.in_force) (standing_comes by facts same q of_data filling request fills h.syntax j.standing h.standing).1;
+            standing = subst (λ o. ComesTo j.standing (standing_at o)) (sym h.in_force) (sound.fair j.id h.syntax h.in_force j.standing h.standing filling request fills).0;
+            erring = subst (λ o. StillErrs j.standing (standing_at o)) (sym h.in_force) (sound.fair j.id h.syntax h.in_force j.standing h.standing filling request fills).1;
             known = known_at (in_force_at world.policies j.id);
           }
 

@@ -1,5 +1,5 @@
 -- The answers where no policy is in force, and where one permits all.
-use Rattle.std.proofs.Common.{◌≡◌, ◌⊎◌, inl, inr, true, Some, is_some, IsTrue, [], ◌∷◌, map, refl, sym, ◌∙◌, ap, subst, true≢false, codes}
+use Rattle.std.proofs.Common.{◌≡◌, ◌⊎◌, inl, inr, true, Some, is_some, IsTrue, IsSome, [], ◌∷◌, map, refl, sym, ◌∙◌, ap, subst, true≢false, codes}
 use Rattle.std.specs.FinMap as finite
 use Rattle.cedar_language.specs.Uid.{Text}
 use Rattle.cedar_language.specs.Tree.{Boolean}
@@ -37,6 +37,9 @@ nothing_in_force id s e = not_none s (sym (ap (in_force_as finite.empty) (finite
 no_id : (id : Text) → IsTrue (has_id finite.empty id) → ⊥
 no_id id h = true≢false (sym h ∙ ap is_some (finite.get-empty text_cmp id))
 
+no_error : (id : Text) → IsSome (finite.get {X = Kind} {R = text_cmp} finite.empty id) → ⊥
+no_error id h = true≢false (sym h ∙ ap is_some (finite.get-empty text_cmp id))
+
 module _ (by : Setting) where
   denied_is_fair : (q : Question) (told : Told) → IsFair by new_world q told denied
   denied_is_fair q told filling request whole agrees known =
@@ -50,7 +53,6 @@ module _ (by : Setting) where
     allows = λ out h. absurd (nothing_in_force h.0 h.1.syntax h.1.in_force);
     must_forbids = λ id d. absurd (nothing_in_force id d.syntax d.in_force);
     must_permits = λ out id d. absurd (nothing_in_force id d.syntax d.in_force);
-    may = λ id h. absurd (no_id id h);
     may_not = λ id effect out h. no_id id h;
     may_forbids = λ some id s e f h. no_id id h;
     erring = λ id effect k d. absurd (nothing_in_force id d.syntax d.in_force);
@@ -62,6 +64,7 @@ module _ (by : Setting) where
     fair = denied_is_fair all_missing finite.empty;
     prompt = λ facts are. denied_says facts all_missing finite.empty;
     kinds = λ facts are id effect k d. absurd (nothing_in_force id d.syntax d.in_force);
+    in_force = record { must = λ id h. h; may = λ id h. absurd (no_id id h); erring = λ id h. absurd (no_error id h) };
   }
 
 -- ---- one policy permits all
@@ -111,8 +114,8 @@ module _ (by : Setting) where
     none_out : (id : Text) (effect : Effect) → IsOut by one_policy facts q told id effect → ⊥
     none_out id effect out = out.1 (decided id effect out.0 out.2).2
 
-    no_error : (id : Text) (effect : Effect) (k : Kind) → IsDecided by one_policy facts q told id effect (Erring k) → ⊥
-    no_error id effect k d = true≢false (sym (ap is_satisfied (decided id effect (Erring k) d).2))
+    none_errs : (id : Text) (effect : Effect) (k : Kind) → IsDecided by one_policy facts q told id effect (Erring k) → ⊥
+    none_errs id effect k d = true≢false (sym (ap is_satisfied (decided id effect (Erring k) d).2))
 
     allowed_says : SaysDecided by one_policy facts q told allowed
     allowed_says = record {
@@ -121,10 +124,9 @@ module _ (by : Setting) where
       allows = λ out h. refl;
       must_forbids = λ id d. absurd (no_forbid id Satisfied d);
       must_permits = λ out id d. is_the_id id (decided id Permit Satisfied d).0;
-      may = λ id h. ap is_some (ap (in_force_at one_policy.policies) (the_id id h) ∙ zero_in_force);
       may_not = λ id effect out h. none_out id effect out;
       may_forbids = λ some id s e f h. no_forbid some.0 Satisfied some.1;
-      erring = λ id effect k d. absurd (no_error id effect k d);
+      erring = λ id effect k d. absurd (none_errs id effect k d);
     }
 
   allowed_is_fair : (q : Question) (told : Told) → IsFair by one_policy q told allowed
@@ -137,5 +139,10 @@ module _ (by : Setting) where
     known = λ known. absurd (not_known known);
     fair = allowed_is_fair all_missing finite.empty;
     prompt = λ facts are. allowed_says facts all_missing finite.empty;
-    kinds = λ facts are id effect k d. absurd (no_error facts all_missing finite.empty id effect k d);
+    kinds = λ facts are id effect k d. absurd (none_errs facts all_missing finite.empty id effect k d);
+    in_force = record {
+      must = λ id h. h;
+      may = λ id h. ap is_some (ap (in_force_at one_policy.policies) (the_id id h) ∙ zero_in_force);
+      erring = λ id h. absurd (no_error id h);
+    };
   }

@@ -4,23 +4,21 @@ use Rattle.std.specs.FinMap as finite
 use Rattle.cedar_language.specs.Uid.{Text}
 use Rattle.cedar_language.specs.Value.{Kind}
 use Rattle.cedar_language.specs.Facts.{Facts}
-use Rattle.cedar_language.specs.Answering.{Erring, is_permit, is_residual, Judged, satisfied_forbid, satisfied_permit, residual_forbid, residual_permit, some, Allow, Deny, known_decision, is_reason, decision_by, decision, in_must, in_may}
+use Rattle.cedar_language.specs.Answering.{Standing, Erring, is_permit, is_residual, Judged, satisfied_forbid, satisfied_permit, residual_forbid, residual_permit, some, Allow, Deny, known_decision, is_reason, decision_by, decision, in_must, in_may}
 use Rattle.cedar_language.specs.Authorization.{Known}
-use Rattle.cedar_partial_evaluation.specs.Mentions.{is_known, KnownTreesSettle}
 use Rattle.cedar_partial_evaluation.specs.Filling as early
 use Rattle.cedar_world.specs.Syntax.{PolicySyntax}
 use Rattle.cedar_world.specs.Answer.{Answer}
 use Rattle.cedar_world.specs.World.{World, in_force, in_force_at}
 use Rattle.cedar_world.specs.Asking.{Question}
+use Rattle.cedar_world.specs.Question.{IsKnown}
 use Rattle.cedar_world.specs.Setting.{Setting, functions_alone}
 use Rattle.cedar_world.specs.Answers.{judge, known_answer}
 use Rattle.cedar_world.specs.Standing.{Judges, Says}
-use Rattle.cedar_world.specs.WorldFacts.{AreFactsOf}
-use Rattle.cedar_world.specs.First.{IsData, NamesNoUnknown}
 use Rattle.cedar_world.proofs.Lists.{or_false, IsAmong, mapped, unmapped, AreAlike, some_alike, not_some}
 use Rattle.cedar_world.proofs.InForce.{listed_in_force}
 use Rattle.cedar_world.proofs.Ids.{the_value, HasPassed, passed, has_passed, with_id, id_with, same_ids, HasFailed, failed, has_failed, with_error, error_with, same_kinds}
-use Rattle.cedar_world.proofs.Standings.{standing_known}
+use Rattle.cedar_world.proofs.Ways.{IsSound}
 use Rattle.cedar_world.proofs.Filled.{judged, standing_at, known_at, known_as, judged_known, known_there, known_back}
 
 -- ---- the rules where nothing is open
@@ -59,32 +57,31 @@ module _ (js : List Judged) (settled : (j : Judged) → IsAmong j js → is_resi
 
 -- ---- the answer
 
-module _ (by : Setting) (world : World) (facts : Facts) (are : AreFactsOf by world facts) (q : Question) (of_data : IsData q.context) (js : List Judged)
-    (judges : Judges world facts q finite.empty js) (answer : Answer) (says : Says js answer) (closed : NamesNoUnknown world) (request : Known) (fills : early.IsFilling (functions_alone by.functions) q finite.empty request)
-    (settle : KnownTreesSettle) (known : (v : _) → is_known q v ≡ true) where
+module _ (by : Setting) (world : World) (facts : Facts) (q : Question) (Stands : PolicySyntax → Standing → Type 0) (sound : IsSound by world facts q Stands) (js : List Judged)
+    (judges : Judges world Stands js) (answer : Answer) (says : Says js answer) (known : IsKnown q) (request : Known) (fills : early.IsFilling (functions_alone by.functions) q finite.empty request) where
   abbrev whole : List Judged
-  whole = judged_known by world facts q js judges request
+  whole = judged_known by world facts q Stands js judges request
 
   abbrev as_known : Judged → Judged
-  as_known = known_as by world facts q js judges request
+  as_known = known_as by world facts q Stands js judges request
 
   as_judged : (j : Judged) → IsAmong j js → as_known j ≡ j
   as_judged j a =
-      let h = judged by world facts q js judges j a in
+      let h = judged by world facts q Stands js judges j a in
       let standing : (as_known j).standing ≡ j.standing =
-      ap (standing_at by world facts q js judges request) h.in_force ∙ standing_known by facts are.function q of_data finite.empty request fills settle known h.syntax j.standing (closed j.id h.syntax h.in_force) h.standing in
+      ap (standing_at by world facts q Stands js judges request) h.in_force ∙ sound.exact j.id h.syntax h.in_force known request fills j.standing h.standing in
       λ i. record { id = j.id; effect = j.effect; standing = standing i }
 
   alike : AreAlike js whole
   alike = record {
-    there = λ j a. subst (λ x. IsAmong x whole) (as_judged j a) (known_there by world facts q js judges request (as_known j) (mapped as_known js j a));
+    there = λ j a. subst (λ x. IsAmong x whole) (as_judged j a) (known_there by world facts q Stands js judges request (as_known j) (mapped as_known js j a));
     back = λ x a.
-        let (j, b, is) = unmapped as_known js x (known_back by world facts q js judges request x a) in
+        let (j, b, is) = unmapped as_known js x (known_back by world facts q Stands js judges request x a) in
         subst (λ y. IsAmong y js) (sym (as_judged j b) ∙ is) b;
   }
 
   settled : (j : Judged) → IsAmong j js → is_residual j.standing ≡ false
-  settled j a = ap (λ (x : Judged). is_residual x.standing) (sym (as_judged j a)) ∙ known_at by world facts q js judges request (in_force_at world.policies j.id)
+  settled j a = ap (λ (x : Judged). is_residual x.standing) (sym (as_judged j a)) ∙ known_at by world facts q Stands js judges request (in_force_at world.policies j.id)
 
   same_reason : (j : Judged) → is_reason js j ≡ is_reason whole j
   same_reason j = rw (some_alike js whole alike satisfied_forbid) refl

@@ -1,21 +1,20 @@
 -- How a session that loads and asks shows its steps.
-use Rattle.std.proofs.Common.{◌≡◌, inl, ℕ, suc, ◌+◌, ◌≤◌, ◌<◌, false, true, Some, None, IsSome, List, [], ◌∷◌, ◌++◌, length, refl, sym, ◌∙◌, ap, subst, true≢false, arith}
+use Rattle.std.proofs.Common.{◌≡◌, inl, ℕ, suc, ◌≤◌, ◌<◌, false, true, Some, None, IsSome, List, [], ◌∷◌, length, refl, sym, ◌∙◌, ap, subst, true≢false, arith}
 use Rattle.std.specs.FinMap as map
 use Rattle.cedar_language.specs.Uid as uid
 use Rattle.cedar_language.specs.Tree.{Tree}
 use Rattle.cedar_language.specs.Height.{height}
 use Rattle.cedar_world.specs.Syntax.{PolicySyntax}
 use Rattle.cedar_world.specs.Answer.{Answer}
-use Rattle.cedar_world.specs.World.{World, Policy, Policies}
-use Rattle.cedar_world.specs.PolicyEdits.{numbered, HasRoom, HaveRoom, own_ids, Names, joined, Loads}
+use Rattle.cedar_world.specs.World.{World, Policies}
+use Rattle.cedar_world.specs.PolicyEdits.{HaveRoom, own_ids, Names, joined, Loads}
 use Rattle.cedar_world.specs.Asking.{Question}
 use Rattle.cedar_world.specs.Bodies.{is_restricted, ask_body}
 use Rattle.cedar_world.specs.Setting.{Setting, ArePoliciesWithin, ArePolicies, PoliciesNestWithin, PoliciesAreOne, IsBodyWithin, IsBody, BodyNestsWithin, BodiesAreOne}
-use Rattle.cedar_world.specs.Commands.{Verb, Load, Ask, Tell, Refusal, NotUtf8, Text, Depth, NotRestricted, Shape, Evaluation, BadUnknown, IdConflict, Memory, Named, Answered, Refused, rank}
+use Rattle.cedar_world.specs.Commands.{Verb, Load, Ask, Tell, Refusal, NotUtf8, Text, Depth, NotRestricted, Shape, Evaluation, BadUnknown, Memory, Named, Answered, Refused, rank}
+use Rattle.cedar_world.specs.Values.{context_errs, holds_bad_unknown}
 use Rattle.cedar_world.specs.Refusals.{Stands, Refuses, AskCases}
 use Rattle.cedar_world.specs.Step.{Step, IsFirstAnswer, opens}
-use Rattle.cedar_world.proofs.OneLoad.{room_or_conflict}
-use Rattle.cedar_world.proofs.SoFar.{asks_plainly, plain_errs_not, plain_names_nothing}
 use Rattle.cedar_world.proofs.BodyCommands.{not_below, no_text, not_restricted, misshapen, stands_not}
 
 -- ---- policies that all have room stand under their own numbers
@@ -101,13 +100,13 @@ module _ (by : Setting) (old : World) (text : uid.Text) where
       ask_is_misshapen none = (misshapen by old text ask_body (AskCases by old) says_no_utf8 once tree reads low restricted none, refl)
 
       -- a question, and its first answer
-      pub ask_stands : (q : Question) (answer : Answer) (new : World) → ask_body tree ≡ Some q → IsFirstAnswer by old q answer → new ≡ opens old q map.empty answer
-          → Step by old Ask text (Answered answer) new
-      ask_stands q answer new asks first is = (λ r h. refuses r h, (tree, q, (by.depth, reads), asks, (first, is)))
+      pub ask_stands : (q : Question) (answer : Answer) (new : World) → ask_body tree ≡ Some q → context_errs by q.context map.empty ≡ false → holds_bad_unknown q.context ≡ false
+          → IsFirstAnswer by old q answer → new ≡ opens old q map.empty answer → Step by old Ask text (Answered answer) new
+      ask_stands q answer new asks errs_not names_well first is = (λ r h. refuses r h, (tree, q, (by.depth, reads), asks, (first, is)))
         where
           cases : (r : Refusal) → AskCases by old q r → ⊥
-          cases Evaluation h = true≢false (sym h ∙ plain_errs_not by q.context (asks_plainly tree q asks))
-          cases BadUnknown h = true≢false (sym h ∙ plain_names_nothing q.context (asks_plainly tree q asks))
+          cases Evaluation h = true≢false (sym h ∙ errs_not)
+          cases BadUnknown h = true≢false (sym h ∙ names_well)
           cases r h = h
 
           stands : (r : Refusal) → Stands by old text Ask r → ⊥

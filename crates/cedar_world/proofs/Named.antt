@@ -1,13 +1,19 @@
 -- What texts may call is what the table answers.
 use Rattle.std.proofs.Common.{◌≡◌, Bool, true, false, not, ◌&&◌, ◌||◌, if◌then◌else◌, Option, Some, None, is_some, List, [], ◌∷◌, filter, refl, sym, ◌∙◌, ap, true≢false}
-use Rattle.std.specs.List.{list_any}
+use Rattle.std.specs.List.{list_any, list_all}
 use Rattle.std.proofs.lemmas.Cmp.{nat_list_eq_equiv, lists_equiv}
 use Rattle.std.specs.Cmp.{IsEquivalence}
 use Rattle.cedar_language.specs.Uid.{Text, Name}
+use Rattle.cedar_language.specs.Tree.{String, Operator, Call, Tree, Lit, Var, Slot, Unknown, If, And, Or, Apply, Trees, no_trees, a_tree}
 use Rattle.cedar_language.specs.Facts.{Function}
+use Rattle.cedar_grammar.specs.Calls.{is_method, is_in_table, calls_none_but, calls_only, all_call_only, ExprsCallTheTable, ConditionsCallTheTable}
 use Rattle.cedar_grammar.specs.Names.{Names, is_text, is_name, is_among, is_function}
-use Rattle.cedar_world.specs.Functions.{CallStyle, as_function, as_method, NamedFunction, Functions, the_unknown, is_the_unknown, unknown_function, callers_functions, with_function, function_names, with_method, method_names, policy_names, first_named}
-use Rattle.cedar_world.specs.NameLaws.{NamesAreFound}
+use Rattle.cedar_world.specs.Functions.{CallStyle, as_function, as_method, NamedFunction, Functions, the_unknown, is_the_unknown, unknown_function, callers_functions, with_function, function_names, with_method, method_names, policy_names, body_names, first_named, function_of}
+use Rattle.cedar_partial_evaluation.specs.ReadUnknowns.{unknown_or_call, read_call, UnknownsAreRead}
+use Rattle.cedar_world.specs.Bodies.{unknown_or, named, all_named}
+use Rattle.cedar_world.specs.Setting.{Setting}
+use Rattle.cedar_world.specs.Syntax.{PolicySyntax, condition}
+use Rattle.cedar_world.specs.NameLaws.{NamesAreFound, NamesAreRead, is_answered, CallsAreFound}
 
 names_equiv : IsEquivalence is_name
 names_equiv = lists_equiv nat_list_eq_equiv
@@ -110,3 +116,101 @@ names_are_found fs = record {
   body_method = body_method fs fs.has_unknown;
   no_unknown = no_policy_calls fs _ refl;
 }
+
+-- ---- the calls of texts
+
+both : (a b : Bool) → a ≡ true → b ≡ true → (a && b) ≡ true
+both a b e f = rw (e, f) refl
+
+first_true : (a b : Bool) → (a && b) ≡ true → a ≡ true
+first_true true b h = refl
+first_true false b h = h
+
+module _ (f g : Name → Bool) (more : (name : Name) → f name ≡ true → g name ≡ true) where
+  operator_still : (op : Operator) → calls_none_but f op ≡ true → calls_none_but g op ≡ true
+  operator_still (Call name) h = more name h
+  operator_still op h = refl
+
+  mutual
+    calls_still : (t : Tree) → calls_only f t ≡ true → calls_only g t ≡ true
+    calls_still (Lit l) h = refl
+    calls_still (Var v) h = refl
+    calls_still (Slot s) h = refl
+    calls_still (Unknown n ty) h = h
+    calls_still (If t y n) h =
+        let rest = right_of (calls_only f t) _ h in
+        both (calls_only g t) _ (calls_still t (first_true (calls_only f t) _ h))
+        (both (calls_only g y) _ (calls_still y (first_true (calls_only f y) _ rest)) (calls_still n (right_of (calls_only f y) _ rest)))
+    calls_still (And l r) h = both (calls_only g l) _ (calls_still l (first_true (calls_only f l) _ h)) (calls_still r (right_of (calls_only f l) _ h))
+    calls_still (Or l r) h = both (calls_only g l) _ (calls_still l (first_true (calls_only f l) _ h)) (calls_still r (right_of (calls_only f l) _ h))
+    calls_still (Apply op ts) h = both (calls_none_but g op) _ (operator_still op (first_true (calls_none_but f op) _ h)) (all_still ts (right_of (calls_none_but f op) _ h))
+
+    all_still : (ts : Trees) → all_call_only f ts ≡ true → all_call_only g ts ≡ true
+    all_still no_trees h = refl
+    all_still (a_tree t ts) h = both (calls_only g t) _ (calls_still t (first_true (calls_only f t) _ h)) (all_still ts (right_of (calls_only f t) _ h))
+
+  conditions_still : (ss : List PolicySyntax) → list_all (λ s. calls_only f (condition s)) ss ≡ true → list_all (λ s. calls_only g (condition s)) ss ≡ true
+  conditions_still [] h = refl
+  conditions_still (s ∷ ss) h = both (calls_only g (condition s)) _ (calls_still (condition s) (first_true (calls_only f (condition s)) _ h)) (conditions_still ss (right_of (calls_only f (condition s)) _ h))
+
+module _ (fs : Functions) where
+  by_either : (names : Names) (name : Name) → (is_function names name ≡ true → is_some (function_of fs name) ≡ true) → ((m : Text) → is_among m names.methods ≡ true → is_some (function_of fs (m ∷ [])) ≡ true)
+      → (b : Bool) → is_function names name ≡ b → is_in_table names name ≡ true → is_some (function_of fs name) ≡ true
+  by_either names name f g true e h = f e
+  by_either names name f g false e h = by_method name (sym (ap (λ b. b || is_method names name) e) ∙ h)
+    where
+      by_method : (name : Name) → is_method names name ≡ true → is_some (function_of fs name) ≡ true
+      by_method [] k = absurd (true≢false (sym k))
+      by_method (m ∷ []) k = g m k
+      by_method (m ∷ n ∷ ms) k = absurd (true≢false (sym k))
+
+  body_call : (name : Name) → is_in_table (body_names fs) name ≡ true → is_answered fs name ≡ true
+  body_call name = by_either (body_names fs) name ((names_are_found fs).body_function name) (names_are_found fs).body_method (is_function (body_names fs) name) refl
+
+  callers_call : (name : Name) → is_in_table (policy_names fs) name ≡ true → is_some (first_named name (callers_functions fs)) ≡ true
+  callers_call name h = by_part (is_function (policy_names fs) name) refl
+    where
+      by_method : (name : Name) → is_method (policy_names fs) name ≡ true → is_some (first_named name (callers_functions fs)) ≡ true
+      by_method [] k = absurd (true≢false (sym k))
+      by_method (m ∷ []) k = method_found m (callers_functions fs) k
+      by_method (m ∷ n ∷ ms) k = absurd (true≢false (sym k))
+
+      by_part : (b : Bool) → is_function (policy_names fs) name ≡ b → is_some (first_named name (callers_functions fs)) ≡ true
+      by_part true e = function_found name (callers_functions fs) (right_of _ _ e)
+      by_part false e = by_method name (sym (ap (λ b. b || is_method (policy_names fs) name) e) ∙ h)
+
+  not_the_unknown : (name : Name) → is_some (first_named name (callers_functions fs)) ≡ true → (b : Bool) → is_the_unknown name ≡ b → not b ≡ true
+  not_the_unknown name h true e = absurd (true≢false (sym h ∙ ap is_some (unknown_is_none name e fs.table)))
+  not_the_unknown name h false e = refl
+
+  policy_call : (name : Name) → is_in_table (policy_names fs) name ≡ true → (is_answered fs name && not (is_the_unknown name)) ≡ true
+  policy_call name h =
+      let found = by_either (policy_names fs) name ((names_are_found fs).policy_function name) (names_are_found fs).policy_method (is_function (policy_names fs) name) refl h in
+      both (is_answered fs name) (not (is_the_unknown name)) found (not_the_unknown name (callers_call name h) (is_the_unknown name) refl)
+
+pub calls_are_found : ExprsCallTheTable → ConditionsCallTheTable → (by : Setting) → CallsAreFound by
+calls_are_found exprs conditions by = record {
+  policies = λ text ss reads.
+      conditions_still (is_in_table (policy_names by.functions)) (λ name. is_answered by.functions name && not (is_the_unknown name)) (policy_call by.functions) ss
+      (conditions (policy_names by.functions) reads.0 reads.1.0.0 ss reads.1.0.2);
+  bodies = λ text tree reads.
+      calls_still (is_in_table (body_names by.functions)) (is_answered by.functions) (body_call by.functions) tree
+      (exprs (body_names by.functions) reads.0 reads.1.0 tree reads.1.2);
+}
+
+-- ---- the unknowns of data
+
+named_applied : (op : Operator) (ts : Trees) → named (Apply op ts) ≡ read_call op (all_named ts)
+named_applied (Call f) no_trees = refl
+named_applied (Call f) (a_tree t ts) = by_name (is_the_unknown f) (named t) (all_named ts)
+  where
+    by_name : (b : Bool) (u : Tree) (us : Trees) → unknown_or b f u us ≡ unknown_or_call b f u us
+    by_name true (Lit (String n)) no_trees = refl
+    by_name true u us = refl
+    by_name false u us = refl
+named_applied op ts = refl
+
+pub names_are_read : UnknownsAreRead → NamesAreRead
+names_are_read law t h =
+    law.data_alone named all_named
+    (record { literal = λ l. refl; unknown = λ n ty. refl; applied = named_applied; nothing = refl; more = λ u us. refl }) t h

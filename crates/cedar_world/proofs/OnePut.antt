@@ -1,14 +1,12 @@
 -- Edit by edit, or all at once: what is held answers the same.
-use Rattle.std.proofs.Common.{◌≡◌, ◌∙◌, ◌↔◌, sym, ap}
+use Rattle.std.proofs.Common.{◌≡◌, ◌∙◌, sym, ap}
 use Rattle.std.specs.FinMap as finite
 use Rattle.cedar_language.specs.Uid.{Text}
-use Rattle.cedar_world.specs.Answer.{Answer}
-use Rattle.cedar_world.specs.Asking.{Question}
 use Rattle.cedar_world.specs.Commands.{Put, Done}
 use Rattle.cedar_world.specs.EditLaws.{PutMakesAgain}
 use Rattle.cedar_world.specs.EntityEdits.{put}
 use Rattle.cedar_world.specs.Setting.{Setting}
-use Rattle.cedar_world.specs.Step.{Step, IsFirstAnswer}
+use Rattle.cedar_world.specs.Step.{Step}
 use Rattle.cedar_world.specs.World.{World, in_force_at}
 use Rattle.cedar_world.specs.InForce.{AreAlike, AnswersReadWhatIsInForce}
 use Rattle.cedar_world.specs.OnePut.{Lists, OnePutAnswersAlike}
@@ -29,7 +27,4 @@ module _ (again : PutMakesAgain) (reads : AnswersReadWhatIsInForce) where
       }
 
   pub one_put_answers_alike : OnePutAnswersAlike
-  one_put_answers_alike by world before after text none policies lists step q answer =
-      let alike : AreAlike world after = put_alike by world before after text none policies lists step in
-      let back : AreAlike after world = record { entities = sym alike.entities; policies = λ id. sym (alike.policies id) } in
-      (reads.first by world after q answer alike, reads.first by after world q answer back)
+  one_put_answers_alike by world before after text none policies lists step = reads.alike by world after (put_alike by world before after text none policies lists step)

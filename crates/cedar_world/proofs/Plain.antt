@@ -74,12 +74,12 @@ module _ (by : Setting) (world : World) (facts : Facts) (are : AreFactsOf by wor
   abbrev by_scope : Text × PolicySyntax → Judged
   by_scope = judged_by_scope (is_within facts) q
 
-  judged : (p : Text × PolicySyntax) → in_force_at world.policies p.0 ≡ Some p.1 → IsJudged world facts q finite.empty (by_scope p)
+  judged : (p : Text × PolicySyntax) → in_force_at world.policies p.0 ≡ Some p.1 → IsJudged world (StandsSoFar facts q finite.empty) (by_scope p)
   judged p h = record { syntax = p.1; in_force = h; effect = refl; standing = stands p.0 p.1 h }
 
-  judges : (ps : List (Text × PolicySyntax)) → AreInForce world ps → Judges world facts q finite.empty (map by_scope ps)
+  judges : (ps : List (Text × PolicySyntax)) → AreInForce world ps → Judges world (StandsSoFar facts q finite.empty) (map by_scope ps)
   judges ps listed = record {
-    each = All-map (IsJudged world facts q finite.empty) by_scope ps (λ k d lt. judged _ (listed.each k d lt));
+    each = All-map (IsJudged world (StandsSoFar facts q finite.empty)) by_scope ps (λ k d lt. judged _ (listed.each k d lt));
     every = λ id h.
         let (s, is) = the_value (in_force_at world.policies id) h in
         (by_scope (id, s), contains _ _ (mapped by_scope ps (id, s) (contained ps (id, s) (listed.every id s is))), refl);

@@ -1,5 +1,5 @@
 -- A first answer is prompt, and names kinds to which the policies settle.
-use Rattle.std.proofs.Common.{◌≡◌, ◌≢◌, Bool, true, false, cond, ◌||◌, List, Option, Some, is_some, refl, sym, ◌∙◌, ap, subst, true≢false}
+use Rattle.std.proofs.Common.{◌≡◌, ◌≢◌, Bool, true, false, cond, ◌||◌, List, Option, Some, None, is_some, refl, sym, ◌∙◌, ap, subst, true≢false}
 use Rattle.std.specs.FinMap as finite
 use Rattle.cedar_language.specs.Uid.{Text}
 use Rattle.cedar_language.specs.Value.{Kind}
@@ -10,13 +10,14 @@ use Rattle.cedar_world.specs.Answer.{Answer}
 use Rattle.cedar_world.specs.World.{World, in_force_at}
 use Rattle.cedar_world.specs.Asking.{Question}
 use Rattle.cedar_world.specs.Setting.{Setting}
-use Rattle.cedar_world.specs.Answers.{IsDecided, IsOut, AllOut, SomeHolds, SaysDecided, SaysKinds, IsPrompt, NamesKinds}
-use Rattle.cedar_world.specs.Standing.{StandsSoFar, still_open, decided, Judges, Says}
+use Rattle.cedar_world.specs.Answers.{IsDecided, IsOut, AllOut, SomeHolds, SaysDecided, SaysKinds, NamesNoGhosts, IsPromptButKinds, NamesKinds}
+use Rattle.cedar_world.specs.Standing.{Judges, Says}
 use Rattle.cedar_world.specs.WorldFacts.{AreFactsOf}
 use Rattle.cedar_world.proofs.Lists.{IsAmong, some_of, not_some}
 use Rattle.cedar_world.proofs.WorldFacts.{facts_are_one}
-use Rattle.cedar_world.proofs.Ids.{is_there, HasPassed, passed, has_passed, has_failed}
-use Rattle.cedar_world.proofs.Standings.{not_residual, one_standing}
+use Rattle.cedar_world.proofs.Ids.{is_there, HasPassed, passed, has_passed, failed, has_failed}
+use Rattle.cedar_world.proofs.Standings.{not_residual}
+use Rattle.cedar_world.proofs.Ways.{IsSound}
 use Rattle.cedar_world.proofs.Filled.{judged, there}
 
 -- ---- what the rules give
@@ -52,7 +53,7 @@ false_as Residual s n c h = cc
 with_effect : (wanted given : Effect) (f : Bool → Bool) → wanted ≡ given → f (is_permit wanted) ≡ f (is_permit given)
 with_effect wanted given f h = rw h refl
 
-module _ (world : World) (by : Setting) (facts : Facts) (q : Question) (js : List Judged) (judges : Judges world facts q finite.empty js) where
+module _ (world : World) (by : Setting) (facts : Facts) (q : Question) (Stands : PolicySyntax → Standing → Type 0) (sound : IsSound by world facts q Stands) (js : List Judged) (judges : Judges world Stands js) where
   abbrev Decided : Text → Effect → Standing → Type 0
   Decided id effect standing = IsDecided by world facts q finite.empty id effect standing
 
@@ -68,14 +69,14 @@ module _ (world : World) (by : Setting) (facts : Facts) (q : Question) (js : Lis
 
   so : (j : Judged) → IsAmong j js → (id : Text) → j.id ≡ id → (effect : Effect) (standing : Standing) → Decided id effect standing → IsSo j effect standing
   so j a id id_is effect standing d =
-      let h = judged by world facts q js judges j a in
+      let h = judged by world facts q Stands js judges j a in
       let one : ◌≡◌ {A = Option PolicySyntax} (Some h.syntax) (Some d.syntax) = sym h.in_force ∙ ap (in_force_at world.policies) id_is ∙ d.in_force in
       let syntax : h.syntax ≡ d.syntax = cc in
-      let stands : StandsSoFar facts q finite.empty d.syntax j.standing = subst (λ s. StandsSoFar facts q finite.empty s j.standing) syntax h.standing in
+      let stands : Stands d.syntax j.standing = subst (λ s. Stands s j.standing) syntax h.standing in
       record {
         effect_is = sym h.effect ∙ ap (λ (s : PolicySyntax). s.effect) syntax ∙ d.effect_is;
-        comes = subst (λ s. ComesTo s j.standing) d.standing_is (one_standing facts q finite.empty d.syntax d.result d.settles j.standing stands).0;
-        errs = subst (λ s. StillErrs s j.standing) d.standing_is (one_standing facts q finite.empty d.syntax d.result d.settles j.standing stands).1;
+        comes = subst (λ s. ComesTo s j.standing) d.standing_is (sound.sharp d.syntax d.result d.settles j.standing stands).0;
+        errs = subst (λ s. StillErrs s j.standing) d.standing_is (sound.sharp d.syntax d.result d.settles j.standing stands).1;
         closed = ap is_residual (sym d.standing_is) ∙ not_residual d.result;
       }
 
@@ -87,7 +88,7 @@ module _ (world : World) (by : Setting) (facts : Facts) (q : Question) (js : Lis
   -- each policy of the effect is judged to be decided and not satisfied
   all_false : (effect : Effect) → AllOut by world facts q finite.empty effect → (j : Judged) → IsAmong j js → j.effect ≡ effect → IsFalse j.standing
   all_false effect out j a e =
-      let h = judged by world facts q js judges j a in
+      let h = judged by world facts q Stands js judges j a in
       out_false j a j.id refl effect (out j.id h.syntax h.in_force (h.effect ∙ e))
 
   forbid_false : (j : Judged) → (j.effect ≡ Forbid → IsFalse j.standing) → (satisfied_forbid j ≡ false) × (residual_forbid j ≡ false)
@@ -123,7 +124,7 @@ module _ (world : World) (by : Setting) (facts : Facts) (q : Question) (js : Lis
   permits j s = rw (s.effect_is, satisfied_as j.standing s.comes) refl
 
   abbrev member : (id : Text) (effect : Effect) (standing : Standing) → Decided id effect standing → (j : Judged) × IsAmong j js × (j.id ≡ id)
-  member id effect standing d = there by world facts q js judges id d.syntax d.in_force
+  member id effect standing d = there by world facts q Stands js judges id d.syntax d.in_force
 
   some_forbid : SomeHolds by world facts q finite.empty Forbid → some satisfied_forbid js ≡ true
   some_forbid (id, d) =
@@ -150,7 +151,17 @@ module _ (world : World) (by : Setting) (facts : Facts) (q : Question) (js : Lis
       record { policy = j; among = a; id_is = is; passes = rw (no_satisfied, no_open) (permits j (so j a id is Permit Satisfied d)) }
 
   in_force_still : (id : Text) → HasPassed js (in_may js) id → is_some (in_force_at world.policies id) ≡ true
-  in_force_still id h = is_there (in_force_at world.policies id) _ (ap (in_force_at world.policies) (sym h.id_is) ∙ (judged by world facts q js judges h.policy h.among).in_force)
+  in_force_still id h = is_there (in_force_at world.policies id) _ (ap (in_force_at world.policies) (sym h.id_is) ∙ (judged by world facts q Stands js judges h.policy h.among).in_force)
+
+  -- a reason whatever the open policies come to can be one
+  must_may : (id : Text) → HasPassed js (in_must js) id → HasPassed js (in_may js) id
+  must_may id h = record { policy = h.policy; among = h.among; id_is = h.id_is; passes = by_forbids (some satisfied_forbid js) (some residual_forbid js) refl h.passes }
+    where
+      by_forbids : (sf rf : Bool) → some satisfied_forbid js ≡ sf → cond (sf || rf) (satisfied_forbid h.policy) (satisfied_permit h.policy) ≡ true →
+          cond sf (satisfied_forbid h.policy || residual_forbid h.policy) (satisfied_permit h.policy || residual_permit h.policy || residual_forbid h.policy) ≡ true
+      by_forbids true rf is e = rw e refl
+      by_forbids false false is e = rw e refl
+      by_forbids false true is e = absurd (true≢false (sym (some_of satisfied_forbid js h.policy h.among e) ∙ is))
 
   not_may : (j : Judged) → (sf : Bool) → IsFalse j.standing → cond sf (satisfied_forbid j || residual_forbid j) (satisfied_permit j || residual_permit j || residual_forbid j) ≡ false
   not_may j sf f =
@@ -168,7 +179,7 @@ module _ (world : World) (by : Setting) (facts : Facts) (q : Question) (js : Lis
 
   permit_not_may : SomeHolds by world facts q finite.empty Forbid → (id : Text) (s : PolicySyntax) → in_force_at world.policies id ≡ Some s → s.effect ≡ Permit → HasPassed js (in_may js) id → ⊥
   permit_not_may forbid id s force e h =
-      let k = judged by world facts q js judges h.policy h.among in
+      let k = judged by world facts q Stands js judges h.policy h.among in
       let one : ◌≡◌ {A = Option PolicySyntax} (Some k.syntax) (Some s) = sym k.in_force ∙ ap (in_force_at world.policies) h.id_is ∙ force in
       let syntax : k.syntax ≡ s = cc in
       let effect : h.policy.effect ≡ Permit = sym k.effect ∙ ap (λ (x : PolicySyntax). x.effect) syntax ∙ e in
@@ -197,15 +208,13 @@ module _ (world : World) (by : Setting) (facts : Facts) (q : Question) (js : Lis
         let (j, a, is) = member id effect (Erring k) d in
         let s = so j a id is effect (Erring k) d in
         let (l, errs) = s.errs in
-        let h = judged by world facts q js judges j a in
+        let h = judged by world facts q Stands js judges j a in
         let told : finite.get answer.erring id ≡ Some l = (says.erring id l).1 (has_failed js id l (record { policy = j; among = a; id_is = is; errs = errs })) in
-        (l, told, decided_as id effect l h.syntax (ap (in_force_at world.policies) (sym is) ∙ h.in_force) (h.effect ∙ s.effect_is) (Erring l) refl (subst (StandsSoFar facts q finite.empty h.syntax) errs h.standing))
-      where
-        decided_as : (id : Text) (effect : Effect) (l : Kind) (syntax : PolicySyntax) → in_force_at world.policies id ≡ Some syntax → syntax.effect ≡ effect → (standing : Standing) → standing ≡ Erring l →
-            StandsSoFar facts q finite.empty syntax standing → Decided id effect (Erring l)
-        decided_as id effect l syntax force e _ is (still_open o) = cc
-        decided_as id effect l syntax force e standing is (decided result settles gives) =
-            record { syntax = syntax; in_force = force; effect_is = e; result = result; settles = settles; standing_is = gives ∙ is }
+        let one : ◌≡◌ {A = Option PolicySyntax} (Some h.syntax) (Some d.syntax) = sym h.in_force ∙ ap (in_force_at world.policies) is ∙ d.in_force in
+        let syntax : h.syntax ≡ d.syntax = cc in
+        let stands : Stands d.syntax (Erring l) = subst (λ s. Stands s (Erring l)) syntax (subst (Stands h.syntax) errs h.standing) in
+        let (other, settles, standing) = sound.kinds d.syntax d.result k l d.settles d.standing_is stands in
+        (l, told, record { syntax = d.syntax; in_force = d.in_force; effect_is = d.effect_is; result = other; settles = settles; standing_is = standing })
 
     says_decided : SaysDecided by world facts q finite.empty answer
     says_decided = record {
@@ -214,14 +223,26 @@ module _ (world : World) (by : Setting) (facts : Facts) (q : Question) (js : Lis
       allows = decides_allowed;
       must_forbids = λ id d. (says.must id).1 (has_passed js (in_must js) id (forbid_in_must id d));
       must_permits = λ out id d. (says.must id).1 (has_passed js (in_must js) id (permit_in_must out id d));
-      may = λ id h. in_force_still id (passed js (in_may js) id ((says.may id).0 h));
       may_not = λ id effect o h. out_not_may id effect o (passed js (in_may js) id ((says.may id).0 h));
       may_forbids = λ forbid id s force e h. permit_not_may forbid id s force e (passed js (in_may js) id ((says.may id).0 h));
       erring = λ id effect k d. let (l, told, still) = errs_told id effect k d in is_there (finite.get answer.erring id) l told;
     }
 
+    errs_in_force : (id : Text) (o : Option Kind) → finite.get answer.erring id ≡ o → is_some o ≡ true → is_some (in_force_at world.policies id) ≡ true
+    errs_in_force id None is h = absurd (true≢false (sym h))
+    errs_in_force id (Some k) is h =
+        let erred = failed js id k ((says.erring id k).0 is) in
+        is_there (in_force_at world.policies id) _ (ap (in_force_at world.policies) (sym erred.id_is) ∙ (judged by world facts q Stands js judges erred.policy erred.among).in_force)
+
+    pub names_no_ghosts : NamesNoGhosts by world answer
+    names_no_ghosts = record {
+      must = λ id h. (says.may id).1 (has_passed js (in_may js) id (must_may id (passed js (in_must js) id ((says.must id).0 h))));
+      may = λ id h. in_force_still id (passed js (in_may js) id ((says.may id).0 h));
+      erring = λ id h. errs_in_force id (finite.get answer.erring id) refl h;
+    }
+
     module _ (are : AreFactsOf by world facts) where
-      pub first_is_prompt : IsPrompt by world q finite.empty answer
+      pub first_is_prompt : IsPromptButKinds by world q finite.empty answer
       first_is_prompt other other_are = subst (λ f. SaysDecided by world f q finite.empty answer) (facts_are_one by world facts other are other_are) says_decided
 
       pub first_names_kinds : NamesKinds by world q finite.empty answer

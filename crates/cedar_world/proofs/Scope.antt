@@ -215,6 +215,60 @@ module _ (facts : Facts) (q : Question) (s : PolicySyntax) (static : is_template
   stands : s.body ≡ None → StandsSoFar facts q finite.empty s (standing_met (scope_met (is_within facts) s q))
   stands none = settles_as (scope_met (is_within facts) s q) (ap (λ b. settled_in facts around (with_body (scope_tree s) b)) none ∙ scope_settled)
 
+-- ---- what the given parts suffice to decide
+
+module _ (facts : Facts) (around : LeafSettlings) where
+  module _ (v : Variable) (slot : SlotId) where
+    constraint_met : (c : Constraint) (part : Part) → constraint_slots slot c ≡ [] → ((u : Uid) → part ≡ Given u → around.variable v ≡ Is (Plain (Entity u)))
+        → (b : Bool) → met (is_within facts) c part ≡ Some b → settled_in facts around (constraint_tree v slot c) ≡ known (Some b)
+    constraint_met anything part h given b e = ap known e
+    constraint_met (equals x) (Given u) h given b e = constraint_given facts around v slot (equals x) u h (given u refl) ∙ ap known e
+    constraint_met (within x) (Given u) h given b e = constraint_given facts around v slot (within x) u h (given u refl) ∙ ap known e
+    constraint_met (of_type name) (Given u) h given b e = constraint_given facts around v slot (of_type name) u h (given u refl) ∙ ap known e
+    constraint_met (of_type_within name x) (Given u) h given b e = constraint_given facts around v slot (of_type_within name x) u h (given u refl) ∙ ap known e
+    constraint_met (equals x) (Missing type) h given b e = cc
+    constraint_met (within x) (Missing type) h given b e = cc
+    constraint_met (of_type name) (Missing type) h given b e = cc
+    constraint_met (of_type_within name x) (Missing type) h given b e = cc
+
+  action_is_met : (c : ActionConstraint) (part : Part) → ((u : Uid) → part ≡ Given u → around.variable Action ≡ Is (Plain (Entity u)))
+      → (b : Bool) → action_met (is_within facts) c part ≡ Some b → settled_in facts around (action_tree c) ≡ known (Some b)
+  action_is_met any_action part given b e = ap known e
+  action_is_met (action_equals x) (Given u) given b e = action_settled facts around (action_equals x) (Given u) (given u refl) ∙ ap known e
+  action_is_met (action_within_any us) (Given u) given b e = action_settled facts around (action_within_any us) (Given u) (given u refl) ∙ ap known e
+  action_is_met (action_equals x) (Missing type) given b e = cc
+  action_is_met (action_within_any us) (Missing type) given b e = cc
+
+  both_met : (l r : Tree) (o p : Option Bool) → ((b : Bool) → o ≡ Some b → settled_in facts around l ≡ known (Some b)) → ((b : Bool) → p ≡ Some b → settled_in facts around r ≡ known (Some b))
+      → (b : Bool) → and_then_met o p ≡ Some b → settled_in facts around (conjunction l r) ≡ known (Some b)
+  both_met l r (Some true) p f g b e = folded facts around l r ∙ ap (λ x. and_settled x (settled_in facts around r)) (f true refl) ∙ ap (and_settled (known (Some true))) (g b e)
+  both_met l r (Some false) p f g b e = folded facts around l r ∙ ap (λ x. and_settled x (settled_in facts around r)) (f false refl) ∙ ap known e
+  both_met l r None p f g b e = cc
+
+  -- the parts of the question that are given are these leaves
+  pub record AreGiven (q : Question) : Type 0 where
+    pub principal : (u : Uid) → q.principal ≡ Given u → around.variable Principal ≡ Is (Plain (Entity u))
+    pub action : (u : Uid) → q.action ≡ Given u → around.variable Action ≡ Is (Plain (Entity u))
+    pub resource : (u : Uid) → q.resource ≡ Given u → around.variable Resource ≡ Is (Plain (Entity u))
+
+  module _ (q : Question) (given : AreGiven q) (s : PolicySyntax) (static : is_template s ≡ false) where
+    scope_is_met : (b : Bool) → scope_met (is_within facts) s q ≡ Some b → settled_in facts around (scope_tree s) ≡ known (Some b)
+    scope_is_met =
+        let principal = constraint_met Principal PrincipalSlot s.principal q.principal (first_none (constraint_slots PrincipalSlot s.principal) (constraint_slots ResourceSlot s.resource) static) given.principal in
+        let action = action_is_met s.action q.action given.action in
+        let resource = constraint_met Resource ResourceSlot s.resource q.resource (later_none (constraint_slots PrincipalSlot s.principal) (constraint_slots ResourceSlot s.resource) static) given.resource in
+        both_met (conjunction (constraint_tree Principal PrincipalSlot s.principal) (action_tree s.action)) (constraint_tree Resource ResourceSlot s.resource)
+        (and_then_met (met (is_within facts) s.principal q.principal) (action_met (is_within facts) s.action q.action)) (met (is_within facts) s.resource q.resource)
+        (both_met (constraint_tree Principal PrincipalSlot s.principal) (action_tree s.action) (met (is_within facts) s.principal q.principal) (action_met (is_within facts) s.action q.action) principal action) resource
+
+    unmet_with : (body : Option Tree) → scope_met (is_within facts) s q ≡ Some false → settled_in facts around (with_body (scope_tree s) body) ≡ Is (Plain (Boolean false))
+    unmet_with None e = scope_is_met false e
+    unmet_with (Some t) e = folded facts around (scope_tree s) t ∙ ap (λ x. and_settled x (settled_in facts around t)) (scope_is_met false e)
+
+    -- where the scope doesn't hold, neither does the condition, whatever the clauses say
+    pub condition_is_unmet : scope_met (is_within facts) s q ≡ Some false → settled_in facts around (condition s) ≡ Is (Plain (Boolean false))
+    condition_is_unmet = unmet_with s.body
+
 -- ---- no unknown is named
 
 conjunction_names : (l r : Tree) → mentions_only (λ v. true) true l ≡ true → mentions_only (λ v. true) true r ≡ true → mentions_only (λ v. true) true (conjunction l r) ≡ true

@@ -106,6 +106,8 @@ from_reached by commands replies world reached = record {
     known = step.1.4.0.known;
     fair = step.1.4.0.fair;
     prompt = step.1.4.0.prompt;
+    kinds = step.1.4.0.kinds;
+    in_force = step.1.4.0.in_force;
   };
   refused = λ verb text r new step. step.1;
 }

@@ -1,9 +1,9 @@
 -- What follows of questions from the part of the language that is read so far.
-use Rattle.std.proofs.Common.{◌≡◌, ◌⊎◌, inl, inr, Bool, true, false, ◌&&◌, if◌then◌else◌, Option, Some, None, option_map, [], ◌∷◌, refl, sym, ◌∙◌, ap, subst, true≢false, codes}
+use Rattle.std.proofs.Common.{◌≡◌, ◌⊎◌, inl, inr, Bool, true, false, if◌then◌else◌, Option, Some, None, option_map, [], ◌∷◌, refl, sym, ◌∙◌, ap, subst, codes}
 use Rattle.std.specs.Option.{unwrap_or}
 use Rattle.std.specs.FinMap as map
 use Rattle.cedar_language.specs.Uid.{Uid}
-use Rattle.cedar_language.specs.Tree.{String, Entity, MakeSet, MakeRecord, Tree, Lit, Apply, Trees, no_trees, a_tree}
+use Rattle.cedar_language.specs.Tree.{Tree, no_trees, a_tree}
 use Rattle.cedar_world.specs.SoFar.{context_so_far}
 use Rattle.cedar_world.specs.Asking.{Entries, NoContext, WithEntries, Question}
 use Rattle.cedar_world.specs.Bodies.{Fields, and_then, fields_of, only_with, question_fields, question_with, if_there, optional, found, entity_of, entries_of, context_of, ask_body}

@@ -37,7 +37,7 @@ not_residual (Fails k) = refl
 abbrev pub Becomes : Standing → Standing → Type 0
 Becomes s t = ComesTo s t × StillErrs s t
 
-comes_itself : (o : Outcome) → Becomes (standing_of o) (standing_of o)
+pub comes_itself : (o : Outcome) → Becomes (standing_of o) (standing_of o)
 comes_itself (Gives (Plain (Boolean true))) = (refl, tt)
 comes_itself (Gives (Plain (Boolean false))) = (tt, tt)
 comes_itself (Gives (Plain (Long n))) = (tt, (TypeError, refl))
@@ -49,7 +49,7 @@ comes_itself (Gives (ExtensionOf x)) = (tt, (TypeError, refl))
 comes_itself (Fails k) = (tt, (k, refl))
 
 -- results that are one but for the kinds of errors
-results_come : (a b : Outcome) → kindless a ≡ kindless b → Becomes (standing_of a) (standing_of b)
+pub results_come : (a b : Outcome) → kindless a ≡ kindless b → Becomes (standing_of a) (standing_of b)
 results_come (Gives v) (Gives w) h = let is : v ≡ w = cc in subst (λ x. Becomes (standing_of (Gives v)) (standing_of (Gives x))) is (comes_itself (Gives v))
 results_come (Fails k) (Fails l) h = (tt, (l, refl))
 results_come (Gives v) (Fails k) h = cc

@@ -111,7 +111,7 @@ module _ (reads_tokens : ReadsTokens) (reads_exprs : ReadsExprs) (reads_policies
   no_quote ss reads = not_none reads.1.0.0 (sym quote_is_none ∙ (reads_tokens (chars (codes "\"")) reads.1.0.0).0 reads.1.0.1)
 
   asked_first : Step by new_world Ask (codes "{}") (Answered denied) (opens new_world all_missing map.empty denied)
-  asked_first = ask_stands by new_world (codes "{}") (reads_once one_list one_expr by) (Apply (MakeRecord []) no_trees) braces_within (omega arith) refl all_missing denied _ refl (nothing_denies by) refl
+  asked_first = ask_stands by new_world (codes "{}") (reads_once one_list one_expr by) (Apply (MakeRecord []) no_trees) braces_within (omega arith) refl all_missing denied _ refl refl refl (nothing_denies by) refl
 
   loaded : Step by new_world Load (codes "permit(principal, action, resource);") (Named (codes "policy0" ∷ [])) one_policy
   loaded =
@@ -120,7 +120,7 @@ module _ (reads_tokens : ReadsTokens) (reads_exprs : ReadsExprs) (reads_policies
       subst (λ ids. Step by new_world Load (codes "permit(principal, action, resource);") (Named ids) one_policy) own_number stands
 
   asked : Step by one_policy Ask (codes "{}") (Answered allowed) (opens one_policy all_missing map.empty allowed)
-  asked = ask_stands by one_policy (codes "{}") (reads_once one_list one_expr by) (Apply (MakeRecord []) no_trees) braces_within (omega arith) refl all_missing allowed _ refl (all_are_allowed by) refl
+  asked = ask_stands by one_policy (codes "{}") (reads_once one_list one_expr by) (Apply (MakeRecord []) no_trees) braces_within (omega arith) refl all_missing allowed _ refl refl refl (all_are_allowed by) refl
 
   row_three : Step by new_world Load (codes "permit(principal, action, resource);") (Named (codes "policy0" ∷ [])) one_policy → Step by one_policy Ask (codes "{}") (Answered allowed) (opens one_policy all_missing map.empty allowed)
       → RunText by (codes "load 36\npermit(principal, action, resource);\nask 2\n{}\n") new_world

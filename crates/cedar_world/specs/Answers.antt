@@ -119,7 +119,6 @@ module _ (by : Setting) (world : World) where
       pub allows : AllOut Forbid → SomeHolds Permit → a.decision ≡ Some Allow
       pub must_forbids : (id : Text) → IsDecided id Forbid Satisfied → IsTrue (has_id a.must id)
       pub must_permits : AllOut Forbid → (id : Text) → IsDecided id Permit Satisfied → IsTrue (has_id a.must id)
-      pub may : (id : Text) → IsTrue (has_id a.may id) → IsSome (in_force_at world.policies id)
       pub may_not : (id : Text) (effect : Effect) → IsOut id effect → IsTrue (has_id a.may id) → ⊥
       pub may_forbids : SomeHolds Forbid → (id : Text) (syntax : PolicySyntax) → in_force_at world.policies id ≡ Some syntax → syntax.effect ≡ Permit → IsTrue (has_id a.may id) → ⊥
       pub erring : (id : Text) (effect : Effect) (k : Kind) → IsDecided id effect (Erring k) → IsSome (finite.get a.erring id)
@@ -128,9 +127,16 @@ module _ (by : Setting) (world : World) where
     abbrev pub SaysKinds : Answer → Type 0
     SaysKinds a = (id : Text) (effect : Effect) (k : Kind) → IsDecided id effect (Erring k) → (l : Kind) × (finite.get a.erring id ≡ Some l) × IsDecided id effect (Erring l)
 
+  -- What is a reason can be one, and an id errs only where a policy is in force under it: so also where no filling exists, of
+  -- which fairness says nothing.
+  pub record NamesNoGhosts (a : Answer) : Type 0 where
+    pub must : IsWithin a.must a.may
+    pub may : (id : Text) → IsTrue (has_id a.may id) → IsSome (in_force_at world.policies id)
+    pub erring : (id : Text) → IsSome (finite.get a.erring id) → IsSome (in_force_at world.policies id)
+
   -- prompt, kinds of errors aside
-  abbrev pub IsPrompt : Question → Told → Answer → Type 0
-  IsPrompt q told answer = (facts : Facts) → AreFacts by.functions world.entities facts → SaysDecided facts q told answer
+  abbrev pub IsPromptButKinds : Question → Told → Answer → Type 0
+  IsPromptButKinds q told answer = (facts : Facts) → AreFacts by.functions world.entities facts → SaysDecided facts q told answer
 
   abbrev pub NamesKinds : Question → Told → Answer → Type 0
   NamesKinds q told answer = (facts : Facts) → AreFacts by.functions world.entities facts → SaysKinds facts q told answer

@@ -5,7 +5,9 @@ use Rattle.cedar_language.specs.Uid.{Text}
 use Rattle.cedar_language.specs.Facts.{Facts}
 use Rattle.cedar_language.specs.Answering.{Judged}
 use Rattle.cedar_language.specs.Authorization.{Known}
+use Rattle.cedar_partial_evaluation.specs.MadeAgain.{HoldsMade}
 use Rattle.cedar_partial_evaluation.specs.Mentions.{mentions_only}
+use Rattle.cedar_partial_evaluation.specs.Question.{IsAccepted}
 use Rattle.cedar_world.specs.Answer.{Answer}
 use Rattle.cedar_world.specs.Syntax.{PolicySyntax, condition}
 use Rattle.cedar_world.specs.World.{World, in_force_at}
@@ -15,7 +17,7 @@ use Rattle.cedar_world.specs.Bodies.{are_restricted}
 use Rattle.cedar_world.specs.Setting.{Setting}
 use Rattle.cedar_world.specs.Fillings.{IsFilling}
 use Rattle.cedar_world.specs.Step.{IsFirstAnswer}
-use Rattle.cedar_world.specs.Standing.{Judges, Says}
+use Rattle.cedar_world.specs.Standing.{StandsSoFar, StandsEarly, Judges, Says}
 use Rattle.cedar_world.specs.WorldFacts.{AreFactsOf}
 
 -- a given context is data alone: literals, unknown names, lists, records and calls
@@ -31,9 +33,16 @@ HasRequest by q = IsKnown q → (request : Known) × IsFilling by q map.empty re
 abbrev pub NamesNoUnknown : World → Type 0
 NamesNoUnknown world = (id : Text) (s : PolicySyntax) → in_force_at world.policies id ≡ Some s → mentions_only (λ v. true) true (condition s) ≡ true
 
--- what the rules say of the policies in force, as each stands when the question is asked, is a first answer
+-- What the rules say of the policies in force is a first answer, where each stands as what is settled of its condition says ..
 abbrev pub FirstAnswersStand : Type 0
 FirstAnswersStand =
     (by : Setting) (world : World) (facts : Facts) (q : Question) (js : List Judged) (answer : Answer)
     → AreFactsOf by world facts → NamesNoUnknown world → IsData q.context → HasRequest by q
-    → Judges world facts q map.empty js → Says js answer → IsFirstAnswer by world q answer
+    → Judges world (StandsSoFar facts q map.empty) js → Says js answer → IsFirstAnswer by world q answer
+
+-- .. and where each stands as an evaluation of its condition says, for which the context was evaluated first.
+abbrev pub EarlyAnswersStand : Type 0
+EarlyAnswersStand =
+    (by : Setting) (world : World) (facts : Facts) (q : Question) (js : List Judged) (answer : Answer)
+    → AreFactsOf by world facts → HoldsMade facts → NamesNoUnknown world → IsData q.context → HasRequest by q → IsAccepted facts map.empty q.context
+    → Judges world (StandsEarly facts q map.empty) js → Says js answer → IsFirstAnswer by world q answer

@@ -8,12 +8,12 @@ use Rattle.cedar_language.specs.Authorization.{Known}
 use Rattle.cedar_world.specs.Orders.{text_cmp}
 use Rattle.cedar_world.specs.Answer.{Answer}
 use Rattle.cedar_world.specs.Syntax.{PolicySyntax, Bindings, linked}
-use Rattle.cedar_world.specs.World.{World, Policy, Link, Policies, template_at, in_force, in_force_at}
-use Rattle.cedar_world.specs.Asking.{Question}
+use Rattle.cedar_world.specs.World.{World, Asked, Policy, Link, Policies, template_at, in_force, in_force_at}
+use Rattle.cedar_world.specs.Asking.{Question, Told}
 use Rattle.cedar_world.specs.Setting.{Setting}
 use Rattle.cedar_world.specs.Answers.{known_answer}
 use Rattle.cedar_world.specs.Refusals.{binds_exactly}
-use Rattle.cedar_world.specs.Step.{IsFirstAnswer}
+use Rattle.cedar_world.specs.Step.{IsFirstAnswer, IsLaterAnswer}
 
 -- just the policies in force, in any order
 pub record AreInForce (world : World) (ps : List (Text × PolicySyntax)) : Type 0 where
@@ -25,17 +25,22 @@ pub record AreAlike (world other : World) : Type 0 where
   pub entities : world.entities ≡ other.entities
   pub policies : (id : Text) → in_force_at world.policies id ≡ in_force_at other.policies id
 
+-- each question has the same answers in both worlds: those when it is asked, and those after values are told
+pub record AnswerAlike (by : Setting) (world other : World) : Type 0 where
+  pub first : (q : Question) (answer : Answer) → IsFirstAnswer by world q answer ↔ IsFirstAnswer by other q answer
+  pub later : (asked : Asked) (told : Told) (answer : Answer) → IsLaterAnswer by world asked told answer ↔ IsLaterAnswer by other asked told answer
+
 pub record AnswersReadWhatIsInForce : Type 0 where
   -- the list of the policies in force holds those that are in force under their ids
   pub listed : (world : World) → AreInForce world (in_force world.policies)
   pub found : (policies : Policies) (id : Text) → find text_cmp id (in_force policies) ≡ in_force_at policies id
   -- worlds that are alike have the same answers
   pub known : (by : Setting) (world other : World) (facts : Facts) (request : Known) → AreAlike world other → known_answer by world facts request ≡ known_answer by other facts request
-  pub first : (by : Setting) (world other : World) (q : Question) (answer : Answer) → AreAlike world other → IsFirstAnswer by world q answer → IsFirstAnswer by other q answer
+  pub alike : (by : Setting) (world other : World) → AreAlike world other → AnswerAlike by world other
 
 -- A link is answered as the policy that it writes.
 abbrev pub LinksAreAnsweredAsWritten : Type 0
 LinksAreAnsweredAsWritten =
     (by : Setting) (world : World) (id template : Text) (b : Bindings) (s : PolicySyntax)
     → map.get world.policies id ≡ Some (Link template b) → template_at world.policies template ≡ Some s → binds_exactly b s ≡ true
-    → (q : Question) (answer : Answer) → IsFirstAnswer by world q answer ↔ IsFirstAnswer by (record world { policies = map.insert world.policies id (Policy (linked b s)) }) q answer
+    → AnswerAlike by world (record world { policies = map.insert world.policies id (Policy (linked b s)) })

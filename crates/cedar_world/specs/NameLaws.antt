@@ -1,8 +1,15 @@
--- What texts may call is what the table answers.
-use Rattle.std.specs.Prelude.{◌≡◌, true, false, [], ◌∷◌, IsSome}
+-- What texts may call, and do call, is what the table answers.
+use Rattle.std.specs.Prelude.{◌≡◌, Bool, true, false, not, ◌&&◌, [], ◌∷◌, is_some, IsSome, List}
+use Rattle.std.specs.List.{list_all}
 use Rattle.cedar_language.specs.Uid.{Text, Name}
+use Rattle.cedar_language.specs.Tree.{Tree}
+use Rattle.cedar_partial_evaluation.specs.ReadUnknowns.{read_unknowns}
+use Rattle.cedar_grammar.specs.Calls.{calls_only}
 use Rattle.cedar_grammar.specs.Names.{is_among, is_function}
-use Rattle.cedar_world.specs.Functions.{Functions, the_unknown, policy_names, body_names, function_of}
+use Rattle.cedar_world.specs.Bodies.{named, is_restricted}
+use Rattle.cedar_world.specs.Functions.{Functions, the_unknown, is_the_unknown, policy_names, body_names, function_of}
+use Rattle.cedar_world.specs.Setting.{Setting, ArePolicies, IsBody}
+use Rattle.cedar_world.specs.Syntax.{PolicySyntax, condition}
 
 -- Each function and each method that policies or bodies may call is found. No policy calls `unknown`.
 pub record NamesAreFound (functions : Functions) : Type 0 where
@@ -11,3 +18,16 @@ pub record NamesAreFound (functions : Functions) : Type 0 where
   pub body_function : (name : Name) → is_function (body_names functions) name ≡ true → IsSome (function_of functions name)
   pub body_method : (m : Text) → is_among m (body_names functions).methods ≡ true → IsSome (function_of functions (m ∷ []))
   pub no_unknown : is_function (policy_names functions) the_unknown ≡ false
+
+-- the names of data are its calls of `unknown`, read as everywhere
+abbrev pub NamesAreRead : Type 0
+NamesAreRead = (t : Tree) → is_restricted t ≡ true → named t ≡ read_unknowns t
+
+-- the table has a function of this name
+abbrev pub is_answered : Functions → Name → Bool
+is_answered functions name = is_some (function_of functions name)
+
+-- Each function that a text calls is found. No policy calls `unknown`, and no text holds an unknown but by a call.
+pub record CallsAreFound (by : Setting) : Type 0 where
+  pub policies : (text : Text) (ss : List PolicySyntax) → ArePolicies by text ss → list_all (λ s. calls_only (λ name. is_answered by.functions name && not (is_the_unknown name)) (condition s)) ss ≡ true
+  pub bodies : (text : Text) (tree : Tree) → IsBody by text tree → calls_only (is_answered by.functions) tree ≡ true

@@ -1,16 +1,15 @@
 -- Edit by edit, or all at once: what is held answers the same.
-use Rattle.std.specs.Prelude.{◌≡◌, ◌↔◌, None, Some, List}
+use Rattle.std.specs.Prelude.{◌≡◌, None, Some, List}
 use Rattle.std.specs.FinMap as map
 use Rattle.cedar_language.specs.Uid.{Text, Uid}
 use Rattle.cedar_language.specs.Tree.{Tree}
-use Rattle.cedar_world.specs.Answer.{Answer}
-use Rattle.cedar_world.specs.Asking.{Question}
 use Rattle.cedar_world.specs.Bodies.{EntityBody, entity_bodies}
 use Rattle.cedar_world.specs.Commands.{Put, Done}
 use Rattle.cedar_world.specs.EditLaws.{last_version}
 use Rattle.cedar_world.specs.EntityEdits.{Version}
 use Rattle.cedar_world.specs.Setting.{Setting, IsBody}
-use Rattle.cedar_world.specs.Step.{Step, IsFirstAnswer}
+use Rattle.cedar_world.specs.InForce.{AnswerAlike}
+use Rattle.cedar_world.specs.Step.{Step}
 use Rattle.cedar_world.specs.Values.{versions}
 use Rattle.cedar_world.specs.World.{World, Entities, in_force_at}
 
@@ -25,4 +24,4 @@ OnePutAnswersAlike =
     (by : Setting) (world before after : World) (text : Text)
     → before.entities ≡ map.empty → ((id : Text) → in_force_at before.policies id ≡ in_force_at world.policies id)
     → Lists by text world.entities → Step by before Put text Done after
-    → (q : Question) (answer : Answer) → IsFirstAnswer by world q answer ↔ IsFirstAnswer by after q answer
+    → AnswerAlike by world after

@@ -15,7 +15,7 @@ use Rattle.cedar_world.specs.Question.{IsKnown}
 use Rattle.cedar_world.specs.Bodies.{LinkBody, EntityBody, string_of, uids_of, link_body, entity_bodies, ask_body}
 use Rattle.cedar_world.specs.Setting.{Setting, ArePolicies, IsBody}
 use Rattle.cedar_world.specs.Fillings.{IsFilling}
-use Rattle.cedar_world.specs.Answers.{IsKnownAnswer, IsFair, IsPrompt}
+use Rattle.cedar_world.specs.Answers.{IsKnownAnswer, IsFair, NamesNoGhosts, IsPromptButKinds, NamesKinds}
 use Rattle.cedar_world.specs.Values.{versions}
 use Rattle.cedar_world.specs.Commands.{Verb, Load, Link, Unlink, RemoveStatic, RemoveTemplate, Add, Put, Remove, Ask, Refusal, Reply, Done, Named, Answered, Refused}
 use Rattle.cedar_world.specs.Step.{Step}
@@ -75,13 +75,16 @@ module _ (by : Setting) where
     pub no_cycle : IsCyclic world.entities → ⊥
 
   -- Nothing being unknown, the answer is what Cedar's rules say on the policies in force and the parent edges held. Any
-  -- answer holds under all values of what is unknown, and is as sharp as settling.
+  -- answer holds under all values of what is unknown, is as sharp as settling, names the kinds of errors to which conditions
+  -- settle, and no policies but those in force.
   pub record IsAnsweredByTheRules (world : World) (text : Text) (answer : Answer) : Type 0 where
     pub question : Question
     pub asks : Says ask_body text question
     pub known : IsKnown question → (request : Known) × IsFilling by question map.empty request × IsKnownAnswer by world request answer
     pub fair : IsFair by world question map.empty answer
-    pub prompt : IsPrompt by world question map.empty answer
+    pub prompt : IsPromptButKinds by world question map.empty answer
+    pub kinds : NamesKinds by world question map.empty answer
+    pub in_force : NamesNoGhosts by world answer
 
   pub record AreAnsweredByTheRules (commands : List Command) (replies : List Reply) (world : World) : Type 0 where
     pub reached : IsReached commands replies world

@@ -8,7 +8,9 @@ use Rattle.cedar_language.specs.Facts.{Facts}
 use Rattle.cedar_language.specs.Answering.{Standing, Unsatisfied, Residual, Judged, decision, in_must, in_may, HasErred, IsOpenAnswer}
 use Rattle.cedar_language.specs.Authorization.{standing_of}
 use Rattle.cedar_partial_evaluation.specs.Settling.{Settling, Open, settled_in}
-use Rattle.cedar_partial_evaluation.specs.Question.{settled_of}
+use Rattle.cedar_partial_evaluation.specs.Question.{settled_of, held_of}
+use Rattle.cedar_partial_evaluation.specs.Partial.{partial_in}
+use Rattle.cedar_partial_evaluation.specs.Early.{standing_of_answer}
 use Rattle.cedar_world.specs.Answer.{ids_of, has_id, Answer}
 use Rattle.cedar_world.specs.Syntax.{PolicySyntax, condition}
 use Rattle.cedar_world.specs.World.{World, in_force_at}
@@ -25,13 +27,17 @@ pub data StandsSoFar (facts : Facts) (q : Question) (told : Told) (syntax : Poli
   still_open : settled_so_far facts q told (condition syntax) ≡ Open → StandsSoFar facts q told syntax Residual
   decided : {standing : Standing} (result : Outcome) → Settles facts q told (condition syntax) result → standing_of result ≡ standing → StandsSoFar facts q told syntax standing
 
-module _ (world : World) (facts : Facts) (q : Question) (told : Told) where
+-- the same by what an evaluation of the condition answers: it may know more than is settled
+abbrev pub StandsEarly : Facts → Question → Told → PolicySyntax → Standing → Type 0
+StandsEarly facts q told syntax standing = standing ≡ standing_of_answer (partial_in facts (held_of facts q (λ s. None) told) (condition syntax))
+
+module _ (world : World) (Stands : PolicySyntax → Standing → Type 0) where
   -- a policy in force under its id, and how it stands
   pub record IsJudged (j : Judged) : Type 0 where
     pub syntax : PolicySyntax
     pub in_force : in_force_at world.policies j.id ≡ Some syntax
     pub effect : syntax.effect ≡ j.effect
-    pub standing : StandsSoFar facts q told syntax j.standing
+    pub standing : Stands syntax j.standing
 
   -- just the policies in force, in any order
   pub record Judges (js : List Judged) : Type 0 where

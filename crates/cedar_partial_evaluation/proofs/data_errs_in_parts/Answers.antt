@@ -1,0 +1,5 @@
+use Rattle.cedar_partial_evaluation.proofs.DataErrors.{data_errs_in_parts as law}
+use Rattle.cedar_partial_evaluation.proofs.data_errs_in_parts.Goals as goal
+
+pub returns : goal.returns
+returns c = law

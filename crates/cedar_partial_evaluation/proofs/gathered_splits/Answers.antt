@@ -1,0 +1,5 @@
+use Rattle.cedar_partial_evaluation.proofs.Alike.{gathered_splits as law}
+use Rattle.cedar_partial_evaluation.proofs.gathered_splits.Goals as goal
+
+pub returns : goal.returns
+returns c = law

@@ -1,0 +1,5 @@
+use Rattle.cedar_partial_evaluation.proofs.Leaves.{known_is_never_left as law}
+use Rattle.cedar_partial_evaluation.proofs.known_is_never_left.Goals as goal
+
+pub returns : goal.returns
+returns c = law

@@ -1,0 +1,5 @@
+use Rattle.cedar_partial_evaluation.proofs.Alike.{likeness_is_kept as law}
+use Rattle.cedar_partial_evaluation.proofs.likeness_is_kept.Goals as goal
+
+pub returns : goal.returns
+returns c = law

@@ -1,0 +1,5 @@
+use Rattle.cedar_partial_evaluation.proofs.Leaves.{mentioned_is_meant as law}
+use Rattle.cedar_partial_evaluation.proofs.mentioned_is_meant.Goals as goal
+
+pub returns : goal.returns
+returns c = law

@@ -1,0 +1,5 @@
+use Rattle.cedar_partial_evaluation.proofs.Alike.{projecting_is_evaluating as law}
+use Rattle.cedar_partial_evaluation.proofs.projecting_is_evaluating.Goals as goal
+
+pub returns : goal.returns
+returns c = law

@@ -1,0 +1,50 @@
+-- A text to which a gap was added is loaded as it was without.
+use Rattle.std.proofs.Common.{inl, inr, ◌++◌, List, sym, subst}
+use Rattle.cedar_language.specs.Uid as uid
+use Rattle.cedar_grammar.specs.Gaps.{AreReadAlike}
+use Rattle.cedar_grammar.specs.Laws.{GapsChangeNoText, WhiteTextsAreGaps}
+use Rattle.cedar_world.specs.Syntax.{PolicySyntax}
+use Rattle.cedar_world.specs.World.{World}
+use Rattle.cedar_world.specs.Functions.{policy_names}
+use Rattle.cedar_world.specs.Setting.{Setting, ArePolicies, PoliciesNestWithin}
+use Rattle.cedar_world.specs.Commands.{Load, Refusal, Text, Depth}
+use Rattle.cedar_world.specs.Refusals.{LoadStands, FirstOrDeep}
+use Rattle.cedar_world.specs.LoadLaws.{GapsChangeNoLoad}
+
+module _ (by : Setting) (text spaced : uid.Text) (alike : AreReadAlike text spaced) where
+  read_there : (ss : List PolicySyntax) → ArePolicies by text ss → ArePolicies by spaced ss
+  read_there ss (n, (reads, taken)) = (n, ((alike.1 (policy_names by.functions) n ss).0 reads, taken))
+
+  read_back : (ss : List PolicySyntax) → ArePolicies by spaced ss → ArePolicies by text ss
+  read_back ss (n, (reads, taken)) = (n, ((alike.1 (policy_names by.functions) n ss).1 reads, taken))
+
+  module _ (world : World) (ss : List PolicySyntax) (is : ArePolicies by text ss) where
+    nests_there : PoliciesNestWithin by by.depth text → PoliciesNestWithin by by.depth spaced
+    nests_there (inl (rs, (reads, taken))) = inl (rs, ((alike.1 (policy_names by.functions) by.depth rs).0 reads, taken))
+    nests_there (inr none) = absurd (none.0 ss is)
+
+    stands_back : (r : Refusal) → LoadStands by world spaced r → LoadStands by world text r
+    stands_back Text none = λ rs reads. none rs (read_there rs reads)
+    stands_back Depth deep = λ within. deep (nests_there within)
+    stands_back r h = h
+
+    nests_back : PoliciesNestWithin by by.depth spaced → PoliciesNestWithin by by.depth text
+    nests_back (inl (rs, (reads, taken))) = inl (rs, ((alike.1 (policy_names by.functions) by.depth rs).1 reads, taken))
+    nests_back (inr none) = absurd (none.0 ss (read_there ss is))
+
+    stands_there : (r : Refusal) → LoadStands by world text r → LoadStands by world spaced r
+    stands_there Text none = λ rs reads. none rs (read_back rs reads)
+    stands_there Depth deep = λ within. deep (nests_back within)
+    stands_there r h = h
+
+    refused_back : (r : Refusal) → FirstOrDeep by world spaced Load r → FirstOrDeep by world text Load r
+    refused_back Depth deep = stands_back Depth deep
+    refused_back r (stands, first) = (stands_back r stands, λ s below h. first s below (stands_there s h))
+
+pub gaps_change_no_load : WhiteTextsAreGaps → GapsChangeNoText → GapsChangeNoLoad
+gaps_change_no_load white changes by old new text spaced ids gap step =
+    let (utf8, is_gap) = white gap.gap gap.white in
+    let read : AreReadAlike (gap.before ++ gap.after) (gap.before ++ (gap.gap ++ gap.after)) = changes gap.before gap.gap gap.after gap.utf8 utf8 is_gap gap.border in
+    let alike : AreReadAlike text spaced = subst (λ s. AreReadAlike text s) (sym gap.is) (subst (λ s. AreReadAlike s (gap.before ++ (gap.gap ++ gap.after))) (sym gap.was) read) in
+    let (ss, is, changed) = step.1 in
+    (λ r refuses. step.0 r (refused_back by text spaced alike old ss is r refuses), (ss, read_there by text spaced alike ss is, changed))
