@@ -1,4 +1,4 @@
-// Names, values, expressions, restricted expressions and extension functions.
+//! Names, values, expressions, restricted expressions and extension functions.
 
 pub use cedar_builders::own_builder::ExprBuilder;
 pub use cedar_extensions::extension::Extension;

@@ -1,3 +1,3 @@
-// Types as extension functions state them.
+//! Types as extension functions state them.
 
 pub use cedar_extensions::functions::SchemaType;

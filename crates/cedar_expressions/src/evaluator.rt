@@ -1,4 +1,4 @@
-// Why an evaluation has no value, and the evaluation of restricted expressions.
+//! Why an evaluation has no value, and the evaluation of restricted expressions.
 
 pub use cedar_extensions::calls::{ExtensionFunctionExecutionError, WrongNumArgumentsError};
 pub use cedar_extensions::evaluation_error::EvaluationError;

@@ -1,3 +1,3 @@
-// What builds expressions.
+//! What builds expressions.
 
 pub use cedar_builders::expr_builder::ExprBuilder;

@@ -1,4 +1,4 @@
-// Tables of extension functions, walks over them, and why a function isn't found or no table is made.
+//! Tables of extension functions, walks over them, and why a function isn't found or no table is made.
 
 pub use cedar_extensions::collecting::{CollectError, collect_no_duplicates};
 pub use cedar_extensions::extensions::Extensions;

@@ -1,4 +1,4 @@
-// The laws of the layer, crate by crate; and that of shapes.
+//! The laws of the layer, crate by crate; and that of shapes.
 
 pub use cedar_literals::{literal_laws as literals, uid_laws as uids};
 pub use cedar_names::laws as names;

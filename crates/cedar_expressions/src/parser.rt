@@ -1,3 +1,3 @@
-// Places in texts.
+//! Places in texts.
 
 pub use cedar_names::places::{Loc, Span};

@@ -1,5 +1,5 @@
-// What the crates of the layer share among themselves, and what crates above may call too: escaped texts
-// and texts of values, constructs of parts that are made, and the parts of an expression.
+//! What the crates of the layer share among themselves, and what crates above may call too: escaped texts
+//! and texts of values, constructs of parts that are made, and the parts of an expression.
 
 pub use cedar_literals::escapes;
 pub use cedar_shapes::parts;

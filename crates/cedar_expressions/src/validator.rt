@@ -1,4 +1,4 @@
-// Names of a schema before they are resolved.
+//! Names of a schema before they are resolved.
 
 pub use cedar_names::raw_names::{
     AllDefs, ConditionalName, RawName, ReferenceType, TypeNotDefinedError,

@@ -59,3 +59,21 @@ impl ExtensionFunctionExecutionError {
         self.extension_name.to_string(alloc)
     }
 }
+
+impl WrongNumArgumentsError {
+    // The same error, met at another place, or at none.
+    pub(crate) fn at(self, source_loc: Option<Loc>) -> WrongNumArgumentsError
+        ensures { result ≡ record self { source_loc = source_loc } }
+    {
+        WrongNumArgumentsError { source_loc, ..self }
+    }
+}
+
+impl ExtensionFunctionExecutionError {
+    // The same error, met at another place, or at none.
+    pub(crate) fn at(self, source_loc: Option<Loc>) -> ExtensionFunctionExecutionError
+        ensures { result ≡ record self { source_loc = source_loc } }
+    {
+        ExtensionFunctionExecutionError { source_loc, ..self }
+    }
+}

@@ -5,7 +5,7 @@ use std::alloc::{AllocError, AllocFailed, Global};
 use std::collections::HashMap;
 use std::hash::Hash;
 
-/// Why pairs aren't collected.
+/// Why pairs aren't collected in a map: a key stands twice, or memory ran out.
 #[derive(Debug, Drop)]
 pub enum CollectError<K> {
     /// This key stands twice.

@@ -108,53 +108,29 @@ impl EvaluationError {
     {
         match self {
             EvaluationError::EntityDoesNotExist(error) => {
-                EvaluationError::from(EntityDoesNotExistError {
-                    source_loc,
-                    ..error
-                })
+                EvaluationError::from(error.at(source_loc))
             }
             EvaluationError::EntityAttrDoesNotExist(error) => {
-                EvaluationError::from(EntityAttrDoesNotExistError {
-                    source_loc,
-                    ..error
-                })
+                EvaluationError::from(error.at(source_loc))
             }
             EvaluationError::RecordAttrDoesNotExist(error) => {
-                EvaluationError::from(RecordAttrDoesNotExistError {
-                    source_loc,
-                    ..error
-                })
+                EvaluationError::from(error.at(source_loc))
             }
             EvaluationError::FailedExtensionFunctionLookup(error) => {
                 EvaluationError::from(error.with_maybe_source_loc(source_loc))
             }
-            EvaluationError::TypeError(error) => EvaluationError::from(TypeError {
+            EvaluationError::TypeError(error) => EvaluationError::from(error.at(source_loc)),
+            EvaluationError::WrongNumArguments(error) => EvaluationError::from(error.at(
                 source_loc,
-                ..error
-            }),
-            EvaluationError::WrongNumArguments(error) => {
-                EvaluationError::from(WrongNumArgumentsError {
-                    source_loc,
-                    ..error
-                })
-            }
+            )),
             EvaluationError::IntegerOverflow(error) => {
                 EvaluationError::from(error.with_maybe_source_loc(source_loc))
             }
-            EvaluationError::UnlinkedSlot(error) => EvaluationError::from(UnlinkedSlotError {
-                source_loc,
-                ..error
-            }),
+            EvaluationError::UnlinkedSlot(error) => EvaluationError::from(error.at(source_loc)),
             EvaluationError::FailedExtensionFunctionExecution(error) => {
-                EvaluationError::from(ExtensionFunctionExecutionError {
-                    source_loc,
-                    ..error
-                })
+                EvaluationError::from(error.at(source_loc))
             }
-            EvaluationError::NonValue(error) => EvaluationError::from(NonValueError {
-                source_loc,
-                ..error
-            }),
+            EvaluationError::NonValue(error) => EvaluationError::from(error.at(source_loc)),
             EvaluationError::RecursionLimit(_error) => {
                 EvaluationError::from(RecursionLimitError { source_loc })
             }

@@ -39,7 +39,7 @@ impl Extension {
         }
     }
 
-    /// Its name.
+    /// Its name, which errors tell; functions are found by their own names.
     pub fn name(&self) -> &Name
         ensures { result.now ≡ extension_name self.now }
     {

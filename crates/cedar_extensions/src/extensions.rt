@@ -49,7 +49,7 @@ impl<'a> Extensions<'a> {
         })
     }
 
-    /// No extension.
+    /// The table of no extension: each call of a function is refused there, `unknown` too.
     pub fn none(alloc: Global) -> Extensions<'a>
         ensures unknown { holds_unknown result ≡ false }
         ensures functions { functions_in result ≡ [] }
@@ -108,7 +108,7 @@ impl<'a> Extensions<'a> {
         Funcs::new(&self.extensions)
     }
 
-    /// The names of the extensions.
+    /// The names of the extensions, in the order in which they were handed in.
     pub fn ext_names(&self) -> ExtNames<'_>
         ensures { names_left result ≡ map extension_name (extensions_in self.now) }
     {

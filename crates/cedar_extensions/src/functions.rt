@@ -33,8 +33,9 @@ pub enum CallStyle {
     MethodStyle,
 }
 
-/// What a call gives.
-#[derive(Debug, Drop)]
+/// What a call of an extension function gives: a value, or, from the built-in function `unknown` alone,
+/// an unknown. `==` looks past a value's place.
+#[derive(Debug, PartialEq, Eq, Drop)]
 pub enum ExtensionOutputValue {
     /// A value.
     Known(Value),
@@ -95,14 +96,14 @@ impl ExtensionFunction {
         })
     }
 
-    /// Its name.
+    /// Its name, by which expressions call it and tables find it.
     pub fn name(&self) -> &Name
         ensures { result.now ≡ function_name self.now }
     {
         &self.name
     }
 
-    /// How it is called.
+    /// How it is called: by its name before all arguments, or behind the first one.
     pub fn style(&self) -> CallStyle
         ensures { style_of result ≡ function_style self.now }
     {
@@ -144,7 +145,9 @@ impl ExtensionFunction {
         ensures { result ≡ is_single_argument_constructor self.now }
     {
         match (&self.return_type, self.style, self.arg_types.as_slice()) {
-            (Some(Type::Extension { .. }), CallStyle::FunctionStyle, [Type::String]) => true,
+            (Some(Type::Extension { .. }), CallStyle::FunctionStyle, [argument]) => {
+                matches!(argument, Type::String)
+            }
             _ => false,
         }
     }

@@ -1,4 +1,5 @@
 // What isn't there: entities, their attributes and tags, and attributes of records.
+ghost use Rattle.std.specs.Prelude.{◌≡◌};
 
 use cedar_literals::uids::EntityUID;
 use cedar_names::places::Loc;
@@ -46,4 +47,31 @@ pub struct EntityAttrDoesNotExistError {
 pub struct RecordAttrDoesNotExistError {
     pub(crate) attr: RcStr,
     pub(crate) source_loc: Option<Loc>,
+}
+
+impl EntityDoesNotExistError {
+    // The same error, met at another place, or at none.
+    pub(crate) fn at(self, source_loc: Option<Loc>) -> EntityDoesNotExistError
+        ensures { result ≡ record self { source_loc = source_loc } }
+    {
+        EntityDoesNotExistError { source_loc, ..self }
+    }
+}
+
+impl EntityAttrDoesNotExistError {
+    // The same error, met at another place, or at none.
+    pub(crate) fn at(self, source_loc: Option<Loc>) -> EntityAttrDoesNotExistError
+        ensures { result ≡ record self { source_loc = source_loc } }
+    {
+        EntityAttrDoesNotExistError { source_loc, ..self }
+    }
+}
+
+impl RecordAttrDoesNotExistError {
+    // The same error, met at another place, or at none.
+    pub(crate) fn at(self, source_loc: Option<Loc>) -> RecordAttrDoesNotExistError
+        ensures { result ≡ record self { source_loc = source_loc } }
+    {
+        RecordAttrDoesNotExistError { source_loc, ..self }
+    }
 }

@@ -39,6 +39,15 @@ impl fmt::Display for TypeError {
 
 impl Error for TypeError {}
 
+impl TypeError {
+    // The same error, met at another place, or at none.
+    pub(crate) fn at(self, source_loc: Option<Loc>) -> TypeError
+        ensures { result ≡ record self { source_loc = source_loc } }
+    {
+        TypeError { source_loc, ..self }
+    }
+}
+
 /// The result of an operator of two longs is no long.
 #[derive(Debug, PartialEq, Eq, Drop, Error)]
 #[error("integer overflow while attempting to {verb} the values `{arg1}` and `{arg2}`", verb = verb_of_two(.op))]

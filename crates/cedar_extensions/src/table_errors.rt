@@ -40,7 +40,8 @@ impl MultipleConstructorsSameSignatureError {
     }
 }
 
-/// Why no table is made.
+/// Why no table is made of extensions: two functions have one name, two make values of one extension
+/// type, or memory ran out.
 #[derive(Debug, PartialEq, Eq, Drop, Error)]
 pub enum ExtensionInitializationError {
     /// Two functions have one name.

@@ -1,4 +1,5 @@
 // Expressions that aren't evaluated to the end.
+ghost use Rattle.std.specs.Prelude.{◌≡◌};
 
 use cedar_literals::slots::SlotId;
 use cedar_names::places::Loc;
@@ -61,4 +62,22 @@ pub struct NonValueError {
 #[error("recursion limit reached")]
 pub struct RecursionLimitError {
     pub(crate) source_loc: Option<Loc>,
+}
+
+impl UnlinkedSlotError {
+    // The same error, met at another place, or at none.
+    pub(crate) fn at(self, source_loc: Option<Loc>) -> UnlinkedSlotError
+        ensures { result ≡ record self { source_loc = source_loc } }
+    {
+        UnlinkedSlotError { source_loc, ..self }
+    }
+}
+
+impl NonValueError {
+    // The same error, met at another place, or at none.
+    pub(crate) fn at(self, source_loc: Option<Loc>) -> NonValueError
+        ensures { result ≡ record self { source_loc = source_loc } }
+    {
+        NonValueError { source_loc, ..self }
+    }
 }

@@ -6,7 +6,8 @@ use crate::lookups::{ExtensionFunctionLookupError, FuncDoesNotExistError};
 use std::alloc::AllocError;
 use thiserror::Error;
 
-/// Why an expression isn't valid.
+/// Why an expression isn't valid for a table: the first call, in the order of `ExprIterator`, of a
+/// function that the table lacks or with another number of arguments than it takes; or want of memory.
 #[derive(Debug, PartialEq, Eq, Drop, Error)]
 pub enum ExprValidationError {
     /// A function is called that no extension has.

@@ -15,7 +15,7 @@ use std::hash::{Hash, Hasher};
 
 /// A type of values. Contracts see it through `value_type_of`; `==`, order and hash look past places.
 /// (Cedar language reference, "Data types".)
-#[derive(Debug, Drop)]
+#[derive(Debug)]
 pub enum Type {
     /// `true` and `false`.
     Bool,
@@ -37,6 +37,21 @@ pub enum Type {
         /// The name of that type.
         name: Name,
     },
+}
+
+// By hand, so that letting go of one is a call, whichever it is.
+impl Drop for Type {
+    fn drop(self) {
+        match self {
+            Type::Bool => {}
+            Type::Long => {}
+            Type::String => {}
+            Type::Set => {}
+            Type::Record => {}
+            Type::Entity { ty: _ } => {}
+            Type::Extension { name: _ } => {}
+        }
+    }
 }
 
 impl Type {

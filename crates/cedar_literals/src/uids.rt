@@ -176,6 +176,14 @@ impl From<Name> for EntityType {
     }
 }
 
+impl From<EntityType> for Name {
+    ghost from_gives = { λ entity_type name. name ≡ entity_type };
+
+    fn from(entity_type: EntityType) -> Name {
+        entity_type.name
+    }
+}
+
 impl FromNormalizedStr for EntityType {
     ghost use Rattle.cedar_names.specs.Reading.{ReadsName};
 

@@ -59,21 +59,21 @@ impl Loc {
         })
     }
 
-    /// The range of bytes.
+    /// The range: its first byte and the byte after it, counted from the text's start.
     pub fn span(&self) -> Span
         ensures { result ≡ self.now.span }
     {
         self.place.get().span
     }
 
-    /// The first byte of the range.
+    /// The first byte of the range, counted from the text's start.
     pub fn start(&self) -> usize
         ensures { result ≡ self.now.span.start }
     {
         self.place.get().span.start
     }
 
-    /// The byte after the range.
+    /// The byte after the range, counted from the text's start.
     pub fn end(&self) -> usize
         ensures { result ≡ self.now.span.end }
     {

@@ -9,3 +9,5 @@ pub mod Views
 pub mod Left
 pub mod ShapesOnly
 pub mod Converting
+pub mod Sameness
+pub mod SameOffence

@@ -22,6 +22,7 @@ use cedar_shapes::types::FunctionTypes;
 use cedar_trees::expr::{Expr, ExprKind};
 use cedar_trees::unknowns::Unknown;
 use std::alloc::{AllocError, Global};
+use std::fmt;
 use std::rc::RcStr;
 
 /// A restricted expression that is lent. Contracts see its tree by `borrowed_tree`.
@@ -164,11 +165,18 @@ impl<'a> BorrowedRestrictedExpr<'a> {
         self.expr.try_type_of(alloc, functions)
     }
 
-    /// The expression.
+    /// The expression itself, for as long as it is lent.
     pub fn as_expr(&self) -> &'a Expr
         ensures tree { bare result.now ≡ borrowed_tree self.now }
         ensures restricted { is_restricted (bare result.now) ≡ true }
     {
         self.expr
+    }
+}
+
+/// Its text in the language, as that of the expression.
+impl fmt::Display for BorrowedRestrictedExpr<'_> {
+    fn fmt<W: fmt::Write>(&self, f: &mut fmt::Formatter<W>) -> fmt::Result {
+        fmt::Display::fmt(self.expr, f)
     }
 }

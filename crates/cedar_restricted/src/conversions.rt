@@ -12,6 +12,7 @@ use crate::restricted::RestrictedExpr;
 use crate::restricted_laws::offences_are_what_is_not_restricted;
 use crate::to_expr::ToExpr;
 use cedar_names::conversions::FromIn;
+use cedar_shapes::shapes::ExprShape;
 use cedar_trees::expr::Expr;
 use cedar_values::extension_values::RepresentableExtensionValue;
 use cedar_values::values::{Value, ValueKind};
@@ -72,7 +73,8 @@ impl FromIn<RepresentableExtensionValue> for RestrictedExpr {
     }
 }
 
-/// Why no restricted expression is made of a partial value.
+/// Why no restricted expression is made of a partial value. `==` compares residuals by their shapes, and
+/// not by places.
 #[derive(Debug, Drop, Error)]
 pub enum PartialValueToRestrictedExprError {
     /// It is a residual that is not restricted.
@@ -84,6 +86,34 @@ pub enum PartialValueToRestrictedExprError {
     /// Memory ran out.
     #[error(transparent)]
     Memory(AllocError),
+}
+
+impl PartialEq for PartialValueToRestrictedExprError {
+    ghost use Rattle.cedar_restricted.specs.Sameness.{same_refusal, same_refusal_partial};
+
+    ghost eq = { same_refusal };
+
+    ghost laws = { same_refusal_partial };
+
+    fn eq(&self, other: &PartialValueToRestrictedExprError) -> bool {
+        match (self, other) {
+            (
+                PartialValueToRestrictedExprError::NontrivialResidual { residual: a },
+                PartialValueToRestrictedExprError::NontrivialResidual { residual: b },
+            ) => a.cmp_shape(b).is_eq(),
+            (
+                PartialValueToRestrictedExprError::Memory(_),
+                PartialValueToRestrictedExprError::Memory(_),
+            ) => true,
+            _ => false,
+        }
+    }
+}
+
+impl Eq for PartialValueToRestrictedExprError {
+    ghost use Rattle.cedar_restricted.specs.Sameness.{same_refusal_equiv};
+
+    ghost laws = { same_refusal_equiv };
 }
 
 impl From<AllocError> for PartialValueToRestrictedExprError {

@@ -1,11 +1,13 @@
 // Why an expression is not restricted.
 ghost use Rattle.std.specs.Prelude.{◌≡◌};
 
+use cedar_shapes::shapes::ExprShape;
 use cedar_trees::expr::Expr;
 use std::alloc::AllocError;
 use thiserror::Error;
 
-/// A part of an expression may not stand in a restricted expression.
+/// A part of an expression may not stand in a restricted expression. `==` compares the parts by their
+/// shapes, and not by places.
 #[derive(Debug, Drop, Error)]
 #[error("not allowed to use {feature} in a restricted expression: `{expr}`")]
 pub struct InvalidRestrictedExpressionError {
@@ -15,8 +17,26 @@ pub struct InvalidRestrictedExpressionError {
     pub expr: Expr,
 }
 
+impl PartialEq for InvalidRestrictedExpressionError {
+    ghost use Rattle.cedar_restricted.specs.SameOffence.{same_offence, same_offence_partial};
+
+    ghost eq = { same_offence };
+
+    ghost laws = { same_offence_partial };
+
+    fn eq(&self, other: &InvalidRestrictedExpressionError) -> bool {
+        self.feature == other.feature && self.expr.cmp_shape(&other.expr).is_eq()
+    }
+}
+
+impl Eq for InvalidRestrictedExpressionError {
+    ghost use Rattle.cedar_restricted.specs.SameOffence.{same_offence_equiv};
+
+    ghost laws = { same_offence_equiv };
+}
+
 /// Why an expression is not restricted.
-#[derive(Debug, Drop, Error)]
+#[derive(Debug, PartialEq, Eq, Drop, Error)]
 pub enum RestrictedExpressionError {
     /// A part of it may not stand there.
     #[error(transparent)]

@@ -15,8 +15,8 @@ use std::collections::BTreeMap;
 use std::rc::{Rc, RcStr};
 use thiserror::Error;
 
-/// Why an expression is no value.
-#[derive(Debug, Drop, Error)]
+/// Why an expression is no value. `==` compares places too.
+#[derive(Debug, PartialEq, Eq, Drop, Error)]
 pub enum NotValue {
     /// Some part of it is no literal, no set and no record.
     #[error("not a value")]
@@ -50,7 +50,7 @@ impl<T: Drop> From<AllocFailed<T>> for NotValue {
     }
 }
 
-/// What is read of an expression.
+/// What is read of an expression that is written out: of literals, sets and records alone.
 pub trait TryFromExpr: Sized {
     // the value that it is
     ghost value: { Self → language.Value };

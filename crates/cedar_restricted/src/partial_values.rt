@@ -6,13 +6,15 @@ ghost use Rattle.cedar_restricted.specs.PartialValues.{partial_of};
 ghost use Rattle.either.specs.declared.Either.TheVariants.{Right};
 
 use cedar_names::places::Loc;
+use cedar_shapes::shapes::ExprShape;
 use cedar_trees::expr::Expr;
 use cedar_trees::unknowns::Unknown;
 use cedar_values::values::Value;
+use std::fmt;
 use thiserror::Error;
 
 /// What an expression is evaluated to where some values aren't known. Contracts see the value, or the
-/// residual's tree, by `partial_of`.
+/// residual's tree, by `partial_of`, and `==` compares these: places don't count.
 #[derive(Debug, Drop)]
 pub enum PartialValue {
     /// A value.
@@ -38,6 +40,38 @@ impl PartialValue {
             PartialValue::Residual(expr) => {
                 PartialValue::Residual(expr.with_maybe_source_loc(loc))
             }
+        }
+    }
+}
+
+impl PartialEq for PartialValue {
+    ghost use Rattle.cedar_restricted.specs.Sameness.{same_partial_value, same_partial_value_partial};
+
+    ghost eq = { same_partial_value };
+
+    ghost laws = { same_partial_value_partial };
+
+    fn eq(&self, other: &PartialValue) -> bool {
+        match (self, other) {
+            (PartialValue::Value(a), PartialValue::Value(b)) => a == b,
+            (PartialValue::Residual(a), PartialValue::Residual(b)) => a.cmp_shape(b).is_eq(),
+            _ => false,
+        }
+    }
+}
+
+impl Eq for PartialValue {
+    ghost use Rattle.cedar_restricted.specs.Sameness.{same_partial_value_equiv};
+
+    ghost laws = { same_partial_value_equiv };
+}
+
+/// The text of the value, or of the residual.
+impl fmt::Display for PartialValue {
+    fn fmt<W: fmt::Write>(&self, f: &mut fmt::Formatter<W>) -> fmt::Result {
+        match self {
+            PartialValue::Value(value) => write!(f, "{value}"),
+            PartialValue::Residual(expr) => write!(f, "{expr}"),
         }
     }
 }
@@ -68,7 +102,8 @@ impl From<Expr> for PartialValue {
     }
 }
 
-/// A residual stands where a value is wanted.
+/// A residual stands where a value is wanted. `==` compares residuals by their shapes: by their
+/// constructs and parts, and not by places.
 #[derive(Debug, Drop, Error)]
 #[error("value contains a residual expression")]
 pub struct ContainsUnknown {
@@ -76,8 +111,26 @@ pub struct ContainsUnknown {
     pub residual: Expr,
 }
 
+impl PartialEq for ContainsUnknown {
+    ghost use Rattle.cedar_restricted.specs.Sameness.{same_unknown_part, same_unknown_part_partial};
+
+    ghost eq = { same_unknown_part };
+
+    ghost laws = { same_unknown_part_partial };
+
+    fn eq(&self, other: &ContainsUnknown) -> bool {
+        self.residual.cmp_shape(&other.residual).is_eq()
+    }
+}
+
+impl Eq for ContainsUnknown {
+    ghost use Rattle.cedar_restricted.specs.Sameness.{same_unknown_part_equiv};
+
+    ghost laws = { same_unknown_part_equiv };
+}
+
 /// Why a partial value is no value.
-#[derive(Debug, Drop, Error)]
+#[derive(Debug, PartialEq, Eq, Drop, Error)]
 pub enum PartialValueToValueError {
     /// It is a residual.
     #[error(transparent)]

@@ -21,6 +21,7 @@ use cedar_trees::errors::ExpressionConstructionError;
 use cedar_trees::expr::Expr;
 use cedar_trees::unknowns::Unknown;
 use std::alloc::{AllocError, Global};
+use std::fmt;
 use std::rc::RcStr;
 
 /// An expression of literals, unknowns, sets, records and calls of extension functions alone. Contracts
@@ -126,7 +127,7 @@ impl RestrictedExpr {
         })
     }
 
-    /// The same expression, lent.
+    /// The same expression, lent. Takes no memory, and tests nothing again.
     pub fn as_borrowed(&self) -> BorrowedRestrictedExpr<'_>
         ensures { borrowed_tree result ≡ restricted_tree self.now }
     {
@@ -189,7 +190,7 @@ impl RestrictedExpr {
         self.as_borrowed().as_extn_fn_call()
     }
 
-    /// The expression.
+    /// The expression itself, as any other; its parts, its place and its tree stay.
     pub fn into_expr(self) -> Expr
         ensures tree { bare result ≡ restricted_tree self }
         ensures restricted { is_restricted (bare result) ≡ true }
@@ -222,5 +223,12 @@ impl RestrictedExpr {
             exprs.push((key, item.into_expr()))?;
         }
         Ok(exprs)
+    }
+}
+
+/// Its text in the language, as that of the expression.
+impl fmt::Display for RestrictedExpr {
+    fn fmt<W: fmt::Write>(&self, f: &mut fmt::Formatter<W>) -> fmt::Result {
+        fmt::Display::fmt(&self.expr, f)
     }
 }

@@ -15,7 +15,7 @@ pub struct RestrictedExprShapeOnly<'a> {
 }
 
 impl<'a> RestrictedExprShapeOnly<'a> {
-    /// Of an expression that is lent.
+    /// The shape of an expression that is lent. Takes no memory.
     pub fn new(expr: BorrowedRestrictedExpr<'a>) -> RestrictedExprShapeOnly<'a>
         ensures { restricted_shape result ≡ borrowed_tree expr.entry }
     {

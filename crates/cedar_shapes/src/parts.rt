@@ -102,7 +102,8 @@ impl<'a, T> Iterator for Operands<'a, T> {
 }
 
 impl<'a, T> Parts<'a, T> {
-    /// The parts of an expression.
+    /// The parts of an expression, from the left; none where it is a literal, a variable, a slot or an
+    /// unknown. Takes no memory.
     pub fn of(expr: &'a Expr<T>) -> Parts<'a, T>
         ensures { parts_left result ≡ parts_of (bare expr.now) }
     {
@@ -140,7 +141,7 @@ impl<'a, T> Parts<'a, T> {
         Some((first, parts))
     }
 
-    /// How many are left.
+    /// How many parts are left to be taken.
     pub fn len(&self) -> usize
         ensures { result ≡ length (parts_left self.now) }
     {

@@ -71,7 +71,7 @@ pub struct ExprShapeOnly<'a, T = ()> {
 }
 
 impl<'a, T> ExprShapeOnly<'a, T> {
-    /// Of an expression that is lent.
+    /// The shape of an expression that is lent. Takes no memory.
     pub fn new_from_borrowed(expr: &'a Expr<T>) -> ExprShapeOnly<'a, T>
         ensures { only_shape result ≡ bare expr.now }
     {
@@ -80,7 +80,7 @@ impl<'a, T> ExprShapeOnly<'a, T> {
         }
     }
 
-    /// Of an expression that is given.
+    /// The shape of an expression that is given, and let go with it. Takes no memory.
     pub fn new_from_owned(expr: Expr<T>) -> ExprShapeOnly<'a, T>
         ensures { only_shape result ≡ bare expr }
     {

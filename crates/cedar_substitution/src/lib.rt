@@ -1,6 +1,7 @@
 //! Expressions of Cedar built again, by any builder and with others for their unknowns.
 #![tactic(auto)]
 
+mod access;
 pub mod errors;
 pub mod functions;
 pub mod into_expr;

@@ -14,6 +14,7 @@ ghost use Rattle.cedar_builders.specs.Operations.{Gives, built, made, made_all};
 ghost use Rattle.cedar_substitution.specs.Chains.{first_of, with_built, refilled as refilled_by};
 ghost use Rattle.cedar_substitution.specs.Rising.{RecordsRise, RecordsRiseWith, AllRiseWith, RestRisesWith, BuildsRising};
 
+use crate::access;
 use cedar_builders::expr_builder::ExprBuilder;
 use cedar_trees::expr::{Expr, ExprKind};
 use cedar_trees::unknowns::Unknown;
@@ -173,13 +174,11 @@ fn refilled<T, B: ExprBuilder, U: Replacement>(
             let arg2 = rebuilt::<T, B, U>(alloc, unknowns, arg2)?;
             builder.binary_app(*op, first, arg2)
         }
-        ExprKind::GetAttr { attr, .. } => builder.get_attr(first, attr.clone()?),
-        ExprKind::HasAttr { attr, .. } => builder.has_attr(first, attr.clone()?),
-        ExprKind::ExtHasAttr { attrs, .. } => builder.extended_has_attr(first, attrs.clone(alloc)?),
-        ExprKind::Like { pattern, .. } => builder.like(first, pattern.clone()?),
-        ExprKind::Is { entity_type, .. } => {
-            builder.is_entity_type(first, entity_type.clone(alloc)?)
-        }
+        ExprKind::GetAttr { attr, .. } => access::get_attr(builder, first, attr),
+        ExprKind::HasAttr { attr, .. } => access::has_attr(builder, first, attr),
+        ExprKind::ExtHasAttr { attrs, .. } => access::has_path(alloc, builder, first, attrs),
+        ExprKind::Like { pattern, .. } => access::like(builder, first, pattern),
+        ExprKind::Is { entity_type, .. } => access::is_of_type(alloc, builder, first, entity_type),
         ExprKind::Lit(_) => unreachable!(),
         ExprKind::Var(_) => unreachable!(),
         ExprKind::Slot(_) => unreachable!(),

@@ -23,7 +23,7 @@ impl DuplicateKeyError {
         DuplicateKeyError { key, context }
     }
 
-    /// The key.
+    /// The key that stands twice, as the record has it: without quotes and escapes.
     pub fn key(&self) -> &str
         ensures { result.now ≡ rc_str_bytes self.now.key }
     {
@@ -42,7 +42,8 @@ impl DuplicateKeyError {
     }
 }
 
-/// Why no expression is made.
+/// Why no expression is made of its parts: a record refuses a key that stands twice, and every
+/// construct may want memory.
 #[derive(Debug, PartialEq, Eq, Drop, Error)]
 pub enum ExpressionConstructionError {
     /// A record holds one key twice.

@@ -1,7 +1,7 @@
 // Expressions.
-ghost use Rattle.std.specs.Prelude.{◌≡◌, IfOk, map};
+ghost use Rattle.std.specs.Prelude.{◌≡◌, map};
 ghost use Rattle.std.specs.Option.{option_copied};
-ghost use Rattle.cedar_trees.specs.Bare.{bare, bare_kind};
+ghost use Rattle.cedar_trees.specs.Bare.{bare};
 ghost use Rattle.cedar_trees.specs.Shapes.{is_entity, are_entities, is_slot_tree, is_set_of_entities};
 ghost use Rattle.cedar_grammar.specs.Build.{trees};
 
@@ -14,7 +14,6 @@ use cedar_literals::uids::EntityType;
 use cedar_literals::variables::Var;
 use cedar_names::names::Name;
 use cedar_names::places::Loc;
-use std::alloc::{AllocError, Global};
 use std::collections::BTreeMap;
 use std::rc::{Rc, RcStr};
 
@@ -279,91 +278,6 @@ impl<T> Expr<T> {
             ExprKind::Set(items) => are_refs(items),
             _ => false,
         }
-    }
-}
-
-impl<T: Clone + Drop> Expr<T> {
-    /// A copy that shares the parts; refused for memory alone. Its data is a clone.
-    pub fn clone(&self, alloc: Global) -> Result<Expr<T>, AllocError>
-        ensures tree { IfOk result (λ copy. bare copy ≡ bare self.now) }
-        ensures data { IfOk result (λ copy. T.is_clone self.now.«data» copy.«data») }
-    {
-        let expr_kind = self.expr_kind.clone(alloc)?;
-        let source_loc = match &self.source_loc {
-            None => None,
-            Some(loc) => Some(loc.clone(alloc)?),
-        };
-        Ok(Expr {
-            expr_kind,
-            source_loc,
-            data: self.data.clone()?,
-        })
-    }
-}
-
-impl<T: Drop> ExprKind<T> {
-    /// A copy that shares the parts; refused for memory alone.
-    pub fn clone(&self, alloc: Global) -> Result<ExprKind<T>, AllocError>
-        ensures { IfOk result (λ copy. bare_kind copy ≡ bare_kind self.now) }
-    {
-        Ok(match self {
-            ExprKind::Lit(literal) => ExprKind::Lit(literal.clone()?),
-            ExprKind::Var(var) => ExprKind::Var(*var),
-            ExprKind::Slot(slot) => ExprKind::Slot(*slot),
-            ExprKind::Unknown(unknown) => ExprKind::Unknown(unknown.clone()?),
-            ExprKind::If {
-                test_expr,
-                then_expr,
-                else_expr,
-            } => ExprKind::If {
-                test_expr: test_expr.clone()?,
-                then_expr: then_expr.clone()?,
-                else_expr: else_expr.clone()?,
-            },
-            ExprKind::And { left, right } => ExprKind::And {
-                left: left.clone()?,
-                right: right.clone()?,
-            },
-            ExprKind::Or { left, right } => ExprKind::Or {
-                left: left.clone()?,
-                right: right.clone()?,
-            },
-            ExprKind::UnaryApp { op, arg } => ExprKind::UnaryApp {
-                op: *op,
-                arg: arg.clone()?,
-            },
-            ExprKind::BinaryApp { op, arg1, arg2 } => ExprKind::BinaryApp {
-                op: *op,
-                arg1: arg1.clone()?,
-                arg2: arg2.clone()?,
-            },
-            ExprKind::ExtensionFunctionApp { fn_name, args } => ExprKind::ExtensionFunctionApp {
-                fn_name: fn_name.clone(alloc)?,
-                args: args.clone()?,
-            },
-            ExprKind::GetAttr { expr, attr } => ExprKind::GetAttr {
-                expr: expr.clone()?,
-                attr: attr.clone()?,
-            },
-            ExprKind::HasAttr { expr, attr } => ExprKind::HasAttr {
-                expr: expr.clone()?,
-                attr: attr.clone()?,
-            },
-            ExprKind::ExtHasAttr { expr, attrs } => ExprKind::ExtHasAttr {
-                expr: expr.clone()?,
-                attrs: attrs.clone(alloc)?,
-            },
-            ExprKind::Like { expr, pattern } => ExprKind::Like {
-                expr: expr.clone()?,
-                pattern: pattern.clone()?,
-            },
-            ExprKind::Is { expr, entity_type } => ExprKind::Is {
-                expr: expr.clone()?,
-                entity_type: entity_type.clone(alloc)?,
-            },
-            ExprKind::Set(items) => ExprKind::Set(items.clone()?),
-            ExprKind::Record(entries) => ExprKind::Record(entries.clone()?),
-        })
     }
 }
 

@@ -2,6 +2,7 @@
 #![tactic(auto)]
 
 pub mod constructors;
+mod copies;
 mod displays;
 pub mod errors;
 pub mod expr;

@@ -6,7 +6,8 @@ use cedar_literals::types::Type;
 use std::alloc::{AllocError, Global};
 use std::rc::RcStr;
 
-/// A value that isn't known yet.
+/// A value that isn't known yet, by a name: each unknown of one name stands for one value. In a text it
+/// is written `unknown("name")`.
 #[derive(Debug, PartialEq, Eq, Drop)]
 pub struct Unknown {
     /// What it is called.

@@ -56,7 +56,7 @@ impl ExtensionValue {
         }
     }
 
-    /// The name of its type.
+    /// The name of its type, as the extension declares it.
     pub fn typename(&self) -> &Name
         ensures { result.now ≡ self.now.type_name }
     {
@@ -139,14 +139,14 @@ impl RepresentableExtensionValue {
         RepresentableExtensionValue { value, func, args }
     }
 
-    /// The value.
+    /// The value, without the call that makes it: by this alone it is compared and hashed.
     pub fn value(&self) -> &ExtensionValue
         ensures { result.now ≡ extension_of self.now }
     {
         &self.value
     }
 
-    /// The name of the value's type.
+    /// The name of the value's type, as the extension declares it.
     pub fn typename(&self) -> &Name
         ensures { result.now ≡ (extension_of self.now).type_name }
     {

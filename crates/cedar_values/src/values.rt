@@ -112,14 +112,17 @@ impl Value {
         }
     }
 
-    /// What it is.
+    /// Which kind of value it is, and what it holds: a literal, a set by its members, a record by its
+    /// attributes, or an extension value. Takes no memory, and shows no place of its own; what stands in
+    /// it has its places. (Cedar language reference, "Data types".)
     pub fn value_kind(&self) -> &ValueKind
         ensures { value_of result.now ≡ self.now }
     {
         &self.value
     }
 
-    /// Where it was written, if that is known.
+    /// Where it was written, if that is known: the range of bytes in the text that it was read from. No
+    /// contract says more, since a value's view has no place.
     pub fn source_loc(&self) -> Option<&Loc> {
         self.loc.as_ref()
     }

@@ -50,14 +50,14 @@ impl Set {
         Set::new(alloc, values)
     }
 
-    /// How many members it has.
+    /// How many members it has, each counted once: what was given twice is one member.
     pub fn len(&self) -> usize
         ensures { result ≡ length self.now }
     {
         self.authoritative.len()
     }
 
-    /// Whether it has no member.
+    /// Whether it has no member. (Cedar language reference, "isEmpty() (set emptiness test)".)
     pub fn is_empty(&self) -> bool
         ensures { IsTrue result ↔ (self.now ≡ []) }
     {

@@ -162,20 +162,20 @@ refilled-returns-in_ok-arg2-in-BinaryApp-clause-built g t c = gives g.B.ExprBuil
 pub refilled-returns-in-UnaryApp-clause-built : goal.refilled-returns-in-UnaryApp-clause-built
 refilled-returns-in-UnaryApp-clause-built g t c = gives g.B.ExprBuilder.meaning g.B.ExprBuilder.refusal c.unary_app.result _ _ (fill-UnaryApp g.B.ExprBuilder.operations (with_built g.B.ExprBuilder.operations (g.U.Replacement.replaced c.args.unknowns.now)) c.args.expr.now _ _ c.in-UnaryApp.is (g.B.ExprBuilder.meaning c.args.first)) c.unary_app.ensures
 
-pub refilled-returns-in_ok-clone-in-GetAttr-clause-built : goal.refilled-returns-in_ok-clone-in-GetAttr-clause-built
-refilled-returns-in_ok-clone-in-GetAttr-clause-built g t c = gives g.B.ExprBuilder.meaning g.B.ExprBuilder.refusal c.get_attr.result _ _ (fill-GetAttr g.B.ExprBuilder.operations (with_built g.B.ExprBuilder.operations (g.U.Replacement.replaced c.args.unknowns.now)) c.args.expr.now _ _ c.in-GetAttr.is (g.B.ExprBuilder.meaning c.args.first) ∙ ap (λ t. Ok (g.B.ExprBuilder.operations.apply (tree.GetAttr t) ((g.B.ExprBuilder.meaning c.args.first) ∷ []))) (sym c.in_ok-clone-in-GetAttr.ensures.cases)) c.get_attr.ensures
+pub refilled-returns-in-GetAttr-clause-built : goal.refilled-returns-in-GetAttr-clause-built
+refilled-returns-in-GetAttr-clause-built g t c = gives g.B.ExprBuilder.meaning g.B.ExprBuilder.refusal c.get_attr.result _ _ (fill-GetAttr g.B.ExprBuilder.operations (with_built g.B.ExprBuilder.operations (g.U.Replacement.replaced c.args.unknowns.now)) c.args.expr.now _ _ c.in-GetAttr.is (g.B.ExprBuilder.meaning c.args.first)) c.get_attr.ensures
 
-pub refilled-returns-in_ok-clone-in-HasAttr-clause-built : goal.refilled-returns-in_ok-clone-in-HasAttr-clause-built
-refilled-returns-in_ok-clone-in-HasAttr-clause-built g t c = gives g.B.ExprBuilder.meaning g.B.ExprBuilder.refusal c.has_attr.result _ _ (fill-HasAttr g.B.ExprBuilder.operations (with_built g.B.ExprBuilder.operations (g.U.Replacement.replaced c.args.unknowns.now)) c.args.expr.now _ _ c.in-HasAttr.is (g.B.ExprBuilder.meaning c.args.first) ∙ ap (λ t. Ok (g.B.ExprBuilder.operations.apply (tree.HasAttr t) ((g.B.ExprBuilder.meaning c.args.first) ∷ []))) (sym c.in_ok-clone-in-HasAttr.ensures.cases)) c.has_attr.ensures
+pub refilled-returns-in-HasAttr-clause-built : goal.refilled-returns-in-HasAttr-clause-built
+refilled-returns-in-HasAttr-clause-built g t c = gives g.B.ExprBuilder.meaning g.B.ExprBuilder.refusal c.has_attr.result _ _ (fill-HasAttr g.B.ExprBuilder.operations (with_built g.B.ExprBuilder.operations (g.U.Replacement.replaced c.args.unknowns.now)) c.args.expr.now _ _ c.in-HasAttr.is (g.B.ExprBuilder.meaning c.args.first)) c.has_attr.ensures
 
-pub refilled-returns-in_ok-clone-in-Like-clause-built : goal.refilled-returns-in_ok-clone-in-Like-clause-built
-refilled-returns-in_ok-clone-in-Like-clause-built g t c = gives g.B.ExprBuilder.meaning g.B.ExprBuilder.refusal c.like.result _ _ (fill-Like g.B.ExprBuilder.operations (with_built g.B.ExprBuilder.operations (g.U.Replacement.replaced c.args.unknowns.now)) c.args.expr.now _ _ c.in-Like.is (g.B.ExprBuilder.meaning c.args.first) ∙ ap (λ t. Ok (g.B.ExprBuilder.operations.apply (tree.Like t) ((g.B.ExprBuilder.meaning c.args.first) ∷ []))) (sym c.in_ok-clone-in-Like.ensures.cases)) c.like.ensures
+pub refilled-returns-in-Like-clause-built : goal.refilled-returns-in-Like-clause-built
+refilled-returns-in-Like-clause-built g t c = gives g.B.ExprBuilder.meaning g.B.ExprBuilder.refusal c.like.result _ _ (fill-Like g.B.ExprBuilder.operations (with_built g.B.ExprBuilder.operations (g.U.Replacement.replaced c.args.unknowns.now)) c.args.expr.now _ _ c.in-Like.is (g.B.ExprBuilder.meaning c.args.first)) c.like.ensures
 
-pub refilled-returns-in_ok-clone-in-Is-clause-built : goal.refilled-returns-in_ok-clone-in-Is-clause-built
-refilled-returns-in_ok-clone-in-Is-clause-built g t c = gives g.B.ExprBuilder.meaning g.B.ExprBuilder.refusal c.is_entity_type.result _ _ (fill-Is g.B.ExprBuilder.operations (with_built g.B.ExprBuilder.operations (g.U.Replacement.replaced c.args.unknowns.now)) c.args.expr.now _ _ c.in-Is.is (g.B.ExprBuilder.meaning c.args.first) ∙ ap (λ t. Ok (g.B.ExprBuilder.operations.apply (tree.Is t) ((g.B.ExprBuilder.meaning c.args.first) ∷ []))) (sym c.in_ok-clone-in-Is.ensures)) c.is_entity_type.ensures
+pub refilled-returns-in-Is-clause-built : goal.refilled-returns-in-Is-clause-built
+refilled-returns-in-Is-clause-built g t c = gives g.B.ExprBuilder.meaning g.B.ExprBuilder.refusal c.is_of_type.result _ _ (fill-Is g.B.ExprBuilder.operations (with_built g.B.ExprBuilder.operations (g.U.Replacement.replaced c.args.unknowns.now)) c.args.expr.now _ _ c.in-Is.is (g.B.ExprBuilder.meaning c.args.first)) c.is_of_type.ensures
 
-pub refilled-returns-in_ok-clone-in-ExtHasAttr-clause-built : goal.refilled-returns-in_ok-clone-in-ExtHasAttr-clause-built
-refilled-returns-in_ok-clone-in-ExtHasAttr-clause-built g t c = gives g.B.ExprBuilder.meaning g.B.ExprBuilder.refusal c.extended_has_attr.result _ _ (fill-ExtHasAttr g.B.ExprBuilder.operations (with_built g.B.ExprBuilder.operations (g.U.Replacement.replaced c.args.unknowns.now)) c.args.expr.now _ _ c.in-ExtHasAttr.is (g.B.ExprBuilder.meaning c.args.first) ∙ ap (λ t. Ok (g.B.ExprBuilder.operations.apply (tree.HasPath t (map rc_str_bytes c.in-ExtHasAttr.attrs.tail.items)) ((g.B.ExprBuilder.meaning c.args.first) ∷ []))) (sym c.in_ok-clone-in-ExtHasAttr.ensures.head) ∙ ap (λ ts. Ok (g.B.ExprBuilder.operations.apply (tree.HasPath (rc_str_bytes c.in_ok-clone-in-ExtHasAttr.field-0.head) ts) ((g.B.ExprBuilder.meaning c.args.first) ∷ []))) (sym c.in_ok-clone-in-ExtHasAttr.ensures.tail)) c.extended_has_attr.ensures
+pub refilled-returns-in-ExtHasAttr-clause-built : goal.refilled-returns-in-ExtHasAttr-clause-built
+refilled-returns-in-ExtHasAttr-clause-built g t c = gives g.B.ExprBuilder.meaning g.B.ExprBuilder.refusal c.has_path.result _ _ (fill-ExtHasAttr g.B.ExprBuilder.operations (with_built g.B.ExprBuilder.operations (g.U.Replacement.replaced c.args.unknowns.now)) c.args.expr.now _ _ c.in-ExtHasAttr.is (g.B.ExprBuilder.meaning c.args.first)) c.has_path.ensures
 
 pub rebuilt_end-returns-in_ok-clone-in-Lit-clause-rising : goal.rebuilt_end-returns-in_ok-clone-in-Lit-clause-rising
 rebuilt_end-returns-in_ok-clone-in-Lit-clause-rising g t c = gives_rising g.B.ExprBuilder.operations g.B.ExprBuilder.meaning g.B.ExprBuilder.refusal c.val.result _ (rise-Lit (λ n ty. RecordsRise (g.U.Replacement.replaced c.args.unknowns.now n ty)) c.args.expr.now _ c.in-Lit.is) (λ calls. (_, refl)) c.val.ensures
@@ -222,20 +222,20 @@ refilled-returns-in_ok-arg2-in-BinaryApp-clause-rising g t c = gives_rising g.B.
 pub refilled-returns-in-UnaryApp-clause-rising : goal.refilled-returns-in-UnaryApp-clause-rising
 refilled-returns-in-UnaryApp-clause-rising g t c = gives_rising g.B.ExprBuilder.operations g.B.ExprBuilder.meaning g.B.ExprBuilder.refusal c.unary_app.result _ (rest-UnaryApp (λ n ty. RecordsRise (g.U.Replacement.replaced c.args.unknowns.now n ty)) c.args.expr.now _ _ c.in-UnaryApp.is) (λ calls. (_, refl)) c.unary_app.ensures
 
-pub refilled-returns-in_ok-clone-in-GetAttr-clause-rising : goal.refilled-returns-in_ok-clone-in-GetAttr-clause-rising
-refilled-returns-in_ok-clone-in-GetAttr-clause-rising g t c = gives_rising g.B.ExprBuilder.operations g.B.ExprBuilder.meaning g.B.ExprBuilder.refusal c.get_attr.result _ (rest-GetAttr (λ n ty. RecordsRise (g.U.Replacement.replaced c.args.unknowns.now n ty)) c.args.expr.now _ _ c.in-GetAttr.is) (λ calls. (_, refl)) c.get_attr.ensures
+pub refilled-returns-in-GetAttr-clause-rising : goal.refilled-returns-in-GetAttr-clause-rising
+refilled-returns-in-GetAttr-clause-rising g t c = gives_rising g.B.ExprBuilder.operations g.B.ExprBuilder.meaning g.B.ExprBuilder.refusal c.get_attr.result _ (rest-GetAttr (λ n ty. RecordsRise (g.U.Replacement.replaced c.args.unknowns.now n ty)) c.args.expr.now _ _ c.in-GetAttr.is) (λ calls. (_, refl)) c.get_attr.ensures
 
-pub refilled-returns-in_ok-clone-in-HasAttr-clause-rising : goal.refilled-returns-in_ok-clone-in-HasAttr-clause-rising
-refilled-returns-in_ok-clone-in-HasAttr-clause-rising g t c = gives_rising g.B.ExprBuilder.operations g.B.ExprBuilder.meaning g.B.ExprBuilder.refusal c.has_attr.result _ (rest-HasAttr (λ n ty. RecordsRise (g.U.Replacement.replaced c.args.unknowns.now n ty)) c.args.expr.now _ _ c.in-HasAttr.is) (λ calls. (_, refl)) c.has_attr.ensures
+pub refilled-returns-in-HasAttr-clause-rising : goal.refilled-returns-in-HasAttr-clause-rising
+refilled-returns-in-HasAttr-clause-rising g t c = gives_rising g.B.ExprBuilder.operations g.B.ExprBuilder.meaning g.B.ExprBuilder.refusal c.has_attr.result _ (rest-HasAttr (λ n ty. RecordsRise (g.U.Replacement.replaced c.args.unknowns.now n ty)) c.args.expr.now _ _ c.in-HasAttr.is) (λ calls. (_, refl)) c.has_attr.ensures
 
-pub refilled-returns-in_ok-clone-in-ExtHasAttr-clause-rising : goal.refilled-returns-in_ok-clone-in-ExtHasAttr-clause-rising
-refilled-returns-in_ok-clone-in-ExtHasAttr-clause-rising g t c = gives_rising g.B.ExprBuilder.operations g.B.ExprBuilder.meaning g.B.ExprBuilder.refusal c.extended_has_attr.result _ (rest-ExtHasAttr (λ n ty. RecordsRise (g.U.Replacement.replaced c.args.unknowns.now n ty)) c.args.expr.now _ _ c.in-ExtHasAttr.is) (λ calls. (_, refl)) c.extended_has_attr.ensures
+pub refilled-returns-in-ExtHasAttr-clause-rising : goal.refilled-returns-in-ExtHasAttr-clause-rising
+refilled-returns-in-ExtHasAttr-clause-rising g t c = gives_rising g.B.ExprBuilder.operations g.B.ExprBuilder.meaning g.B.ExprBuilder.refusal c.has_path.result _ (rest-ExtHasAttr (λ n ty. RecordsRise (g.U.Replacement.replaced c.args.unknowns.now n ty)) c.args.expr.now _ _ c.in-ExtHasAttr.is) (λ calls. (_, refl)) c.has_path.ensures
 
-pub refilled-returns-in_ok-clone-in-Like-clause-rising : goal.refilled-returns-in_ok-clone-in-Like-clause-rising
-refilled-returns-in_ok-clone-in-Like-clause-rising g t c = gives_rising g.B.ExprBuilder.operations g.B.ExprBuilder.meaning g.B.ExprBuilder.refusal c.like.result _ (rest-Like (λ n ty. RecordsRise (g.U.Replacement.replaced c.args.unknowns.now n ty)) c.args.expr.now _ _ c.in-Like.is) (λ calls. (_, refl)) c.like.ensures
+pub refilled-returns-in-Like-clause-rising : goal.refilled-returns-in-Like-clause-rising
+refilled-returns-in-Like-clause-rising g t c = gives_rising g.B.ExprBuilder.operations g.B.ExprBuilder.meaning g.B.ExprBuilder.refusal c.like.result _ (rest-Like (λ n ty. RecordsRise (g.U.Replacement.replaced c.args.unknowns.now n ty)) c.args.expr.now _ _ c.in-Like.is) (λ calls. (_, refl)) c.like.ensures
 
-pub refilled-returns-in_ok-clone-in-Is-clause-rising : goal.refilled-returns-in_ok-clone-in-Is-clause-rising
-refilled-returns-in_ok-clone-in-Is-clause-rising g t c = gives_rising g.B.ExprBuilder.operations g.B.ExprBuilder.meaning g.B.ExprBuilder.refusal c.is_entity_type.result _ (rest-Is (λ n ty. RecordsRise (g.U.Replacement.replaced c.args.unknowns.now n ty)) c.args.expr.now _ _ c.in-Is.is) (λ calls. (_, refl)) c.is_entity_type.ensures
+pub refilled-returns-in-Is-clause-rising : goal.refilled-returns-in-Is-clause-rising
+refilled-returns-in-Is-clause-rising g t c = gives_rising g.B.ExprBuilder.operations g.B.ExprBuilder.meaning g.B.ExprBuilder.refusal c.is_of_type.result _ (rest-Is (λ n ty. RecordsRise (g.U.Replacement.replaced c.args.unknowns.now n ty)) c.args.expr.now _ _ c.in-Is.is) (λ calls. (_, refl)) c.is_of_type.ensures
 
 pub refilled-returns-in_err-then_expr-in-If-clause-rising : goal.refilled-returns-in_err-then_expr-in-If-clause-rising
 refilled-returns-in_err-then_expr-in-If-clause-rising g t c = passes_rising g.B.ExprBuilder.operations g.B.ExprBuilder.refusal c.in_err-then_expr-in-If.field-0.0 c.from_residual-in_err-then_expr-in-If.result _ c.from_residual-in_err-then_expr-in-If.ensures c.in_err-then_expr-in-If.ensures.rising
