@@ -6,7 +6,7 @@ use Rattle.std.proofs.lemmas.Bool.{or_cases, and_parts}
 use Rattle.std.proofs.lemmas.List.Folds.{list_any-append}
 use Rattle.std.proofs.lemmas.Map.Steps.{list_any_congr}
 use Rattle.cedar_language.specs.Facts.{Reaches, edge, further}
-use Rattle.cedar_closure.specs.Graph.{IsClosedBeside}
+use Rattle.cedar_closure.specs.Graph.{IsClosedBeside, IsBetween}
 use Rattle.cedar_closure.specs.Found.{finds}
 use Rattle.cedar_closure.specs.declared.closing.Reached.{Reached}
 use Rattle.cedar_closure.proofs.Members.{or_more, or_else, or_none, member_at, member_alike, list_any-at}
@@ -74,6 +74,23 @@ module _ {K : Type 0} {eq : K → K → Bool} (laws : IsEquivalence eq) (next : 
             | inr k ↦ or_else (finds eq (all ++ r ∷ []) a q) _ k
           ]
         ]
+
+-- what stays and what comes where a call is refused
+module _ {K : Type 0} (eq : K → K → Bool) (E F : K → List K) where
+  pub unchanged : ((a : K) → F a ≡ E a) → IsBetween (IsEdge eq E) (Reaches (IsEdge eq E)) (IsEdge eq F)
+  unchanged same = record {
+    least = λ a b h. ap (λ xs. is_member eq xs b) (same a) ∙ h;
+    most = λ a b h. edge (sym (ap (λ xs. is_member eq xs b) (same a)) ∙ h);
+  }
+
+  pub only_found : (has_node : K → Bool) (listed : List K) (all : List (Reached K)) → FindsNoMore eq E listed all → IsBetween (IsEdge eq E) (λ a q. IsTrue (is_member eq (E a) q || (has_node a && finds eq all a q))) (IsEdge eq F) → IsBetween (IsEdge eq E) (Reaches (IsEdge eq E)) (IsEdge eq F)
+  only_found has_node listed all sound between = record {
+    least = between.least;
+    most = λ a q h. elim (or_cases (is_member eq (E a) q) (has_node a && finds eq all a q) (between.most a q h)) [
+      | inl k ↦ edge k
+      | inr k ↦ (sound a q (and_parts (has_node a) (finds eq all a q) k).1).1
+    ];
+  }
 
 -- adding what was found: F has the edges of E, and those that were found at each key with a node
 module _ {K : Type 0} (eq : K → K → Bool) (E F : K → List K) (has_node : K → Bool) (listed : List K) (all : List (Reached K))

@@ -3,3 +3,4 @@ pub mod NodeLemmas
 pub mod Search
 pub mod Finding
 pub mod Refusal
+pub mod Resetting

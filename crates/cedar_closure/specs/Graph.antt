@@ -15,6 +15,11 @@ module _ {K : Type 0} (eq : K → K → Bool) where
   abbrev pub IsClosedBeside : List K → (K → K → Type 0) → Type 0
   IsClosedBeside listed IsEdge = (a b : K) → is_member eq listed a ≡ false → Reaches IsEdge a b → IsEdge a b
 
+-- the edges of the first graph are there, and no others than those of the second
+pub record IsBetween {K : Type 0} (Least Most IsEdge : K → K → Type 0) : Type 0 where
+  pub least : (a b : K) → Least a b → IsEdge a b
+  pub most : (a b : K) → IsEdge a b → Most a b
+
 module _ {K V S : Type 0} (eq : K → K → Bool) (edges : V → List K) where
   -- where the edges of the node at k lead; nowhere, if there is no node
   abbrev pub edges_at : HashMap K V S → K → List K

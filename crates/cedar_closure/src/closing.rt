@@ -1,8 +1,8 @@
-// Adding the edges that a transitive closure has.
-ghost use Rattle.std.specs.Prelude.{◌≡◌, ◌↔◌, ◌||◌, ◌&&◌, false, ◌++◌, IfOk, OnOk, IfErr, IfSome, IfNone, IsTrue, is_some};
+//! Adding the edges that a transitive closure has.
+ghost use Rattle.std.specs.Prelude.{◌≡◌, ◌↔◌, ◌||◌, ◌&&◌, false, ◌++◌, IfOk, OnOk, IfErr, OnErr, IfSome, IfNone, IsTrue, is_some};
 ghost use Rattle.std.specs.Set.{is_member, ClonesAreEqual};
 ghost use Rattle.std.specs.HashMap.{get};
-ghost use Rattle.cedar_closure.specs.Graph.{edges_at, HasEdge, SameKeys, SameNodes, IsClosedBeside};
+ghost use Rattle.cedar_closure.specs.Graph.{edges_at, HasEdge, SameKeys, SameNodes, IsBetween, IsClosedBeside};
 ghost use Rattle.cedar_language.specs.Facts.{Reaches};
 ghost use Rattle.cedar_closure.specs.Found.{finds};
 ghost use Rattle.cedar_closure.specs.Refused.{IsTcRefusal};
@@ -61,6 +61,8 @@ fn add_edges<K: Eq + Hash + Drop, V: TCNode<K>>(
     keys: Vec<K>,
 ) -> Result<(), AllocError>
     ensures added { OnOk result (SameKeys K.eq (keys.items ++ V.edges node.old) (V.edges node.new)) }
+    ensures kept { OnErr result ((q : K) → IsTrue (is_member K.eq (V.edges node.old) q) → IsTrue (is_member K.eq (V.edges node.new) q)) }
+    ensures only { OnErr result ((q : K) → IsTrue (is_member K.eq (V.edges node.new) q) → IsTrue (is_member K.eq (keys.items ++ V.edges node.old) q)) }
     ensures same { V.is_same node.old node.new }
 {
     for key in keys {
@@ -77,6 +79,10 @@ fn add_reached<K: Eq + Hash + Drop, V: TCNode<K>>(
     ensures added { OnOk result ((a q : K) → is_member K.eq (edges_at K.eq V.edges nodes.new a) q
         ≡ (is_member K.eq (edges_at K.eq V.edges nodes.old a) q
         || (is_some (get K.eq nodes.old a) && (K.eq a reached.from && is_member K.eq reached.keys.items q)))) }
+    ensures left { OnErr result (IsBetween (HasEdge K.eq V.edges nodes.old)
+        (λ a q. IsTrue (is_member K.eq (edges_at K.eq V.edges nodes.old a) q
+        || (is_some (get K.eq nodes.old a) && (K.eq a reached.from && is_member K.eq reached.keys.items q))))
+        (HasEdge K.eq V.edges nodes.new)) }
     ensures same { SameNodes K.eq V.is_same nodes.old nodes.new }
 {
     let Reached { from, keys } = reached;
@@ -94,6 +100,10 @@ fn add_all<K: Eq + Hash + Drop, V: TCNode<K>>(
     ensures added { OnOk result ((a q : K) → is_member K.eq (edges_at K.eq V.edges nodes.new a) q
         ≡ (is_member K.eq (edges_at K.eq V.edges nodes.old a) q
         || (is_some (get K.eq nodes.old a) && finds K.eq all.items a q))) }
+    ensures left { OnErr result (IsBetween (HasEdge K.eq V.edges nodes.old)
+        (λ a q. IsTrue (is_member K.eq (edges_at K.eq V.edges nodes.old a) q
+        || (is_some (get K.eq nodes.old a) && finds K.eq all.items a q)))
+        (HasEdge K.eq V.edges nodes.new)) }
     ensures same { SameNodes K.eq V.is_same nodes.old nodes.new }
 {
     for reached in all {
@@ -122,7 +132,7 @@ pub(crate) fn keys_of<K: Eq + Hash + Clone + Drop, V>(
 ///
 /// For each node it looks once at the edges of each key that the node reaches. The map may have any keys.
 /// `HasCycle` names a node of a cycle; refused otherwise only where memory runs out.
-/// A refused call leaves the nodes, with edges that may differ.
+/// A refused call leaves the nodes with all their edges, and perhaps some of those that were to be added.
 pub fn compute_tc<K: Eq + Hash + Clone + Drop, V: TCNode<K>>(
     alloc: Global,
     nodes: &mut HashMap<K, V>,
@@ -133,6 +143,8 @@ pub fn compute_tc<K: Eq + Hash + Clone + Drop, V: TCNode<K>>(
         HasEdge K.eq V.edges nodes.new a b ↔ Reaches (HasEdge K.eq V.edges nodes.old) a b) }
     ensures acyclic { OnOk result (IsTrue enforce_dag →
         (a : K) → ¬ (Reaches (HasEdge K.eq V.edges nodes.old) a a)) }
+    ensures left { OnErr result (IsBetween (HasEdge K.eq V.edges nodes.old)
+        (Reaches (HasEdge K.eq V.edges nodes.old)) (HasEdge K.eq V.edges nodes.new)) }
     ensures refused { IfErr result (IsTcRefusal enforce_dag (λ k. Reaches (HasEdge K.eq V.edges nodes.old) k k)) }
     ensures same { SameNodes K.eq V.is_same nodes.old nodes.new }
 {
@@ -148,7 +160,7 @@ pub fn compute_tc<K: Eq + Hash + Clone + Drop, V: TCNode<K>>(
 /// Where `enforce_dag`, it is refused if one of `keys_to_fix` is on a cycle.
 ///
 /// `HasCycle` names such a key; refused otherwise only where memory runs out.
-/// A refused call leaves the nodes, with edges that may differ.
+/// A refused call leaves the nodes with all their edges, and perhaps some of those that were to be added.
 pub fn repair_tc<K: Eq + Hash + Clone + Drop, V: TCNode<K>>(
     alloc: Global,
     nodes: &mut HashMap<K, V>,
@@ -164,6 +176,8 @@ pub fn repair_tc<K: Eq + Hash + Clone + Drop, V: TCNode<K>>(
         (a b : K) → HasEdge K.eq V.edges nodes.new a b ↔ Reaches (HasEdge K.eq V.edges nodes.old) a b) }
     ensures acyclic { OnOk result (IsTrue enforce_dag →
         (a : K) → IsTrue (is_member K.eq keys_to_fix.now a) → ¬ (Reaches (HasEdge K.eq V.edges nodes.old) a a)) }
+    ensures left { OnErr result (IsBetween (HasEdge K.eq V.edges nodes.old)
+        (Reaches (HasEdge K.eq V.edges nodes.old)) (HasEdge K.eq V.edges nodes.new)) }
     ensures refused { IfErr result (IsTcRefusal enforce_dag
         (λ k. IsTrue (is_member K.eq keys_to_fix.now k) × Reaches (HasEdge K.eq V.edges nodes.old) k k)) }
     ensures same { SameNodes K.eq V.is_same nodes.old nodes.new }

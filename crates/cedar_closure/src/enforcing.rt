@@ -1,4 +1,4 @@
-// Whether a graph is its own transitive closure and has no cycle.
+//! Whether a graph is its own transitive closure and has no cycle.
 ghost use Rattle.std.specs.Prelude.{◌≡◌, false, IfOk, OnOk, IfErr, IfSome, IfNone, IsTrue};
 ghost use Rattle.std.specs.Set.{is_member, ClonesAreEqual};
 ghost use Rattle.cedar_closure.specs.Graph.{edges_at, HasEdge};

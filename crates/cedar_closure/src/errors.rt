@@ -1,4 +1,4 @@
-// Why a graph is refused.
+//! Why a graph is refused.
 ghost use Rattle.std.specs.Prelude.{◌≡◌};
 
 use std::alloc::{AllocError, AllocFailed};

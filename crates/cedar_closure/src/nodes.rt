@@ -1,4 +1,4 @@
-// The nodes of a graph.
+//! The nodes of a graph.
 ghost use Rattle.std.specs.Prelude.{◌≡◌, List, ◌∷◌, map, IfOk, OnOk, OnErr};
 ghost use Rattle.std.specs.Set.{is_member};
 ghost use Rattle.std.specs.Map.Iter.{deref};
@@ -37,9 +37,10 @@ pub trait TCNode<K: Eq> {
     fn has_edge_to(&self, k: &K) -> bool
         ensures { result ≡ is_member K.eq (edges self.now) k.now };
 
-    /// Drops the edges that aren't direct. Refused where memory runs out.
+    /// Drops the edges that aren't direct. Refused where memory runs out; the edges then stay.
     fn reset_edges(&mut self) -> Result<(), AllocError>
         ensures reset { OnOk result (SameKeys K.eq (direct self.old) (edges self.new)) }
+        ensures err { OnErr result (edges self.new ≡ edges self.old) }
         ensures same { is_same self.old self.new };
 
     /// The keys to which direct edges lead, in any order. Refused where memory runs out.

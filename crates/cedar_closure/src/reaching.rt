@@ -1,4 +1,4 @@
-// The keys that a key reaches.
+//! The keys that a key reaches.
 ghost use Rattle.std.specs.Prelude.{◌≡◌, ◌↔◌, List, ◌++◌, map, IfOk, OnOk, IsTrue};
 ghost use Rattle.std.specs.Set.{is_member, ClonesAreEqual, IsUnion};
 ghost use Rattle.std.specs.Map.Iter.{deref};

@@ -1,8 +1,8 @@
-// The closure of the direct edges.
-ghost use Rattle.std.specs.Prelude.{◌≡◌, ◌↔◌, false, OnOk, IfErr, IsTrue, is_some};
+//! The closure of the direct edges.
+ghost use Rattle.std.specs.Prelude.{◌≡◌, ◌↔◌, ◌⊎◌, false, OnOk, IfErr, OnErr, IsTrue, is_some};
 ghost use Rattle.std.specs.Set.{is_member, ClonesAreEqual};
 ghost use Rattle.std.specs.HashMap.{get};
-ghost use Rattle.cedar_closure.specs.Graph.{edges_at, HasEdge, SameKeys, SameNodes};
+ghost use Rattle.cedar_closure.specs.Graph.{edges_at, HasEdge, SameKeys, SameNodes, IsBetween};
 ghost use Rattle.cedar_language.specs.Facts.{Reaches};
 ghost use Rattle.cedar_closure.specs.Refused.{IsTcRefusal};
 
@@ -20,6 +20,7 @@ fn reset_node<K: Eq + Hash, V: TCNode<K>>(
 ) -> Result<(), AllocError>
     ensures reset { OnOk result ((a : K) → IsTrue (K.eq at.now a) →
         SameKeys K.eq (edges_at K.eq V.direct nodes.old a) (edges_at K.eq V.edges nodes.new a)) }
+    ensures err { OnErr result ((a : K) → edges_at K.eq V.edges nodes.new a ≡ edges_at K.eq V.edges nodes.old a) }
     ensures others { (a : K) → K.eq at.now a ≡ false →
         edges_at K.eq V.edges nodes.new a ≡ edges_at K.eq V.edges nodes.old a }
     ensures same { SameNodes K.eq V.is_same nodes.old nodes.new }
@@ -38,6 +39,8 @@ fn reset_all<K: Eq + Hash, V: TCNode<K>>(
     requires { (q : K) → is_member K.eq listed.now q ≡ is_some (get K.eq nodes.old q) }
     ensures reset { OnOk result ((a : K) →
         SameKeys K.eq (edges_at K.eq V.direct nodes.old a) (edges_at K.eq V.edges nodes.new a)) }
+    ensures left { OnErr result ((a : K) → SameKeys K.eq (edges_at K.eq V.direct nodes.old a) (edges_at K.eq V.edges nodes.new a)
+        ⊎ (edges_at K.eq V.edges nodes.new a ≡ edges_at K.eq V.edges nodes.old a)) }
     ensures same { SameNodes K.eq V.is_same nodes.old nodes.new }
 {
     for at in listed {
@@ -50,7 +53,8 @@ fn reset_all<K: Eq + Hash, V: TCNode<K>>(
 /// Where `enforce_dag`, direct edges with a cycle are refused.
 ///
 /// `HasCycle` names a node of a cycle; refused otherwise only where memory runs out.
-/// A refused call leaves the nodes, with edges that may differ.
+/// A refused call leaves the nodes with the direct ones of their edges, and perhaps some of the others and of those
+/// that were to be added.
 pub fn rebuild_tc<K: Eq + Hash + Clone + Drop, V: TCNode<K>>(
     alloc: Global,
     nodes: &mut HashMap<K, V>,
@@ -61,6 +65,10 @@ pub fn rebuild_tc<K: Eq + Hash + Clone + Drop, V: TCNode<K>>(
         HasEdge K.eq V.edges nodes.new a b ↔ Reaches (HasEdge K.eq V.direct nodes.old) a b) }
     ensures acyclic { OnOk result (IsTrue enforce_dag →
         (a : K) → ¬ (Reaches (HasEdge K.eq V.direct nodes.old) a a)) }
+    ensures left { OnErr result (IsBetween
+        (λ a b. HasEdge K.eq V.direct nodes.old a b × HasEdge K.eq V.edges nodes.old a b)
+        (λ a b. HasEdge K.eq V.edges nodes.old a b ⊎ Reaches (HasEdge K.eq V.direct nodes.old) a b)
+        (HasEdge K.eq V.edges nodes.new)) }
     ensures refused { IfErr result (IsTcRefusal enforce_dag (λ k. Reaches (HasEdge K.eq V.direct nodes.old) k k)) }
     ensures same { SameNodes K.eq V.is_same nodes.old nodes.new }
 {

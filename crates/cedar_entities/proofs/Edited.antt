@@ -2,7 +2,8 @@
 use Rattle.std.proofs.Common.{◌≡◌, ◌↔◌, inl, inr, Bool, true, false, not, ◌&&◌, true≢false, cond, List, [], ◌∷◌, Option, None, Some, option_map, MatchOption, refl, sym, ap, ◌∙◌, IfSome, IfErr, Result, Ok, Err}
 use Rattle.std.specs.FinSet as set
 use Rattle.std.specs.List.{AllByRecursion}
-use Rattle.std.specs.Option.{option_map_or, IsSomeAnd}
+use Rattle.std.specs.Option.{option_map_or, option_copied, IfNone, IsSomeAnd}
+use Rattle.std.specs.Borrow.{Bor}
 use Rattle.cedar_language.specs.Uid.{Uid}
 use Rattle.cedar_language.specs.Order.{same_uid, uid_cmp}
 use Rattle.cedar_literals.specs.Laws.{uid_cmp_total}
@@ -15,13 +16,11 @@ use Rattle.cedar_entities.specs.Edits.{first_by, or_first, add, without_parents,
 use Rattle.cedar_entities.specs.Kept.{Lookup, held_in, KeepsAncestors, IsByUid, same, added_to, removed_from, IsVersion, AreVersions}
 use Rattle.cedar_entities.specs.Refusals.{IsCycle, IsAddRefusal, IsMemory}
 use Rattle.cedar_entities.specs.declared.closing.TCComputation.{TCComputation}
-use Rattle.cedar_entities.specs.Store.{found_in, Edits, AddsAs, Leaves, Adds, IsDereference}
+use Rattle.cedar_entities.specs.Store.{found_in, held_at, Edits, AddsAs, Leaves, Adds, IsHeld}
 use Rattle.cedar_entities.specs.declared.closing.TCComputation.TheVariants.{ComputeNow}
 use Rattle.cedar_entities.specs.declared.errors.EntitiesError.{EntitiesError}
 use Rattle.cedar_entities.specs.declared.errors.EntitiesError.TheVariants.{Duplicate, TransitiveClosureError, Memory}
 use Rattle.cedar_entities.specs.declared.store.Entities.{Entities}
-use Rattle.cedar_entities.specs.declared.store.Dereference.TheVariants.{Data}
-use Rattle.std.specs.Borrow.{Bor}
 use Rattle.cedar_entities.proofs.Lookups.{held-added, held-first, held-removed, ancestors_same, reaches_along}
 
 cycle_along : (P Q : Uid → Uid → Type 0) → ((a : Uid) → P a a → Q a a) → (e : TcError Uid) → IsCycle P e → IsCycle Q e
@@ -164,11 +163,21 @@ module _ (found : Lookup) (es : List EntityData) (keeps : KeepsAncestors found) 
   adds (Err (Memory e)) h = h
 
 -- the entity that is found is the one held, and its ancestors are paths
-pub dereferenced : (s : Entities) (uid : Uid) (e : Bor EntityData) → Some e.now ≡ found_in s uid → IsByUid (found_in s) → IsDereference s uid (Data e)
-dereferenced s uid e is by = (
+pub is_held : (s : Entities) (uid : Uid) (e : EntityData) → Some e ≡ found_in s uid → IsByUid (found_in s) → IsHeld s uid e
+is_held s uid e is by = (
   ap (option_map held_of) (sym is),
-  uid_is e.now.uid uid (by uid e.now (sym is)),
+  uid_is e.uid uid (by uid e (sym is)),
   λ closed b.
-      let kept : option_map_or ancestors_of (found_in s uid) set.empty ≡ ancestors_of e.now = ap (λ o. option_map_or ancestors_of o set.empty) (sym is) in
+      let kept : option_map_or ancestors_of (found_in s uid) set.empty ≡ ancestors_of e = ap (λ o. option_map_or ancestors_of o set.empty) (sym is) in
       (λ h. (closed.ancestors uid b).0 (ap (λ x. set.contains x b) kept ∙ h), λ r. ap (λ x. set.contains x b) (sym kept) ∙ (closed.ancestors uid b).1 r),
 )
+
+-- a look-up finds it where one is held
+pub if_held : (s : Entities) (uid : Uid) (o : Option (Bor EntityData)) → option_copied o ≡ found_in s uid → IsByUid (found_in s) → IfSome o (λ e. IsHeld s uid e.now)
+if_held s uid None is by = tt
+if_held s uid (Some e) is by = is_held s uid e.now is by
+
+-- and else none is held
+pub if_none : (s : Entities) (uid : Uid) (o : Option (Bor EntityData)) → option_copied o ≡ found_in s uid → IfNone o (held_at s uid ≡ None)
+if_none s uid None is = ap (option_map held_of) (sym is)
+if_none s uid (Some e) is = tt

@@ -6,8 +6,7 @@ use Rattle.std.specs.Ordering.{is_eq, eq_by_cmp, ordering_then}
 use Rattle.std.specs.FinMap.{IsAntisymmetric}
 use Rattle.std.specs.FinSet as set
 use Rattle.std.specs.List.{list_any, list_all}
-use Rattle.std.specs.Set.{is_member}
-use Rattle.std.proofs.lemmas.List.Folds.{list_any-append}
+use Rattle.std.specs.Set.{is_member, IsUnion}
 use Rattle.std.proofs.lemmas.Map.Views.{any-filter_same}
 use Rattle.cedar_language.specs.Uid.{Uid}
 use Rattle.cedar_language.specs.Order.{text_cmp, name_cmp, uid_cmp, same_uid}
@@ -169,10 +168,14 @@ edges_without e n is q = ap (λ (s : UidSet). is_member same_uid (set.items s) q
 pub listed_edges : (us : List Uid) (s : UidSet) → ((q : Uid) → is_member same_uid us q ≡ set.contains s q) → SameKeys same_uid (set.items s) us
 listed_edges us s h q = h q ∙ contains-items s q
 
-pub members-joined : (ps is : List Uid) (e : EntityData) → IsListOf ps e.parents → IsListOf is e.indirect → (q : Uid) → is_member same_uid (ps ++ is) q ≡ set.contains (ancestors_of e) q
-members-joined ps is e h k q =
-    list_any-append (same_uid q) ps is ∙ ap (λ b. b || is_member same_uid is q) (h.members q) ∙ ap (λ b. set.contains e.parents q || b) (k.members q)
-    ∙ sym (contains-both e.parents e.indirect q)
+-- the keys of two lists, each once, are those of both sets
+pub list_of_both : (ps is us : List Uid) → IsUnion same_uid ps is us → IsDistinct same_uid us → IsListOf us (set.union (set.from_list ps) (set.from_list is))
+list_of_both ps is us union d = record {
+  members = λ q.
+      union q ∙ ap (λ b. b || list_any (same_uid q) is) (sym (contains-listed ps q)) ∙ ap (λ b. set.contains (set.from_list {R = uid_cmp} ps) q || b) (sym (contains-listed is q))
+      ∙ sym (contains-both (set.from_list ps) (set.from_list is) q);
+  distinct = d;
+}
 
 pub listed_all : (us rest all from : List Uid) (s : UidSet) → us ++ rest ≡ all → rest ≡ [] → all ≡ from → ((q : Uid) → is_member same_uid from q ≡ set.contains s q) → SameKeys same_uid (set.items s) us
 listed_all us rest all from s along none is h = listed_edges us s (λ q. ap (λ xs. is_member same_uid xs q) (sym (all_taken us rest none) ∙ along ∙ is) ∙ h q)

@@ -2,7 +2,6 @@ pub mod Codes
 pub mod Attributes
 pub mod Data
 pub mod Sameness
-pub mod AncestorsLeft
 pub mod Held
 pub mod Edits
 pub mod Kept

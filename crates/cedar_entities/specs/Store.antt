@@ -56,13 +56,17 @@ AreSame s t = (uid : Uid) → IsSameAt (found_in s) (found_in t) uid
 
 -- ---- look-ups
 
+-- e is the entity that is held there; where the store is closed its ancestors are those that the parents held reach
+abbrev pub IsHeld : Entities → Uid → EntityData → Type 0
+IsHeld s uid e = (held_at s uid ≡ Some (held_of e)) × (e.uid ≡ uid)
+    × (IsClosed s → (b : Uid) → IsTrue (set.contains (ancestors_of e) b) ↔ IsAncestor (held_at s) uid b)
+
 -- The entity held, with the ancestors that the parents held reach; where none is held, none, or on a partial store
 -- the unknown that is named as the uid is written.
 abbrev pub IsDereference : Entities → Uid → Dereference EntityData → Type 0
 IsDereference s uid NoSuchEntity = (held_at s uid ≡ None) × (is_partial_store s ≡ false)
 IsDereference s uid (Residual e) = (held_at s uid ≡ None) × (is_partial_store s ≡ true) × (bare e ≡ Unknown (uid_text uid) (Some (EntityType uid.type_name)))
-IsDereference s uid (Data e) = (held_at s uid ≡ Some (held_of e.now)) × (e.now.uid ≡ uid)
-    × (IsClosed s → (b : Uid) → IsTrue (set.contains (ancestors_of e.now) b) ↔ IsAncestor (held_at s) uid b)
+IsDereference s uid (Data e) = IsHeld s uid e.now
 
 abbrev pub IsData : {T : Type 0} → Dereference T → Type 0
 IsData NoSuchEntity = ⊥

@@ -1,4 +1,4 @@
-// Attributes and tags.
+//! Attributes and tags.
 ghost use Rattle.std.specs.Prelude.{◌≡◌, ◌↔◌, IsTrue};
 ghost use Rattle.cedar_restricted.specs.PartialValues.{partial_of};
 ghost use Rattle.cedar_entities.specs.Attributes.{attributes_of, seen_entries};

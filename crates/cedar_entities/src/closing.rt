@@ -1,4 +1,4 @@
-// The ancestors that are kept.
+//! The ancestors that are kept.
 
 use crate::entity::Entity;
 use crate::errors::EntitiesError;

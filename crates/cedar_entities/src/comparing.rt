@@ -1,4 +1,4 @@
-// Whether two stores hold the same.
+//! Whether two stores hold the same.
 ghost use Rattle.std.specs.Prelude.{◌↔◌, IsTrue};
 ghost use Rattle.cedar_entities.specs.Kept.{in_map, IsSameAt, HoldsAllOf, HoldsUidsOf};
 

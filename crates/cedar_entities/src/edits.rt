@@ -1,4 +1,4 @@
-// Edits of a map of entities.
+//! Edits of a map of entities.
 ghost use Rattle.std.specs.Prelude.{◌≡◌, OnOk, IfErr, Some, None, cond};
 ghost use Rattle.std.specs.Option.{option_map, IsSomeAnd};
 ghost use Rattle.std.specs.FinSet as set;

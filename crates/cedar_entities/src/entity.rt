@@ -1,5 +1,5 @@
-// Entities.
-ghost use Rattle.std.specs.Prelude.{◌≡◌, ◌↔◌, IsTrue, OnOk, OnErr, IfOk, map, if◌then◌else◌};
+//! Entities: a uid, attributes, tags, parents, and the ancestors that are kept beside these.
+ghost use Rattle.std.specs.Prelude.{◌≡◌, ◌↔◌, IsTrue, OnOk, OnErr, IfOk, ◌<◌, ◌^◌, length, map, if◌then◌else◌};
 ghost use Rattle.std.specs.Option.{option_map};
 ghost use Rattle.std.specs.FinMap as finite;
 ghost use Rattle.std.specs.FinSet as set;
@@ -29,6 +29,9 @@ pub struct Entity {
     parents: HashSet<EntityUID>,
     indirect_ancestors: HashSet<EntityUID>,
 }
+
+/// A walk over the ancestors of an entity, in no stated order.
+pub type Ancestors<'a> = hash_set::Union<'a, EntityUID>;
 
 impl Drop for Entity {
     fn drop(self) {
@@ -112,14 +115,16 @@ impl Entity {
         &self.uid
     }
 
-    /// What it has as this attribute, if it has it.
+    /// The value of this attribute, or the residual that is left of it where something in it is unknown; `None`
+    /// where the entity has no attribute of this name. Tags play no part. Takes no memory: one look-up by name.
     pub fn get(&self, attr: &str) -> Option<&PartialValue>
         ensures { option_map (λ v. partial_of v.now) result ≡ finite.get self.now.attributes attr.now }
     {
         self.attrs.get(attr)
     }
 
-    /// What it has as this tag, if it has it.
+    /// The value of this tag, or the residual that is left of it where something in it is unknown; `None` where
+    /// the entity has no tag of this name. Attributes play no part. Takes no memory: one look-up by name.
     pub fn get_tag(&self, tag: &str) -> Option<&PartialValue>
         ensures { option_map (λ v. partial_of v.now) result ≡ finite.get self.now.tags tag.now }
     {
@@ -201,6 +206,14 @@ impl Entity {
         ensures { IsListOf result self.now.indirect }
     {
         self.indirect_ancestors.iter()
+    }
+
+    /// Its ancestors, parents or not, each once, in no stated order.
+    pub fn ancestors(&self) -> Ancestors<'_>
+        ensures listed { IsListOf result (ancestors_of self.now) }
+        ensures fits { length result < 2 ^ 64 }
+    {
+        self.parents.union(&self.indirect_ancestors)
     }
 
     /// Its uid, attributes, indirect ancestors, parents and tags.

@@ -1,5 +1,5 @@
-// How entities are printed. Their ancestors are kept by hash, so they are printed in the order of uids;
-// that takes no memory, and a pass over all of them for each.
+//! How entities are printed. Their ancestors are kept by hash, so they are printed in the order of uids;
+//! that takes no memory, and a pass over all of them for each.
 
 use crate::entity::Entity;
 use cedar_literals::uids::EntityUID;
@@ -15,6 +15,13 @@ impl fmt::Display for Entity {
         write_attributes(self, f)?;
         write!(f, "\n  ancestors:")?;
         write_ancestors(self, f)
+    }
+}
+
+/// Its text.
+impl fmt::Debug for Entity {
+    fn fmt<W: fmt::Write>(&self, f: &mut fmt::Formatter<W>) -> fmt::Result {
+        write!(f, "{self}")
     }
 }
 

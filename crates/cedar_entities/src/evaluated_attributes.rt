@@ -1,4 +1,4 @@
-// The evaluation of attributes and tags.
+//! The evaluation of attributes and tags.
 ghost use Rattle.std.specs.Prelude.{◌≡◌, IfOk, IfErr};
 ghost use Rattle.std.specs.Rc.{rc_str_bytes};
 ghost use Rattle.cedar_entities.specs.Attributes.{seen_entries};

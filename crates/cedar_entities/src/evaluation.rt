@@ -1,4 +1,4 @@
-// Entities that are made of expressions.
+//! Entities that are made of expressions.
 ghost use Rattle.std.specs.Prelude.{IfOk, IfErr};
 ghost use Rattle.std.specs.FinSet as set;
 ghost use Rattle.cedar_entities.specs.Data.{EntityData};

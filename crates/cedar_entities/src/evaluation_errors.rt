@@ -1,4 +1,4 @@
-// Why an entity isn't made.
+//! Why an entity isn't made.
 
 use cedar_extensions::evaluation_error::EvaluationError;
 use cedar_literals::uids::EntityUID;
@@ -9,7 +9,7 @@ use std::rc::RcStr;
 use thiserror::Error;
 
 /// An attribute or a tag of an entity whose expression has no value.
-#[derive(Debug, Drop)]
+#[derive(Debug, PartialEq, Eq, Drop)]
 pub struct EntityAttrEvaluationError {
     /// The uid of the entity.
     pub uid: EntityUID,
@@ -34,7 +34,7 @@ impl fmt::Display for EntityAttrEvaluationError {
 impl Error for EntityAttrEvaluationError {}
 
 /// Why an entity isn't made.
-#[derive(Debug, Drop, Error)]
+#[derive(Debug, PartialEq, Eq, Drop, Error)]
 pub enum EntityCreationError {
     /// An attribute or a tag has no value.
     #[error(transparent)]

@@ -2,7 +2,6 @@
 //! ancestors, edits of the store, and the law that these are the world's.
 #![tactic(auto)]
 
-pub mod ancestors;
 pub mod attributes;
 pub mod closing;
 mod comparing;

@@ -1,4 +1,4 @@
-// Entities as the nodes of a graph: edges lead to their ancestors, the direct ones to their parents.
+//! Entities as the nodes of a graph: edges lead to their ancestors, the direct ones to their parents.
 
 use crate::entity::Entity;
 use cedar_closure::TCNode;

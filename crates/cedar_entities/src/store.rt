@@ -1,5 +1,5 @@
-// The store.
-ghost use Rattle.std.specs.Prelude.{◌≡◌, ◌↔◌, [], IsTrue, IfOk, IfErr, length, Some, None};
+//! The store of entities: look-ups, and edits that close the ancestors again.
+ghost use Rattle.std.specs.Prelude.{◌≡◌, ◌↔◌, [], IsTrue, IfOk, IfErr, IfSome, IfNone, length, Some, None};
 ghost use Rattle.std.specs.FinSet as set;
 ghost use Rattle.cedar_language.specs.Uid.{Uid};
 ghost use Rattle.cedar_language.specs.Order.{uid_cmp};
@@ -29,15 +29,24 @@ enum Mode {
 }
 
 /// The entities of a request, by their uids. Each stands under its own uid.
-#[derive(Drop)]
+/// (Cedar language reference, "Entities".)
 pub struct Entities {
     entities: HashMap<EntityUID, Entity>,
     mode: Mode,
     pub ghost by_uid: { IsByUid (in_map entities) },
 }
 
+impl Drop for Entities {
+    fn drop(self) {
+        let Entities {
+            entities: _,
+            mode: _,
+        } = self;
+    }
+}
+
 /// What a store has at a uid.
-#[derive(Drop)]
+#[derive(Debug, Drop)]
 pub enum Dereference<'a, T> {
     /// No entity of the uid is held.
     NoSuchEntity,
@@ -78,7 +87,7 @@ impl Entities {
     ghost use Rattle.cedar_entities.specs.Edits.{put, remove, ArePlain};
     ghost use Rattle.cedar_entities.specs.Kept.{put_over, removed_from};
     ghost use Rattle.cedar_entities.specs.Refusals.{IsMemory};
-    ghost use Rattle.cedar_entities.specs.Store.{found_in, held_at, IsClosed, entities_in, AreSame, is_partial_mode, is_partial_store, IsDereference, Edits, AddsAs, Leaves, Adds};
+    ghost use Rattle.cedar_entities.specs.Store.{found_in, held_at, IsHeld, IsClosed, entities_in, AreSame, is_partial_mode, is_partial_store, IsDereference, Edits, AddsAs, Leaves, Adds};
     ghost use Rattle.cedar_entities.specs.declared.closing.TCComputation.TheVariants.{ComputeNow};
 
     /// The store that holds nothing.
@@ -98,8 +107,9 @@ impl Entities {
         ensures found { (uid : Uid) → found_in result uid ≡ found_in self uid }
         ensures partial { is_partial_store result ≡ true }
     {
+        let Entities { entities, mode: _ } = self;
         Entities {
-            entities: self.entities,
+            entities,
             mode: Mode::Partial,
         }
     }
@@ -111,7 +121,23 @@ impl Entities {
         self.mode == Mode::Partial
     }
 
-    /// What stands at a uid. Refused for memory alone, which only the name of an unknown takes.
+    /// The entity of this uid, if one is held. Takes no memory: one look-up by hash.
+    ///
+    /// Its ancestors are those that the parents held reach, where the store is closed, as it is after each
+    /// edit with `ComputeNow`.
+    pub fn get(&self, uid: &EntityUID) -> Option<&Entity>
+        ensures held { IfSome result (λ entity. IsHeld self.now uid.now entity.now) }
+        ensures none { IfNone result (held_at self.now uid.now ≡ None) }
+    {
+        self.entities.get(uid)
+    }
+
+    /// What stands at a uid: `Data` with the entity where one is held. Where none is, `NoSuchEntity`, or, if
+    /// the store is partial, `Residual` with an unknown that is named as the uid is printed and typed by the
+    /// uid's type.
+    ///
+    /// Refused where memory runs out, which only the name of an unknown takes: one look-up by hash. `get`
+    /// answers whether the entity is held and is never refused.
     pub fn entity(
         &self,
         alloc: Global,
@@ -119,7 +145,7 @@ impl Entities {
     ) -> Result<Dereference<'_, Entity>, AllocError>
         ensures { IfOk result (IsDereference self.now uid.now) }
     {
-        match self.entities.get(uid) {
+        match self.get(uid) {
             Some(entity) => Ok(Dereference::Data(entity)),
             None => match self.mode {
                 Mode::Concrete => Ok(Dereference::NoSuchEntity),
@@ -173,7 +199,20 @@ impl Entities {
         Ok(Entities { entities, mode })
     }
 
-    /// The store of these entities, as adding them to an empty one makes it; refused as that is.
+    /// The store of these entities, which isn't partial. A uid may be listed more than once, if its versions
+    /// are the same: equal in attributes and tags, with the same ancestors, parents or not.
+    ///
+    /// What becomes of the ancestors handed in is said by `tc_computation`: `ComputeNow` drops all but the
+    /// parents and keeps beside these what they reach; the other two take the ancestors as they are, and
+    /// `EnforceAlreadyComputed` looks whether they are whole.
+    ///
+    /// Refused `Duplicate` with the uid of a version that differs from the first one listed; then
+    /// `TransitiveClosureError`, with `ComputeNow` for a cycle of parents, with `EnforceAlreadyComputed` for an
+    /// ancestor that is missing or an entity that is its own; and where memory runs out. Nothing is left of the
+    /// entities then.
+    ///
+    /// Each entity is looked up once by hash. `ComputeNow` then looks, for each entity, once at the ancestors of
+    /// each one that it reaches; `EnforceAlreadyComputed` at those of each of its ancestors.
     pub fn from_entities(
         alloc: Global,
         entities: Vec<Entity>,
@@ -186,10 +225,16 @@ impl Entities {
         Entities::new(alloc).add_entities(alloc, entities, tc_computation)
     }
 
-    /// Adds entities. One that is held is taken without change where it is the same: where attributes and
-    /// tags are equal, and those listed as its ancestors are all its ancestors. Refused `Duplicate` where
-    /// it differs, or where two listed versions of a new entity differ; refused for the closure as
-    /// `tc_computation` says; and for memory. A refused call consumes the store.
+    /// The store with these entities as well. One whose uid is held is taken without change where it is the
+    /// same: where attributes and tags are equal, and those listed as its ancestors, parents or not, are all
+    /// the ancestors of the one held, before the call. Of a uid that is new the first version is taken, and
+    /// each further one has to be the same.
+    ///
+    /// Refused `Duplicate` with the uid of a version that differs from the one held, or else from the first one
+    /// listed. Ancestors are then closed or looked at, and refused, as `from_entities` says of
+    /// `tc_computation`; that goes over the whole store, at the cost told there. Also refused where memory runs
+    /// out. The store is consumed: a refused call leaves nothing of it, so a caller that goes on with it adds
+    /// to a clone.
     pub fn add_entities(
         self,
         alloc: Global,
@@ -208,8 +253,13 @@ impl Entities {
         Entities::closed(alloc, map, mode, tc_computation)
     }
 
-    /// Puts entities over those that are held: the last version of a uid stays. Refused for the closure
-    /// as `tc_computation` says, and for memory. A refused call consumes the store.
+    /// The store with these entities in the place of those of the same uids: of each uid the version listed
+    /// last stands, with its attributes, tags and parents, and nothing of the version held before.
+    ///
+    /// Never refused `Duplicate`. Ancestors are closed or looked at, and refused, as `from_entities` says of
+    /// `tc_computation`; that goes over the whole store, at the cost told there. Also refused where memory runs
+    /// out. The store is consumed: a refused call leaves nothing of it, so a caller that goes on with it puts
+    /// into a clone.
     pub fn upsert_entities(
         self,
         alloc: Global,
@@ -228,9 +278,15 @@ impl Entities {
         Entities::closed(alloc, map, mode, tc_computation)
     }
 
-    /// Takes the entities of these uids away, with all edges from and to them; of a uid that isn't held
-    /// the edges to it. Refused for the closure as `tc_computation` says, where `ComputeNow` on a closed
-    /// store is never refused, and for memory. A refused call consumes the store.
+    /// The store without the entities of these uids, and without all parent edges from and to them; of a uid
+    /// that isn't held the edges to it go. Other entities stay, and so do their other parents: with
+    /// `ComputeNow` an entity keeps an ancestor where its parents reach that one without those removed, and
+    /// loses it else. The other two take the removed uids alone from the ancestors that are kept.
+    ///
+    /// Ancestors are closed or looked at, and refused, as `from_entities` says of `tc_computation`, but a closed
+    /// store is never refused with `ComputeNow`, memory aside; that goes over the whole store, at the cost told
+    /// there, and looks each ancestor up among `uids`. The store is consumed: a refused call leaves nothing of
+    /// it, so a caller that goes on with it removes from a clone.
     pub fn remove_entities(
         self,
         alloc: Global,
@@ -263,7 +319,8 @@ impl IntoIterator for Entities {
 
     /// The entities, in no stated order.
     fn into_iter(self) -> hash_map::IntoValues<EntityUID, Entity> {
-        self.entities.into_values()
+        let Entities { entities, mode: _ } = self;
+        entities.into_values()
     }
 }
 

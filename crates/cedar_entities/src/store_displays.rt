@@ -1,5 +1,5 @@
-// How stores are printed. Entities are kept by hash, so they are printed in the order of their uids; that
-// takes no memory, and a pass over all of them for each.
+//! How stores are printed. Entities are kept by hash, so they are printed in the order of their uids; that
+//! takes no memory, and a pass over all of them for each.
 
 use crate::entity::Entity;
 use crate::store::Entities;
@@ -21,6 +21,13 @@ impl fmt::Display for Entities {
             last = Some(entity.uid());
         }
         Ok(())
+    }
+}
+
+/// Its text.
+impl fmt::Debug for Entities {
+    fn fmt<W: fmt::Write>(&self, f: &mut fmt::Formatter<W>) -> fmt::Result {
+        write!(f, "{self}")
     }
 }
 

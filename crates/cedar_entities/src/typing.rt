@@ -1,4 +1,4 @@
-// The types of entities.
+//! The types of entities.
 
 use crate::entity::Entity;
 use cedar_literals::types::{StaticallyTyped, Type};

@@ -1,4 +1,4 @@
-// Attributes and tags against tables of extension functions.
+//! Attributes and tags against tables of extension functions.
 ghost use Rattle.cedar_restricted.specs.PartialValues.{partial_of};
 ghost use Rattle.cedar_entities.specs.Attributes.{seen_entries};
 ghost use Rattle.cedar_entities.specs.Calls.{calls_at, calls_among};

@@ -1,4 +1,4 @@
-// Entities and their stores against tables of extension functions.
+//! Entities and their stores against tables of extension functions.
 ghost use Rattle.std.specs.Prelude.{◌≡◌, List, IfOk};
 ghost use Rattle.cedar_entities.specs.Data.{EntityData};
 ghost use Rattle.cedar_entities.specs.Store.{entities_in};

@@ -1,4 +1,4 @@
-// Edits of a store of entities are those of the world: laws, as contracts of functions that do nothing.
+//! Edits of a store of entities are those of the world: laws, as contracts of functions that do nothing.
 ghost use Rattle.cedar_entities.specs.Laws.{PutsAreTheWorlds, AddsAreTheWorlds, RemovesAreTheWorlds};
 
 /// Putting versions into a store that shows some entities leaves, as the world's put does, the last

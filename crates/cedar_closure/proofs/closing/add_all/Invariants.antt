@@ -2,7 +2,7 @@ use Rattle.std.proofs.Common.{◌≡◌, ◌||◌, ◌&&◌}
 use Rattle.std.specs.Option.{is_some}
 use Rattle.std.specs.Set.{is_member}
 use Rattle.std.specs.HashMap.{get}
-use Rattle.cedar_closure.specs.Graph.{edges_at, SameNodes}
+use Rattle.cedar_closure.specs.Graph.{edges_at, HasEdge, SameNodes}
 use Rattle.cedar_closure.specs.Found.{finds}
 use Rattle.cedar_closure.proofs.closing.add_all.Given as goal
 
@@ -12,5 +12,6 @@ invariant-loop-reached g l =
     let E = edges_at eq g.V.TCNode.edges in
     record {
       added : (a q : g.row.K.Denot) → (is_member eq (E l.nodes a) q || (is_some (get eq l.fn.nodes a) && finds eq l.reached-iterator.rest.items a q)) ≡ (is_member eq (E l.fn.nodes a) q || (is_some (get eq l.fn.nodes a) && finds eq l.fn.all.items a q));
+      kept : (a q : g.row.K.Denot) → HasEdge eq g.V.TCNode.edges l.fn.nodes a q → HasEdge eq g.V.TCNode.edges l.nodes a q;
       same : SameNodes eq g.V.TCNode.is_same l.fn.nodes l.nodes;
     }

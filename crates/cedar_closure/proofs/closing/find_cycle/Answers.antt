@@ -1,3 +1,4 @@
+-- Each key that was passed doesn't reach itself, so a cycle lies in what is left.
 use Rattle.std.proofs.Common.{◌≡◌, ◌<◌, ◌+◌, ◌∷◌, Some, sym, ap, ◌∙◌, drop, length, slice_get, refl, arith}
 use Rattle.std.specs.List.{list_any}
 use Rattle.std.proofs.lemmas.List.{drop_more}

@@ -1,3 +1,4 @@
+-- The lemmas of Finding: what was found is reached, and what is reached was found or is left.
 use Rattle.std.proofs.Common.{◌≡◌, ◌<◌, ◌+◌, ◌∷◌, [], ◌++◌, Some, IsTrue, refl, sym, ap, ◌∙◌, drop, length, slice_get, arith, subst}
 use Rattle.std.proofs.lemmas.List.{drop_more}
 use Rattle.std.proofs.lemmas.Option.{slice_get_read}

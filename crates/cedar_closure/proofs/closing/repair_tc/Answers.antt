@@ -1,11 +1,13 @@
-use Rattle.std.proofs.Common.{IsTrue, sym, ◌∙◌, subst}
+-- What was found is what the keys reach (Finding), and clones of a key stand for it.
+use Rattle.std.proofs.Common.{IsTrue, refl, sym, ◌∙◌, subst}
 use Rattle.std.specs.Option.{is_some}
 use Rattle.std.specs.HashMap.{get}
 use Rattle.cedar_closure.specs.Found.{finds}
 use Rattle.cedar_closure.specs.Graph.{edges_at}
 use Rattle.cedar_closure.proofs.Members.{member_alike}
 use Rattle.cedar_closure.proofs.NodeLemmas.{edges_alike, edge_from_node}
-use Rattle.cedar_closure.proofs.Finding.{Reaches-alike, Reaches-to, fixes, closes}
+use Rattle.cedar_closure.proofs.Finding.{Reaches-alike, Reaches-to, unchanged, only_found, fixes, closes}
+use Rattle.cedar_closure.proofs.Refusal.{on_err}
 use Rattle.cedar_closure.proofs.closing.repair_tc.Goals as goal
 
 pub returns-in-Some-clause-refused : goal.returns-in-Some-clause-refused
@@ -42,3 +44,26 @@ returns-clause-edges g c =
     let m = c.args.nodes.now in
     closes eq (edges_at eq edges m) (edges_at eq edges c.add_all.new.nodes) (λ a. is_some (get eq m a)) c.args.keys_to_fix.now c.in_ok-all.all.items
     c.in_ok-add_all.ensures.added (edge_from_node g.met.K.Eq.laws edges m) c.in_ok-all.ensures.sound c.in_ok-all.ensures.whole
+
+pub returns-in_err-all-clause-left : goal.returns-in_err-all-clause-left
+returns-in_err-all-clause-left g c =
+    let next = edges_at g.K.PartialEq.eq g.V.TCNode.edges c.args.nodes.now in
+    on_err c.from_residual.result (unchanged g.K.PartialEq.eq next next (λ a. refl))
+
+pub returns-in_err-clone-clause-left : goal.returns-in_err-clone-clause-left
+returns-in_err-clone-clause-left g c =
+    let next = edges_at g.K.PartialEq.eq g.V.TCNode.edges c.args.nodes.now in
+    on_err c.from_residual-in_err-clone.result (unchanged g.K.PartialEq.eq next next (λ a. refl))
+
+pub returns-in-Some-clause-left : goal.returns-in-Some-clause-left
+returns-in-Some-clause-left g c =
+    let next = edges_at g.K.PartialEq.eq g.V.TCNode.edges c.args.nodes.now in
+    unchanged g.K.PartialEq.eq next next (λ a. refl)
+
+pub returns-in_err-add_all-clause-left : goal.returns-in_err-add_all-clause-left
+returns-in_err-add_all-clause-left g c =
+    let eq = g.K.PartialEq.eq in
+    let edges = g.V.TCNode.edges in
+    let m = c.args.nodes.now in
+    on_err c.from_residual-in_err-add_all.result
+    (only_found eq (edges_at eq edges m) (edges_at eq edges c.add_all.new.nodes) (λ a. is_some (get eq m a)) c.args.keys_to_fix.now c.in_ok-all.all.items c.in_ok-all.ensures.sound c.in_err-add_all.ensures.left)

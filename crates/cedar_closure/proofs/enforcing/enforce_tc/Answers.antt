@@ -1,3 +1,4 @@
+-- The edges of each node are closed, or the node is left.
 use Rattle.std.proofs.Common.{sym, ap, ◌∙◌, inl, inr, true≢false}
 use Rattle.std.specs.Set.{is_member}
 use Rattle.std.proofs.lemmas.Bool.{or_cases}

@@ -1,3 +1,4 @@
+-- Each edge of the child was looked at or is left; what the parent's node lacks was found by `find_missing`.
 use Rattle.std.proofs.Common.{◌≡◌, false, IsTrue, map, sym, ap, ◌∙◌, inl, inr, Some, None, true≢false}
 use Rattle.std.specs.Set.{is_member}
 use Rattle.std.specs.Map.Iter.{deref}

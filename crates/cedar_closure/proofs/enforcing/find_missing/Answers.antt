@@ -1,3 +1,4 @@
+-- The clone of a missing key is missing as well.
 use Rattle.std.proofs.Common.{IsTrue, map, ap, ◌∙◌}
 use Rattle.std.specs.Set.{is_member}
 use Rattle.std.specs.Map.Iter.{deref}

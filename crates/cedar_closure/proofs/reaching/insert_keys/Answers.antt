@@ -1,3 +1,4 @@
+-- Where no key is left, all were put behind.
 use Rattle.std.proofs.Common.{◌≤◌, map, drop, length, ap, arith}
 use Rattle.std.proofs.Math.ListN.{drop_of_length-le}
 use Rattle.std.specs.Map.Iter.{deref}

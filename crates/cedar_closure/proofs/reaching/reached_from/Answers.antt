@@ -1,3 +1,4 @@
+-- The lemmas of Search; the keys found are some of the targets of all edges, so the search ends.
 use Rattle.std.proofs.Common.{◌≡◌, ◌≤◌, ◌<◌, length, sym, ap, ◌∙◌, arith}
 use Rattle.std.specs.Set.{is_member}
 use Rattle.std.proofs.lemmas.Result.{IfOk-weaker}

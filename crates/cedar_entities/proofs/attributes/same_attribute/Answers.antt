@@ -1,3 +1,4 @@
+-- Two values are equal where their models are.
 use Rattle.cedar_entities.proofs.SameMaps.{same_values}
 use Rattle.cedar_entities.proofs.attributes.same_attribute.Goals as goal
 

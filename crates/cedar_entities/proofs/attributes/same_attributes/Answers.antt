@@ -1,3 +1,4 @@
+-- Maps in the order of their names are one where their entries are, and have as many entries then.
 use Rattle.cedar_entities.proofs.SameMaps.{same_from_entries, other_lengths}
 use Rattle.cedar_entities.proofs.attributes.same_attributes.Goals as goal
 

@@ -1,3 +1,4 @@
+-- Each uid that was walked over is the same in both.
 use Rattle.std.proofs.Common.{rules, IsTrue}
 use Rattle.cedar_entities.specs.Kept.{in_map, IsSameAt}
 use Rattle.cedar_entities.proofs.Sameness.{goes_on}

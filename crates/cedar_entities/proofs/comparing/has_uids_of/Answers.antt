@@ -1,3 +1,4 @@
+-- Each uid that was walked over is held in the first.
 use Rattle.std.proofs.Common.{rules}
 use Rattle.std.specs.Option.{IsSome}
 use Rattle.cedar_entities.specs.Kept.{in_map}

@@ -1,3 +1,4 @@
+-- The lemmas of Adding: the versions that were taken fit, and a refusal of one is a refusal of all.
 use Rattle.std.proofs.Common.{◌≡◌, ◌∷◌, rules, sym, subst}
 use Rattle.std.specs.Prelude.{IfErr}
 use Rattle.cedar_entities.specs.Kept.{in_map}

@@ -1,3 +1,4 @@
+-- A version that is there stays; a new one stands under its own uid.
 use Rattle.std.proofs.Common.{ap, ◌∙◌}
 use Rattle.cedar_entities.specs.Kept.{in_map}
 use Rattle.cedar_entities.proofs.Adding.{kept_stays, put_new}

@@ -1,3 +1,4 @@
+-- Retaining all pairs changes each entity alone.
 use Rattle.std.proofs.Common.{rules}
 use Rattle.std.specs.FinSet as set
 use Rattle.std.proofs.lemmas.Map.Made.{map_same_pairs}

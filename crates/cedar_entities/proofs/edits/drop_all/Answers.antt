@@ -1,3 +1,4 @@
+-- Retaining by a test of the uid filters the pairs.
 use Rattle.std.proofs.Common.{rules, not}
 use Rattle.std.specs.List.{list_any}
 use Rattle.std.proofs.lemmas.Map.Made.{filter_same_pairs}

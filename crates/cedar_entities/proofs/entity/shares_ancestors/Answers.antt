@@ -1,3 +1,4 @@
+-- A union lies within a set where both parts do.
 use Rattle.cedar_entities.specs.Data.{ancestors_of}
 use Rattle.cedar_entities.proofs.Uids.{shares_both, shares_none}
 use Rattle.cedar_entities.proofs.entity.shares_ancestors.Goals as goal

@@ -1,3 +1,4 @@
+-- The lemmas of Giving and Refusing: each entry passed has its value, and the first without one is refused.
 use Rattle.std.proofs.Common.{◌≤◌, refl, subst}
 use Rattle.cedar_language.specs.Height.{height}
 use Rattle.cedar_restricted.specs.Views.{restricted_tree, restricted_entries}

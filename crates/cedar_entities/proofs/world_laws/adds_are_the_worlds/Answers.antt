@@ -1,3 +1,4 @@
+-- The law of Fitting over the world's own law of edits at uids.
 use Rattle.cedar_entities.proofs.Fitting.{adds}
 use Rattle.cedar_entities.proofs.world_laws.adds_are_the_worlds.Goals as goal
 

@@ -1,3 +1,4 @@
+-- The law of EditedWorlds over the world's own law of edits at uids.
 use Rattle.cedar_entities.proofs.EditedWorlds.{puts}
 use Rattle.cedar_entities.proofs.world_laws.puts_are_the_worlds.Goals as goal
 

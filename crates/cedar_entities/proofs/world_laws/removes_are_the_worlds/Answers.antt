@@ -1,3 +1,4 @@
+-- The law of EditedWorlds over the world's own law of edits at uids.
 use Rattle.cedar_entities.proofs.EditedWorlds.{removes}
 use Rattle.cedar_entities.proofs.world_laws.removes_are_the_worlds.Goals as goal
 

@@ -1,3 +1,4 @@
+-- What `rebuild_tc` leaves of the map, and its refusals, read on entities by their uids.
 use Rattle.std.proofs.Common.{refl, sym, subst}
 use Rattle.std.specs.Prelude.{IfErr}
 use Rattle.cedar_entities.specs.Kept.{in_map}

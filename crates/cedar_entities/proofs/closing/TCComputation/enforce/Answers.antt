@@ -1,3 +1,4 @@
+-- What `enforce_tc_and_dag` says of the map, and its refusals, read on entities by their uids.
 use Rattle.std.proofs.Common.{sym, subst}
 use Rattle.std.specs.Prelude.{IfErr}
 use Rattle.cedar_entities.specs.Kept.{in_map}

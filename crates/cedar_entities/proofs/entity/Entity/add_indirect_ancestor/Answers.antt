@@ -1,3 +1,4 @@
+-- The lists of uids as sets: one is inserted, or is a parent already.
 use Rattle.std.specs.FinSet as set
 use Rattle.std.proofs.Common.{sym, ◌∙◌, ap}
 use Rattle.cedar_entities.specs.Data.{EntityData}

@@ -1,3 +1,4 @@
+-- The lists of uids as sets: one is inserted here and removed there.
 use Rattle.std.specs.FinSet as set
 use Rattle.std.proofs.Common.{◌∙◌, ap}
 use Rattle.cedar_entities.proofs.Uids.{both_are, removed, inserted, reordered}

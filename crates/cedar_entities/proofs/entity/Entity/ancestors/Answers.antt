@@ -1,5 +1,6 @@
-use Rattle.cedar_entities.proofs.Uids.{members-joined}
+-- The union of two sets of uids has the members of both, each once.
+use Rattle.cedar_entities.proofs.Uids.{list_of_both}
 use Rattle.cedar_entities.proofs.entity.Entity.ancestors.Goals as goal
 
-pub returns : goal.returns
-returns c = members-joined _ _ c.args.self.now c.parents.ensures c.indirect_ancestors.ensures
+pub returns-clause-listed : goal.returns-clause-listed
+returns-clause-listed c = rw (← c.self.view_is) (list_of_both _ _ c.union.result c.union.ensures.members c.union.ensures.unique)

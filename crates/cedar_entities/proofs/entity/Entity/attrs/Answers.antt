@@ -1,3 +1,4 @@
+-- The entries of the shared map, as contracts see them.
 use Rattle.cedar_entities.proofs.Entries.{shown_entries}
 use Rattle.cedar_entities.proofs.entity.Entity.attrs.Goals as goal
 

@@ -1,3 +1,4 @@
+-- The length of the shared map is that of the map that contracts see.
 use Rattle.cedar_entities.proofs.Entries.{shown_len}
 use Rattle.cedar_entities.proofs.entity.Entity.attrs_len.Goals as goal
 

@@ -1,3 +1,4 @@
+-- Uids that are equal by the test are one.
 use Rattle.std.proofs.Common.{◌∙◌}
 use Rattle.cedar_language.specs.Order.{same_uid}
 use Rattle.cedar_entities.proofs.Uids.{same_entity, other_entity}

@@ -1,3 +1,4 @@
+-- A look-up in the shared map is one in the map that contracts see.
 use Rattle.cedar_entities.proofs.Entries.{shown_at}
 use Rattle.cedar_entities.proofs.entity.Entity.get.Goals as goal
 

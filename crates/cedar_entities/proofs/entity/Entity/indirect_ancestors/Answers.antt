@@ -1,3 +1,4 @@
+-- The keys of a set of uids are its members, each once.
 use Rattle.cedar_entities.proofs.Uids.{list_of}
 use Rattle.cedar_entities.proofs.entity.Entity.indirect_ancestors.Goals as goal
 

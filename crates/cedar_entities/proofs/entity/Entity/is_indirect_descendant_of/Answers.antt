@@ -1,3 +1,4 @@
+-- A set of listed uids holds what the list does.
 use Rattle.std.proofs.Common.{sym, ◌∙◌}
 use Rattle.cedar_entities.proofs.Uids.{contains-listed}
 use Rattle.cedar_entities.proofs.entity.Entity.is_indirect_descendant_of.Goals as goal

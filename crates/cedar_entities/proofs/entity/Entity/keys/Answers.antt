@@ -1,3 +1,4 @@
+-- The names of the shared map, as contracts see them.
 use Rattle.cedar_entities.proofs.Entries.{shown_names}
 use Rattle.cedar_entities.proofs.entity.Entity.keys.Goals as goal
 

@@ -1,3 +1,4 @@
+-- Filtering a list of uids takes these from its set.
 use Rattle.std.proofs.Common.{rules, not}
 use Rattle.std.specs.FinSet as set
 use Rattle.std.specs.List.{list_any}

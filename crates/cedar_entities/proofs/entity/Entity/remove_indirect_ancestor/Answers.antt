@@ -1,3 +1,4 @@
+-- The list of uids as a set: one is removed.
 use Rattle.std.specs.FinSet as set
 use Rattle.std.proofs.Common.{ap, ◌∙◌}
 use Rattle.cedar_entities.specs.Data.{EntityData}

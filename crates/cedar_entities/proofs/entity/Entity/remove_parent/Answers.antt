@@ -1,3 +1,4 @@
+-- The list of uids as a set: one is removed.
 use Rattle.std.specs.FinSet as set
 use Rattle.cedar_entities.proofs.Uids.{parents_are, removed}
 use Rattle.cedar_entities.proofs.entity.Entity.remove_parent.Goals as goal

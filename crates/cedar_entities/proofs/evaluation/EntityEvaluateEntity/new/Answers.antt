@@ -1,3 +1,4 @@
+-- A tag is refused only where all attributes have values; the parts are those of the entity that is made.
 use Rattle.std.proofs.Common.{IfErr, sym, subst}
 use Rattle.std.specs.FinSet as set
 use Rattle.cedar_entities.specs.Attributes.{seen_entries}

@@ -1,3 +1,4 @@
+-- A list of all parents has the direct edges: the walk gives each of them.
 use Rattle.cedar_entities.proofs.Uids.{listed_all}
 use Rattle.cedar_entities.proofs.nodes.EntityTCNodeEntityUID.direct_edges.Goals as goal
 

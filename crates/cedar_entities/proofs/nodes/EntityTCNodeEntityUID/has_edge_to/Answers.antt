@@ -1,3 +1,4 @@
+-- A set holds what the list of its members does.
 use Rattle.std.proofs.Common.{◌∙◌}
 use Rattle.cedar_entities.proofs.Uids.{contains-items}
 use Rattle.cedar_entities.specs.Data.{ancestors_of}

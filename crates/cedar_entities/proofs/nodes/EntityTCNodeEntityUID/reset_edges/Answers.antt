@@ -1,3 +1,4 @@
+-- Where nothing is kept beside the parents they alone are edges.
 use Rattle.cedar_entities.proofs.Uids.{edges_without}
 use Rattle.cedar_entities.proofs.nodes.EntityTCNodeEntityUID.reset_edges.Goals as goal
 

@@ -1,3 +1,4 @@
+-- The entities added stand under their own uids; what was added and then closed is the edit in each mode (Edited).
 use Rattle.cedar_entities.specs.Refusals.{IsAddRefusal}
 use Rattle.std.proofs.Common.{sym, subst, Err}
 use Rattle.cedar_entities.specs.Kept.{in_map, held_in}

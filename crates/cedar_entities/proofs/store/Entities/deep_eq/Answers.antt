@@ -1,3 +1,4 @@
+-- Stores are the same where each holds what the other does.
 use Rattle.cedar_entities.specs.Store.{found_in}
 use Rattle.cedar_entities.proofs.Sameness.{decides, refuses}
 use Rattle.cedar_entities.proofs.store.Entities.deep_eq.Goals as goal

@@ -1,3 +1,4 @@
+-- An empty store finds nothing at each uid.
 use Rattle.std.proofs.Common.{◌≡◌, subst, option_map, IfOk}
 use Rattle.cedar_entities.specs.Held.{held_of}
 use Rattle.cedar_entities.specs.Store.{is_partial_store, AddsAs, Adds}

@@ -1,3 +1,4 @@
+-- Where nothing is held nothing is kept, and nothing reaches itself.
 use Rattle.std.proofs.Common.{ap}
 use Rattle.std.specs.Map.{lookup}
 use Rattle.cedar_language.specs.Order.{same_uid}

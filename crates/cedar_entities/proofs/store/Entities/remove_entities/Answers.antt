@@ -1,3 +1,4 @@
+-- The entities left stand under their own uids; without edges to those removed no new cycle comes (Edited).
 use Rattle.std.proofs.Common.{subst}
 use Rattle.std.specs.FinSet as set
 use Rattle.cedar_entities.specs.Kept.{in_map, removed_from}

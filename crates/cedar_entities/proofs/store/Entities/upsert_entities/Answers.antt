@@ -1,3 +1,4 @@
+-- The entities put stand under their own uids; the last version of each is what is held (Lookups).
 use Rattle.std.proofs.Common.{subst}
 use Rattle.cedar_entities.specs.Kept.{in_map, put_over}
 use Rattle.cedar_entities.specs.Store.{found_in, held_at, Edits}

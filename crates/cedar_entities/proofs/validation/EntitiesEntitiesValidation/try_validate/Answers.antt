@@ -1,3 +1,4 @@
+-- The calls of an entity stand before those of the ones behind it.
 use Rattle.std.proofs.Common.{rules, sym, ap, subst, Ok, Err}
 use Rattle.std.specs.List.{list_all}
 use Rattle.cedar_extensions.specs.Calls.{call_fits}

@@ -1,3 +1,4 @@
+-- The calls of the attributes stand before those of the tags.
 use Rattle.std.proofs.Common.{◌≡◌, true, rules, subst, Err}
 use Rattle.std.specs.List.{list_all}
 use Rattle.std.specs.FinMap as finite

@@ -1,0 +1,76 @@
+-- Nodes that are left their direct edges in turn, and what is left where that stops.
+use Rattle.std.proofs.Common.{◌≡◌, ◌⊎◌, inl, inr, Bool, true, false, ◌||◌, List, [], ◌∷◌, Option, None, Some, MatchOption, refl, sym, ap, ◌∙◌}
+use Rattle.std.specs.Option.{option_map_or, IsSomeAnd}
+use Rattle.std.specs.Cmp.{IsEquivalence}
+use Rattle.std.specs.Set.{is_member}
+use Rattle.std.specs.HashMap.{HashMap, get}
+use Rattle.cedar_language.specs.Facts.{Reaches, edge, further}
+use Rattle.cedar_closure.specs.Graph.{SameKeys, SameNodes, IsBetween, edges_at}
+use Rattle.cedar_closure.proofs.Search.{IsEdge, Reaches-more}
+
+module _ {V : Type 0} (Same : V → V → Type 0) where
+  abbrev pub IsSameIn : Option V → Option V → Type 0
+  IsSameIn o p = MatchOption o (p ≡ None) (λ v. IsSomeAnd p (Same v))
+
+  same_through : ((u v w : V) → Same u v → Same v w → Same u w) → (o p r : Option V) → IsSameIn o p → IsSameIn p r → IsSameIn o r
+  same_through through None None r h k = k
+  same_through through None (Some v) r h k = let never : ◌≡◌ {A = Option V} (Some v) None = h in cc
+  same_through through (Some u) None r h k = absurd h
+  same_through through (Some u) (Some v) None h k = absurd k
+  same_through through (Some u) (Some v) (Some w) h k = through u v w h k
+
+  direct_stays_in : {K : Type 0} (direct : V → List K) → ((u v : V) → Same u v → direct v ≡ direct u) → (o p : Option V) → IsSameIn o p → option_map_or direct p [] ≡ option_map_or direct o []
+  direct_stays_in direct stays None p h = ap (λ r. option_map_or direct r []) h
+  direct_stays_in direct stays (Some v) None h = absurd h
+  direct_stays_in direct stays (Some v) (Some w) h = stays v w h
+
+module _ {K V S : Type 0} (eq : K → K → Bool) (Same : V → V → Type 0) where
+  pub nodes_through : ((u v w : V) → Same u v → Same v w → Same u w) → (m n k : HashMap K V S) → SameNodes eq Same m n → SameNodes eq Same n k → SameNodes eq Same m k
+  nodes_through through m n k h j q = same_through Same through (get eq m q) (get eq n q) (get eq k q) (h q) (j q)
+
+  pub direct_at : (direct : V → List K) → ((u v : V) → Same u v → direct v ≡ direct u) → (m n : HashMap K V S) → SameNodes eq Same m n → (a : K) → edges_at eq direct n a ≡ edges_at eq direct m a
+  direct_at direct stays m n same a = direct_stays_in Same direct stays (get eq m a) (get eq n a) (same a)
+
+-- D: the direct edges; E: those before
+module _ {K : Type 0} (eq : K → K → Bool) (D E : K → List K) where
+  -- one node has its direct edges alone, or all that it had
+  abbrev pub IsEither : (K → List K) → K → Type 0
+  IsEither F a = SameKeys eq (D a) (F a) ⊎ (F a ≡ E a)
+
+  -- one more node: x; M: the edges before, F: those after; D' is D as it now stands
+  module _ (laws : IsEquivalence eq) (D' M F : K → List K) (x : K) (stays : (a : K) → D' a ≡ D a)
+      (reset : (a : K) → eq x a ≡ true → SameKeys eq (D' a) (F a)) (others : (a : K) → eq x a ≡ false → F a ≡ M a) where
+    reset_here : (a : K) → eq x a ≡ true → SameKeys eq (D a) (F a)
+    reset_here a e q = reset a e q ∙ ap (λ ys. is_member eq ys q) (stays a)
+
+    pub either_still : ((a : K) → IsEither M a) → (a : K) → IsEither F a
+    either_still before a = elim (eq x a) as (λ b. eq x a ≡ b → IsEither F a) [
+      | true ↦ λ e. inl (reset_here a e)
+      | false ↦ λ e. elim (before a) [
+        | inl h ↦ inl (λ q. ap (λ ys. is_member eq ys q) (others a e) ∙ h q)
+        | inr h ↦ inr (others a e ∙ h)
+      ]
+    ] refl
+
+    pub reset_still : (left rest : List K) → left ≡ x ∷ rest → ((a : K) → is_member eq left a ≡ false → SameKeys eq (D a) (M a)) → (a : K) → is_member eq rest a ≡ false → SameKeys eq (D a) (F a)
+    reset_still left rest cut before a none = elim (eq x a) as (λ b. eq x a ≡ b → SameKeys eq (D a) (F a)) [
+      | true ↦ λ e. reset_here a e
+      | false ↦ λ e q. ap (λ ys. is_member eq ys q) (others a e) ∙ before a (ap (λ ys. is_member eq ys a) cut ∙ ap (λ b. b || is_member eq rest a) (laws.symm a x ∙ e) ∙ none) q
+    ] refl
+
+module _ {K : Type 0} (eq : K → K → Bool) (D E F : K → List K) where
+  -- the direct ones of the edges stay, and what comes is reached along direct ones
+  abbrev pub IsPartlyRebuilt : Type 0
+  IsPartlyRebuilt = IsBetween (λ a b. IsEdge eq D a b × IsEdge eq E a b) (λ a b. IsEdge eq E a b ⊎ Reaches (IsEdge eq D) a b) (IsEdge eq F)
+
+  pub partly_reset : ((a : K) → IsEither eq D E F a) → IsPartlyRebuilt
+  partly_reset either = record {
+    least = λ a b h. elim (either a) [ inl s ↦ s b ∙ h.0 | inr s ↦ ap (λ ys. is_member eq ys b) s ∙ h.1 ];
+    most = λ a b h. elim (either a) [ inl s ↦ inr (edge (sym (s b) ∙ h)) | inr s ↦ inl (sym (ap (λ ys. is_member eq ys b) s) ∙ h) ];
+  }
+
+  pub partly_closed : (M : K → List K) → ((a : K) → SameKeys eq (D a) (M a)) → IsBetween (IsEdge eq M) (Reaches (IsEdge eq M)) (IsEdge eq F) → IsPartlyRebuilt
+  partly_closed M reset between = record {
+    least = λ a b h. between.least a b (reset a b ∙ h.0);
+    most = λ a b h. inr (Reaches-more (λ x y k. sym (reset x y) ∙ k) (between.most a b h));
+  }

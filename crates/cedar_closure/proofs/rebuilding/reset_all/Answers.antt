@@ -1,0 +1,32 @@
+-- The lemmas of Resetting: a node that was passed has its direct edges alone, and each other one what it had.
+use Rattle.std.proofs.Common.{◌≡◌, ◌<◌, ◌+◌, ◌∷◌, sym, ap, ◌∙◌, drop, length, arith}
+use Rattle.std.proofs.lemmas.List.{drop_more}
+use Rattle.cedar_closure.specs.Graph.{edges_at}
+use Rattle.cedar_closure.proofs.Resetting.{nodes_through, direct_at, either_still, reset_still}
+use Rattle.cedar_closure.proofs.rebuilding.reset_all.Goals as goal
+
+pub loop-at-preserved : goal.loop-at-preserved
+loop-at-preserved g c =
+    let eq = g.K.PartialEq.eq in
+    let laws = g.met.K.Eq.laws in
+    let node = g.V.TCNode in
+    let m = c.args.nodes.now in
+    let now = c.loop-at.nodes in
+    let new = c.reset_node.new.nodes in
+    let D = edges_at eq node.direct m in
+    let E = edges_at eq node.edges m in
+    let D' = edges_at eq node.direct now in
+    let M = edges_at eq node.edges now in
+    let F = edges_at eq node.edges new in
+    let listed = c.args.listed.now in
+    let i = c.loop-at.at-index in
+    let x = c.at-item.result in
+    let here : c.loop-at.at-index < length c.args.listed.now = omega arith in
+    let cut : drop i listed ≡ x ∷ drop (i + 1) listed = drop_more listed i x here ∙ ap (λ y. y ∷ drop (i + 1) listed) (sym c.at-item.is) in
+    let stays = direct_at eq node.is_same node.direct g.met.V.TCNode.direct_stays m now c.loop-at.invariant.same in
+    let step = c.in_ok-reset_node.ensures in
+    record {
+      reset = reset_still eq D E laws D' M F x stays step.reset step.others (drop i listed) (drop (i + 1) listed) cut c.loop-at.invariant.reset;
+      either = either_still eq D E laws D' M F x stays step.reset step.others c.loop-at.invariant.either;
+      same = nodes_through eq node.is_same g.met.V.TCNode.through m now new c.loop-at.invariant.same step.same;
+    }
