@@ -8,6 +8,7 @@ use crate::constraints::PrincipalOrResource;
 use cedar_literals::literals::Literal;
 use cedar_literals::slots::{Slot, SlotId};
 use cedar_literals::uids::EntityUID;
+use cedar_names::conversions::FromIn;
 use cedar_names::places::Loc;
 use cedar_trees::expr::Expr;
 use std::alloc::{AllocError, Global};
@@ -28,7 +29,7 @@ pub enum EntityReference {
 }
 
 impl EntityReference {
-    /// This entity.
+    /// This entity, which is shared; takes no memory.
     pub fn euid(euid: Rc<EntityUID>) -> EntityReference
         ensures { target_of result ≡ the_entity euid.value }
     {
@@ -106,6 +107,21 @@ impl Drop for EntityReference {
             EntityReference::EUID(_uid) => {}
             EntityReference::Slot(_loc) => {}
         }
+    }
+}
+
+/// This entity, shared from now on; refused for memory alone.
+impl FromIn<EntityUID> for EntityReference {
+    type Error = AllocError;
+
+    ghost use Rattle.std.specs.Prelude.{◌≡◌, IfOk};
+    ghost use Rattle.cedar_grammar.specs.Policy.{the_entity};
+    ghost use Rattle.cedar_constraints.specs.References.{target_of};
+
+    ghost from_in_gives = { λ uid result. IfOk result (λ made. target_of made ≡ the_entity uid) };
+
+    fn from_in(alloc: Global, uid: EntityUID) -> Result<EntityReference, AllocError> {
+        Ok(EntityReference::euid(Rc::new(alloc, uid)?))
     }
 }
 

@@ -38,14 +38,15 @@ impl ResourceConstraint {
         ResourceConstraint { constraint }
     }
 
-    /// What is asked.
+    /// What is asked, lent, without saying of which variable.
     pub fn as_inner(&self) -> &PrincipalOrResourceConstraint
         ensures { constraint_of result.now ≡ self.now }
     {
         &self.constraint
     }
 
-    /// What is asked.
+    /// What is asked, taken out without a copy: the same constraint, which may then be put on the
+    /// other variable too. Its slot, where it has one, is no longer tied to `?resource`.
     pub fn into_inner(self) -> PrincipalOrResourceConstraint
         ensures { constraint_of result ≡ self }
     {

@@ -27,13 +27,24 @@ use std::rc::Rc;
 
 /// A policy in force: a static one, which is its own template, or a link of a template with an entity for
 /// each of its slots, and for no other. (Cedar language reference, "Policy templates".)
-#[derive(Debug, Drop)]
+#[derive(Debug)]
 pub struct Policy {
     template: Rc<Template>,
     link: Option<PolicyID>,
     values: SlotEnv,
     pub ghost fills: { binds_exactly values (syntax_of template.value) ≡ true },
     pub ghost own: { ForNone link (slots_of (syntax_of template.value) ≡ []) },
+}
+
+// Written by hand, so that a function which may return early lets go of a policy by a call.
+impl Drop for Policy {
+    fn drop(self) {
+        let Policy {
+            template: _template,
+            link: _link,
+            values: _values,
+        } = self;
+    }
 }
 
 impl Policy {
@@ -76,7 +87,8 @@ impl Policy {
         Policy::from_when_clause_annos(alloc, effect, when, id, loc, annotations)
     }
 
-    /// The same with annotations, and with parts that are shared; refused for memory alone.
+    /// The static policy of this one clause and these annotations, which applies to every request; the
+    /// clause and the annotations are shared. Refused for memory alone.
     pub fn from_when_clause_annos(
         alloc: Global,
         effect: Effect,
@@ -115,7 +127,8 @@ impl Policy {
         &self.template
     }
 
-    /// The same, shared.
+    /// The template that it is a link of, shared with the other links of that template; a static policy
+    /// is its own, under its own id. A clone of the handle keeps the template, and copies nothing of it.
     pub fn template_arc(&self) -> &Rc<Template>
         ensures { result.now.value ≡ policy_template self.now }
     {
@@ -211,7 +224,7 @@ impl Policy {
         self.template.annotation(key)
     }
 
-    /// The annotations, by their keys.
+    /// The annotations of its template, lent: `iter` of them goes by their keys.
     pub fn annotations(&self) -> &Annotations
         ensures { result.now ≡ (policy_syntax self.now).annotations }
     {

@@ -2,8 +2,9 @@
 ghost use Rattle.std.specs.Prelude.{◌≡◌, ◌==◌, [], length, IfOk};
 ghost use Rattle.std.specs.Option.{option_copied};
 ghost use Rattle.std.specs.Rc.{rc_str_bytes};
-ghost use Rattle.std.specs.Map.{lookup};
-ghost use Rattle.cedar_language.specs.Order.{same_text};
+ghost use Rattle.std.specs.List.Sorted.{IsStrictlySortedBy};
+ghost use Rattle.std.specs.Map.{keys_of, lookup};
+ghost use Rattle.cedar_language.specs.Order.{same_text, text_cmp};
 ghost use Rattle.cedar_policy_parts.specs.Annotations.{text_or_empty};
 
 use cedar_literals::escapes::Escaped;
@@ -210,9 +211,10 @@ impl Annotations {
         self.entries.get(key)
     }
 
-    /// The annotations, by their keys in rising order.
+    /// The annotations, by their keys in rising order: no key stands twice.
     pub fn iter(&self) -> btree_map::Iter<'_, AnyId, Annotation>
-        ensures { result ≡ self.now }
+        ensures all { result ≡ self.now }
+        ensures rising { IsStrictlySortedBy text_cmp (keys_of self.now) }
     {
         self.entries.iter()
     }
@@ -230,6 +232,24 @@ impl From<BTreeMap<AnyId, Annotation>> for Annotations {
 
     fn from(entries: BTreeMap<AnyId, Annotation>) -> Annotations {
         Annotations { entries }
+    }
+}
+
+/// Of two annotations with one key the later one stays; refused for memory alone.
+impl FromIterator<(AnyId, Annotation)> for Annotations {
+    type Alloc = Global;
+
+    ghost use Rattle.cedar_policy_parts.specs.Annotations.{IsGathered};
+
+    ghost from_iter_gives = { IsGathered };
+
+    fn from_iter<U: IntoIterator<Item = (AnyId, Annotation)>>(
+        alloc: Global,
+        iter: U,
+    ) -> Result<Annotations, AllocError> {
+        Ok(Annotations {
+            entries: BTreeMap::from_iter(alloc, iter)?,
+        })
     }
 }
 

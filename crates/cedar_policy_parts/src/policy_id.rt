@@ -4,6 +4,7 @@ ghost use Rattle.std.specs.Rc.{rc_str_bytes};
 
 use cedar_names::texts::SharedText;
 use std::alloc::{AllocError, Global};
+use std::convert::AsStr;
 use std::fmt;
 use std::marker::Model;
 use std::rc::RcStr;
@@ -25,14 +26,14 @@ impl Model for PolicyID {
 }
 
 impl PolicyID {
-    /// The id with this text. It errs for want of memory alone.
+    /// The id with a copy of this text, whatever it holds. Refused for memory alone.
     pub fn from_string(alloc: Global, text: &str) -> Result<PolicyID, AllocError>
         ensures { IfOk result (λ id. id ≡ text.now) }
     {
         Ok(PolicyID::from_smolstr(RcStr::from_str(alloc, text)?))
     }
 
-    /// The id with this text.
+    /// The id with this text, which is shared; takes no memory.
     pub fn from_smolstr(text: RcStr) -> PolicyID
         ensures { result ≡ rc_str_bytes text }
     {
@@ -41,18 +42,26 @@ impl PolicyID {
         }
     }
 
-    /// Its text.
+    /// Its text, given up without a copy.
     pub fn into_smolstr(self) -> RcStr
         ensures { rc_str_bytes result ≡ self }
     {
         self.text.into_smolstr()
     }
 
-    /// Its text.
+    /// Its text, lent.
     pub fn as_str(&self) -> &str
         ensures { result.now ≡ self.now }
     {
         self.text.as_str()
+    }
+}
+
+impl AsStr for PolicyID {
+    ghost text = { λ id. id };
+
+    fn as_str(&self) -> &str {
+        self.as_str()
     }
 }
 

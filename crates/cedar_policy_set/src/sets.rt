@@ -14,9 +14,16 @@ use std::marker::Model;
 /// Static policies, templates and links by their ids, in the order in which they came: a new one last, and
 /// a removal closes up. Each link names a template of the set and gives exactly its slots. Contracts see
 /// the ids, each with what it is bound to. (Cedar language reference, "Policies" and "Policy templates".)
-#[derive(Drop)]
+#[derive(Debug)]
 pub struct PolicySet {
     bound: IndexMap<PolicyID, Bound>,
+}
+
+// Written by hand, so that a function which may return early lets go of a set by a call.
+impl Drop for PolicySet {
+    fn drop(self) {
+        let PolicySet { bound: _bound } = self;
+    }
 }
 
 impl Model for PolicySet {
@@ -49,7 +56,9 @@ impl PolicySet {
         }
     }
 
-    /// The set that binds just these; takes no memory.
+    /// The set that binds just these, in their order; takes no memory. The caller sees to it that they are
+    /// such a set: each stands under its own id, and each link names a template among them and gives exactly
+    /// its slots.
     pub fn from_raw_components(bound: IndexMap<PolicyID, Bound>) -> PolicySet
         requires { IsSound bound.entries }
         ensures { result ≡ entries_of bound.entries }
@@ -57,7 +66,7 @@ impl PolicySet {
         PolicySet { bound }
     }
 
-    /// What an id is bound to.
+    /// What an id is bound to, if it is: a static policy, a link or a template.
     pub fn bound(&self, id: &PolicyID) -> Option<&Bound>
         ensures entry { option_map entry_of (option_copied result) ≡ bound_at self.now id.now }
         ensures id { IfSome result (λ bound. bound_id bound.now ≡ id.now) }
@@ -88,18 +97,19 @@ impl PolicySet {
         self.bound.is_empty()
     }
 
-    /// What the ids are bound to, in order.
+    /// What the ids are bound to, lent, in the order in which they came.
     pub fn values(&self) -> Values<'_, PolicyID, Bound>
         ensures { seen result ≡ self.now }
     {
         self.bound.values()
     }
 
-    /// What the ids are bound to, in order.
+    /// What the ids are bound to, given up, in the order in which they came.
     pub fn into_values(self) -> IntoValues<PolicyID, Bound>
         ensures { seen result ≡ self }
     {
-        self.bound.into_values()
+        let PolicySet { bound } = self;
+        bound.into_values()
     }
 
     // Binds an id that isn't bound.
@@ -115,7 +125,9 @@ impl PolicySet {
         Ok(())
     }
 
-    /// Binds ids that aren't bound, after the others. Refused for memory alone.
+    /// Binds these after what is bound, in their order. The caller sees to it that each stands under its own
+    /// id, that no id is bound already, and that each link names a template that is bound then and gives
+    /// exactly its slots. Refused for memory alone; a refused call changes nothing.
     pub fn append(&mut self, mut more: IndexMap<PolicyID, Bound>) -> Result<(), AllocError>
         requires named { IsNamed more.entries }
         requires whole { IsWhole (self.old ++ entries_of more.entries) }

@@ -1,18 +1,23 @@
-// Entities, scopes, templates, policies and policy sets.
+//! What a policy is made of and what it speaks of: entities, annotations, ids and effects; the constraints of
+//! a scope; templates, static policies and their links; policy sets, their iterators, their refusals and
+//! their merging. The uids and types of entities are handed on from below. What stands above its type is a
+//! method of a trait: `prelude` has them all.
 
-pub use cedar_constraints::actions::ActionConstraint;
+pub use cedar_constraints::actions::{ActionConstraint, EntityTypeNames as ActionEntityTypeNames};
 pub use cedar_constraints::bindings::SlotEnv;
-pub use cedar_constraints::constraints::{PrincipalOrResource, PrincipalOrResourceConstraint};
+pub use cedar_constraints::constraints::{
+    EntityTypeNames, PrincipalOrResource, PrincipalOrResourceConstraint,
+};
 pub use cedar_constraints::errors::{ActionTypeError, InvalidActionType, UnexpectedSlotError};
 pub use cedar_constraints::principals::PrincipalConstraint;
 pub use cedar_constraints::references::EntityReference;
 pub use cedar_constraints::resources::ResourceConstraint;
-pub use cedar_entities::ancestors::Ancestors;
 pub use cedar_entities::attributes::Attributes;
-pub use cedar_entities::entity::Entity;
+pub use cedar_entities::entity::{Ancestors, Entity};
 pub use cedar_entities::{
     EntityAttrEvaluationError, EntityCreationError, EntityValidation, EvaluateEntity,
 };
+pub use cedar_literals::uids::{ACTION_ENTITY_TYPE, Eid, EntityType, EntityUID, EntityUIDImpl};
 pub use cedar_merging::merging::Merging;
 pub use cedar_merging::renaming::{Renaming, renamed_id, renaming_of};
 pub use cedar_policies::errors::LinkingError;
@@ -20,6 +25,7 @@ pub use cedar_policies::linking::TemplateLinks;
 pub use cedar_policies::policies::Policy;
 pub use cedar_policy_parts::annotations::{Annotation, Annotations, IntoIter};
 pub use cedar_policy_parts::{Effect, PolicyID};
+pub use cedar_policy_set::bounds::Bound;
 pub use cedar_policy_set::errors::{
     PolicySetError, PolicySetGetLinksError, PolicySetPolicyRemovalError,
     PolicySetTemplateRemovalError, PolicySetUnlinkError, PolicySetValidationError,

@@ -1,4 +1,5 @@
-// The store of entities.
+//! The store of entities: what it holds, how it is edited, and what is found under a uid. What an edit does
+//! to the transitive closure is the caller's choice, `TCComputation`.
 
 pub use cedar_entities::EntitiesValidation;
 pub use cedar_entities::closing::TCComputation;

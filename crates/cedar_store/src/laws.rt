@@ -1,9 +1,11 @@
-// The laws of the layer, crate by crate.
+//! The laws of the layer, part by part: each is a function without a body whose contract is the law, so that
+//! a caller's proof can cite it by a call. They say that `==` is sameness, places aside, that edits are those
+//! of a session's world, and what a merge renames.
 
 pub use cedar_constraints::laws as constraints;
 pub use cedar_merging::laws as merging;
 pub use cedar_policy_parts::laws as annotations;
-pub use cedar_policy_set::worlds as policy_set;
+pub use cedar_policy_set::{laws as sets, worlds as policy_set};
 pub use cedar_templates::laws as templates;
 
 /// Edits of the store are the world's.

@@ -1,9 +1,10 @@
 //! Entities and policies of Cedar: the transitive closure, entities and their store, scopes, templates,
 //! policies and policy sets. Each item has the name that it has in `cedar-policy-core`, in the module of
-//! that name.
+//! that name; `laws` and `prelude` are this library's own.
 #![tactic(auto)]
 
 pub mod ast;
 pub mod entities;
 pub mod laws;
+pub mod prelude;
 pub mod transitive_closure;

@@ -1,4 +1,5 @@
-// The transitive closure of graphs over any keys.
+//! The transitive closure of graphs over any keys: made, repaired after an edit, made anew, or looked over
+//! for what lacks. Nodes are what implements `TCNode`.
 
 pub use cedar_closure::{
     HasCycle, MissingTcEdge, TCNode, TcError, compute_tc, enforce_tc_and_dag, rebuild_tc, repair_tc,

@@ -1,5 +1,5 @@
 -- What a template must fulfil to be taken.
-use Rattle.std.specs.Prelude.{◌≡◌, ⊤, ℕ, List, [], ◌∷◌, true, Option, Some, None, Result, Ok, Err}
+use Rattle.std.specs.Prelude.{◌≡◌, ⊤, ℕ, codes, List, [], ◌∷◌, true, Option, Some, None, Result, Ok, Err}
 use Rattle.std.specs.List.{list_all}
 use Rattle.cedar_language.specs.Uid.{Name}
 use Rattle.cedar_language.specs.Tree.{SlotId, Tree}
@@ -15,6 +15,7 @@ use Rattle.cedar_extensions.specs.declared.validation_errors.ExprValidationError
 use Rattle.cedar_constraints.specs.Actions.{others, uids_of, held_uids}
 use Rattle.cedar_constraints.specs.declared.errors.ActionTypeError.{ActionTypeError}
 use Rattle.cedar_constraints.specs.declared.errors.ActionTypeError.TheVariants as action
+use Rattle.cedar_policy_parts.specs.declared.policies.SlotsInConditionClause.{SlotsInConditionClause as AClausesSlot}
 use Rattle.cedar_templates.specs.StaticPolicies.{IsFirstSlot}
 use Rattle.cedar_templates.specs.declared.errors.TemplateValidationError.{TemplateValidationError}
 use Rattle.cedar_templates.specs.declared.errors.TemplateValidationError.TheVariants.{InvalidActionType, SlotsInConditionClause, SlotCacheMismatch, InvalidExpression, Memory}
@@ -47,11 +48,15 @@ abbrev pub Misfits : Option Cause → ExprValidationError → Type 0
 Misfits wrong (expression.Memory e) = ⊥
 Misfits wrong e = Refuses wrong e
 
+-- the first of these slots, in what a `when` asks, since a condition keeps no word of its clauses
+abbrev pub IsClausesSlot : List SlotId → AClausesSlot → Type 0
+IsClausesSlot ss e = IsFirstSlot ss e.slot.id × (e.clause_type.now ≡ codes "when")
+
 -- the expression holds no slot, or this one, or there is no memory
 abbrev pub HoldsNoSlot : {A : Type 0} → Tree → Result A TemplateValidationError → Type 0
 HoldsNoSlot t (Ok a) = slots_in t ≡ []
 HoldsNoSlot t (Err (InvalidActionType e)) = ⊥
-HoldsNoSlot t (Err (SlotsInConditionClause e)) = IsFirstSlot (slots_in t) e.slot.id
+HoldsNoSlot t (Err (SlotsInConditionClause e)) = IsClausesSlot (slots_in t) e
 HoldsNoSlot t (Err SlotCacheMismatch) = ⊥
 HoldsNoSlot t (Err (InvalidExpression e)) = ⊥
 HoldsNoSlot t (Err (Memory e)) = ⊤
@@ -60,7 +65,7 @@ HoldsNoSlot t (Err (Memory e)) = ⊤
 abbrev pub ValidatesClauses : {A : Type 0} → Extensions → Tree → Result A TemplateValidationError → Type 0
 ValidatesClauses table t (Ok a) = (slots_in t ≡ []) × (list_all (call_fits table) (calls_in t) ≡ true)
 ValidatesClauses table t (Err (InvalidActionType e)) = ⊥
-ValidatesClauses table t (Err (SlotsInConditionClause e)) = IsFirstSlot (slots_in t) e.slot.id
+ValidatesClauses table t (Err (SlotsInConditionClause e)) = IsClausesSlot (slots_in t) e
 ValidatesClauses table t (Err SlotCacheMismatch) = ⊥
 ValidatesClauses table t (Err (InvalidExpression e)) = (slots_in t ≡ []) × Misfits (first_fault table (calls_in t)) e
 ValidatesClauses table t (Err (Memory e)) = ⊤
@@ -70,7 +75,7 @@ ValidatesClauses table t (Err (Memory e)) = ⊤
 abbrev pub Validates : {A : Type 0} → Extensions → Policy → Result A TemplateValidationError → Type 0
 Validates table p (Ok a) = (others (uids_of p.action) ≡ []) × (clause_slots p.body ≡ []) × (list_all (call_fits table) (clause_calls p.body) ≡ true)
 Validates table p (Err (InvalidActionType e)) = others (uids_of p.action) ≡ e.euids.head.value ∷ held_uids e.euids.tail.items
-Validates table p (Err (SlotsInConditionClause e)) = (others (uids_of p.action) ≡ []) × IsFirstSlot (clause_slots p.body) e.slot.id
+Validates table p (Err (SlotsInConditionClause e)) = (others (uids_of p.action) ≡ []) × IsClausesSlot (clause_slots p.body) e
 Validates table p (Err SlotCacheMismatch) = ⊥
 Validates table p (Err (InvalidExpression e)) = (others (uids_of p.action) ≡ []) × (clause_slots p.body ≡ []) × Misfits (first_fault table (clause_calls p.body)) e
 Validates table p (Err (Memory e)) = ⊤

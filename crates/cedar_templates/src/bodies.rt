@@ -187,7 +187,7 @@ impl TemplateBody {
         self.annotations.get(key)
     }
 
-    /// The annotations, by their keys.
+    /// The annotations, lent: `iter` of them goes by their keys.
     pub fn annotations(&self) -> &Annotations
         ensures { result.now ≡ (body_syntax self.now).annotations }
     {

@@ -11,7 +11,7 @@ pub enum TemplateValidationError {
     /// The scope names entities as actions that are none.
     #[error(transparent)]
     InvalidActionType(InvalidActionType),
-    /// A slot stands in a clause.
+    /// A slot stands in a clause; the word of the clause is `when`, also for what an `unless` asks.
     #[error(transparent)]
     SlotsInConditionClause(SlotsInConditionClause),
     /// The slots that the template lists aren't its own.

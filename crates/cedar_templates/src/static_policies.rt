@@ -27,10 +27,17 @@ use std::rc::Rc;
 
 /// A policy without slots, under an id. Contracts see the id through `static_id` and the rest, without
 /// places, through `static_syntax`. (Cedar language reference, "Policies".)
-#[derive(Debug, Drop)]
+#[derive(Debug)]
 pub struct StaticPolicy {
     body: TemplateBody,
     pub ghost has_no_slot: { slots_of (body_syntax body) ≡ [] },
+}
+
+// Written by hand, so that a function which may return early lets go of a policy by a call.
+impl Drop for StaticPolicy {
+    fn drop(self) {
+        let StaticPolicy { body: _body } = self;
+    }
 }
 
 impl StaticPolicy {
@@ -82,7 +89,7 @@ impl StaticPolicy {
         }
     }
 
-    /// Its body.
+    /// Its body, lent: all that is written of it, under its id.
     pub fn body(&self) -> &TemplateBody
         ensures id { body_id result.now ≡ static_id self.now }
         ensures syntax { body_syntax result.now ≡ static_syntax self.now }
@@ -91,13 +98,14 @@ impl StaticPolicy {
         &self.body
     }
 
-    /// Its body.
+    /// Its body, given up without a copy.
     pub fn into_body(self) -> TemplateBody
         ensures id { body_id result ≡ static_id self }
         ensures syntax { body_syntax result ≡ static_syntax self }
         ensures no_slot { slots_of (static_syntax self) ≡ [] }
     {
-        self.body
+        let StaticPolicy { body } = self;
+        body
     }
 
     /// The id.
@@ -144,7 +152,7 @@ impl StaticPolicy {
         self.body.annotation(key)
     }
 
-    /// The annotations, by their keys.
+    /// The annotations, lent: `iter` of them goes by their keys.
     pub fn annotations(&self) -> &Annotations
         ensures { result.now ≡ (static_syntax self.now).annotations }
     {

@@ -27,11 +27,21 @@ use std::rc::Rc;
 /// A policy with or without slots, under an id, and the slots of its scope. Contracts see the id through
 /// `template_id` and the rest, without places, through `syntax_of`. (Cedar language reference, "Policy
 /// templates".)
-#[derive(Debug, Drop)]
+#[derive(Debug)]
 pub struct Template {
     body: TemplateBody,
     slots: Vec<Slot>,
     pub ghost lists_slots: { slot_ids slots.items ≡ slots_of (body_syntax body) },
+}
+
+// Written by hand, so that a function which may return early lets go of a template by a call.
+impl Drop for Template {
+    fn drop(self) {
+        let Template {
+            body: _body,
+            slots: _slots,
+        } = self;
+    }
 }
 
 // The slots of the scope, the principal's first.
@@ -131,7 +141,7 @@ impl Template {
         Template::from_body(alloc, body)
     }
 
-    /// Its body.
+    /// Its body: all that is written of it, under its id.
     pub fn body(&self) -> &TemplateBody
         ensures id { body_id result.now ≡ template_id self.now }
         ensures syntax { body_syntax result.now ≡ syntax_of self.now }
@@ -188,7 +198,7 @@ impl Template {
         self.body.annotation(key)
     }
 
-    /// The annotations, by their keys.
+    /// The annotations, lent: `iter` of them goes by their keys.
     pub fn annotations(&self) -> &Annotations
         ensures { result.now ≡ (syntax_of self.now).annotations }
     {
@@ -253,7 +263,7 @@ impl Template {
         self.body.condition(alloc)
     }
 
-    /// The slots of its scope, the principal's first.
+    /// The slots of its scope, the principal's first; no slot stands twice, so there are two at the most.
     pub fn slots(&self) -> &[Slot]
         ensures { slot_ids result.now ≡ slots_of (syntax_of self.now) }
     {
@@ -273,7 +283,8 @@ impl Template {
         ensures syntax { body_syntax result.0 ≡ syntax_of self }
         ensures slots { slot_ids result.1.items ≡ slots_of (syntax_of self) }
     {
-        (self.body, self.slots)
+        let Template { body, slots } = self;
+        (body, slots)
     }
 }
 

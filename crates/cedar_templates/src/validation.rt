@@ -16,7 +16,9 @@ impl Template {
     /// clauses hold no slot, and whether each call in them fits the table of extensions. Refused for the
     /// first of these that isn't so: `InvalidActionType` with the entities that have another type,
     /// `SlotsInConditionClause` with a slot, `InvalidExpression` with what is wrong with the first other
-    /// call of a walk; or for memory. (Cedar language reference, "Policy templates", "Extension functions".)
+    /// call of a walk; or for memory. The word of a slot's clause is always `when`: a template holds what
+    /// all its clauses ask as one condition, and no longer which part of it an `unless` was written for.
+    /// (Cedar language reference, "Policy templates", "Conditions", "Extension functions".)
     pub fn try_validate(
         &self,
         alloc: Global,

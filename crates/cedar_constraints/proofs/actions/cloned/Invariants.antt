@@ -1,3 +1,4 @@
+-- What was copied is the first part of the list.
 use Rattle.std.proofs.Common.{◌≡◌, take}
 use Rattle.cedar_constraints.specs.Actions.{held_uids}
 use Rattle.cedar_constraints.proofs.actions.cloned.Given as goal

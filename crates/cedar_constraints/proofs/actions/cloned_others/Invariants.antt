@@ -1,3 +1,4 @@
+-- What was copied, and those of what is left, are those of the whole.
 use Rattle.std.proofs.Common.{◌≡◌, ◌++◌, length}
 use Rattle.cedar_constraints.specs.Actions.{held_uids, others}
 use Rattle.cedar_constraints.proofs.actions.cloned_others.Given as goal

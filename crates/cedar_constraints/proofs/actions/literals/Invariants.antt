@@ -1,3 +1,4 @@
+-- What was made stands for the first part of the list.
 use Rattle.std.proofs.Common.{◌≡◌, map, take}
 use Rattle.cedar_trees.specs.Bare.{bare}
 use Rattle.cedar_constraints.specs.Actions.{held_uids, entity_literal}

@@ -1,3 +1,4 @@
+-- What was passed over has the type of actions, so the first other one is still to come.
 use Rattle.std.proofs.Common.{◌≡◌, length}
 use Rattle.cedar_constraints.specs.Actions.{held_uids, others}
 use Rattle.cedar_constraints.proofs.actions.split_first_other.Given as goal

@@ -1,3 +1,4 @@
+-- Each test was shown to decide sameness where it is defined.
 use Rattle.cedar_constraints.specs.Sameness.{targets_decide, constraints_decide, actions_decide, bindings_decide}
 use Rattle.cedar_constraints.proofs.laws.equality_is_sameness.Goals as goal
 

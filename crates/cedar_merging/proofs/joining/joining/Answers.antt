@@ -1,3 +1,4 @@
+-- New ids are apart from one another, so each is inserted at the end.
 use Rattle.std.proofs.Common.{◌≡◌, sym, ap, subst, ◌∙◌, rules}
 use Rattle.std.specs.Map.{lookup}
 use Rattle.cedar_language.specs.Uid.{Text}

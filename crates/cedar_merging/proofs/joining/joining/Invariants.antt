@@ -1,3 +1,4 @@
+-- What was joined so far, and what is left, are the whole rest.
 use Rattle.cedar_policy_set.specs.Bounds.{seen}
 use Rattle.cedar_merging.proofs.Joins.{IsJoining}
 use Rattle.cedar_merging.proofs.joining.joining.Given as goal

@@ -1,3 +1,4 @@
+-- Each law follows from the numbers that a renaming gives in turn.
 use Rattle.std.proofs.Common.{◌∙◌, ap}
 use Rattle.cedar_merging.specs.Renaming.{is_taken}
 use Rattle.cedar_merging.proofs.RenamingLaws.{one_renaming, numbers_keys, numbers_free, new_id_apart}

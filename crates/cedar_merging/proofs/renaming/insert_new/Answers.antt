@@ -1,3 +1,4 @@
+-- An id without a new one is inserted at the end.
 use Rattle.std.proofs.Common.{◌∙◌}
 use Rattle.indexmap.proofs.CallerLemmas.{insert_entry-new}
 use Rattle.cedar_language.specs.Order.{same_text}

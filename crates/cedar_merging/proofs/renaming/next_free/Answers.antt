@@ -1,3 +1,4 @@
+-- More numbers than ids are bound, so one is free.
 use Rattle.std.proofs.Common.{refl, arith, ◌^◌, ◌-◌}
 use Rattle.cedar_merging.proofs.Numbers.{room_is_enough}
 use Rattle.cedar_merging.proofs.renaming.next_free.Goals as goal

@@ -1,3 +1,4 @@
+-- Each number that was passed over is taken.
 use Rattle.std.proofs.Common.{◌≡◌, ◌<◌, ◌≤◌, ℕ, true}
 use Rattle.cedar_world.specs.PolicyEdits.{numbered}
 use Rattle.cedar_merging.specs.Renaming.{is_taken}

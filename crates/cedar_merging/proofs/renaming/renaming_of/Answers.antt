@@ -1,3 +1,4 @@
+-- One more conflict takes the next free number, so the numbers go on in the order of the other set.
 use Rattle.std.proofs.Common.{◌≡◌, ◌+◌, ◌++◌, [], ◌∷◌, sym, ap, subst, ◌∙◌}
 use Rattle.std.specs.Map.{lookup}
 use Rattle.cedar_language.specs.Uid.{Text}

@@ -1,3 +1,4 @@
+-- What has new ids so far, and what is left, are the conflicts of the whole.
 use Rattle.cedar_policy_set.specs.Bounds.{seen}
 use Rattle.cedar_merging.proofs.Numbering.{IsNumbered}
 use Rattle.cedar_merging.proofs.renaming.renaming_of.Given as goal

@@ -1,3 +1,4 @@
+-- The slot was not met yet, so the rest of the list decides.
 use Rattle.std.proofs.Common.{◌≡◌, drop}
 use Rattle.std.specs.List.{list_any}
 use Rattle.cedar_world.specs.Syntax.{is_slot}

@@ -1,3 +1,4 @@
+-- What was gathered is what the slots so far lack.
 use Rattle.std.proofs.Common.{◌≡◌, take}
 use Rattle.std.specs.Prelude.{filter, is_some, not}
 use Rattle.cedar_world.specs.Syntax.{binding_of}

@@ -1,3 +1,4 @@
+-- What is gathered grows by the one entity that the unknown stands for.
 use Rattle.std.proofs.Common.{◌≡◌, ◌||◌, sym, ap, subst, ◌∙◌, Option, IfSome}
 use Rattle.std.specs.List.{list_any}
 use Rattle.std.specs.BTreeSet.{contains}

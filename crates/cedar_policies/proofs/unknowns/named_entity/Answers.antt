@@ -1,3 +1,4 @@
+-- A text spells one uid at the most, so the one that was read is the only one that it stands for.
 use Rattle.std.proofs.Common.{◌≡◌, true, sym, ◌∙◌, subst, Ok, Err}
 use Rattle.cedar_language.specs.Uid.{Text}
 use Rattle.cedar_trees.specs.Unknowns.{unknown_name, unknown_type}

@@ -1,3 +1,4 @@
+-- Links are one entry exactly where the names, the syntax and the entities are the same; each case has one of them.
 use Rattle.std.proofs.Common.{ap, ◌∙◌}
 use Rattle.cedar_language.specs.Order.{same_text}
 use Rattle.cedar_constraints.specs.Sameness.{same_bindings}

@@ -1,3 +1,4 @@
+-- A policy without the id of a link is the entry of a static one.
 use Rattle.std.proofs.Common.{ap, sym, refl, ◌∙◌}
 use Rattle.cedar_templates.specs.Templates.{template_id, syntax_of}
 use Rattle.cedar_policies.specs.Policies.{policy_template, policy_syntax, link_of, bindings_of}

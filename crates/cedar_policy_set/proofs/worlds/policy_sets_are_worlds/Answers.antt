@@ -1,3 +1,4 @@
+-- An entry at an id is a policy of the world, and an edit of the one is that of the other.
 use Rattle.cedar_policy_set.proofs.WorldLaws.{finds_as_worlds, binds_as_worlds, removes_as_worlds}
 use Rattle.cedar_policy_set.proofs.worlds.policy_sets_are_worlds.Goals as goal
 

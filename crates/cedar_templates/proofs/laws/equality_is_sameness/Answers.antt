@@ -1,3 +1,4 @@
+-- The test of syntax was shown to decide sameness, part by part.
 use Rattle.cedar_templates.specs.Same.{syntaxes_decide}
 use Rattle.cedar_templates.proofs.laws.equality_is_sameness.Goals as goal
 

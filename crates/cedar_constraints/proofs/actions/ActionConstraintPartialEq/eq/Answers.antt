@@ -1,3 +1,4 @@
+-- Shared uids are compared as the uids that they hold.
 use Rattle.std.proofs.Common.{◌∙◌}
 use Rattle.cedar_constraints.proofs.Held.{pointwise-held}
 use Rattle.cedar_constraints.proofs.actions.ActionConstraintPartialEq.eq.Goals as goal

@@ -1,3 +1,4 @@
+-- The renamed rest is apart from what is bound, so the joined set is whole and keeps both.
 use Rattle.std.proofs.Common.{◌++◌, sym, ap, subst, ◌∙◌}
 use Rattle.cedar_policy_set.specs.Entries.{IsWhole}
 use Rattle.cedar_merging.specs.Merged.{KeepsMine, KeepsTheirs}

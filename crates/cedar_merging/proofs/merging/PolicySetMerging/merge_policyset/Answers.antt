@@ -1,3 +1,4 @@
+-- Where nothing may be renamed, an empty renaming says that nothing conflicts.
 use Rattle.std.proofs.Common.{◌≡◌, false, [], not, sym, ap, ◌∙◌, true≢false}
 use Rattle.cedar_merging.specs.Renaming.{conflicting}
 use Rattle.cedar_merging.proofs.RenamingLaws.{numbers_keys}

@@ -1,3 +1,4 @@
+-- The two lists are those of the template, and both are empty exactly where the entities fit.
 use Rattle.std.proofs.Common.{◌≡◌, ◌∙◌, ap, List}
 use Rattle.std.specs.Prelude.{filter, is_some, not}
 use Rattle.std.specs.List.{list_any}

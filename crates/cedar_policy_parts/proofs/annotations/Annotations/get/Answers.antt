@@ -1,3 +1,4 @@
+-- The map finds a key by its order, which ties exactly where the texts are the same.
 use Rattle.std.proofs.Common.{◌∙◌, sym}
 use Rattle.std.specs.Map.{lookup}
 use Rattle.std.specs.Cmp.Lexicographic.{texts_ties}

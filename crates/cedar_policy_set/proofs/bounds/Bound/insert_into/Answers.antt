@@ -1,3 +1,4 @@
+-- An id that is absent is inserted at the end.
 use Rattle.std.proofs.Common.{ap, ◌∙◌}
 use Rattle.indexmap.specs.IndexMap.{insert_entry}
 use Rattle.indexmap.proofs.MapLemmas.{absent_from_lookup, insert_entry-absent}

@@ -1,3 +1,4 @@
+-- Two templates are one entry exactly where their syntax is the same.
 use Rattle.std.proofs.Common.{ap, sym, ◌∙◌}
 use Rattle.cedar_templates.specs.Templates.{syntax_of}
 use Rattle.cedar_policy_set.specs.Bounds.{entry_of}

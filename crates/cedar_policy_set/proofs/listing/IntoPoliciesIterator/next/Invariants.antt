@@ -1,3 +1,4 @@
+-- What was passed over is none of those that are given.
 use Rattle.std.proofs.Common.{◌≡◌, length}
 use Rattle.cedar_policy_set.specs.BoundsLeft.{into_policies_left}
 use Rattle.cedar_policy_set.proofs.listing.IntoPoliciesIterator.next.Given as goal

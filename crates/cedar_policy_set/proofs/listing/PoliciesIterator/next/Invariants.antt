@@ -1,3 +1,4 @@
+-- What was passed over is none of those that are given.
 use Rattle.std.proofs.Common.{◌≡◌, length}
 use Rattle.cedar_policy_set.specs.BoundsLeft.{policies_left}
 use Rattle.cedar_policy_set.proofs.listing.PoliciesIterator.next.Given as goal

@@ -1,3 +1,4 @@
+-- What is appended is the policy, and before it its template where that lacks; either way the set stays whole.
 use Rattle.std.proofs.Common.{◌≡◌, ◌++◌, sym, subst, ◌∙◌}
 use Rattle.std.specs.Prelude.{OnOk}
 use Rattle.cedar_templates.specs.Templates.{template_id}

@@ -1,3 +1,4 @@
+-- Ids that are apart from those that are bound go to the end, and the caller says that the whole is a set.
 use Rattle.cedar_policy_set.proofs.Edits.{append_is, sound_append}
 use Rattle.cedar_policy_set.proofs.sets.PolicySet.append.Goals as goal
 

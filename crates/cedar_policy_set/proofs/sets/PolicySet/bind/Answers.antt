@@ -1,3 +1,4 @@
+-- A free id is bound at the end, and the set stays whole.
 use Rattle.cedar_policy_set.proofs.Edits.{bind_is, sound_bind}
 use Rattle.cedar_policy_set.proofs.sets.PolicySet.bind.Goals as goal
 

@@ -1,3 +1,4 @@
+-- What the map finds is what the view has there, and it stands under its own id.
 use Rattle.std.proofs.Common.{ap, sym, ◌∙◌}
 use Rattle.std.specs.Option.{option_map}
 use Rattle.cedar_policy_set.specs.Bounds.{entry_of}

@@ -1,3 +1,4 @@
+-- No link was met yet, so the rest decides.
 use Rattle.std.proofs.Common.{◌≡◌}
 use Rattle.cedar_policy_set.specs.Entries.{has_links}
 use Rattle.cedar_policy_set.specs.Bounds.{seen}

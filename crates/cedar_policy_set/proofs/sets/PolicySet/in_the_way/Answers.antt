@@ -1,3 +1,4 @@
+-- Three ways for a link: its template comes along, another template has the id, or its own template is there.
 use Rattle.std.proofs.Common.{◌≡◌, true, false, None, Some, ap, sym, ◌∙◌}
 use Rattle.cedar_language.specs.Order.{same_text}
 use Rattle.cedar_templates.specs.Templates.{template_id, syntax_of}

@@ -1,3 +1,4 @@
+-- Each value stands under its own id, so the values are the entries.
 use Rattle.std.proofs.Common.{ap, ◌∙◌}
 use Rattle.cedar_policy_set.specs.Bounds.{seen}
 use Rattle.cedar_policy_set.proofs.Views.{seen_values}

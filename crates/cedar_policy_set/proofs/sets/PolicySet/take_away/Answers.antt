@@ -1,3 +1,4 @@
+-- Without an id that no link names the set stays whole.
 use Rattle.std.proofs.Common.{ap, sym, ◌∙◌}
 use Rattle.std.specs.Option.{option_map}
 use Rattle.cedar_policy_set.specs.Bounds.{entry_of}

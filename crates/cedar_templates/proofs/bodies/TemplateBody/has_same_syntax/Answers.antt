@@ -1,3 +1,4 @@
+-- The parts that are compared are all of the syntax.
 use Rattle.std.proofs.Common.{◌∙◌, sym}
 use Rattle.cedar_templates.specs.Bodies.{body_syntax}
 use Rattle.cedar_templates.specs.Same.{syntaxes_decide}
