@@ -46,6 +46,12 @@ on_refusal : {R : Type 0} {P Q : Type 0} (o : Option R) → (P → Q) → IfSome
 on_refusal None f h = tt
 on_refusal (Some r) f h = f h
 
+-- what lacks is a fault
+pub is_fault : {B W : Type 0} (e : ConversionError B) (want : Option W) → Lacks (reason e) want → IsFault e
+is_fault (error.Faults fs) want h = tt
+is_fault (error.Builder b) want h = absurd h
+is_fault error.Memory want h = tt
+
 module _ {B R : Type 0} (refusal : B → Option R) where
   -- ---- one part
 

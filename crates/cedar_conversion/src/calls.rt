@@ -7,6 +7,7 @@ ghost use Rattle.cedar_grammar.specs.Build.{method, with_argument, without_argum
 ghost use Rattle.cedar_grammar.specs.Names.{is_among};
 ghost use Rattle.cedar_grammar.specs.Converting as converting;
 ghost use Rattle.cedar_cst.specs.LeafView.{shown_name};
+ghost use Rattle.cedar_conversion_leaves.specs.Reasons.{IsFault};
 ghost use Rattle.cedar_conversion_leaves.specs.Converts.{and_then};
 ghost use Rattle.cedar_conversion.specs.Building.{IsBuilt, MakesTree, AreBuilt, MakesTrees};
 ghost use Rattle.cedar_conversion.specs.Heads.{IsHead, MakesHead};
@@ -14,14 +15,84 @@ ghost use Rattle.cedar_conversion.specs.Heads.{IsHead, MakesHead};
 use crate::building::{builder_at, taken};
 use crate::heads::{Head, expr_to_head};
 use cedar_builders::expr_builder::ExprBuilder;
-use cedar_conversion_leaves::{ConversionError, ExtStyles, ToASTErrorKind, to_name};
+use cedar_conversion_leaves::{ConversionError, ExtStyles, ToASTErrorKind, to_name, to_variable};
 use cedar_cst::cst;
 use cedar_cst::node::Node;
 use cedar_literals::operators::BinaryOp;
 use cedar_names::identifiers::UnreservedId;
 use cedar_names::names::Name;
 use cedar_names::places::Loc;
-use std::alloc::Global;
+use std::alloc::{AllocError, Global};
+
+// Whether Cedar itself has a method that is so called. (Cedar language reference, "Operators and functions".)
+fn is_own_method(name: &str) -> bool {
+    matches!(
+        name,
+        "contains" | "containsAll" | "containsAny" | "getTag" | "hasTag" | "isEmpty"
+    )
+}
+
+// The fault of a name that is called before its arguments, and is no function.
+fn no_function<E: Drop>(
+    alloc: Global,
+    styles: &ExtStyles,
+    loc: Option<&Loc>,
+    name: &Node<Option<cst::Name>>,
+    function: Name,
+) -> ConversionError<E>
+    ensures { IsFault result }
+{
+    match kind_of_no_function(alloc, styles, name, function) {
+        Ok(kind) => ConversionError::fault(alloc, kind, loc),
+        Err(_) => ConversionError::Memory,
+    }
+}
+
+fn kind_of_no_function(
+    alloc: Global,
+    styles: &ExtStyles,
+    name: &Node<Option<cst::Name>>,
+    function: Name,
+) -> Result<ToASTErrorKind, AllocError> {
+    if let Some(var) = to_variable(name) {
+        return Ok(ToASTErrorKind::VariableCall(var));
+    }
+    if function.is_unqualified() {
+        let id = function.basename(alloc)?;
+        if is_own_method(id.as_str()) || styles.is_method(&id) {
+            return Ok(ToASTErrorKind::FunctionCallOnMethod(id));
+        }
+    }
+    Ok(ToASTErrorKind::UnknownFunction { id: function })
+}
+
+// The fault of a name that is called behind its first argument, and is no method.
+fn no_method<E: Drop>(
+    alloc: Global,
+    styles: &ExtStyles,
+    loc: Option<&Loc>,
+    id: UnreservedId,
+) -> ConversionError<E>
+    ensures { IsFault result }
+{
+    match kind_of_no_method(alloc, styles, id) {
+        Ok(kind) => ConversionError::fault(alloc, kind, loc),
+        Err(_) => ConversionError::Memory,
+    }
+}
+
+fn kind_of_no_method(
+    alloc: Global,
+    styles: &ExtStyles,
+    id: UnreservedId,
+) -> Result<ToASTErrorKind, AllocError> {
+    let function = Name::unqualified_name(alloc, id.clone(alloc)?, None)?;
+    if styles.is_function(&function) {
+        Ok(ToASTErrorKind::MethodCallOnFunction(id))
+    } else {
+        Ok(ToASTErrorKind::UnknownMethod { id })
+    }
+}
 
 // The call of a function by its name.
 fn call_function<B: ExprBuilder>(
@@ -36,8 +107,7 @@ fn call_function<B: ExprBuilder>(
 {
     let function = to_name(alloc, name)?;
     if !styles.is_function(&function) {
-        let kind = ToASTErrorKind::UnknownFunction { id: function };
-        return Err(ConversionError::fault(alloc, kind, loc));
+        return Err(no_function(alloc, styles, loc, name, function));
     }
     let builder = builder_at::<B>(alloc, loc)?;
     taken::<B>(builder.call_extension_fn(function, args))
@@ -116,8 +186,7 @@ fn call_table_method<B: ExprBuilder>(
         (cond (is_among id styles.now.methods) (Some (tree.Apply (tree.Call (id ∷ [])) (trees (t ∷ xs)))) None) }
 {
     if !styles.is_method(&id) {
-        let kind = ToASTErrorKind::UnknownMethod { id };
-        return Err(ConversionError::fault(alloc, kind, loc));
+        return Err(no_method(alloc, styles, loc, id));
     }
     let mut args = args;
     args.insert(0, expr)?;

@@ -1,7 +1,7 @@
 // Expressions.
 ghost use Rattle.std.specs.Prelude.{Option};
 ghost use Rattle.cedar_grammar.specs.Converting as converting;
-ghost use Rattle.cedar_grammar.specs.Converting.{expr_tree, or_tree, and_tree, relation_tree, add_tree, mult_tree, unary_tree, member_tree, access_head, primary_head, rec_init_tree};
+ghost use Rattle.cedar_grammar.specs.Converting.{expr_tree, or_tree, and_tree, relation_tree, add_tree, mult_tree, unary_tree, member_tree, access_head, primary_head, primary_tree, rec_init_tree};
 ghost use Rattle.cedar_cst.specs.View.{shown_expr, shown_or, shown_and, shown_relation, shown_add, shown_mult, shown_unary, shown_member, shown_mem_access, shown_primary, shown_rec_init};
 ghost use Rattle.cedar_conversion_leaves.specs.Reasons.{IsFault};
 ghost use Rattle.cedar_conversion_leaves.specs.Converts.{and_then};
@@ -274,8 +274,9 @@ fn member_to_expr<B: ExprBuilder>(
             let operand = &*member.item;
             let mut head = primary_to_head::<B>(alloc, styles, operand);
             let accesses = &member.access;
+            let is_called = calls_method(accesses);
             'accesses: for access in accesses {
-                head = access_to_head::<B>(alloc, styles, access, head);
+                head = access_to_head::<B>(alloc, styles, access, head, is_called);
             }
             head_to_expr::<B>(alloc, node.loc(), head)
         }
@@ -303,13 +304,22 @@ fn printed(alloc: Global, slot: &Node<Option<Slot>>) -> Result<RcStr, AllocError
     }
 }
 
-// What an access makes of an operand.
+// Whether the second access is a call, so that the first one names a method.
+fn calls_method(accesses: &Vec<Node<Option<MemAccess>>>) -> bool {
+    match accesses.get(1) {
+        Some(access) => matches!(&access.node, Some(MemAccess::Call(_))),
+        None => false,
+    }
+}
+
+// What an access makes of an operand; of a name, whether a method of it `is_called`.
 #[cycle(to_expr)]
 fn access_to_head<'a, B: ExprBuilder>(
     alloc: Global,
     styles: &ExtStyles,
     node: &Node<Option<MemAccess>>,
     head: Result<Head<'a, B::Expr>, ConversionError<B::BuildError>>,
+    is_called: bool,
 ) -> Result<Head<'a, B::Expr>, ConversionError<B::BuildError>>
     ensures { (v : Option converting.Head) → MakesHead B.operations B.meaning B.refusal head.entry v →
         MakesHead B.operations B.meaning B.refusal result (and_then v (λ h. access_head styles.now h (shown_mem_access node.now))) }
@@ -319,7 +329,7 @@ fn access_to_head<'a, B: ExprBuilder>(
         Some(access) => match access {
             MemAccess::Field(id) => {
                 let word = to_unreserved_ident(alloc, id);
-                attribute::<B>(alloc, node.loc(), head, word)
+                attribute::<B>(alloc, node.loc(), head, word, is_called)
             }
             MemAccess::Call(args) => {
                 let mut values = Ok(Vec::new(alloc));
@@ -419,4 +429,16 @@ pub fn to_expr<B: ExprBuilder>(
     ensures { MakesTree B.operations B.meaning B.refusal result (expr_tree styles.now (shown_expr node.now)) }
 {
     expr_to_expr::<B>(alloc, styles, node)
+}
+
+/// The expression that a primary writes, built by `B`, as [`to_expr`] builds those of whole expressions.
+pub fn primary_to_expr<B: ExprBuilder>(
+    alloc: Global,
+    node: &Node<Option<Primary>>,
+    styles: &ExtStyles,
+) -> Result<B::Expr, ConversionError<B::BuildError>>
+    ensures { MakesTree B.operations B.meaning B.refusal result (primary_tree styles.now (shown_primary node.now)) }
+{
+    let head = primary_to_head::<B>(alloc, styles, node);
+    head_to_expr::<B>(alloc, node.loc(), head)
 }

@@ -16,12 +16,15 @@ ghost use Rattle.cedar_conversion.specs.Heads.{MakesHead};
 
 use crate::building::{builder_at, taken};
 use cedar_builders::expr_builder::ExprBuilder;
-use cedar_conversion_leaves::{ConversionError, ToASTErrorKind, flatten_tuple_2, to_variable};
+use cedar_conversion_leaves::{
+    ConversionError, ToASTErrorKind, flatten_tuple_2, to_name, to_variable,
+};
 use cedar_cst::cst::Name;
 use cedar_cst::node::Node;
 use cedar_literals::literals::Literal;
 use cedar_literals::uids::EntityUID;
 use cedar_names::identifiers::UnreservedId;
+use cedar_names::names;
 use cedar_names::places::Loc;
 use std::alloc::{AllocError, Global};
 use std::rc::{Rc, RcStr};
@@ -91,11 +94,25 @@ pub fn set_to_head<'a, B: ExprBuilder>(
     expr_to_head::<B>(taken::<B>(builder.set(items)))
 }
 
+// How a name is used that stands where a variable should.
+#[derive(Clone, Copy)]
+enum Use<'a> {
+    // Nothing of it is accessed.
+    Alone,
+    // This attribute of it is accessed.
+    Attribute(&'a UnreservedId),
+    // This method of it is called.
+    Method(&'a UnreservedId),
+    // This attribute of it is accessed by its text.
+    Index(&'a RcStr),
+}
+
 // The variable that a name is.
 fn variable<B: ExprBuilder>(
     alloc: Global,
     loc: Option<&Loc>,
     name: &Node<Option<Name>>,
+    used: Use<'_>,
 ) -> Result<B::Expr, ConversionError<B::BuildError>>
     ensures { MakesTree B.operations B.meaning B.refusal result (head_tree (converting.a_name (shown_name name.now))) }
 {
@@ -104,28 +121,48 @@ fn variable<B: ExprBuilder>(
             let builder = builder_at::<B>(alloc, loc)?;
             taken::<B>(builder.var(var))
         }
-        None => Err(no_variable(alloc, name, loc)),
+        None => Err(no_variable(alloc, name, loc, used)),
     }
 }
 
-// The fault of a name that stands alone and is no variable.
+// The fault of a name that is no variable.
+#[tactic(auto, using(crate::proofs::Converting::is_fault))]
 fn no_variable<E: Drop>(
     alloc: Global,
     name: &Node<Option<Name>>,
     loc: Option<&Loc>,
+    used: Use<'_>,
 ) -> ConversionError<E>
     ensures { IsFault result }
 {
-    match printed(alloc, name) {
-        Ok(text) => ConversionError::fault(alloc, ToASTErrorKind::ArbitraryVariable(text), loc),
-        Err(_) => ConversionError::Memory,
+    match to_name(alloc, name) {
+        Ok(name) => match kind_of_no_variable(alloc, name, used) {
+            Ok(kind) => ConversionError::fault(alloc, kind, loc),
+            Err(_) => ConversionError::Memory,
+        },
+        Err(error) => error,
     }
 }
 
-fn printed(alloc: Global, name: &Node<Option<Name>>) -> Result<RcStr, AllocError> {
-    match &name.node {
-        Some(name) => RcStr::from_string(name.to_string(alloc)?),
-        None => RcStr::from_str(alloc, ""),
+fn kind_of_no_variable(
+    alloc: Global,
+    name: names::Name,
+    used: Use<'_>,
+) -> Result<ToASTErrorKind, AllocError> {
+    match used {
+        Use::Alone => {
+            let text = RcStr::from_string(name.to_string(alloc)?)?;
+            Ok(ToASTErrorKind::ArbitraryVariable(text))
+        }
+        Use::Attribute(id) => {
+            let field = id.clone(alloc)?.into_smolstr();
+            Ok(ToASTErrorKind::InvalidAccess { lhs: name, field })
+        }
+        Use::Method(id) => Ok(ToASTErrorKind::NoMethods(name, id.clone(alloc)?)),
+        Use::Index(text) => {
+            let field = text.clone()?;
+            Ok(ToASTErrorKind::InvalidIndex { lhs: name, field })
+        }
     }
 }
 
@@ -152,25 +189,62 @@ pub fn head_to_expr<B: ExprBuilder>(
     ensures { (v : Option converting.Head) → MakesHead B.operations B.meaning B.refusal head.entry v →
         MakesTree B.operations B.meaning B.refusal result (and_then v head_tree) }
 {
+    used_to_expr::<B>(alloc, loc, head, Use::Alone)
+}
+
+// The same, where this is done with it.
+fn used_to_expr<B: ExprBuilder>(
+    alloc: Global,
+    loc: Option<&Loc>,
+    head: Result<Head<'_, B::Expr>, ConversionError<B::BuildError>>,
+    used: Use<'_>,
+) -> Result<B::Expr, ConversionError<B::BuildError>>
+    ensures { (v : Option converting.Head) → MakesHead B.operations B.meaning B.refusal head.entry v →
+        MakesTree B.operations B.meaning B.refusal result (and_then v head_tree) }
+{
     match head {
         Ok(Head::Expr(expr)) => Ok(expr),
-        Ok(Head::Name(name)) => variable::<B>(alloc, loc, name),
+        Ok(Head::Name(name)) => variable::<B>(alloc, loc, name, used),
         Ok(Head::Attribute(expr, id)) => accessed::<B>(alloc, loc, expr, id),
         Err(error) => Err(error),
     }
 }
 
-/// `head.id`, which may be called yet.
+// How a name is used before this attribute, or this method.
+fn use_of<'a, E>(id: &'a Result<UnreservedId, E>, is_called: bool) -> Use<'a> {
+    match id {
+        Ok(id) => {
+            if is_called {
+                Use::Method(id)
+            } else {
+                Use::Attribute(id)
+            }
+        }
+        Err(_) => Use::Alone,
+    }
+}
+
+// How a name is used before this attribute between brackets.
+fn use_by_text<'a, E>(text: &'a Result<RcStr, E>) -> Use<'a> {
+    match text {
+        Ok(text) => Use::Index(text),
+        Err(_) => Use::Alone,
+    }
+}
+
+/// `head.id`, which may be called yet; whether it is says `is_called`, for the faults of a name that has
+/// neither attributes nor methods.
 pub fn attribute<'a, B: ExprBuilder>(
     alloc: Global,
     loc: Option<&Loc>,
     head: Result<Head<'_, B::Expr>, ConversionError<B::BuildError>>,
     id: Result<UnreservedId, ConversionError<B::BuildError>>,
+    is_called: bool,
 ) -> Result<Head<'a, B::Expr>, ConversionError<B::BuildError>>
     ensures { (v : Option converting.Head) (w : Option Text) → MakesHead B.operations B.meaning B.refusal head.entry v → Finds (λ s. s) id w →
         MakesHead B.operations B.meaning B.refusal result (and_then v (λ h. and_then (head_tree h) (λ a. and_then w (λ s. Some (converting.an_attribute a s))))) }
 {
-    let expr = head_to_expr::<B>(alloc, loc, head);
+    let expr = used_to_expr::<B>(alloc, loc, head, use_of(&id, is_called));
     let (expr, id) = flatten_tuple_2(expr, id)?;
     Ok(Head::Attribute(expr, id))
 }
@@ -185,7 +259,7 @@ pub fn index<'a, B: ExprBuilder>(
     ensures { (v : Option converting.Head) (w : Option Text) → MakesHead B.operations B.meaning B.refusal head.entry v → Finds rc_str_bytes text w →
         MakesHead B.operations B.meaning B.refusal result (and_then v (λ h. and_then (head_tree h) (λ a. and_then w (λ s. Some (converting.a_tree (unary (tree.GetAttr s) a)))))) }
 {
-    let expr = head_to_expr::<B>(alloc, loc, head);
+    let expr = used_to_expr::<B>(alloc, loc, head, use_by_text(&text));
     let (expr, text) = flatten_tuple_2(expr, text)?;
     let builder = builder_at::<B>(alloc, loc)?;
     expr_to_head::<B>(taken::<B>(builder.get_attr(expr, text)))

@@ -14,7 +14,7 @@ mod signs;
 pub use applying::{Joint, join};
 pub use building::pushed;
 pub use calls::call;
-pub use expressions::to_expr;
+pub use expressions::{primary_to_expr, to_expr};
 pub use heads::{
     Head, attribute, entity_to_head, expr_to_head, head_to_expr, index, literal_to_head,
     set_to_head,

@@ -7,11 +7,12 @@ use Rattle.cedar_language.specs.Uid.{Text}
 use Rattle.cedar_grammar.specs.Token as token
 use Rattle.cedar_grammar.specs.Token.{Word, Other, spelled, word_of, word_among, named_words, id_of}
 use Rattle.cedar_grammar.specs.Names.{variable_of}
-use Rattle.cedar_names.specs.Identifiers.{is_identifier, is_keyword, IsUnreservedId}
+use Rattle.cedar_names.specs.Identifiers.{is_identifier, is_keyword, is_id, IsUnreservedId}
 use Rattle.cedar_grammar.specs.Loose as loose
 use Rattle.cedar_grammar.specs.Converting.{ident_text, ident_spelling, name_variable}
 use Rattle.cedar_cst.specs.LeafView.{written_ident}
-use Rattle.cedar_conversion_leaves.specs.Words.{ident_variable}
+use Rattle.cedar_grammar.specs.Reading.{◌>>=◌}
+use Rattle.cedar_conversion_leaves.specs.Words.{ident_variable, valid_text}
 
 -- what holds of the first of some words, where the text is so spelled, and of the word among the others
 step : (P : Word → Type 0) (w : Word) (ws : List Word) (s : Text) → (spelled w ≡ s → P w) → P (word_among ws s) → P (word_among (w ∷ ws) s)
@@ -133,6 +134,27 @@ none_written s none = by (is_identifier s) refl
     by : (b : Bool) → is_identifier s ≡ b → ident_spelling (written_ident s) ≡ None
     by true i = absurd (none i)
     by false i = ap (λ b. ident_spelling (cond b (loose.ident (word_of s)) (loose.invalid_ident s))) i
+
+-- ---- identifiers that may be the one that Cedar keeps for itself
+
+unless_keyword : (s : Text) → is_identifier s ≡ true → valid_text (written_ident s) ≡ cond (is_keyword s) None (Some s)
+unless_keyword s i = ap (λ o. o >>= λ t. cond (is_keyword t) None (Some t)) (any_written s i)
+
+pub valid_written : (s : Text) → is_id s ≡ true → valid_text (written_ident s) ≡ Some s
+valid_written s h = by (is_identifier s) refl (is_keyword s) refl h
+  where
+    by : (b : Bool) → is_identifier s ≡ b → (k : Bool) → is_keyword s ≡ k → (b && not k) ≡ true → valid_text (written_ident s) ≡ Some s
+    by true i false k h = unless_keyword s i ∙ ap (λ b. cond b None (Some s)) k
+    by true i true k h = cc h
+    by false i k e h = cc h
+
+pub none_valid : (s : Text) → (is_id s ≡ true → ⊥) → valid_text (written_ident s) ≡ None
+none_valid s none = by (is_identifier s) refl (is_keyword s) refl none
+  where
+    by : (b : Bool) → is_identifier s ≡ b → (k : Bool) → is_keyword s ≡ k → ((b && not k) ≡ true → ⊥) → valid_text (written_ident s) ≡ None
+    by true i false k none = absurd (none refl)
+    by true i true k none = unless_keyword s i ∙ ap (λ b. cond b None (Some s)) k
+    by false i k e none = ap (λ o. o >>= λ t. cond (is_keyword t) None (Some t)) (none_written s (λ t. cc (i, t)))
 
 -- ---- variables
 

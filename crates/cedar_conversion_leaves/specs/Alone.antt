@@ -2,7 +2,8 @@
 use Rattle.std.specs.Prelude.{ℕ, Option, Some, None}
 use Rattle.cedar_language.specs.Uid.{Text}
 use Rattle.cedar_grammar.specs.Loose as loose
-use Rattle.cedar_grammar.specs.Converting.{ident_text}
+use Rattle.cedar_grammar.specs.Reading.{◌>>=◌}
+use Rattle.cedar_grammar.specs.Converting.{ident_text, without_accesses}
 
 abbrev pub only_or : loose.Expr → Option loose.Or
 only_or (loose.or_expr o) = Some o
@@ -50,3 +51,12 @@ number_of l = None
 abbrev pub access_word : loose.MemAccess → Option Text
 access_word (loose.field i) = ident_text i
 access_word x = None
+
+-- a literal that is there
+abbrev pub read_literal : loose.Literal → Option loose.Literal
+read_literal loose.missing_literal = None
+read_literal l = Some l
+
+-- the literal that a member is, without accesses
+abbrev pub lone_literal : loose.Member → Option loose.Literal
+lone_literal m = without_accesses m >>= λ p. only_literal p >>= read_literal

@@ -1,5 +1,6 @@
 -- Why a conversion gives nothing, and what two parts fail by together.
-use Rattle.std.specs.Prelude.{◌≡◌, ⊤, List, [], ◌∷◌}
+use Rattle.std.specs.Prelude.{◌≡◌, ⊤, List, [], ◌∷◌, Option}
+use Rattle.cedar_names.specs.declared.places.Loc.{Loc}
 use Rattle.cedar_trees.specs.declared.unknowns.NonEmpty.{NonEmpty}
 use Rattle.cedar_cst.specs.declared.errors.PlacedError.{PlacedError}
 use Rattle.cedar_conversion_leaves.specs.declared.kinds.ToASTErrorKind.{ToASTErrorKind}
@@ -45,3 +46,7 @@ listed xs = xs.head ∷ xs.tail.items
 abbrev pub faults_of : {E : Type 0} → ConversionError E → List (PlacedError ToASTErrorKind)
 faults_of (error.Faults fs) = listed fs
 faults_of e = []
+
+-- unless memory ran out, this one fault: of this kind, at this place
+abbrev pub IsFaultOf : {E : Type 0} → ToASTErrorKind → Option Loc → ConversionError E → Type 0
+IsFaultOf kind place e = reason e ≡ means_nothing → faults_of e ≡ record { kind = kind; loc = place } ∷ []

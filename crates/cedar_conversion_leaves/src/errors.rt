@@ -1,6 +1,7 @@
 // Faults, and what else keeps a tree from being converted.
-ghost use Rattle.std.specs.Prelude.{◌≡◌, ◌++◌, IfOk};
-ghost use Rattle.cedar_conversion_leaves.specs.Reasons.{IsFault, Gathers, reason, means_nothing, faults_of, listed};
+ghost use Rattle.std.specs.Prelude.{◌≡◌, ◌++◌, IfOk, MatchOption};
+ghost use Rattle.std.specs.Option.{option_copied};
+ghost use Rattle.cedar_conversion_leaves.specs.Reasons.{IsFault, IsFaultOf, Gathers, reason, means_nothing, faults_of, listed};
 
 use crate::kinds::ToASTErrorKind;
 use cedar_cst::errors::PlacedError;
@@ -59,7 +60,8 @@ impl<T: Drop, E> From<AllocFailed<T>> for ConversionError<E> {
 impl<E: Drop> ConversionError<E> {
     /// The fault of this kind at a copy of this place; or want of memory for the copy.
     pub fn fault(alloc: Global, kind: ToASTErrorKind, loc: Option<&Loc>) -> ConversionError<E>
-        ensures { IsFault result }
+        ensures fault { IsFault result }
+        ensures kind { IsFaultOf kind (option_copied loc.entry) result }
     {
         match ToASTError::at(alloc, kind, loc) {
             Ok(head) => ConversionError::Faults(NonEmpty {
@@ -72,9 +74,21 @@ impl<E: Drop> ConversionError<E> {
 
     /// The fault of a node at this place that recovery left empty; or want of memory.
     pub fn missing(alloc: Global, loc: Option<&Loc>) -> ConversionError<E>
-        ensures { IsFault result }
+        ensures fault { IsFault result }
+        ensures kind { IsFaultOf ToASTErrorKind.EmptyNodeInvariantViolation (option_copied loc.entry) result }
     {
         ConversionError::fault(alloc, ToASTErrorKind::EmptyNodeInvariantViolation, loc)
+    }
+
+    /// The faults, in order; none where the tree means something or memory ran out.
+    pub fn into_faults(self) -> Option<NonEmpty<ToASTError>>
+        ensures { MatchOption result (reason self ≡ means_nothing → ⊥) (λ faults. self ≡ ConversionError.Faults faults) }
+    {
+        match self {
+            ConversionError::Faults(faults) => Some(faults),
+            ConversionError::Builder(_error) => None,
+            ConversionError::Memory => None,
+        }
     }
 
     /// What two parts fail by together: want of memory wins over all, and faults, of both in order, over a

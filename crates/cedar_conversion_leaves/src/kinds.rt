@@ -1,16 +1,20 @@
 // The kinds of faults.
+ghost use Rattle.std.specs.Prelude.{◌≡◌};
+
 use cedar_cst::cst::{Ident, RelOp};
 use cedar_literals::operators::UnaryOp;
+use cedar_literals::slots::Slot;
 use cedar_literals::variables::Var;
 use cedar_names::errors::ReservedNameError;
 use cedar_names::identifiers::{AnyId, UnreservedId};
 use cedar_names::names::Name;
 use cedar_policy_parts::{
-    ExpectedStaticPolicy, ExpectedTemplate, InvalidActionType, PolicyID, SlotsInConditionClause,
-    WrongEntityArgument,
+    ExpectedStaticPolicy, ExpectedTemplate, InvalidActionType, PolicyID, Ref,
+    SlotsInConditionClause, WrongEntityArgument,
 };
 use cedar_tokens::UnescapeError;
 use cedar_trees::errors::ExpressionConstructionError;
+use either::Either;
 use std::error::Error;
 use std::fmt;
 use std::rc::RcStr;
@@ -197,6 +201,59 @@ impl fmt::Debug for ToASTErrorKind {
 impl Error for ToASTErrorKind {}
 
 impl ToASTErrorKind {
+    /// `got` stands where `expected` should.
+    pub fn wrong_node(expected: &'static str, got: RcStr) -> ToASTErrorKind
+        ensures { result ≡ ToASTErrorKind.WrongNode expected.entry got }
+    {
+        ToASTErrorKind::WrongNode { expected, got }
+    }
+
+    /// The method `name` takes `expected` arguments and was given `got`.
+    pub fn wrong_arity(name: &'static str, expected: usize, got: usize) -> ToASTErrorKind
+        ensures { result ≡ ToASTErrorKind.WrongArity name.entry expected got }
+    {
+        ToASTErrorKind::WrongArity {
+            name,
+            expected,
+            got,
+        }
+    }
+
+    /// The slot stands in a clause that begins with `clause_type`.
+    pub fn slots_in_condition_clause(slot: Slot, clause_type: &'static str) -> ToASTErrorKind
+        ensures { result ≡ ToASTErrorKind.SlotsInConditionClause (record { slot = slot; clause_type = clause_type.entry }) }
+    {
+        ToASTErrorKind::SlotsInConditionClause(SlotsInConditionClause { slot, clause_type })
+    }
+
+    /// A template with this slot stands where a static policy should.
+    pub fn expected_static_policy(slot: Slot) -> ToASTErrorKind
+        ensures { result ≡ ToASTErrorKind.ExpectedStaticPolicy (record { slot = slot }) }
+    {
+        ToASTErrorKind::ExpectedStaticPolicy(ExpectedStaticPolicy { slot })
+    }
+
+    /// A static policy stands where a template should.
+    pub fn expected_template() -> ToASTErrorKind {
+        ToASTErrorKind::ExpectedTemplate(ExpectedTemplate)
+    }
+
+    /// A scope compares its variable with `got`, and may compare it with `expected` alone.
+    pub fn wrong_entity_argument_one_expected(expected: Ref, got: Ref) -> ToASTErrorKind
+        ensures { result ≡ ToASTErrorKind.WrongEntityArgument (record { expected = Either.Left expected; got = got }) }
+    {
+        let expected = Either::Left(expected);
+        ToASTErrorKind::WrongEntityArgument(WrongEntityArgument { expected, got })
+    }
+
+    /// A scope compares its variable with `got`, and may compare it with `r1` or `r2`.
+    pub fn wrong_entity_argument_two_expected(r1: Ref, r2: Ref, got: Ref) -> ToASTErrorKind
+        ensures { result ≡ ToASTErrorKind.WrongEntityArgument (record { expected = Either.Right (r1, r2); got = got }) }
+    {
+        let expected = Either::Right((r1, r2));
+        ToASTErrorKind::WrongEntityArgument(WrongEntityArgument { expected, got })
+    }
+
     // The texts of faults of scopes.
     fn fmt_scope<W: fmt::Write>(&self, f: &mut fmt::Formatter<W>) -> fmt::Result {
         match self {

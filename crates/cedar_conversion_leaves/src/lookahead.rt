@@ -2,7 +2,7 @@
 ghost use Rattle.std.specs.Prelude.{◌≡◌};
 ghost use Rattle.std.specs.Option.{option_map};
 ghost use Rattle.cedar_grammar.specs.Converting as converting;
-ghost use Rattle.cedar_cst.specs.LeafView.{shown_literal, shown_name};
+ghost use Rattle.cedar_cst.specs.LeafView.{shown_literal, shown_name, view_literal};
 ghost use Rattle.cedar_cst.specs.View.{shown_expr, shown_or, shown_and, shown_relation, shown_add, shown_mult, shown_unary, shown_member, shown_primary};
 ghost use Rattle.cedar_conversion_leaves.specs.Alone as alone;
 
@@ -249,6 +249,19 @@ pub fn lone_number(node: &Node<Option<Member>>) -> Option<u64>
         Some(primary) => match only_literal(primary) {
             None => None,
             Some(literal) => number_of(literal),
+        },
+    }
+}
+
+/// The literal that a member is, without accesses; none where it is missing.
+pub fn to_lit(node: &Node<Option<Member>>) -> Option<&Literal>
+    ensures { option_map (λ literal. view_literal literal.now) result ≡ alone.lone_literal (shown_member node.now) }
+{
+    match without_accesses(node) {
+        None => None,
+        Some(primary) => match only_literal(primary) {
+            None => None,
+            Some(literal) => literal.node.as_ref(),
         },
     }
 }

@@ -5,12 +5,13 @@ ghost use Rattle.cedar_cst.specs.LeafView.{view_ident, shown_ident, shown_name, 
 ghost use Rattle.cedar_conversion_leaves.specs.Reasons.{IsFault};
 ghost use Rattle.cedar_names.specs.Names.{is_reserved_name};
 ghost use Rattle.cedar_conversion_leaves.specs.Converts.{Finds};
+ghost use Rattle.cedar_conversion_leaves.specs.Words.{valid_text};
 
 use crate::{ConversionError, ToASTErrorKind};
 use cedar_cst::cst;
 use cedar_cst::cst::Ident;
 use cedar_cst::node::Node;
-use cedar_names::errors::ParseNameError;
+use cedar_names::errors::{ParseNameError, ReservedNameError};
 use cedar_names::identifiers::{AnyId, Id, UnreservedId, is_normalized_ident};
 use cedar_names::names::{InternalName, Name};
 use cedar_names::places::Loc;
@@ -62,6 +63,13 @@ fn kind_of_no_identifier(alloc: Global, ident: &Ident) -> Result<ToASTErrorKind,
             alloc,
             text.as_str(),
         )?)),
+        Ident::Ident(text) => match text.as_str() {
+            "__cedar" => {
+                let name = InternalName::cedar(alloc)?;
+                Ok(ToASTErrorKind::ReservedNamespace(ReservedNameError { name }))
+            }
+            _ => Ok(ToASTErrorKind::ReservedIdentifier(ident.clone()?)),
+        },
         _ => Ok(ToASTErrorKind::ReservedIdentifier(ident.clone()?)),
     }
 }
@@ -94,6 +102,38 @@ pub fn to_unreserved_ident<E: Drop>(
         return Err(no_identifier(alloc, ident, node.loc()));
     };
     match unreserved(alloc, text)? {
+        Some(id) => Ok(id),
+        None => Err(no_identifier(alloc, ident, node.loc())),
+    }
+}
+
+// The identifier that is so written, unless it is a keyword.
+#[tactic(auto, using(crate::proofs::Words::valid_written, crate::proofs::Words::none_valid))]
+fn valid_identifier(alloc: Global, text: &str) -> Result<Option<Id>, AllocError>
+    ensures { IfOk result (λ id. id ≡ valid_text (written_ident text.now)) }
+{
+    match Id::from_normalized_str(alloc, text) {
+        Ok(id) => Ok(Some(id)),
+        Err(ParseNameError::NotNormalized) => Ok(None),
+        Err(ParseNameError::Reserved(_)) => unreachable!(),
+        Err(ParseNameError::Memory(error)) => Err(error),
+    }
+}
+
+/// The identifier of a word, which may be `__cedar`; faults where the word is missing, invalid or a keyword.
+pub fn to_valid_ident<E: Drop>(
+    alloc: Global,
+    node: &Node<Option<Ident>>,
+) -> Result<Id, ConversionError<E>>
+    ensures { Finds (λ id. id) result (valid_text (shown_ident node.now)) }
+{
+    let Some(ident) = &node.node else {
+        return Err(ConversionError::missing(alloc, node.loc()));
+    };
+    let Some(text) = spelling(ident) else {
+        return Err(no_identifier(alloc, ident, node.loc()));
+    };
+    match valid_identifier(alloc, text)? {
         Some(id) => Ok(id),
         None => Err(no_identifier(alloc, ident, node.loc())),
     }

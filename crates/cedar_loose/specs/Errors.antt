@@ -2,6 +2,7 @@
 
 use Rattle.cedar_names.specs.declared.places.Span.{Span}
 use Rattle.cedar_tokens.specs.declared.expected_kinds.Kinds.{Kinds}
+use Rattle.cedar_loose_expressions.specs.declared.error.Met.{Met}
 use Rattle.cedar_loose.specs.declared.errors.ToCSTError.{ToCSTError}
 use Rattle.cedar_loose.specs.declared.errors.ParseError.{ParseError}
 use Rattle.cedar_loose.specs.declared.errors.ParseError.TheVariants as error
@@ -9,13 +10,19 @@ use Rattle.cedar_loose.specs.declared.errors.ParseError.TheVariants as error
 -- why a text isn't parsed
 pub data Cause : Type 0 where
   outside_the_grammar : Cause
+  means_nothing : Cause
   nested_too_deep : Cause
   out_of_memory : Cause
 
 abbrev pub cause_of : ParseError → Cause
 cause_of (error.ToCST e) = outside_the_grammar
+cause_of (error.ToAST e) = means_nothing
 cause_of error.Depth = nested_too_deep
 cause_of error.Memory = out_of_memory
+
+-- what stood where nothing could be read on
+abbrev pub met_of : ToCSTError → Met
+met_of e = e.met
 
 -- where an error stands
 abbrev pub span_of : ToCSTError → Span

@@ -8,22 +8,24 @@ use Rattle.cedar_grammar.specs.LooseReading.{Fault}
 use Rattle.cedar_loose_expressions.specs.declared.error.ReadError.{ReadError}
 use Rattle.cedar_loose_expressions.specs.declared.error.ReadError.TheVariants as stop
 use Rattle.cedar_loose_expressions.specs.Gives.{Fails}
-use Rattle.cedar_loose.specs.Errors.{Cause, outside_the_grammar, nested_too_deep, out_of_memory, cause_of}
+use Rattle.cedar_loose.specs.Errors.{Cause, outside_the_grammar, means_nothing, nested_too_deep, out_of_memory, cause_of}
 use Rattle.cedar_loose.specs.declared.errors.ParseErrors.{ParseErrors}
 
 -- the loose tree that the text's tokens read as, with a nesting of at most n
 abbrev pub IsRead : {A : Type 0} → (ℕ → List Token → Result A Fault) → ℕ → Text → A → Type 0
 IsRead read n bytes x = (ts : List Token) × IsTokens bytes ts × (read n ts ≡ Ok x)
 
--- The text reads as nothing within any nesting; or as nothing within the limit, and it has places beyond it. Of memory nothing is said.
+-- The text reads as nothing within any nesting; or as nothing within the limit, and it has places beyond it. Of memory nothing is said. What is read isn't asked what it means.
 abbrev pub IsRefused : {A : Type 0} → (ℕ → List Token → Result A Fault) → ℕ → Text → Cause → Type 0
 IsRefused {A} read limit bytes outside_the_grammar = (n : ℕ) (x : A) → IsRead read n bytes x → ⊥
+IsRefused read limit bytes means_nothing = ⊥
 IsRefused {A} read limit bytes nested_too_deep = ((n : ℕ) (x : A) → n ≤ limit → IsRead read n bytes x → ⊥) × (limit < loose_nesting bytes)
 IsRefused read limit bytes out_of_memory = ⊤
 
 -- the text reads as nothing; of memory nothing is said
 abbrev pub IsOutside : {A : Type 0} → (ℕ → List Token → Result A Fault) → Text → Cause → Type 0
 IsOutside {A} read bytes outside_the_grammar = (n : ℕ) (x : A) → IsRead read n bytes x → ⊥
+IsOutside read bytes means_nothing = ⊥
 IsOutside read bytes nested_too_deep = ⊥
 IsOutside read bytes out_of_memory = ⊤
 
@@ -46,6 +48,7 @@ stop_cause stop.Memory = out_of_memory
 -- the cause is told; an error with a place may want memory for it, and then that is told instead
 abbrev pub IsTold : Cause → Cause → Type 0
 IsTold outside_the_grammar told = (told ≡ outside_the_grammar) ⊎ (told ≡ out_of_memory)
+IsTold means_nothing told = told ≡ means_nothing
 IsTold nested_too_deep told = told ≡ nested_too_deep
 IsTold out_of_memory told = told ≡ out_of_memory
 

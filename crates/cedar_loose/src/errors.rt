@@ -2,8 +2,10 @@
 ghost use Rattle.std.specs.Prelude.{◌≡◌, [], Some, IfOk, is_some};
 ghost use Rattle.cedar_tokens.specs.Kinds.{names_of};
 ghost use Rattle.cedar_tokens.specs.Shown.{shows};
-ghost use Rattle.cedar_loose.specs.Errors.{span_of, expected_of};
+ghost use Rattle.cedar_loose.specs.Errors.{met_of, span_of, expected_of};
 
+use cedar_conversion_leaves::ToASTError;
+use cedar_loose_expressions::Met;
 use cedar_names::places::{Loc, Span};
 use cedar_tokens::{ExpectedTokenConfig, Kinds, expected_to_string};
 use cedar_trees::unknowns::NonEmpty;
@@ -12,21 +14,10 @@ use std::error::Error;
 use std::fmt;
 use thiserror::Error;
 
-/// What stands where nothing can be read on.
-#[derive(Clone, Copy, Debug, PartialEq, Eq)]
-enum Cause {
-    /// No token at all.
-    InvalidToken,
-    /// A token that can't stand there.
-    UnrecognizedToken,
-    /// The end of the text.
-    UnrecognizedEof,
-}
-
 /// The text is outside the loose grammar. `==` compares places and expected kinds too.
 #[derive(Debug, PartialEq, Eq, Drop)]
 pub struct ToCSTError {
-    cause: Cause,
+    met: Met,
     loc: Loc,
     /// The kinds of tokens that may stand at the place.
     expected: Kinds,
@@ -35,11 +26,12 @@ pub struct ToCSTError {
 impl ToCSTError {
     /// No token stands at this place.
     pub fn invalid_token(loc: Loc) -> ToCSTError
+        ensures met { met_of result ≡ Met.NoToken }
         ensures place { span_of result ≡ loc.span }
         ensures expected { expected_of result ≡ Kinds.NONE }
     {
         ToCSTError {
-            cause: Cause::InvalidToken,
+            met: Met::NoToken,
             loc,
             expected: Kinds::NONE,
         }
@@ -47,11 +39,12 @@ impl ToCSTError {
 
     /// The token at this place can't stand there, but one of these kinds may.
     pub fn unrecognized_token(loc: Loc, expected: Kinds) -> ToCSTError
+        ensures met { met_of result ≡ Met.Token }
         ensures place { span_of result ≡ loc.span }
         ensures expected { expected_of result ≡ expected }
     {
         ToCSTError {
-            cause: Cause::UnrecognizedToken,
+            met: Met::Token,
             loc,
             expected,
         }
@@ -59,11 +52,12 @@ impl ToCSTError {
 
     /// The text can't end at this place, but a token of one of these kinds may follow.
     pub fn unrecognized_eof(loc: Loc, expected: Kinds) -> ToCSTError
+        ensures met { met_of result ≡ Met.End }
         ensures place { span_of result ≡ loc.span }
         ensures expected { expected_of result ≡ expected }
     {
         ToCSTError {
-            cause: Cause::UnrecognizedEof,
+            met: Met::End,
             loc,
             expected,
         }
@@ -103,10 +97,10 @@ impl Error for ToCSTError {}
 
 impl fmt::Display for ToCSTError {
     fn fmt<W: fmt::Write>(&self, f: &mut fmt::Formatter<W>) -> fmt::Result {
-        match self.cause {
-            Cause::InvalidToken => f.write_str("invalid token"),
-            Cause::UnrecognizedEof => f.write_str("unexpected end of input"),
-            Cause::UnrecognizedToken => match self.loc.snippet() {
+        match self.met {
+            Met::NoToken => f.write_str("invalid token"),
+            Met::End => f.write_str("unexpected end of input"),
+            Met::Token => match self.loc.snippet() {
                 Some(token) => write!(f, "unexpected token `{token}`"),
                 None => f.write_str("unexpected token"),
             },
@@ -120,6 +114,9 @@ pub enum ParseError {
     /// The text is outside the loose grammar.
     #[error(transparent)]
     ToCST(ToCSTError),
+    /// It is inside it, but a part of it means nothing.
+    #[error(transparent)]
+    ToAST(ToASTError),
     /// The text's nesting passes the limit.
     #[error("the text is nested too deep")]
     Depth,
@@ -150,5 +147,11 @@ impl Error for ParseErrors {}
 impl fmt::Display for ParseErrors {
     fn fmt<W: fmt::Write>(&self, f: &mut fmt::Formatter<W>) -> fmt::Result {
         self.0.head.fmt(f)
+    }
+}
+
+impl AsRef<NonEmpty<ParseError>> for ParseErrors {
+    fn as_ref(&self) -> &NonEmpty<ParseError> {
+        &self.0
     }
 }

@@ -6,20 +6,23 @@ ghost use Rattle.cedar_grammar.specs.Converting.{clause, expr_tree};
 ghost use Rattle.cedar_cst.specs.LeafView.{shown_ident, view_ident, written_ident};
 ghost use Rattle.cedar_cst.specs.View.{shown_cond, shown_expr};
 ghost use Rattle.cedar_trees.specs.Bare.{bare};
+ghost use Rattle.cedar_conversion_leaves.specs.Reasons.{IsFault};
 ghost use Rattle.cedar_conversion_leaves.specs.Converts.{and_then, Finds};
 ghost use Rattle.cedar_policy_parts_conversion.specs.Clauses.{clause_word, word_of, condition_tree, clauses_of, one_more};
 
 use cedar_builders::own_builder::ExprBuilder;
 use cedar_conversion::{to_expr, trees_are_built};
 use cedar_conversion_leaves::{
-    ConversionError, ExtStyles, ToASTErrorKind, flatten_tuple_2, spelling,
+    ConversionError, ExtStyles, ToASTError, ToASTErrorKind, flatten_tuple_2, spelling,
 };
 use cedar_cst::cst;
 use cedar_cst::cst::{Cond, Ident};
 use cedar_cst::node::Node;
+use cedar_literals::slots::{Slot, SlotId};
 use cedar_names::places::Loc;
 use cedar_trees::errors::ExpressionConstructionError;
 use cedar_trees::expr::Expr;
+use cedar_trees::unknowns::NonEmpty;
 use std::alloc::{AllocError, Global};
 
 /// Why the conversion of a policy gives nothing.
@@ -72,12 +75,76 @@ fn to_clause_word<E: Drop>(
     }
 }
 
+// How the clause begins.
+fn text_of(word: ClauseWord) -> &'static str {
+    match word {
+        ClauseWord::When => "when",
+        ClauseWord::Unless => "unless",
+    }
+}
+
+// The slot of templates that is so written.
+fn slot_named(text: &str) -> Option<SlotId> {
+    match text {
+        "?principal" => Some(SlotId::principal()),
+        "?resource" => Some(SlotId::resource()),
+        _ => None,
+    }
+}
+
+// The same fault; that of a slot of templates tells of the clause.
+fn told_fault(fault: ToASTError, word: ClauseWord) -> Result<ToASTError, AllocError> {
+    let mut fault = fault;
+    let slot = match fault.kind() {
+        ToASTErrorKind::InvalidSlot(text) => slot_named(text.as_str()),
+        _ => None,
+    };
+    if let Some(id) = slot {
+        let loc = fault.loc.as_ref().cloned()?;
+        fault.kind = ToASTErrorKind::slots_in_condition_clause(Slot { id, loc }, text_of(word));
+    }
+    Ok(fault)
+}
+
+// The same faults; those of slots tell of the clause.
+fn told_faults(
+    alloc: Global,
+    faults: NonEmpty<ToASTError>,
+    word: ClauseWord,
+) -> Result<NonEmpty<ToASTError>, AllocError> {
+    let NonEmpty { head, tail: others } = faults;
+    let head = told_fault(head, word)?;
+    let mut tail = Vec::new(alloc);
+    for fault in others {
+        tail.push(told_fault(fault, word)?)?;
+    }
+    Ok(NonEmpty { head, tail })
+}
+
+// The faults of what stands in a clause that begins so, where that is known.
+fn told(alloc: Global, error: PolicyError, word: Option<ClauseWord>) -> PolicyError
+    ensures { IsFault error → IsFault result }
+{
+    let Some(word) = word else {
+        return error;
+    };
+    let Some(faults) = error.into_faults() else {
+        return ConversionError::Memory;
+    };
+    match told_faults(alloc, faults, word) {
+        Ok(faults) => ConversionError::Faults(faults),
+        Err(_) => ConversionError::Memory,
+    }
+}
+
 // An expression, by the own builder. It refuses only a record with a key twice, and no loose tree is
 // converted to one.
+#[tactic(auto, using(crate::proofs::Finding::nothing))]
 fn to_own_expr(
     alloc: Global,
     styles: &ExtStyles,
     node: &Node<Option<cst::Expr>>,
+    word: Option<ClauseWord>,
 ) -> Result<Expr, PolicyError>
     ensures { Finds bare result (expr_tree styles.now (shown_expr node.now)) }
 {
@@ -87,24 +154,25 @@ fn to_own_expr(
     match to_expr::<ExprBuilder>(alloc, node, styles) {
         Ok(expr) => Ok(expr),
         Err(error) => match &error {
-            ConversionError::Faults(_) => Err(error),
+            ConversionError::Faults(_) => Err(told(alloc, error, word)),
             ConversionError::Builder(_) => Err(ConversionError::Memory),
             ConversionError::Memory => Err(ConversionError::Memory),
         },
     }
 }
 
-// What stands between the braces of a clause; a fault where nothing does.
+// What stands between the braces of a clause that begins so; a fault where nothing does.
 fn to_condition(
     alloc: Global,
     styles: &ExtStyles,
     cond: &Cond,
+    word: Option<ClauseWord>,
     loc: Option<&Loc>,
 ) -> Result<Expr, PolicyError>
     ensures { Finds bare result (condition_tree styles.now (option_map shown_expr cond.now.expr)) }
 {
     match &cond.expr {
-        Some(expr) => to_own_expr(alloc, styles, expr),
+        Some(expr) => to_own_expr(alloc, styles, expr, word),
         None => {
             let kind = ToASTErrorKind::EmptyClause(cond.cond.node.clone()?);
             Err(ConversionError::fault(alloc, kind, loc))
@@ -131,7 +199,8 @@ fn to_clause(
         return Err(ConversionError::missing(alloc, node.loc()));
     };
     let word = to_clause_word(alloc, &cond.cond);
-    let expr = to_condition(alloc, styles, cond, node.loc());
+    let beginning = word.as_ref().ok().copied();
+    let expr = to_condition(alloc, styles, cond, beginning, node.loc());
     let (word, expr) = flatten_tuple_2(word, expr)?;
     match word {
         ClauseWord::When => Ok(expr),
@@ -157,7 +226,7 @@ fn join_clause(
 }
 
 /// What the clauses of a policy at this place ask, joined by `&&` from the left; none where there is no
-/// clause. The faults of all clauses are gathered. (Cedar language reference, "Conditions".)
+/// clause. The faults of all clauses are gathered; a slot in one tells of the clause. (Cedar language reference, "Conditions".)
 pub fn to_clauses(
     alloc: Global,
     styles: &ExtStyles,

@@ -1,7 +1,4 @@
-mod Lowness
-mod Texts
 mod Bodies
 mod Callers
 mod Templates
-mod PolicyTexts
 mod Readings

@@ -1,5 +1,4 @@
-pub mod Settings
-pub mod Trees
+pub use Rattle.cedar_parser.specs.Settings
+pub mod Told
 pub mod Reading
-pub mod Sets
 pub mod PolicyReading

@@ -1,6 +1,10 @@
 -- What a text of policies is read as, or why it is refused.
-use Rattle.std.specs.Prelude.{◌≡◌, List, Result, Ok, Err}
+use Rattle.std.specs.Prelude.{◌≡◌, ◌<◌, ⊤, ℕ, List, Result, Ok, Err}
 use Rattle.cedar_language.specs.Uid.{Text}
+use Rattle.cedar_grammar.specs.Names.{Names}
+use Rattle.cedar_grammar.specs.Nesting.{loose_nesting}
+use Rattle.cedar_grammar.specs.Policies.{Reads}
+use Rattle.cedar_grammar.specs.Policy.{Policy}
 use Rattle.cedar_world.specs.Setting.{Setting, ArePoliciesWithin, ArePolicies, PoliciesNestWithin}
 use Rattle.cedar_world.specs.Syntax.{PolicySyntax}
 use Rattle.cedar_policy_set.specs.Entries.{Entries}
@@ -15,3 +19,11 @@ module _ (by : Setting) (text : Text) where
   ReadsPolicies (Err refusal.Depth) = PoliciesNestWithin by by.depth text → ⊥
   ReadsPolicies (Err refusal.Memory) = Unit {0}
   ReadsPolicies (Err _) = ⊥
+
+-- the policies of the text, under their numbers, or what a command is refused by
+abbrev pub ReadsSet : Names → ℕ → Text → Result Entries Refusal → Type 0
+ReadsSet names n text (Ok es) = (ss : List Policy) × Reads names n text ss × (es ≡ text_entries 0 ss)
+ReadsSet names n text (Err refusal.Text) = (m : ℕ) (ss : List Policy) → Reads names m text ss → ⊥
+ReadsSet names n text (Err refusal.Depth) = ((ss : List Policy) → Reads names n text ss → ⊥) × (n < loose_nesting text)
+ReadsSet names n text (Err refusal.Memory) = ⊤
+ReadsSet names n text (Err _) = ⊥

@@ -1,12 +1,14 @@
 // Policies that a session loads.
-ghost use Rattle.cedar_texts.specs.Settings.{setting_with};
-ghost use Rattle.cedar_texts.specs.PolicyReading.{ReadsPolicies};
+ghost use Rattle.cedar_parser.specs.Settings.{setting_with};
+ghost use Rattle.cedar_texts.specs.PolicyReading.{ReadsPolicies, ReadsSet};
 
 use crate::clauses::have_no_clauses;
-use crate::policy_styles;
-use crate::sets::policy_set;
+use crate::refusals::of_text;
+use cedar_conversion_leaves::ExtStyles;
 use cedar_extensions::extensions::Extensions;
 use cedar_grammar::at_most_one_meaning;
+use cedar_parser::prelude::StylesOfExtensions;
+use cedar_parser::strict::parse_policyset_strict;
 use cedar_policy_set::sets::PolicySet;
 use cedar_replies::Refusal;
 use std::alloc::Global;
@@ -27,10 +29,25 @@ pub fn read_policies(
     // This runs no code: its contract is the law that a text is read in one way.
     at_most_one_meaning();
 
-    let styles = policy_styles(alloc, extensions)?;
+    let styles = ExtStyles::for_policies(alloc, extensions)?;
     let set = policy_set(alloc, text, &styles, depth)?;
     if !have_no_clauses(&set) {
         return Err(Refusal::Text);
     }
     Ok(set)
+}
+
+// The policies of a text, or what a command is refused by.
+fn policy_set(
+    alloc: Global,
+    text: &str,
+    styles: &ExtStyles,
+    depth: u32,
+) -> Result<PolicySet, Refusal>
+    ensures { ReadsSet styles.now depth text.now result }
+{
+    match parse_policyset_strict(alloc, text, styles, depth) {
+        Ok(set) => Ok(set),
+        Err(errors) => Err(of_text(&errors)),
+    }
 }

@@ -2,21 +2,17 @@
 ghost use Rattle.std.specs.Prelude.{◌≡◌, IfOk, false};
 ghost use Rattle.cedar_extensions.specs.Tables.{holds_unknown};
 ghost use Rattle.cedar_restricted.specs.Views.{restricted_tree};
-ghost use Rattle.cedar_trees.specs.Bare.{bare};
 ghost use Rattle.cedar_world.specs.Bodies.{holds_call};
 ghost use Rattle.cedar_texts.specs.Reading.{ReadsBody};
-ghost use Rattle.cedar_texts.specs.Settings.{setting_with};
-ghost use Rattle.cedar_texts.specs.Trees.{Keeps};
+ghost use Rattle.cedar_parser.specs.Settings.{setting_with};
 
-use crate::expressions::expression;
-use crate::height::is_low;
-use crate::names::body_styles;
+use crate::refusals::of_body;
+use cedar_conversion_leaves::ExtStyles;
 use cedar_extensions::extensions::Extensions;
+use cedar_parser::prelude::StylesOfExtensions;
+use cedar_parser::strict::parse_restrictedexpr;
 use cedar_replies::Refusal;
-use cedar_restricted::errors::RestrictedExpressionError;
 use cedar_restricted::restricted::RestrictedExpr;
-use cedar_restricted::restricted_laws::offences_are_what_is_not_restricted;
-use cedar_trees::expr::Expr;
 use cedar_world::{names_are_found, texts_are_one};
 use std::alloc::Global;
 
@@ -39,26 +35,9 @@ pub fn read_body(
     texts_are_one();
     names_are_found();
 
-    let styles = body_styles(alloc, extensions)?;
-    let expr = expression(alloc, text, &styles, depth)?;
-    if !is_low(&expr, depth) {
-        return Err(Refusal::Depth);
-    }
-    restricted(alloc, expr)
-}
-
-// The expression, where it is restricted.
-fn restricted(alloc: Global, expr: Expr) -> Result<RestrictedExpr, Refusal>
-    ensures { Keeps (bare expr) result }
-{
-    // This runs no code: its contract is the law of what may not stand there.
-    offences_are_what_is_not_restricted();
-
-    match RestrictedExpr::new(alloc, expr) {
+    let styles = ExtStyles::from_extensions(alloc, extensions)?;
+    match parse_restrictedexpr(alloc, text, &styles, depth) {
         Ok(body) => Ok(body),
-        Err(RestrictedExpressionError::InvalidRestrictedExpression(_)) => {
-            Err(Refusal::NotRestricted)
-        }
-        Err(RestrictedExpressionError::Memory(_)) => Err(Refusal::Memory),
+        Err(error) => Err(of_body(&error)),
     }
 }

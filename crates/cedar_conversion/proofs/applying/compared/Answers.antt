@@ -79,4 +79,4 @@ returns-in-In g c x y hx hy =
     (took o m refusal c.taken-in-In.result _ (binary tree.In x y) (built_binary o tree.In x y a b hx hy) (c.taken-in-In.ensures _ c.is_in.ensures))
 
 pub returns-in-InvalidSingleEq : goal.returns-in-InvalidSingleEq
-returns-in-InvalidSingleEq g c x y hx hy = faulty g.B.ExprBuilder.refusal (IsRefused g.B.ExprBuilder.operations) c.fault.result _ c.fault.ensures (ap (λ op. joined (joint.Relation op) x y) c.in-InvalidSingleEq.is)
+returns-in-InvalidSingleEq g c x y hx hy = faulty g.B.ExprBuilder.refusal (IsRefused g.B.ExprBuilder.operations) c.fault.result _ c.fault.ensures.fault (ap (λ op. joined (joint.Relation op) x y) c.in-InvalidSingleEq.is)

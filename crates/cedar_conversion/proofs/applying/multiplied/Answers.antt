@@ -19,7 +19,7 @@ returns-in-Times g c x y hx hy =
     (took o m refusal c.taken.result _ (binary tree.Mul x y) (built_binary o tree.Mul x y a b hx hy) (c.taken.ensures _ c.mul.ensures))
 
 pub returns-in-Divide : goal.returns-in-Divide
-returns-in-Divide g c x y hx hy = faulty g.B.ExprBuilder.refusal (IsRefused g.B.ExprBuilder.operations) c.fault.result _ c.fault.ensures (ap (λ op. joined (joint.Product op) x y) c.in-Divide.is)
+returns-in-Divide g c x y hx hy = faulty g.B.ExprBuilder.refusal (IsRefused g.B.ExprBuilder.operations) c.fault.result _ c.fault.ensures.fault (ap (λ op. joined (joint.Product op) x y) c.in-Divide.is)
 
 pub returns-in-Mod : goal.returns-in-Mod
-returns-in-Mod g c x y hx hy = faulty g.B.ExprBuilder.refusal (IsRefused g.B.ExprBuilder.operations) c.fault-in-Mod.result _ c.fault-in-Mod.ensures (ap (λ op. joined (joint.Product op) x y) c.in-Mod.is)
+returns-in-Mod g c x y hx hy = faulty g.B.ExprBuilder.refusal (IsRefused g.B.ExprBuilder.operations) c.fault-in-Mod.result _ c.fault-in-Mod.ensures.fault (ap (λ op. joined (joint.Product op) x y) c.in-Mod.is)

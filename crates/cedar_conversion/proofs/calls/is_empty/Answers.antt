@@ -25,4 +25,4 @@ returns g c t xs ht hxs =
     let some = some_more c.args.args (sym c.is_empty.ensures ∙ c.if-is_empty.false) in
     let same : length xs ≡ length c.args.args.items = built_length o xs _ hxs ∙ length-map c.args.args.items m in
     let more : 0 < length xs = omega (arith, some, same) in
-    faulty g.B.ExprBuilder.refusal (IsRefused g.B.ExprBuilder.operations) c.fault.result _ c.fault.ensures (some_arguments tree.IsEmpty t xs more)
+    faulty g.B.ExprBuilder.refusal (IsRefused g.B.ExprBuilder.operations) c.fault.result _ c.fault.ensures.fault (some_arguments tree.IsEmpty t xs more)

@@ -22,4 +22,4 @@ returns-in-None g c t xs ht hxs =
     let m = g.B.ExprBuilder.meaning in
     let refusal = g.B.ExprBuilder.refusal in
     let same : length xs ≡ length c.args.args.items = built_length o xs _ hxs ∙ length-map c.args.args.items m in
-    faulty g.B.ExprBuilder.refusal (IsRefused g.B.ExprBuilder.operations) c.fault.result _ c.fault.ensures (not_one_argument (binary_operator_of c.args.op) t xs (λ h. c.in-None.ensures (sym same ∙ h)))
+    faulty g.B.ExprBuilder.refusal (IsRefused g.B.ExprBuilder.operations) c.fault.result _ c.fault.ensures.fault (not_one_argument (binary_operator_of c.args.op) t xs (λ h. c.in-None.ensures (sym same ∙ h)))

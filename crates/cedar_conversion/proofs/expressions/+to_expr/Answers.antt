@@ -23,52 +23,52 @@ use Rattle.cedar_conversion.proofs.expressions.+to_expr.Goals as goal
 pub expr_to_expr-returns-in-None : goal.expr_to_expr-returns-in-None
 unfolding expr_tree
 expr_to_expr-returns-in-None g t c =
-    faulty g.B.ExprBuilder.refusal (IsRefused g.B.ExprBuilder.operations) c.missing.result _ c.missing.ensures (empty loose.missing_expr view_expr (expr_tree c.args.styles.now) c.args.node.now c.in-None.is refl)
+    faulty g.B.ExprBuilder.refusal (IsRefused g.B.ExprBuilder.operations) c.missing.result _ c.missing.ensures.fault (empty loose.missing_expr view_expr (expr_tree c.args.styles.now) c.args.node.now c.in-None.is refl)
 
 pub or_to_expr-returns-in-None : goal.or_to_expr-returns-in-None
 unfolding or_tree
 or_to_expr-returns-in-None g t c =
-    faulty g.B.ExprBuilder.refusal (IsRefused g.B.ExprBuilder.operations) c.missing.result _ c.missing.ensures (empty loose.missing_or view_or (or_tree c.args.styles.now) c.args.node.now c.in-None.is refl)
+    faulty g.B.ExprBuilder.refusal (IsRefused g.B.ExprBuilder.operations) c.missing.result _ c.missing.ensures.fault (empty loose.missing_or view_or (or_tree c.args.styles.now) c.args.node.now c.in-None.is refl)
 
 pub and_to_expr-returns-in-None : goal.and_to_expr-returns-in-None
 unfolding and_tree
 and_to_expr-returns-in-None g t c =
-    faulty g.B.ExprBuilder.refusal (IsRefused g.B.ExprBuilder.operations) c.missing.result _ c.missing.ensures (empty loose.missing_and view_and (and_tree c.args.styles.now) c.args.node.now c.in-None.is refl)
+    faulty g.B.ExprBuilder.refusal (IsRefused g.B.ExprBuilder.operations) c.missing.result _ c.missing.ensures.fault (empty loose.missing_and view_and (and_tree c.args.styles.now) c.args.node.now c.in-None.is refl)
 
 pub relation_to_expr-returns-in-None : goal.relation_to_expr-returns-in-None
 unfolding relation_tree
 relation_to_expr-returns-in-None g t c =
-    faulty g.B.ExprBuilder.refusal (IsRefused g.B.ExprBuilder.operations) c.missing.result _ c.missing.ensures (empty loose.missing_relation view_relation (relation_tree c.args.styles.now) c.args.node.now c.in-None.is refl)
+    faulty g.B.ExprBuilder.refusal (IsRefused g.B.ExprBuilder.operations) c.missing.result _ c.missing.ensures.fault (empty loose.missing_relation view_relation (relation_tree c.args.styles.now) c.args.node.now c.in-None.is refl)
 
 pub add_to_expr-returns-in-None : goal.add_to_expr-returns-in-None
 unfolding add_tree
 add_to_expr-returns-in-None g t c =
-    faulty g.B.ExprBuilder.refusal (IsRefused g.B.ExprBuilder.operations) c.missing.result _ c.missing.ensures (empty loose.missing_add view_add (add_tree c.args.styles.now) c.args.node.now c.in-None.is refl)
+    faulty g.B.ExprBuilder.refusal (IsRefused g.B.ExprBuilder.operations) c.missing.result _ c.missing.ensures.fault (empty loose.missing_add view_add (add_tree c.args.styles.now) c.args.node.now c.in-None.is refl)
 
 pub mult_to_expr-returns-in-None : goal.mult_to_expr-returns-in-None
 unfolding mult_tree
 mult_to_expr-returns-in-None g t c =
-    faulty g.B.ExprBuilder.refusal (IsRefused g.B.ExprBuilder.operations) c.missing.result _ c.missing.ensures (empty loose.missing_mult view_mult (mult_tree c.args.styles.now) c.args.node.now c.in-None.is refl)
+    faulty g.B.ExprBuilder.refusal (IsRefused g.B.ExprBuilder.operations) c.missing.result _ c.missing.ensures.fault (empty loose.missing_mult view_mult (mult_tree c.args.styles.now) c.args.node.now c.in-None.is refl)
 
 pub unary_to_expr-returns-in-None : goal.unary_to_expr-returns-in-None
 unfolding unary_tree
 unary_to_expr-returns-in-None g t c =
-    faulty g.B.ExprBuilder.refusal (IsRefused g.B.ExprBuilder.operations) c.missing.result _ c.missing.ensures (empty loose.missing_unary view_unary (unary_tree c.args.styles.now) c.args.node.now c.in-None.is refl)
+    faulty g.B.ExprBuilder.refusal (IsRefused g.B.ExprBuilder.operations) c.missing.result _ c.missing.ensures.fault (empty loose.missing_unary view_unary (unary_tree c.args.styles.now) c.args.node.now c.in-None.is refl)
 
 pub member_to_expr-returns-in-None : goal.member_to_expr-returns-in-None
 unfolding member_tree
 member_to_expr-returns-in-None g t c =
-    faulty g.B.ExprBuilder.refusal (IsRefused g.B.ExprBuilder.operations) c.missing.result _ c.missing.ensures (empty loose.missing_member view_member (member_tree c.args.styles.now) c.args.node.now c.in-None.is refl)
+    faulty g.B.ExprBuilder.refusal (IsRefused g.B.ExprBuilder.operations) c.missing.result _ c.missing.ensures.fault (empty loose.missing_member view_member (member_tree c.args.styles.now) c.args.node.now c.in-None.is refl)
 
 pub primary_to_head-returns-in-None : goal.primary_to_head-returns-in-None
 unfolding primary_head
 primary_to_head-returns-in-None g t c =
-    faulty g.B.ExprBuilder.refusal (IsHeadRefused g.B.ExprBuilder.operations) c.missing.result _ c.missing.ensures (empty loose.missing_primary view_primary (primary_head c.args.styles.now) c.args.node.now c.in-None.is refl)
+    faulty g.B.ExprBuilder.refusal (IsHeadRefused g.B.ExprBuilder.operations) c.missing.result _ c.missing.ensures.fault (empty loose.missing_primary view_primary (primary_head c.args.styles.now) c.args.node.now c.in-None.is refl)
 
 pub entry_to_pair-returns-in-None : goal.entry_to_pair-returns-in-None
 unfolding rec_init_tree
 entry_to_pair-returns-in-None g t c =
-    faulty g.B.ExprBuilder.refusal (IsEntryRefused g.B.ExprBuilder.operations) c.missing.result _ c.missing.ensures (empty loose.missing_rec_init view_rec_init (rec_init_tree c.args.styles.now) c.args.node.now c.in-None.is refl)
+    faulty g.B.ExprBuilder.refusal (IsEntryRefused g.B.ExprBuilder.operations) c.missing.result _ c.missing.ensures.fault (empty loose.missing_rec_init view_rec_init (rec_init_tree c.args.styles.now) c.args.node.now c.in-None.is refl)
 
 pub or_to_expr-parts-init : goal.or_to_expr-parts-init
 or_to_expr-parts-init g t c =
@@ -172,7 +172,7 @@ relation_to_expr-returns-else-is_empty g t c =
     let x = c.in-Some-split_first.link.now in
     let more = cons_of c.in-Some-split_first.more.now (sym c.is_empty.ensures ∙ c.if-is_empty.false) in
     let cut = sym c.as_slice-links.ensures.value ∙ c.in-Some-split_first.ensures.cases.0 ∙ ap (λ r. x ∷ r) more.2 in
-    faulty g.B.ExprBuilder.refusal (IsRefused g.B.ExprBuilder.operations) c.fault.result _ c.fault.ensures (relation_chain c.args.styles.now c.args.node.now c.in-Some.relation c.in-Common.initial c.in-Common.extended x more.0 more.1 c.in-Some.is c.in-Common.is cut)
+    faulty g.B.ExprBuilder.refusal (IsRefused g.B.ExprBuilder.operations) c.fault.result _ c.fault.ensures.fault (relation_chain c.args.styles.now c.args.node.now c.in-Some.relation c.in-Common.initial c.in-Common.extended x more.0 more.1 c.in-Some.is c.in-Common.is cut)
 
 pub relation_to_expr-returns-in-Has : goal.relation_to_expr-returns-in-Has
 relation_to_expr-returns-in-Has g t c =
@@ -199,10 +199,10 @@ unary_to_expr-returns-in-Bang g t c =
     same_as g.B.ExprBuilder.refusal (IsBuilt g.B.ExprBuilder.operations g.B.ExprBuilder.meaning) (IsRefused g.B.ExprBuilder.operations) c.signed.result _ _ (unary_bangs c.args.styles.now c.args.node.now c.in-Some.unary c.in-Bang.count c.in-Some.is (c.in-Some-op.is ∙ ap Some c.in-Bang.is)) (c.signed.ensures _ c.member_to_expr-item.ensures)
 
 pub unary_to_expr-returns-in-OverBang : goal.unary_to_expr-returns-in-OverBang
-unary_to_expr-returns-in-OverBang g t c = faulty g.B.ExprBuilder.refusal (IsRefused g.B.ExprBuilder.operations) c.fault.result _ c.fault.ensures (unary_over_bang c.args.styles.now c.args.node.now c.in-Some.unary c.in-Some.is (c.in-Some-op.is ∙ ap Some c.in-OverBang.is))
+unary_to_expr-returns-in-OverBang g t c = faulty g.B.ExprBuilder.refusal (IsRefused g.B.ExprBuilder.operations) c.fault.result _ c.fault.ensures.fault (unary_over_bang c.args.styles.now c.args.node.now c.in-Some.unary c.in-Some.is (c.in-Some-op.is ∙ ap Some c.in-OverBang.is))
 
 pub unary_to_expr-returns-in-OverDash : goal.unary_to_expr-returns-in-OverDash
-unary_to_expr-returns-in-OverDash g t c = faulty g.B.ExprBuilder.refusal (IsRefused g.B.ExprBuilder.operations) c.fault-in-OverDash.result _ c.fault-in-OverDash.ensures (unary_over_dash c.args.styles.now c.args.node.now c.in-Some.unary c.in-Some.is (c.in-Some-op.is ∙ ap Some c.in-OverDash.is))
+unary_to_expr-returns-in-OverDash g t c = faulty g.B.ExprBuilder.refusal (IsRefused g.B.ExprBuilder.operations) c.fault-in-OverDash.result _ c.fault-in-OverDash.ensures.fault (unary_over_dash c.args.styles.now c.args.node.now c.in-Some.unary c.in-Some.is (c.in-Some-op.is ∙ ap Some c.in-OverDash.is))
 
 pub unary_to_expr-returns-in-None-lone_number : goal.unary_to_expr-returns-in-None-lone_number
 unary_to_expr-returns-in-None-lone_number g t c =
@@ -218,7 +218,7 @@ unary_to_expr-returns-else-count-eq0 g t c =
     same_as g.B.ExprBuilder.refusal (IsBuilt g.B.ExprBuilder.operations g.B.ExprBuilder.meaning) (IsRefused g.B.ExprBuilder.operations) c.signed-else-count-eq0.result _ _ (unary_number c.args.styles.now c.args.node.now c.in-Some.unary c.in-Dash.count c.in-Some-lone_number.number c.in-Some.is (c.in-Some-op.is ∙ ap Some c.in-Dash.is) (sym c.lone_number.ensures ∙ c.in-Some-lone_number.is) more) (c.signed-else-count-eq0.ensures _ c.negative-item.ensures)
 
 pub access_to_head-returns-in-None : goal.access_to_head-returns-in-None
-access_to_head-returns-in-None g t c v hv = faulty g.B.ExprBuilder.refusal (IsHeadRefused g.B.ExprBuilder.operations) c.missing.result _ c.missing.ensures (access_none c.args.styles.now c.args.node.now v c.in-None.is)
+access_to_head-returns-in-None g t c v hv = faulty g.B.ExprBuilder.refusal (IsHeadRefused g.B.ExprBuilder.operations) c.missing.result _ c.missing.ensures.fault (access_none c.args.styles.now c.args.node.now v c.in-None.is)
 
 pub access_to_head-returns-in-Field : goal.access_to_head-returns-in-Field
 access_to_head-returns-in-Field g t c v hv =

@@ -19,14 +19,14 @@ returns-in_err-expr g c v w hv hw =
     (subst (λ z. Misses (IsHeadRefused o) refusal (reason e) z) (sym (then_then v head_tree (λ a. w >>= λ s. Some (converting.an_attribute a s))))
     (flat_err refusal (IsBuilt o m) (IsRefused o) (λ e s. e ≡ s) (λ s. ⊥) (IsHeadRefused o) (λ a s. Some (converting.an_attribute a s))
     ((λ a s z is h. let same : converting.an_attribute a s ≡ z = cc is in subst (IsHeadRefused o) same h), (λ a s z is h. absurd h))
-    c.head_to_expr-expr.result c.args.id e (v >>= head_tree) w c.in_err-expr.ensures (c.head_to_expr-expr.ensures v hv) (found refusal (λ s. s) c.args.id w hw)))
+    c.used_to_expr-expr.result c.args.id e (v >>= head_tree) w c.in_err-expr.ensures (c.used_to_expr-expr.ensures v hv) (found refusal (λ s. s) c.args.id w hw)))
 
 pub returns : goal.returns
 returns g c v w hv hw =
     let o = g.B.ExprBuilder.operations in
     let m = g.B.ExprBuilder.meaning in
     let refusal = g.B.ExprBuilder.refusal in
-    let h = flat_ok refusal (IsBuilt o m) (IsRefused o) (λ e s. e ≡ s) (λ s. ⊥) c.head_to_expr-expr.result c.args.id (c.in_ok-expr.expr, c.in_ok-expr.id) (v >>= head_tree) w c.in_ok-expr.ensures (c.head_to_expr-expr.ensures v hv) (found refusal (λ s. s) c.args.id w hw) in
+    let h = flat_ok refusal (IsBuilt o m) (IsRefused o) (λ e s. e ≡ s) (λ s. ⊥) c.used_to_expr-expr.result c.args.id (c.in_ok-expr.expr, c.in_ok-expr.id) (v >>= head_tree) w c.in_ok-expr.ensures (c.used_to_expr-expr.ensures v hv) (found refusal (λ s. s) c.args.id w hw) in
     record {
       value = converting.an_attribute h.0.value h.1.value;
       is = then_then v head_tree (λ a. w >>= λ s. Some (converting.an_attribute a s)) ∙ both_some (v >>= head_tree) w h.0.value h.1.value (λ a s. Some (converting.an_attribute a s)) h.0.is h.1.is;

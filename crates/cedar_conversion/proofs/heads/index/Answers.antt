@@ -25,14 +25,14 @@ returns-in_err-expr g c v w hv hw =
     (subst (λ z. Misses (IsHeadRefused o) refusal (reason e) z) (sym (then_then v head_tree (λ a. w >>= λ s. Some (converting.a_tree (unary (tree.GetAttr s) a)))))
     (flat_err refusal (IsBuilt o m) (IsRefused o) (λ e s. rc_str_bytes e ≡ s) (λ s. ⊥) (IsHeadRefused o) (λ a s. Some (converting.a_tree (unary (tree.GetAttr s) a)))
     ((λ a s z is h. tree_head o (Some (unary (tree.GetAttr s) a)) z is (λ y same. refused_as o (unary (tree.GetAttr s) a) y same (refused_unary o (tree.GetAttr s) a h))), (λ a s z is h. absurd h))
-    c.head_to_expr-expr.result c.args.text e (v >>= head_tree) w c.in_err-expr.ensures (c.head_to_expr-expr.ensures v hv) (found refusal rc_str_bytes c.args.text w hw)))
+    c.used_to_expr-expr.result c.args.text e (v >>= head_tree) w c.in_err-expr.ensures (c.used_to_expr-expr.ensures v hv) (found refusal rc_str_bytes c.args.text w hw)))
 
 pub returns : goal.returns
 returns g c v w hv hw =
     let o = g.B.ExprBuilder.operations in
     let m = g.B.ExprBuilder.meaning in
     let refusal = g.B.ExprBuilder.refusal in
-    let h = flat_ok refusal (IsBuilt o m) (IsRefused o) (λ e s. rc_str_bytes e ≡ s) (λ s. ⊥) c.head_to_expr-expr.result c.args.text (c.in_ok-expr.expr, c.in_ok-expr.text) (v >>= head_tree) w c.in_ok-expr.ensures (c.head_to_expr-expr.ensures v hv) (found refusal rc_str_bytes c.args.text w hw) in
+    let h = flat_ok refusal (IsBuilt o m) (IsRefused o) (λ e s. rc_str_bytes e ≡ s) (λ s. ⊥) c.used_to_expr-expr.result c.args.text (c.in_ok-expr.expr, c.in_ok-expr.text) (v >>= head_tree) w c.in_ok-expr.ensures (c.used_to_expr-expr.ensures v hv) (found refusal rc_str_bytes c.args.text w hw) in
     let t = unary (tree.GetAttr h.1.value) h.0.value in
     same_as refusal (IsHead o m) (IsHeadRefused o) c.expr_to_head.result _ _ (then_then v head_tree (λ a. w >>= λ s. Some (converting.a_tree (unary (tree.GetAttr s) a))) ∙ both_some (v >>= head_tree) w h.0.value h.1.value (λ a s. Some (converting.a_tree (unary (tree.GetAttr s) a))) h.0.is h.1.is)
     (c.expr_to_head.ensures (Some t) (took o m refusal c.taken.result _ t (built_unary o (tree.GetAttr h.1.value) h.0.value (m c.in_ok-expr.expr) h.0.stands ∙ ap (λ s. Ok (o.apply (tree.GetAttr s) (m c.in_ok-expr.expr ∷ []))) (sym h.1.stands)) (c.taken.ensures _ c.get_attr.ensures)))

@@ -8,7 +8,7 @@ use Rattle.cedar_conversion.proofs.records.insert_new.Goals as goal
 
 pub returns-then-contains_key : goal.returns-then-contains_key
 returns-then-contains_key g c =
-    puts_not c.fault.result _ c.fault.ensures (sym (found_is_among (rc_str_bytes c.args.key) c.args.map.now.entries) ∙ sym c.contains_key.ensures ∙ c.if-contains_key.true)
+    puts_not c.fault.result _ c.fault.ensures.fault (sym (found_is_among (rc_str_bytes c.args.key) c.args.map.now.entries) ∙ sym c.contains_key.ensures ∙ c.if-contains_key.true)
 
 pub returns : goal.returns
 returns g c =

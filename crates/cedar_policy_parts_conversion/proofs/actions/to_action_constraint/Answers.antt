@@ -39,7 +39,7 @@ returns-in-Principal g c =
     let o = ident_variable (shown_ident d.variable) in
     let is : o ≡ Some (variable_of c.in_ok-got.got) = asked_some o (variable_of c.in_ok-got.got) c.in_ok-got.ensures in
     let other : o ≡ Some tree.Action → ⊥ = λ h. (let same : variable_of c.in_ok-got.got ≡ tree.Action = cc (is, h) in is_another c.in_ok-got.got c.in-Principal.is same) in
-    nothing c.fault.result _ c.fault.ensures (action_not c.args.node.now d c.in-Some.is other)
+    nothing c.fault.result _ c.fault.ensures.fault (action_not c.args.node.now d c.in-Some.is other)
 
 pub returns-in-None : goal.returns-in-None
 returns-in-None g c =
@@ -51,5 +51,5 @@ returns-in-None g c =
 pub returns-in-Some-entity_type : goal.returns-in-Some-entity_type
 returns-in-Some-entity_type g c =
     let d = c.in-Some.def in
-    nothing c.fault-in-Some-entity_type.result _ c.fault-in-Some-entity_type.ensures
+    nothing c.fault-in-Some-entity_type.result _ c.fault-in-Some-entity_type.ensures.fault
     (typed_action c.args.node.now d c.in-Some.is (ap without c.in-Some-entity_type.is))

@@ -12,5 +12,5 @@ returns-in-Err g c =
     let x = shown_expr c.args.node.now in
     replaced e c.unless_inverted.result _
     (through (reason e) (actions_among x (alone x)) _ c.in-Err.ensures (early (actions_among x (alone x)) (λ us. Some (action_within_any us))))
-    (c.unless_inverted.ensures.fault (is_fault e (actions_among x (alone x)) c.in-Err.ensures) c.fault-inverted.ensures)
+    (c.unless_inverted.ensures.fault (is_fault e (actions_among x (alone x)) c.in-Err.ensures) c.fault-inverted.ensures.fault)
     c.unless_inverted.ensures.memory

@@ -5,7 +5,7 @@ use Rattle.cedar_policy_parts_conversion.proofs.annotations.insert_new.Goals as 
 
 pub returns-then-contains_key : goal.returns-then-contains_key
 returns-then-contains_key g c =
-    faulty c.fault.result _ c.fault.ensures (put_found c.args.key c.args.value c.args.notes.now.entries c.contains_key.result c.contains_key.ensures c.if-contains_key.true)
+    faulty c.fault.result _ c.fault.ensures.fault (put_found c.args.key c.args.value c.args.notes.now.entries c.contains_key.result c.contains_key.ensures c.if-contains_key.true)
 
 pub returns : goal.returns
 returns g c =

@@ -8,4 +8,4 @@ pub returns-in-In : goal.returns-in-In
 returns-in-In g c =
     let e = c.in-Err.error in
     let want = target (own_word c.args.v) (shown_expr c.args.node.now) in
-    replaced e c.unless_inverted.result want c.in-Err.ensures (c.unless_inverted.ensures.fault (is_fault e want c.in-Err.ensures) c.fault-inverted.ensures) c.unless_inverted.ensures.memory
+    replaced e c.unless_inverted.result want c.in-Err.ensures (c.unless_inverted.ensures.fault (is_fault e want c.in-Err.ensures) c.fault-inverted.ensures.fault) c.unless_inverted.ensures.memory

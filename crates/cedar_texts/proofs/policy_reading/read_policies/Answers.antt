@@ -1,6 +1,6 @@
 use Rattle.std.proofs.Common.{rules, ◌≡◌, Ok, Err, subst}
-use Rattle.cedar_texts.specs.Settings.{setting_with}
-use Rattle.cedar_texts.specs.Sets.{ReadsSet}
+use Rattle.cedar_parser.specs.Settings.{setting_with}
+use Rattle.cedar_texts.specs.PolicyReading.{ReadsSet}
 use Rattle.cedar_texts.proofs.Readings.{policies_refused, policies_kept, clauses_stand}
 use Rattle.cedar_texts.proofs.policy_reading.read_policies.Goals as goal
 

@@ -1,0 +1,16 @@
+use Rattle.std.proofs.Common.{subst}
+use Rattle.cedar_grammar.specs.Converting.{head_tree}
+use Rattle.cedar_conversion_leaves.specs.Reasons.{reason}
+use Rattle.cedar_conversion_leaves.specs.Converts.{Converts}
+use Rattle.cedar_conversion.specs.Building.{IsRefused}
+use Rattle.cedar_conversion.specs.Heads.{IsHead, IsHeadRefused}
+use Rattle.cedar_conversion.proofs.Converting.{failed}
+use Rattle.cedar_conversion.proofs.Refusing.{refused_head}
+use Rattle.cedar_conversion.proofs.heads.used_to_expr.Goals as goal
+
+pub returns-in-Err : goal.returns-in-Err
+returns-in-Err g c v hv =
+    let o = g.B.ExprBuilder.operations in
+    let m = g.B.ExprBuilder.meaning in
+    let refusal = g.B.ExprBuilder.refusal in
+    failed refusal (IsHeadRefused o) (IsRefused o) (reason c.in-Err.error) v head_tree (refused_head o) (subst (λ r. Converts (IsHead o m) (IsHeadRefused o) refusal r v) c.in-Err.is hv)

@@ -1,0 +1,5 @@
+mod Lowness
+mod Texts
+mod Reading
+mod Bodies
+mod Callers

@@ -1,0 +1,10 @@
+use Rattle.cedar_grammar.specs.Converting.{ref_entity}
+use Rattle.cedar_cst.specs.LeafView.{shown_ref}
+use Rattle.cedar_conversion_leaves.specs.Reasons.{reason}
+use Rattle.cedar_loose.specs.Errors.{cause_of}
+use Rattle.cedar_parser.proofs.Reading.{told_lacks}
+use Rattle.cedar_parser.proofs.leaves.converted.Goals as goal
+
+pub returns-in-Err : goal.returns-in-Err
+returns-in-Err c =
+    told_lacks (reason c.in-Err.error) (cause_of c.refused.result.0.head) (ref_entity (shown_ref c.args.tree.now)) c.refused.ensures.cause c.in-Err.ensures

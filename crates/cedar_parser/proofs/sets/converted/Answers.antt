@@ -1,0 +1,12 @@
+use Rattle.std.proofs.Common.{option_map}
+use Rattle.cedar_grammar.specs.Converting.{policies_syntax}
+use Rattle.cedar_cst.specs.View.{shown_policies}
+use Rattle.cedar_conversion_leaves.specs.Reasons.{reason}
+use Rattle.cedar_loose.specs.Errors.{cause_of}
+use Rattle.cedar_policy_set.specs.Texts.{text_entries}
+use Rattle.cedar_parser.proofs.Reading.{told_lacks}
+use Rattle.cedar_parser.proofs.sets.converted.Goals as goal
+
+pub returns-in-Err : goal.returns-in-Err
+returns-in-Err c =
+    told_lacks (reason c.in-Err.error) (cause_of c.refused.result.0.head) (option_map (text_entries 0) (policies_syntax c.args.styles.now (shown_policies c.args.tree.now))) c.refused.ensures.cause c.in-Err.ensures

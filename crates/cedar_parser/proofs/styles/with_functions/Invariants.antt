@@ -1,0 +1,12 @@
+use Rattle.std.proofs.Common.{◌≡◌, ◌++◌, true}
+use Rattle.cedar_world.specs.Functions.{function_names}
+use Rattle.cedar_extensions.specs.Holding.{are_named}
+use Rattle.cedar_extensions.specs.Tables.{functions_in, functions_left}
+use Rattle.cedar_parser.proofs.Callers.{callers}
+use Rattle.cedar_parser.proofs.styles.with_functions.Given as goal
+
+-- the names so far and those to come are all
+abbrev pub invariant-loop-function : goal.invariant-loop-function
+invariant-loop-function l =
+    (are_named (functions_left l.function-iterator) ≡ true)
+    × (l.all.items ++ function_names (callers (functions_left l.function-iterator)) ≡ l.fn.names.items ++ function_names (callers (functions_in l.extensions)))

@@ -1,0 +1,12 @@
+// Why a text is refused.
+
+pub use crate::restricted::RestrictedExpressionParseError;
+pub use cedar_conversion_leaves::{ConversionError, ToASTError, ToASTErrorKind};
+pub use cedar_loose::{LiteralParseError, ParseError, ParseErrors, ToCSTError};
+pub use cedar_policy_parts::{
+    ExpectedStaticPolicy, ExpectedTemplate, InvalidActionType, Ref, SlotsInConditionClause,
+    WrongEntityArgument,
+};
+pub use cedar_tokens::{
+    ExpectedTokenConfig, Kinds, POLICY_TOKEN_CONFIG, UnescapeError, expected_to_string,
+};

@@ -1,0 +1,64 @@
+// Expressions.
+ghost use Rattle.std.specs.Prelude.{◌≡◌, IfOk, false};
+ghost use Rattle.cedar_grammar.specs.Converting.{expr_tree};
+ghost use Rattle.cedar_cst.specs.View.{shown_expr};
+ghost use Rattle.cedar_trees.specs.Bare.{bare};
+ghost use Rattle.cedar_world.specs.Bodies.{holds_call};
+ghost use Rattle.cedar_parser.specs.Strict.{LacksUnknown, Writes, ReadsTree};
+
+use crate::refusals::refused;
+use cedar_builders::own_builder::ExprBuilder;
+use cedar_conversion::{calls_are_named, to_expr, trees_are_built};
+use cedar_conversion_leaves::ExtStyles;
+use cedar_cst::cst;
+use cedar_cst::node::Node;
+use cedar_grammar::{at_most_one_meaning, converting_is_the_grammar, wider_limits_change_nothing};
+use cedar_loose::{ParseErrors, parse_expr};
+use cedar_trees::expr::Expr;
+use std::alloc::Global;
+
+/// The expression that a text is within a nesting of `depth`, where these names may be called. (Cedar
+/// language reference, "Grammar specification".)
+///
+/// The first error is `ToCST` or `ToAST`, with a place, where the text is none within any nesting; `Depth`
+/// where it is none within this one and more places in it open a construct; and `Memory`. With `ToAST` the
+/// errors are all faults of the text, in order.
+pub fn parse_expr_strict(
+    alloc: Global,
+    text: &str,
+    styles: &ExtStyles,
+    depth: u32,
+) -> Result<Expr, ParseErrors>
+    ensures tree { ReadsTree styles.now depth text.now result }
+    ensures calls { IfOk result (λ expr. LacksUnknown styles.now → holds_call (bare expr) ≡ false) }
+{
+    // These run no code: their contracts are laws of the grammars.
+    at_most_one_meaning();
+    converting_is_the_grammar();
+    wider_limits_change_nothing();
+
+    match parse_expr(alloc, text, depth) {
+        Ok(tree) => converted(alloc, &tree, styles),
+        Err(errors) => Err(errors),
+    }
+}
+
+// The expression that a loose tree writes. The builder refuses only a record with a key twice, and no
+// loose tree is converted to one.
+fn converted(
+    alloc: Global,
+    tree: &Node<Option<cst::Expr>>,
+    styles: &ExtStyles,
+) -> Result<Expr, ParseErrors>
+    ensures tree { Writes bare result (expr_tree styles.now (shown_expr tree.now)) }
+    ensures calls { IfOk result (λ expr. LacksUnknown styles.now → holds_call (bare expr) ≡ false) }
+{
+    // These run no code: their contracts are laws of what a conversion gives.
+    trees_are_built();
+    calls_are_named();
+
+    match to_expr::<ExprBuilder>(alloc, tree, styles) {
+        Ok(expr) => Ok(expr),
+        Err(error) => Err(refused(alloc, error)),
+    }
+}

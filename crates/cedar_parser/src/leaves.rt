@@ -1,0 +1,41 @@
+// Entities.
+ghost use Rattle.cedar_grammar.specs.Converting.{ref_entity};
+ghost use Rattle.cedar_cst.specs.LeafView.{shown_ref};
+ghost use Rattle.cedar_parser.specs.Strict.{Writes, ReadsUid};
+
+use crate::refusals::refused;
+use cedar_conversion_leaves::to_ref;
+use cedar_cst::cst::Ref;
+use cedar_cst::node::Node;
+use cedar_grammar::{at_most_one_meaning, converting_is_the_grammar};
+use cedar_literals::uids::EntityUID;
+use cedar_loose::{ParseErrors, parse_ref};
+use cedar_trees::errors::ExpressionConstructionError;
+use std::alloc::Global;
+
+/// The entity that a text is, as `Type::"id"`. (Cedar language reference, "Entity".)
+///
+/// The first error is `ToCST` or `ToAST`, with a place, where the text is none, and `Memory` for want of
+/// memory alone. With `ToAST` the errors are all faults of the text, in order.
+pub fn parse_euid_strict(alloc: Global, text: &str) -> Result<EntityUID, ParseErrors>
+    ensures { ReadsUid text.now result }
+{
+    // These run no code: their contracts are laws of the grammars.
+    at_most_one_meaning();
+    converting_is_the_grammar();
+
+    match parse_ref(alloc, text) {
+        Ok(tree) => converted(alloc, &tree),
+        Err(errors) => Err(errors),
+    }
+}
+
+// The entity that a loose tree writes.
+fn converted(alloc: Global, tree: &Node<Option<Ref>>) -> Result<EntityUID, ParseErrors>
+    ensures { Writes (λ uid. uid) result (ref_entity (shown_ref tree.now)) }
+{
+    match to_ref::<ExpressionConstructionError>(alloc, tree) {
+        Ok(uid) => Ok(uid),
+        Err(error) => Err(refused(alloc, error)),
+    }
+}

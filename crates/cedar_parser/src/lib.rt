@@ -1,0 +1,23 @@
+//! The parser of Cedar: texts read into trees of the loose syntax, their conversion to expressions and
+//! policies, and calls that do both. Each item has the name that it has in `cedar-policy-core`, in the
+//! module of that name; `strict` is this library's own.
+#![tactic(auto)]
+
+pub mod cst;
+pub mod cst_to_ast;
+pub mod err;
+mod expressions;
+mod height;
+mod leaves;
+pub mod prelude;
+mod refusals;
+mod restricted;
+mod sets;
+pub mod strict;
+mod styles;
+pub mod text_to_cst;
+pub mod unescape;
+
+pub use cedar_conversion_leaves::ExtStyles;
+pub use cedar_cst::node::Node;
+pub use cedar_names::places::Loc;

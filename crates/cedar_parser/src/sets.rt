@@ -1,0 +1,55 @@
+// Policy sets.
+ghost use Rattle.std.specs.Option.{option_map};
+ghost use Rattle.cedar_grammar.specs.Converting.{policies_syntax};
+ghost use Rattle.cedar_policy_set.specs.Texts.{text_entries};
+ghost use Rattle.cedar_cst.specs.View.{shown_policies};
+ghost use Rattle.cedar_parser.specs.Strict.{Writes, ReadsSet};
+
+use crate::refusals::refused;
+use cedar_conversion_leaves::ExtStyles;
+use cedar_cst::cst;
+use cedar_cst::node::Node;
+use cedar_grammar::{at_most_one_meaning, converting_is_the_grammar, wider_limits_change_nothing};
+use cedar_loose::{ParseErrors, parse_policies};
+use cedar_policy_conversion::to_policyset;
+use cedar_policy_set::sets::PolicySet;
+use std::alloc::Global;
+
+/// The policies and templates that a text is within a nesting of `depth`, under `policy0`, `policy1`, ..
+/// in its order, where these names may be called. (Cedar language reference, "Policy syntax".)
+///
+/// The first error is `ToCST` or `ToAST`, with a place, where the text is none within any nesting; `Depth`
+/// where it is none within this one and more places in it open a construct; and `Memory`. With `ToAST` the
+/// errors are all faults of the text, in order.
+pub fn parse_policyset_strict(
+    alloc: Global,
+    text: &str,
+    styles: &ExtStyles,
+    depth: u32,
+) -> Result<PolicySet, ParseErrors>
+    ensures { ReadsSet styles.now depth text.now result }
+{
+    // These run no code: their contracts are laws of the grammars.
+    at_most_one_meaning();
+    converting_is_the_grammar();
+    wider_limits_change_nothing();
+
+    match parse_policies(alloc, text, depth) {
+        Ok(tree) => converted(alloc, &tree, styles),
+        Err(errors) => Err(errors),
+    }
+}
+
+// The policies that a loose tree writes.
+fn converted(
+    alloc: Global,
+    tree: &Node<Option<cst::Policies>>,
+    styles: &ExtStyles,
+) -> Result<PolicySet, ParseErrors>
+    ensures { Writes (λ set. set) result (option_map (text_entries 0) (policies_syntax styles.now (shown_policies tree.now))) }
+{
+    match to_policyset(alloc, tree, styles) {
+        Ok(set) => Ok(set),
+        Err(error) => Err(refused(alloc, error)),
+    }
+}
