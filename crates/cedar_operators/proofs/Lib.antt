@@ -1,0 +1,4 @@
+pub mod ByOperand
+pub mod ByOrder
+pub mod BySets
+pub mod ByPart
