@@ -1,5 +1,6 @@
 pub mod Questions
 pub mod Runs
+pub mod Statuses
 pub mod Texts
 pub mod Edits
 pub mod PolicyCommands

@@ -1,13 +1,12 @@
 -- Steps of a run, over what its devices give and hold.
 use Rattle.std.proofs.Common.{◌≡◌, ◌≢◌, ℕ, ◌+◌, ◌<◌, ◌⊎◌, inl, inr, List, [], ◌++◌, Bool, true, false, Option, Some, None, Result, Ok, Err, IfOk, refl, sym, ap, subst, append-nil}
 use Rattle.std.specs.Prelude.{IsErrOf, OnErr}
-use Rattle.std.specs.Io.KnownBytes.{Consumes, Appends, Keeps}
+use Rattle.std.specs.Io.KnownBytes.{Consumes, Appends}
 use Rattle.cedar_frames.specs.declared.verb.Verb.{Verb}
 use Rattle.cedar_frames.specs.declared.fault.Fault.{Fault}
 use Rattle.cedar_frames.specs.declared.fault.Fault.TheVariants.{BadHead, TooLong, Truncated, NoLineFeed, TooMany}
 use Rattle.cedar_frames.specs.Frames.{IsFrame, IsPartial, IsFault}
-use Rattle.cedar_frames.specs.Writing.{Puts}
-use Rattle.cedar_frames.proofs.Bytes.{appends_more, consumes_more, keeps_appends}
+use Rattle.cedar_frames.proofs.Bytes.{appends_more, consumes_more}
 use Rattle.cedar_world.specs.World.{World}
 use Rattle.cedar_world.specs.Setting.{Setting}
 use Rattle.cedar_world.specs.Commands.{Reply}
@@ -26,9 +25,6 @@ pub appends_nothing : (c : Option (List ℕ)) → Appends c c []
 appends_nothing None = tt
 appends_nothing (Some xs) = sym (append-nil xs)
 
-appends_kept : (c0 c1 c2 : Option (List ℕ)) (said : List ℕ) → Appends c0 c1 said → Keeps c1 c2 → Appends c0 c2 said
-appends_kept c0 c1 c2 said wrote kept = subst (Appends c0 c2) (append-nil said) (appends_more c0 c1 c2 said [] wrote (keeps_appends c1 c2 kept))
-
 -- a fault that a frame shows ends a run behind fewer frames than can be counted
 pub fault_ends : (fault : Fault) (n : ℕ) (tail : List ℕ) → n < most_frames → fault ≢ TooMany → IsFault fault tail → Ends n (Faulty fault) tail
 fault_ends BadHead n tail few other is = (few, is)
@@ -37,20 +33,22 @@ fault_ends Truncated n tail few other is = (few, is)
 fault_ends NoLineFeed n tail few other is = (few, is)
 fault_ends TooMany n tail few other is = absurd (other refl)
 
+-- the reader failed
+module _ (by : Setting) (r0 r1 r2 c0 c1 : Option (List ℕ)) (start : World) (n : ℕ) (frames said : List ℕ) (read : Consumes r0 r1 frames) (wrote : Appends c0 c1 said) (new : World) (ran : Ran by start n frames said new)
+    (tail : List ℕ) (rest : Consumes r1 r2 tail) where
+  pub read_failed : IsPartial tail → (tail ≡ []) ⊎ (n < most_frames) → (bytes text : List ℕ) × Consumes r0 r2 bytes × Appends c0 c1 text × TextBeforeFailure by bytes start text new
+  read_failed part few = (
+    frames ++ tail,
+    said,
+    consumes_more r0 r1 r2 frames tail read rest,
+    wrote,
+    record { count = n; frames = frames; ran = ran; tail = tail; partial = part; countable = few; read = refl },
+  )
+
 module _ (by : Setting) (r0 r1 r2 c0 c1 c2 : Option (List ℕ)) (start : World) (n : ℕ) (frames said : List ℕ) (read : Consumes r0 r1 frames) (wrote : Appends c0 c1 said) where
   -- ---- the end
 
   module _ (new : World) (ran : Ran by start n frames said new) (tail : List ℕ) (rest : Consumes r1 r2 tail) where
-    pub read_failed : IsPartial tail → (tail ≡ []) ⊎ (n < most_frames) → Keeps c1 c2
-        → (bytes text : List ℕ) × Consumes r0 r2 bytes × Appends c0 c2 text × TextBeforeFailure by bytes start text new
-    read_failed part few kept = (
-      frames ++ tail,
-      said,
-      consumes_more r0 r1 r2 frames tail read rest,
-      appends_kept c0 c1 c2 said wrote kept,
-      record { count = n; frames = frames; ran = ran; tail = tail; partial = part; countable = few; read = refl },
-    )
-
     module _ (end : End) (ends : Ends n (end_of end) tail) (result : Result End RunError) where
       pub ended : (EndsInput : End → Type 0) (sound : Type 0) → EndsInput end → IfOk result (λ e. (e ≡ end) × sound × Appends c1 c2 (last_line (end_of end)))
           → IfOk result (λ e. (bytes text : List ℕ) × Consumes r0 r2 bytes × EndsInput e × Appends c0 c2 text × RunText by bytes start text (end_of e) new)
@@ -89,22 +87,16 @@ module _ (by : Setting) (r0 r1 r2 c0 c1 c2 : Option (List ℕ)) (start : World) 
     stepped = subst (λ s. FrameStep s mid verb body reply new) same step
 
     -- its answer is cut short
-    pub cut_at_answer : (f0 f1 : Bool) → f0 ≡ false → Puts f0 c1 f1 c2 (line_of reply) → f1 ≡ true
-        → (bytes text : List ℕ) × Consumes r0 r2 bytes × Appends c0 c2 text × TextCutShort by bytes start text new
-    cut_at_answer false true sound puts failed = (
+    pub cut_at_answer : (part more : List ℕ) → line_of reply ≡ part ++ more → Appends c1 c2 part → (bytes text : List ℕ) × Consumes r0 r2 bytes × Appends c0 c2 text × TextCutShort by bytes start text new
+    cut_at_answer part more beginning added = (
       frames ++ frame,
-      said ++ puts.0,
+      said ++ part,
       consumes_more r0 r1 r2 frames frame read rest,
-      appends_more c0 c1 c2 said puts.0 wrote puts.4,
-      record { count = n; frames = frames; said = said; mid = mid; ran = ran; tail = frame; line = line_of reply; due = DueAnswer few is stepped; part = puts.0; more = puts.1; beginning = puts.2; read = refl; wrote = refl },
+      appends_more c0 c1 c2 said part wrote added,
+      record { count = n; frames = frames; said = said; mid = mid; ran = ran; tail = frame; line = line_of reply; due = DueAnswer few is stepped; part = part; more = more; beginning = beginning; read = refl; wrote = refl },
     )
-    cut_at_answer false false sound puts failed = cc
-    cut_at_answer true f1 sound puts failed = cc
 
     -- it is answered
-    pub one_more : (f0 f1 : Bool) → f0 ≡ false → Puts f0 c1 f1 c2 (line_of reply) → f1 ≡ false
-        → (bytes text : List ℕ) × Consumes r0 r2 bytes × Appends c0 c2 text × Ran by start (n + 1) bytes text new
-    one_more false false sound puts failed =
-        (frames ++ frame, said ++ line_of reply, consumes_more r0 r1 r2 frames frame read rest, appends_more c0 c1 c2 said (line_of reply) wrote puts, Turn ran few is stepped)
-    one_more false true sound puts failed = cc
-    one_more true f1 sound puts failed = cc
+    pub one_more : Appends c1 c2 (line_of reply) → (bytes text : List ℕ) × Consumes r0 r2 bytes × Appends c0 c2 text × Ran by start (n + 1) bytes text new
+    one_more added =
+        (frames ++ frame, said ++ line_of reply, consumes_more r0 r1 r2 frames frame read rest, appends_more c0 c1 c2 said (line_of reply) wrote added, Turn ran few is stepped)

@@ -15,6 +15,7 @@ use Rattle.cedar_world.specs.Commands as commands
 use Rattle.cedar_world.specs.Commands.{Load, Ask, Named, Answered, Refused}
 use Rattle.cedar_world.specs.Step.{Step, IsFirstAnswer}
 use Rattle.cedar_world.proofs.LoadAndAsk.{load_lacks_memory, load_is_no_text, load_is_deep, load_stands, ask_lacks_memory, ask_is_no_text, ask_is_deep, ask_is_not_restricted, ask_is_misshapen, ask_stands}
+use Rattle.cedar_world.proofs.SoFar.{asks_plainly, plain_errs_not, plain_names_nothing}
 use Rattle.cedar_replies.specs.declared.answer.Answer.{Answer}
 use Rattle.cedar_replies.specs.declared.refusal.Refusal.{Refusal}
 use Rattle.cedar_replies.specs.declared.refusal.Refusal.TheVariants.{Text, Depth, NotRestricted, Shape, Memory}
@@ -65,7 +66,9 @@ module _ (by : Setting) (old : World) (text : uid.Text) where
     pub asked : (question : Question) (answer kept : Answer) → kept ≡ answer → ask_body tree ≡ Some (question_of question) → IsFirstAnswer by old (question_of question) (answer_of answer)
         → Step by old Ask text (Answered (answer_of answer)) (record old { asked = Some (record { question = question_of question; told = finite.empty; last = answer_of kept }) })
     asked question answer kept same asks first =
-        ask_stands by old text once tree reads low restricted (question_of question) (answer_of answer) _ asks first
+        let plain = asks_plainly tree (question_of question) asks in
+        ask_stands by old text once tree reads low restricted (question_of question) (answer_of answer) _ asks
+        (plain_errs_not by (question_of question).context plain) (plain_names_nothing (question_of question).context plain) first
         (ap (λ a. record old { asked = Some (record { question = question_of question; told = finite.empty; last = answer_of a }) }) same)
 
 -- what is said of the tree of a body is said of the expression's, and of the same one lent

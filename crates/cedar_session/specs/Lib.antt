@@ -1,4 +1,5 @@
 pub mod Commands
+pub mod Programs
 pub mod Reading
 pub mod Running
 pub mod Sessions

@@ -1,8 +1,12 @@
 // The program's work, from its arguments to its status.
-ghost use Rattle.std.specs.Prelude.{◌≡◌, false};
+ghost use Rattle.std.specs.Prelude.{◌≡◌, ◌≢◌, ◌⊎◌, ◌↔◌, ◌<◌, ◌≤◌, false, true};
+ghost use Rattle.cedar_frames.specs.declared.fault.Fault as frames;
 ghost use Rattle.cedar_frames.specs.Watching.{watched_failed};
+ghost use Rattle.cedar_session.specs.Programs.{IsProgramSetting, program_depth, status_of, Answers, FailsToRead, FailsToWrite};
+ghost use Rattle.cedar_texts.specs.Settings.{setting_with};
+ghost use Rattle.cedar_world.specs.Setting.{Setting};
 
-use crate::running::{End, run};
+use crate::running::{End, RunError, run};
 use crate::session::Session;
 use cedar_extensions::extensions::Extensions;
 use cedar_frames::Watched;
@@ -11,6 +15,20 @@ use std::io::{Read, Write};
 
 /// How deep texts and evaluations may be.
 const DEPTH: u32 = 256;
+
+/// The exit status where there is no memory.
+const NO_MEMORY: u8 = 4;
+
+/// The exit status of a run that ended so.
+fn status_of(outcome: Result<End, RunError>) -> u8
+    ensures { result ≡ status_of outcome }
+{
+    match outcome {
+        Ok(End::Clean) => 0,
+        Ok(End::Fault(_)) => 2,
+        Err(_) => 3,
+    }
+}
 
 /// Answers the input by a new session, and gives the exit status.
 fn answered<R: Read, W: Write>(
@@ -21,22 +39,27 @@ fn answered<R: Read, W: Write>(
 ) -> u8
     requires input { watched_failed input.old ≡ false }
     requires output { watched_failed output.old ≡ false }
+    ensures other { result ≢ 1 }
+    ensures end { result ≡ 0 → Answers R.remaining W.contents (setting_with extensions.now program_depth) input.old input.new output.old output.new End.Clean }
+    ensures fault { result ≡ 2 → (fault : frames.Fault) × Answers R.remaining W.contents (setting_with extensions.now program_depth) input.old input.new output.old output.new (End.Fault fault) }
+    ensures device { result ≡ 3 → FailsToRead R.remaining W.contents (setting_with extensions.now program_depth) input.old input.new output.old output.new
+        ⊎ FailsToWrite R.remaining W.contents (setting_with extensions.now program_depth) input.old input.new output.old output.new }
+    ensures unread { result ≡ 4 → (input.new ≡ input.old) × (output.new ≡ output.old) }
+    ensures bound { result ≤ 4 }
 {
     let Ok(mut session) = Session::new(alloc, extensions, DEPTH) else {
-        return 4;
+        return NO_MEMORY;
     };
-    match run(&mut session, input, output) {
-        Ok(End::Clean) => 0,
-        Ok(End::Fault(_)) => 2,
-        Err(_) => 3,
-    }
+    status_of(run(&mut session, input, output))
 }
 
-/// Answers the input by a new session with all extensions, and gives the exit status.
+/// Answers the input by a new session that knows all extensions and whose limit of depth is 256, as
+/// [`run`] does, and gives the exit status.
 ///
 /// It is 0 at the end of the input, 2 at a fault, 3 where a device failed, and 4 where there was no
-/// memory for the extensions or the session. With any argument, words after the program's name,
-/// nothing is read, a line on `errors` says how the program is called, and the status is 1.
+/// memory for the extensions or the session, and then nothing is read. With any argument, words after
+/// the program's name, nothing is read either, a line on `errors` says how the program is called, and
+/// the status is 1.
 pub fn program<R: Read, W: Write, E: Write>(
     alloc: Global,
     arguments: usize,
@@ -46,6 +69,21 @@ pub fn program<R: Read, W: Write, E: Write>(
 ) -> u8
     requires input { watched_failed input.old ≡ false }
     requires output { watched_failed output.old ≡ false }
+    ensures usage { (result ≡ 1) ↔ (0 < arguments) }
+    ensures end { result ≡ 0 → (by : Setting) × IsProgramSetting by
+        × Answers R.remaining W.contents by input.old input.new output.old output.new End.Clean }
+    ensures fault { result ≡ 2 → (by : Setting) × (fault : frames.Fault) × IsProgramSetting by
+        × Answers R.remaining W.contents by input.old input.new output.old output.new (End.Fault fault) }
+    ensures device { result ≡ 3 → (by : Setting) × IsProgramSetting by
+        × (FailsToRead R.remaining W.contents by input.old input.new output.old output.new
+        ⊎ FailsToWrite R.remaining W.contents by input.old input.new output.old output.new) }
+
+    // At the statuses 1 and 4 the session has done nothing.
+    ensures uncalled { 0 < arguments → (input.new ≡ input.old) × (output.new ≡ output.old) }
+    ensures no_memory { result ≡ 4 → (input.new ≡ input.old) × (output.new ≡ output.old) }
+
+    ensures quiet { result ≢ 1 → errors.new ≡ errors.old }
+    ensures bound { result ≤ 4 }
 {
     if arguments > 0 {
         let _ = errors.write_all(b"usage: cedar_session\n");
@@ -53,6 +91,6 @@ pub fn program<R: Read, W: Write, E: Write>(
     }
     match Extensions::all_available(alloc) {
         Ok(extensions) => answered(alloc, &extensions, input, output),
-        Err(_) => 4,
+        Err(_) => NO_MEMORY,
     }
 }

@@ -1,14 +1,42 @@
-// The end of a run.
-ghost use Rattle.std.specs.Prelude.{◌≡◌, true, false, IfOk, OnErr, IsErrOf};
+// The lines that a run writes, and that each goes out.
+ghost use Rattle.std.specs.Prelude.{◌≡◌, true, false, IfOk, OnOk, OnErr, IsErrOf};
 ghost use Rattle.std.specs.Io.KnownBytes.{Keeps};
 ghost use Rattle.cedar_frames.specs.Watching.{watched_inner, watched_failed};
 ghost use Rattle.cedar_frames.specs.Writing.{Writes};
+ghost use Rattle.cedar_world.specs.Lines.{line_of};
 ghost use Rattle.cedar_world.specs.RunText.{last_line};
+ghost use Rattle.cedar_replies.specs.Replies.{reply_of};
 ghost use Rattle.cedar_session.specs.Running.{end_of, Adds, AddsSome};
 
 use crate::running::{End, RunError};
 use cedar_frames::{Watched, put};
+use cedar_replies::{Refusal, Reply, put_line};
 use std::io::Write;
+
+/// Sees that all that was written is out.
+fn send<W: Write>(writer: &mut Watched<W>) -> Result<(), RunError>
+    ensures bytes { Keeps (W.contents (watched_inner writer.old)) (W.contents (watched_inner writer.new)) }
+    ensures ok { OnOk result ((watched_failed writer.old ≡ false) × (watched_failed writer.new ≡ false)) }
+    ensures err { OnErr result (IsErrOf result RunError.Write × (watched_failed writer.new ≡ true)) }
+{
+    if writer.failed() {
+        return Err(RunError::Write);
+    }
+    writer.flush().map_err(|_| RunError::Write)
+}
+
+/// Writes the line that answers a command, and sees that it is out.
+pub(crate) fn send_answer<W: Write>(
+    writer: &mut Watched<W>,
+    outcome: &Result<Reply, Refusal>,
+) -> Result<(), RunError>
+    requires { watched_failed writer.old ≡ false }
+    ensures ok { OnOk result ((watched_failed writer.new ≡ false) × Adds W.contents writer.old writer.new (line_of (reply_of outcome.now))) }
+    ensures err { OnErr result (IsErrOf result RunError.Write × (watched_failed writer.new ≡ true) × AddsSome W.contents writer.old writer.new (line_of (reply_of outcome.now))) }
+{
+    put_line(writer, outcome);
+    send(writer)
+}
 
 /// Writes the last line.
 fn put_end<W: Write>(writer: &mut Watched<W>, end: End)
@@ -24,27 +52,13 @@ fn put_end<W: Write>(writer: &mut Watched<W>, end: End)
     }
 }
 
-/// Writes the last line, and sees that all that was written is out.
+/// Writes the last line, and sees that it is out.
 pub(crate) fn finish<W: Write>(writer: &mut Watched<W>, end: End) -> Result<End, RunError>
     requires { watched_failed writer.old ≡ false }
     ensures ok { IfOk result (λ ended. (ended ≡ end) × (watched_failed writer.new ≡ false) × Adds W.contents writer.old writer.new (last_line (end_of end))) }
     ensures err { OnErr result (IsErrOf result RunError.Write × (watched_failed writer.new ≡ true) × AddsSome W.contents writer.old writer.new (last_line (end_of end))) }
 {
     put_end(writer, end);
-    if writer.failed() {
-        return Err(RunError::Write);
-    }
-    match writer.flush() {
-        Ok(()) => Ok(end),
-        Err(_) => Err(RunError::Write),
-    }
-}
-
-/// What is told where the reader failed. What was written before is sent out where it can be.
-pub(crate) fn failed_read<W: Write>(writer: &mut Watched<W>) -> RunError
-    ensures error { result ≡ RunError.Read }
-    ensures bytes { Keeps (W.contents (watched_inner writer.old)) (W.contents (watched_inner writer.new)) }
-{
-    let _ = writer.flush();
-    RunError::Read
+    send(writer)?;
+    Ok(end)
 }

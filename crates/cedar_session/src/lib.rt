@@ -1,13 +1,23 @@
 //! A session that answers commands on policies, and a program's work that reads them as frames.
+//!
+//! A [`Session`] is made with the functions that its texts may call, and answers each command by a method,
+//! or by [`Session::apply`]. [`run`] reads commands as frames from any reader and writes a line for each to
+//! any writer; [`program`] does so with a session of its own and gives an exit status. The types that their
+//! answers are made of are handed on here, so that a caller names them without the crates below.
 #![tactic(auto)]
 
 mod asking;
 mod command;
 mod entry;
 mod finishing;
+mod naming;
 mod running;
 mod session;
 
+pub use cedar_extensions::extensions::Extensions;
+pub use cedar_frames::{Fault, Verb, Watched};
+pub use cedar_policy_parts::PolicyID;
+pub use cedar_replies::{Answer, Decision, Erring, ErrorKind, PolicyIds, Refusal, Reply};
 pub use command::Command;
 pub use entry::program;
 pub use running::{End, RunError, run};

@@ -1,5 +1,5 @@
 // Frames in, answer lines out.
-ghost use Rattle.std.specs.Prelude.{◌≡◌, ◌≤◌, ℕ, List, false, true, length, IfOk, IfSome, IsErrOf, Ok, Err};
+ghost use Rattle.std.specs.Prelude.{◌≡◌, ◌≤◌, ℕ, List, false, true, length, IfOk, IfSome, IsErrOf, IsUtf8, Ok, Err};
 ghost use Rattle.cedar_frames.specs.Watching.{watched_failed};
 ghost use Rattle.cedar_frames.specs.Heads.{body_limit};
 ghost use Rattle.cedar_frames.specs.SoFar.{is_offered};
@@ -10,11 +10,12 @@ ghost use Rattle.cedar_session.specs.Sessions.{world_of, setting_of};
 ghost use Rattle.cedar_session.specs.Running.{end_of, EndsInput, Adds};
 
 use crate::command::Command;
-use crate::finishing::{failed_read, finish};
+use crate::finishing::{finish, send_answer};
 use crate::session::Session;
 use cedar_frames::{Fault, Next, Verb, Watched, next_frame, read_byte};
-use cedar_replies::{Refusal, Reply, put_line};
+use cedar_replies::{Refusal, Reply};
 use std::io::{Read, Write};
+use thiserror::Error;
 
 /// How a run ended.
 #[derive(Clone, Copy, Debug, PartialEq, Eq)]
@@ -26,11 +27,13 @@ pub enum End {
 }
 
 /// Which device failed.
-#[derive(Clone, Copy, Debug, PartialEq, Eq)]
+#[derive(Clone, Copy, Debug, PartialEq, Eq, Error)]
 pub enum RunError {
     /// The reader.
+    #[error("the reader failed")]
     Read,
     /// The writer.
+    #[error("the writer failed")]
     Write,
 }
 
@@ -43,6 +46,7 @@ fn answer(
     requires offered { is_offered verb ≡ true }
     requires fits { IfSome body.now (λ held. length held.items ≤ body_limit) }
     ensures step { (bytes : List ℕ) → IfSome body.now (λ held. held.items ≡ bytes) → FrameStep (setting_of session.old) (world_of session.old) verb bytes (reply_of result) (world_of session.new) }
+    ensures utf8 { IfSome body.now (λ held. (IsUtf8 held.items → ⊥) → result ≡ Err Refusal.NotUtf8) }
     ensures setting { setting_of session.new ≡ setting_of session.old }
 {
     let Some(bytes) = body else {
@@ -57,10 +61,13 @@ fn answer(
 /// Answers the frames that a reader gives, a line for each, until it ends or gives no frame, and
 /// then writes `end` or the fault.
 ///
+/// The writer is flushed behind each line, before more is read, so that a client may read the answer
+/// to a frame before it sends the next one.
+///
 /// It ends after 2^64 - 1 frames at the latest. `RunError::Read` is told only where the reader
 /// failed: the whole frames before are answered, and nothing follows. `RunError::Write` is told
-/// only where the writer failed, be it when it was flushed at the end: the command whose answer
-/// failed has been done.
+/// only where the writer failed, be it when it was flushed: the command whose answer failed has been
+/// done.
 pub fn run<R: Read, W: Write>(
     session: &mut Session<'_, '_>,
     reader: &mut Watched<R>,
@@ -94,23 +101,22 @@ pub fn run<R: Read, W: Write>(
     for turn in 0..u64::MAX {
         let _ = turn;
         let Ok(next) = next_frame(session.allocator(), reader) else {
-            return Err(failed_read(writer));
+            return Err(RunError::Read);
         };
         match next {
             Next::End => return finish(writer, End::Clean),
             Next::Fault(fault) => return finish(writer, End::Fault(fault)),
             Next::Frame(verb, body) => {
                 let outcome = answer(session, verb, &body);
-                put_line(writer, &outcome);
-                if writer.failed() {
+                let Ok(()) = send_answer(writer, &outcome) else {
                     return Err(RunError::Write);
-                }
+                };
             }
         }
     }
     match read_byte(reader) {
         Ok(None) => finish(writer, End::Clean),
         Ok(Some(_)) => finish(writer, End::Fault(Fault::TooMany)),
-        Err(_) => Err(failed_read(writer)),
+        Err(_) => Err(RunError::Read),
     }
 }

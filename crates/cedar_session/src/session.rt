@@ -7,7 +7,8 @@ ghost use Rattle.cedar_session.specs.Commands.{command_verb, command_text};
 
 use crate::asking::question_in;
 use crate::command::Command;
-use cedar_bodies::{link_body, string_of};
+use crate::naming::read_id;
+use cedar_bodies::link_body;
 use cedar_extensions::extensions::Extensions;
 use cedar_held::{HeldEntities, HeldPolicies, Question, answer};
 use cedar_policy_parts::PolicyID;
@@ -16,10 +17,18 @@ use cedar_texts::{read_body, read_policies};
 use std::alloc::Global;
 
 /// A question that was asked, and the answer that was given last.
-#[derive(Drop)]
 struct Asked {
     question: Question,
     answer: Answer,
+}
+
+impl Drop for Asked {
+    fn drop(self) {
+        let Asked {
+            question: _,
+            answer: _,
+        } = self;
+    }
 }
 
 // Closes the open question.
@@ -30,7 +39,17 @@ fn close(asked: &mut Option<Asked>)
 }
 
 /// Policies, templates and links, the entities that are held, and at most one open question.
-#[derive(Drop)]
+///
+/// Each command takes a text of at most 1,048,576 bytes, which is the caller's condition. The text of
+/// [`load`](Session::load) holds policies; that of any other command is a body: one expression, built
+/// of literals, sets, records and calls of the session's functions alone.
+///
+/// A refused command changes nothing. Where several reasons stand, the first in the order of [`Refusal`]
+/// is answered, but that `Depth` and `Memory` may stand in place of what would be checked after the point
+/// where they are met. Any body is refused `Text` where the text is no expression of the grammar or calls
+/// a function that the session doesn't know, `Depth` where its nesting or the height of its tree is more
+/// than the session's limit, and `NotRestricted` where it holds anything else than a body may, as a
+/// variable or an operator; what else a command is refused is said there.
 pub struct Session<'e, 'f> {
     allocator: Global,
     extensions: &'e Extensions<'f>,
@@ -40,13 +59,33 @@ pub struct Session<'e, 'f> {
     asked: Option<Asked>,
 }
 
+impl Drop for Session<'_, '_> {
+    fn drop(self) {
+        let Session {
+            allocator: _,
+            extensions: _,
+            depth: _,
+            policies: _,
+            entities: _,
+            asked: _,
+        } = self;
+    }
+}
+
 impl<'e, 'f> Session<'e, 'f> {
     ghost use Rattle.cedar_frames.specs.declared.verb.Verb.TheVariants.{Load as LoadVerb, Link as LinkVerb, Unlink as UnlinkVerb, RemoveStatic as RemoveStaticVerb, RemoveTemplate as RemoveTemplateVerb, Add as AddVerb, Put as PutVerb, Remove as RemoveVerb, Ask as AskVerb};
     ghost use Rattle.cedar_world.specs.Step.{Step};
     ghost use Rattle.cedar_session.specs.Sessions.{world_of, setting_of, load_reply, edit_reply, ask_reply};
     ghost use Rattle.cedar_texts.specs.Settings.{setting_with};
 
-    /// A session without policies and entities.
+    /// A session without policies and entities, in which no question is open.
+    ///
+    /// Its texts may call the functions of `extensions` and no others. `depth` is its limit, the same for
+    /// each command: a text may nest so many levels and no more, the tree of a body may be so high, and an
+    /// evaluation may go so deep; what exceeds it is refused [`Refusal::Depth`]. A text nests one level at
+    /// least, so that a session with the limit 0 takes none. The program's limit is 256.
+    ///
+    /// It is refused [`Refusal::Memory`] alone.
     pub fn new(
         allocator: Global,
         extensions: &'e Extensions<'f>,
@@ -66,17 +105,19 @@ impl<'e, 'f> Session<'e, 'f> {
         })
     }
 
-    /// What the session's parts are made with.
+    /// What the session's parts are made with, as it was handed to [`new`](Session::new).
     pub fn allocator(&self) -> Global {
         self.allocator
     }
 
     /// Loads the policies and templates of a text and answers the ids under which they now stand, in the
     /// text's order: the i-th under `policy<i>` where that is free or bound to the same already, and else
-    /// under the next of `policy0`, `policy1`, .. that is neither bound nor one of the text's own. An open
-    /// question is closed.
+    /// under the next of `policy0`, `policy1`, .. that is neither bound nor one of the text's own. What was
+    /// bound before stays as it was, and an open question is closed.
+    /// (Cedar language reference, "Policies".)
     ///
-    /// It is refused `Text`, `Depth` and `Memory`; then nothing changes.
+    /// It is refused `Text` where the text isn't policies and templates by the grammar, or one of them has a
+    /// clause, `Depth` where it nests deeper than the limit, and `Memory`; then nothing changes.
     pub fn load(&mut self, text: &str) -> Result<Vec<PolicyID>, Refusal>
         requires { length text.now ≤ body_limit }
         ensures step { Step (setting_of self.old) (world_of self.old) LoadVerb text.now (load_reply result) (world_of self.new) }
@@ -92,9 +133,13 @@ impl<'e, 'f> Session<'e, 'f> {
     /// Links a template: the link stands under its own id, with the entities of its slots. An open question
     /// is closed. (Cedar language reference, "Policy templates".)
     ///
-    /// It is refused `Text`, `Depth`, `NotRestricted`, `Shape`, `NoSuchTemplate` where the template's id
-    /// isn't bound, `NotTemplate` where it is bound to something else, `Arity` where the entities aren't for
-    /// exactly its slots, `IdConflict` where the link's id is bound, and `Memory`; then nothing changes.
+    /// The body is a record: `template` and `id` are strings, and `principal` and `resource`, each where the
+    /// template has that slot, are entities.
+    ///
+    /// It is refused as any body, then `Shape` where it isn't such a record, `NoSuchTemplate` where the
+    /// template's id isn't bound, `NotTemplate` where it is bound to something else, `Arity` where the
+    /// entities aren't for exactly its slots, `IdConflict` where the link's id is bound, and `Memory`; then
+    /// nothing changes.
     pub fn link(&mut self, text: &str) -> Result<(), Refusal>
         requires { length text.now ≤ body_limit }
         ensures step { Step (setting_of self.old) (world_of self.old) LinkVerb text.now (edit_reply result) (world_of self.new) }
@@ -110,60 +155,52 @@ impl<'e, 'f> Session<'e, 'f> {
         Ok(())
     }
 
-    /// Takes a link away. An open question is closed.
+    /// Takes the link away whose id the body states, a string. Its template stays, and an open question is
+    /// closed.
     ///
-    /// It is refused `Text`, `Depth`, `NotRestricted`, `Shape`, `NotLink` where the id is bound to something
-    /// else, `NoSuchPolicy` where it isn't bound, and `Memory`; then nothing changes.
+    /// It is refused as any body, then `Shape` where it is no string, `NotLink` where the id is bound to
+    /// something else, `NoSuchPolicy` where it isn't bound, and `Memory`; then nothing changes.
     pub fn unlink(&mut self, text: &str) -> Result<(), Refusal>
         requires { length text.now ≤ body_limit }
         ensures step { Step (setting_of self.old) (world_of self.old) UnlinkVerb text.now (edit_reply result) (world_of self.new) }
         ensures setting { setting_of self.new ≡ setting_of self.old }
     {
         cedar_world::texts_are_one();
-        let body = read_body(self.allocator, text, self.extensions, self.depth)?;
-        let Some(id) = string_of(body.as_ref()) else {
-            return Err(Refusal::Shape);
-        };
-        self.policies.unlink(id)?;
+        let id = read_id(self.allocator, text, self.extensions, self.depth)?;
+        self.policies.unlink(&id)?;
         close(&mut self.asked);
         Ok(())
     }
 
-    /// Takes a static policy away. An open question is closed.
+    /// Takes the static policy away whose id the body states, a string. An open question is closed.
     ///
-    /// It is refused `Text`, `Depth`, `NotRestricted`, `Shape`, `NoSuchPolicy` where the id isn't bound,
-    /// `NotStatic` where it is bound to a template or a link, and `Memory`; then nothing changes.
+    /// It is refused as any body, then `Shape` where it is no string, `NoSuchPolicy` where the id isn't
+    /// bound, `NotStatic` where it is bound to a template or a link, and `Memory`; then nothing changes.
     pub fn remove_static(&mut self, text: &str) -> Result<(), Refusal>
         requires { length text.now ≤ body_limit }
         ensures step { Step (setting_of self.old) (world_of self.old) RemoveStaticVerb text.now (edit_reply result) (world_of self.new) }
         ensures setting { setting_of self.new ≡ setting_of self.old }
     {
         cedar_world::texts_are_one();
-        let body = read_body(self.allocator, text, self.extensions, self.depth)?;
-        let Some(id) = string_of(body.as_ref()) else {
-            return Err(Refusal::Shape);
-        };
-        self.policies.remove_static(id)?;
+        let id = read_id(self.allocator, text, self.extensions, self.depth)?;
+        self.policies.remove_static(&id)?;
         close(&mut self.asked);
         Ok(())
     }
 
-    /// Takes a template away. An open question is closed.
+    /// Takes the template away whose id the body states, a string. An open question is closed.
     ///
-    /// It is refused `Text`, `Depth`, `NotRestricted`, `Shape`, `NoSuchTemplate` where the id isn't bound,
-    /// `NotTemplate` where it is bound to something else, `HasLinks` where a link names the template, and
-    /// `Memory`; then nothing changes.
+    /// It is refused as any body, then `Shape` where it is no string, `NoSuchTemplate` where the id isn't
+    /// bound, `NotTemplate` where it is bound to something else, `HasLinks` where a link names the template,
+    /// and `Memory`; then nothing changes.
     pub fn remove_template(&mut self, text: &str) -> Result<(), Refusal>
         requires { length text.now ≤ body_limit }
         ensures step { Step (setting_of self.old) (world_of self.old) RemoveTemplateVerb text.now (edit_reply result) (world_of self.new) }
         ensures setting { setting_of self.new ≡ setting_of self.old }
     {
         cedar_world::texts_are_one();
-        let body = read_body(self.allocator, text, self.extensions, self.depth)?;
-        let Some(id) = string_of(body.as_ref()) else {
-            return Err(Refusal::Shape);
-        };
-        self.policies.remove_template(id)?;
+        let id = read_id(self.allocator, text, self.extensions, self.depth)?;
+        self.policies.remove_template(&id)?;
         close(&mut self.asked);
         Ok(())
     }
@@ -173,8 +210,12 @@ impl<'e, 'f> Session<'e, 'f> {
     /// held each is equal to the first. An open question is closed.
     /// (Cedar language reference, "Entities".)
     ///
-    /// It is refused `Text`, `Depth`, `NotRestricted`, `Shape`, `Evaluation`, `NotAValue`, `Duplicate` for
-    /// another version, `Cycle` where parents would lead back, and `Memory`; then nothing changes.
+    /// The body is a list of records: `uid` is an entity, and `attrs`, `parents` and `tags`, each where it
+    /// stands, are a record, a list of entities and a record.
+    ///
+    /// It is refused as any body, then `Shape` where it isn't such a list, `Evaluation` where an attribute
+    /// or a tag errs, `NotAValue` where one holds an unknown, `Duplicate` for another version, `Cycle` where
+    /// parents would lead back, and `Memory`; then nothing changes.
     pub fn add(&mut self, text: &str) -> Result<(), Refusal>
         requires { length text.now ≤ body_limit }
         ensures step { Step (setting_of self.old) (world_of self.old) AddVerb text.now (edit_reply result) (world_of self.new) }
@@ -194,8 +235,11 @@ impl<'e, 'f> Session<'e, 'f> {
     /// of one the last stays. An open question is closed.
     /// (Cedar language reference, "Entities".)
     ///
-    /// It is refused `Text`, `Depth`, `NotRestricted`, `Shape`, `Evaluation`, `NotAValue`, `Cycle` where
-    /// parents would lead back, and `Memory`; then nothing changes.
+    /// The body is a list as [`add`](Session::add) takes it.
+    ///
+    /// It is refused as any body, then `Shape` where it isn't such a list, `Evaluation` where an attribute
+    /// or a tag errs, `NotAValue` where one holds an unknown, `Cycle` where parents would lead back, and
+    /// `Memory`; then nothing changes.
     pub fn put(&mut self, text: &str) -> Result<(), Refusal>
         requires { length text.now ≤ body_limit }
         ensures step { Step (setting_of self.old) (world_of self.old) PutVerb text.now (edit_reply result) (world_of self.new) }
@@ -211,10 +255,12 @@ impl<'e, 'f> Session<'e, 'f> {
         Ok(())
     }
 
-    /// Removes the entities that a body lists, and every parent edge from them and to them. An open
-    /// question is closed. (Cedar language reference, "Entities".)
+    /// Removes the entities that a body lists, and every parent edge from them and to them. Of one that
+    /// isn't held the edges to it go. An open question is closed.
+    /// (Cedar language reference, "Entities".)
     ///
-    /// It is refused `Text`, `Depth`, `NotRestricted`, `Shape` and `Memory`; then nothing changes.
+    /// It is refused as any body, then `Shape` where it is no list of entities, and `Memory`; then nothing
+    /// changes.
     pub fn remove(&mut self, text: &str) -> Result<(), Refusal>
         requires { length text.now ≤ body_limit }
         ensures step { Step (setting_of self.old) (world_of self.old) RemoveVerb text.now (edit_reply result) (world_of self.new) }
@@ -227,10 +273,16 @@ impl<'e, 'f> Session<'e, 'f> {
         Ok(())
     }
 
-    /// Answers the question of a body, which is then the open one.
-    /// (Cedar language reference, "Authorization".)
+    /// Answers the question of a body, which is then the open one in place of any before it. Policies and
+    /// entities stay. (Cedar language reference, "Authorization".)
     ///
-    /// It is refused `Text`, `Depth`, `NotRestricted`, `Shape` and `Memory`; then nothing changes.
+    /// The body is a record: `principal`, `action` and `resource`, each where it stands, are entities, and
+    /// `context`, where it stands, is a record without entries. What is left out is unknown, and the answer
+    /// holds whatever it is: a decision stands there only where all that it may be leads to it, an id is
+    /// among `must` only where its policy is a reason in each case, and among `may` where it is one in some.
+    ///
+    /// It is refused as any body, then `Shape` where it isn't such a record, and `Memory`; then nothing
+    /// changes.
     pub fn ask(&mut self, text: &str) -> Result<Answer, Refusal>
         requires { length text.now ≤ body_limit }
         ensures step { Step (setting_of self.old) (world_of self.old) AskVerb text.now (ask_reply result) (world_of self.new) }
@@ -250,7 +302,8 @@ impl<'e, 'f> Session<'e, 'f> {
         Ok(answer)
     }
 
-    /// Answers a command. A refused one changes nothing.
+    /// Answers a command as the method of its verb does: `load` by the ids, `ask` by the answer, and any
+    /// other by [`Reply::Done`]. It is refused as that method, and a refused one changes nothing.
     pub fn apply(&mut self, command: &Command<'_>) -> Result<Reply, Refusal>
         requires { length (command_text command.now) ≤ body_limit }
         ensures step { Step (setting_of self.old) (world_of self.old) (command_verb command.now) (command_text command.now) (reply_of result) (world_of self.new) }

@@ -1,3 +1,4 @@
+-- Rests on the copies of the entities that the body gives.
 use Rattle.cedar_trees.specs.Bare.{bare}
 use Rattle.cedar_session.proofs.Questions.{question_is}
 use Rattle.cedar_session.proofs.asking.question_in.Goals as goal

@@ -1,3 +1,4 @@
+-- Rests on the three parts of a fault's line, each put behind the other.
 use Rattle.std.proofs.Common.{◌++◌, codes}
 use Rattle.cedar_frames.specs.Frames.{fault_name}
 use Rattle.cedar_frames.proofs.Bytes.{puts_more}

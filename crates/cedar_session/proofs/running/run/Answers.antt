@@ -1,3 +1,4 @@
+-- Rests on the frames so far, each with its step and its line, which Runs adds to at a frame and ends at the end.
 use Rattle.std.proofs.Common.{◌≡◌, ◌≢◌, ◌∙◌, ℕ, [], ◌∷◌, ◌<◌, inl, inr, refl, sym, arith, rules}
 use Rattle.cedar_frames.specs.declared.fault.Fault.TheVariants.{Truncated, TooMany}
 use Rattle.cedar_frames.specs.Reading.{IsReadOut}
@@ -16,17 +17,17 @@ loop-turn-preserved g c =
     let next = rw c.in-Frame.is at c.in-Ok.ensures.next in
     record {
       reader_sound = search rules;
-      writer_sound = sym c.failed.ensures ∙ c.if-failed.false;
+      writer_sound = c.in-Ok-send_answer.ensures.ok.0;
       setting = c.answer-outcome.ensures.setting ∙ c.loop-turn.invariant.setting;
       so_far = one_more _ _ _ _ _ _ _ _ c.loop-turn.turn past.0 past.1 past.2 past.3 _ _ past.4 c.loop-turn-test.true next.0 next.2.0 c.in-Frame.verb _ next.1 next.2.1 _ c.loop-turn.invariant.setting
-          (c.answer-outcome.ensures.step next.2.0 next.2.2) _ _ c.loop-turn.invariant.writer_sound c.put_line.ensures (sym c.failed.ensures ∙ c.if-failed.false);
+          (c.answer-outcome.ensures.step next.2.0 next.2.2) c.in-Ok-send_answer.ensures.ok.1;
     }
 
 pub returns-in_default-clause-before_failure : goal.returns-in_default-clause-before_failure
 returns-in_default-clause-before_failure g c = λ h.
     let past = c.loop-turn.invariant.so_far in
     let part = c.in_default.ensures.err in
-    read_failed _ _ _ _ _ _ _ _ c.loop-turn.turn past.0 past.1 past.2 past.3 _ past.4 part.0 part.1 part.2 (inr c.loop-turn-test.true) c.failed_read.ensures.bytes
+    read_failed _ _ _ _ _ _ _ c.loop-turn.turn past.0 past.1 past.2 past.3 _ past.4 part.0 part.1 part.2 (inr c.loop-turn-test.true)
 
 pub returns-in-End-clause-text : goal.returns-in-End-clause-text
 returns-in-End-clause-text g c =
@@ -54,12 +55,13 @@ returns-in-Fault-clause-cut_short g c =
     cut_at_end _ _ _ _ _ _ _ _ c.loop-turn.turn past.0 past.1 past.2 past.3 _ past.4 next.0 next.1 (Fault c.in-Fault.fault) (fault_ends c.in-Fault.fault c.loop-turn.turn next.0 c.loop-turn-test.true next.2.2 next.2.0) _
     _ _ c.finish-in-Fault.ensures.err
 
-pub returns-then-failed-clause-cut_short : goal.returns-then-failed-clause-cut_short
-returns-then-failed-clause-cut_short g c = λ h.
+pub returns-in_default-send_answer-clause-cut_short : goal.returns-in_default-send_answer-clause-cut_short
+returns-in_default-send_answer-clause-cut_short g c = λ h.
     let past = c.loop-turn.invariant.so_far in
     let next = rw c.in-Frame.is at c.in-Ok.ensures.next in
+    let some = c.in_default-send_answer.ensures.err.2 in
     cut_at_answer _ _ _ _ _ _ _ _ c.loop-turn.turn past.0 past.1 past.2 past.3 _ _ past.4 c.loop-turn-test.true next.0 next.2.0 c.in-Frame.verb _ next.1 next.2.1 _ c.loop-turn.invariant.setting
-    (c.answer-outcome.ensures.step next.2.0 next.2.2) _ _ c.loop-turn.invariant.writer_sound c.put_line.ensures (sym c.failed.ensures ∙ c.if-failed.true)
+    (c.answer-outcome.ensures.step next.2.0 next.2.2) some.0 some.1 some.2 some.3
 
 pub returns-in-Ok-None-clause-text : goal.returns-in-Ok-None-clause-text
 returns-in-Ok-None-clause-text g c =
@@ -93,4 +95,4 @@ returns-in-Ok-Some-clause-cut_short g c =
 pub returns-in-Err-clause-before_failure : goal.returns-in-Err-clause-before_failure
 returns-in-Err-clause-before_failure g c = λ h.
     let past = c.loop-turn.invariant.so_far in
-    read_failed _ _ _ _ _ _ _ _ c.loop-turn.turn past.0 past.1 past.2 past.3 _ past.4 [] c.in-Err.ensures.err (inl (search rules)) (inl refl) c.failed_read-in-Err.ensures.bytes
+    read_failed _ _ _ _ _ _ _ c.loop-turn.turn past.0 past.1 past.2 past.3 _ past.4 [] c.in-Err.ensures.err (inl (search rules)) (inl refl)

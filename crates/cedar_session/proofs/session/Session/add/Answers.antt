@@ -1,3 +1,4 @@
+-- Rests on how the body was read, and on the edit of the entities that it lists.
 use Rattle.std.proofs.lemmas.Result.{err_from_is_err_and}
 use Rattle.cedar_restricted.specs.Views.{restricted_tree, borrowed_tree}
 use Rattle.cedar_session.specs.Sessions.{setting_of, world_of}

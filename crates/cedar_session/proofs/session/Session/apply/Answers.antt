@@ -1,3 +1,4 @@
+-- Rests on the step of each method; that of `ask` is taken over to the command by hand.
 use Rattle.std.proofs.Common.{sym, subst}
 use Rattle.cedar_world.specs.Commands.{Answered}
 use Rattle.cedar_world.specs.Step.{Step}

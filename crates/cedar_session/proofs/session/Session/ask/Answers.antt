@@ -1,3 +1,4 @@
+-- Rests on how the body was read, and on the answer over the policies and entities held.
 use Rattle.std.proofs.Common.{sym}
 use Rattle.std.proofs.lemmas.Result.{err_from_is_err_and}
 use Rattle.cedar_restricted.specs.Views.{restricted_tree}

@@ -1,3 +1,4 @@
+-- Rests on how the text was read, and on where its policies then stand.
 use Rattle.std.proofs.lemmas.Result.{err_from_is_err_and}
 use Rattle.cedar_session.specs.Sessions.{setting_of, world_of}
 use Rattle.cedar_session.proofs.Texts.{unread_load, unplaced, loaded}

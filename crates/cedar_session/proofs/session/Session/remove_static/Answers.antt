@@ -1,36 +1,29 @@
-use Rattle.std.proofs.Common.{sym}
+-- What any command comes to that takes away what stands under an id, for the cases of this one.
+use Rattle.std.proofs.Common.{refl}
+use Rattle.std.specs.Rc.{rc_str_bytes}
 use Rattle.std.proofs.lemmas.Result.{err_from_is_err_and}
-use Rattle.cedar_restricted.specs.Views.{restricted_tree}
-use Rattle.cedar_trees.specs.Bare.{bare}
+use Rattle.cedar_world.specs.Commands.{RemoveStatic}
+use Rattle.cedar_world.specs.Refusals.{RemoveStaticCases}
 use Rattle.cedar_session.specs.Sessions.{setting_of, world_of}
-use Rattle.cedar_session.proofs.Texts.{read_tree}
-use Rattle.cedar_session.proofs.PolicyCommands.{remove_static_unread, remove_static_shapeless, remove_static_refused, remove_static_done}
+use Rattle.cedar_session.proofs.PolicyCommands.{remove_static_is_late, id_unread, id_refused, id_done}
 use Rattle.cedar_session.proofs.session.Session.remove_static.Goals as goal
 
-pub returns-in_err-body-clause-step : goal.returns-in_err-body-clause-step
-returns-in_err-body-clause-step c =
+pub returns-in_err-id-clause-step : goal.returns-in_err-id-clause-step
+returns-in_err-id-clause-step c =
     let by = setting_of c.args.self.now in
+    let old = world_of c.args.self.now in
     let p = err_from_is_err_and c.from_residual.result c.from_residual.ensures.1 in
-    rw (p.1, p.2) (remove_static_unread by (world_of c.args.self.now) c.args.text.now (c.texts_are_one.ensures.bodies by) c.in_err-body.field-0.0 c.in_err-body.ensures.body)
-
-pub returns-in_default-clause-step : goal.returns-in_default-clause-step
-returns-in_default-clause-step c =
-    let by = setting_of c.args.self.now in
-    let tree = bare c.as_ref.result.now in
-    let read = read_tree by c.args.text.now (restricted_tree c.in_ok-body.body) tree c.as_ref.ensures.tree c.in_ok-body.ensures.body in
-    remove_static_shapeless by (world_of c.args.self.now) c.args.text.now (c.texts_are_one.ensures.bodies by) tree read.0 read.1 c.as_ref.ensures.restricted (sym (rw c.in_default.is at c.string_of.ensures))
+    rw (p.1, p.2) (id_unread by old c.args.text.now RemoveStatic (λ h. cc) (RemoveStaticCases old.policies) refl (remove_static_is_late old.policies) (c.texts_are_one.ensures.bodies by) c.in_err-id.field-0.0 c.in_err-id.ensures)
 
 pub returns-in_err-remove_static-clause-step : goal.returns-in_err-remove_static-clause-step
 returns-in_err-remove_static-clause-step c =
     let by = setting_of c.args.self.now in
-    let tree = bare c.as_ref.result.now in
-    let read = read_tree by c.args.text.now (restricted_tree c.in_ok-body.body) tree c.as_ref.ensures.tree c.in_ok-body.ensures.body in
+    let old = world_of c.args.self.now in
     let p = err_from_is_err_and c.from_residual-in_err-remove_static.result c.from_residual-in_err-remove_static.ensures.1 in
-    rw (p.1, p.2) (remove_static_refused by (world_of c.args.self.now) c.args.text.now (c.texts_are_one.ensures.bodies by) tree read.0 read.1 c.as_ref.ensures.restricted _ (sym (rw c.in-Some.is at c.string_of.ensures)) c.in_err-remove_static.field-0.0 c.remove_static.new.self c.in_err-remove_static.ensures)
+    rw (p.1, p.2) (id_refused by old c.args.text.now RemoveStatic (λ h. cc) (RemoveStaticCases old.policies) refl (remove_static_is_late old.policies) (c.texts_are_one.ensures.bodies by) (rc_str_bytes c.in_ok-id.id) c.in_ok-id.ensures c.in_err-remove_static.field-0.0 c.remove_static.new.self c.in_err-remove_static.ensures)
 
 pub returns-clause-step : goal.returns-clause-step
 returns-clause-step c =
     let by = setting_of c.args.self.now in
-    let tree = bare c.as_ref.result.now in
-    let read = read_tree by c.args.text.now (restricted_tree c.in_ok-body.body) tree c.as_ref.ensures.tree c.in_ok-body.ensures.body in
-    rw (c.close.ensures) (remove_static_done by (world_of c.args.self.now) c.args.text.now (c.texts_are_one.ensures.bodies by) tree read.0 read.1 c.as_ref.ensures.restricted _ (sym (rw c.in-Some.is at c.string_of.ensures)) c.remove_static.new.self c.in_ok-remove_static.ensures)
+    let old = world_of c.args.self.now in
+    rw (c.close.ensures) (id_done by old c.args.text.now RemoveStatic (λ h. cc) (RemoveStaticCases old.policies) refl (remove_static_is_late old.policies) (c.texts_are_one.ensures.bodies by) (rc_str_bytes c.in_ok-id.id) c.in_ok-id.ensures c.remove_static.new.self (λ does. does) c.in_ok-remove_static.ensures)
