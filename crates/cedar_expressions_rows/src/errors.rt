@@ -1,7 +1,4 @@
 // Why an expression has no value: the texts of errors, their places, and that `==` looks at both.
-use crate::registers::{place, told_place};
-use crate::trees::{binary_op, slot, type_of, unary_op};
-use crate::words::{Answer, no_case, said};
 use cedar_expressions::ast::{
     EntityUID, Expr, Literal, Name, NonEmpty, ParseNameError, Type, Value,
 };
@@ -10,6 +7,9 @@ use cedar_expressions::evaluator::{
 };
 use cedar_expressions::extensions::{ExtensionFunctionLookupError, FuncDoesNotExistError};
 use cedar_expressions::parser::Loc;
+use cedar_rows::{Answer, no_case, said};
+use cedar_tree_rows::registers::{place, told_place};
+use cedar_tree_rows::trees::{binary_op, slot, type_of, unary_op};
 use std::alloc::{AllocError, Global};
 use std::rc::{Rc, RcStr};
 

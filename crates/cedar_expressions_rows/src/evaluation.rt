@@ -1,11 +1,11 @@
 // What restricted expressions are evaluated to.
 use crate::partial_values::told;
-use crate::words::{Answer, no_case};
 use cedar_expressions::Extensions;
 use cedar_expressions::ast::{
     BorrowedRestrictedExpr, Expr, PartialValue, RestrictedExpressionError,
 };
 use cedar_expressions::evaluator::{EvaluationError, interpret_restricted};
+use cedar_rows::{Answer, no_case};
 use std::alloc::Global;
 
 fn told_answer(alloc: Global, found: Result<PartialValue, EvaluationError>) -> Answer {

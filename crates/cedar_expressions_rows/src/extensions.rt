@@ -2,9 +2,6 @@
 ghost use Rattle.std.specs.Iterator.{IsFinite};
 
 use crate::partial_values::told;
-use crate::registers::separate;
-use crate::trees::type_of;
-use crate::words::{Answer, explain, no_case, refused, said, tell};
 use cedar_expressions::ast::{
     CallStyle, Extension, ExtensionFunction, ExtensionOutputValue, FunctionTypes, Name,
     ParseNameError, PartialValue, Value,
@@ -16,6 +13,8 @@ use cedar_expressions::extensions::{
     FuncMultiplyDefinedError, MultipleConstructorsSameSignatureError, collect_no_duplicates,
 };
 use cedar_expressions::{Extensions, FromNormalizedStr};
+use cedar_rows::{Answer, explain, no_case, refused, said, separate, tell};
+use cedar_tree_rows::trees::type_of;
 use std::alloc::{AllocError, Global};
 use std::collections::HashMap;
 
@@ -39,7 +38,8 @@ fn told_function(
 }
 
 fn joined<'a, I: Iterator<Item = &'a Name> + Drop>(alloc: Global, names: I) -> Answer
-    requires { I.can_next names × IsFinite (I.remaining names) }
+    requires can { I.can_next names }
+    requires ends { IsFinite (I.remaining names) }
 {
     let mut text = String::new(alloc);
     for name in names {
@@ -163,7 +163,7 @@ pub(crate) fn extension(
     extension: &mut Option<Extension>,
 ) -> Answer {
     let count = functions.len();
-    let functions = crate::words::taken(alloc, count, functions)?;
+    let functions = cedar_rows::taken(alloc, count, functions)?;
     match extension_of(alloc, name, ordered, functions) {
         Ok(made) => {
             let text = made.name().to_string(alloc)?;

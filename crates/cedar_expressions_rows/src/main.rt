@@ -2,32 +2,27 @@
 //! is kept, or stands on a stack; each line is printed again with the answer of its last step.
 #![tactic(auto)]
 
-mod builders;
 mod errors;
 mod evaluation;
 mod extensions;
-mod literals;
-mod names;
+mod operators;
 mod partial_values;
-mod raw_names;
+mod policies;
 mod registers;
 mod restricted;
 mod sections;
-mod shapes;
 mod substitution;
-mod trees;
-mod uids;
 mod validation;
-mod values;
-mod words;
 
-use crate::literals::Literals;
-use crate::names::Names;
+use crate::policies::Policies;
 use crate::registers::Expressions;
 use crate::restricted::Restricted;
-use crate::uids::Uids;
-use crate::values::Stack;
-use crate::words::{Answer, Case};
+use cedar_rows::{Answer, Step};
+use cedar_value_rows::literals::Literals;
+use cedar_value_rows::names::Names;
+use cedar_value_rows::uids::Uids;
+use cedar_value_rows::values::Stack;
+use cedar_value_rows::{literals, names, raw_names, uids, values};
 use std::alloc::Global;
 use std::io;
 
@@ -36,6 +31,7 @@ struct Held {
     names: Names,
     uids: Uids,
     literals: Literals,
+    policies: Policies,
     values: Stack,
     restricted: Restricted,
     expressions: Expressions,
@@ -47,6 +43,7 @@ impl Drop for Held {
             names: _,
             uids: _,
             literals: _,
+            policies: _,
             values: _,
             restricted: _,
             expressions: _,
@@ -55,8 +52,8 @@ impl Drop for Held {
 }
 
 /// The section that knows a verb.
-fn answer(alloc: Global, section: &str, case: &Case<'_>, held: &mut Held) -> Answer {
-    let (verb, one, other) = (case.verb, case.one.as_str(), case.other.as_str());
+fn answer(alloc: Global, section: &str, step: &Step<'_>, held: &mut Held) -> Answer {
+    let (verb, one, other) = (step.verb, step.one.as_str(), step.other.as_str());
     match section {
         "names" => names::read(alloc, verb, one, &mut held.names),
         "internal" => names::called(alloc, verb, &mut held.names),
@@ -70,13 +67,14 @@ fn answer(alloc: Global, section: &str, case: &Case<'_>, held: &mut Held) -> Ans
         "uid-order" => uids::compared(alloc, verb, &held.uids),
         "patterns" => literals::patterns(alloc, verb, one, &mut held.literals),
         "types" => literals::types(alloc, verb, one, &mut held.literals, &mut held.names),
-        "policies" => literals::policies(alloc, verb, one, &mut held.literals),
-        _ => of_values(alloc, section, case, held),
+        "variables" => literals::variables(alloc, verb, one),
+        "policies" => policies::answer(alloc, verb, one, &mut held.policies),
+        _ => of_values(alloc, section, step, held),
     }
 }
 
-fn of_values(alloc: Global, section: &str, case: &Case<'_>, held: &mut Held) -> Answer {
-    let (verb, one, other) = (case.verb, case.one.as_str(), case.other.as_str());
+fn of_values(alloc: Global, section: &str, step: &Step<'_>, held: &mut Held) -> Answer {
+    let (verb, one, other) = (step.verb, step.one.as_str(), step.other.as_str());
     match section {
         "make" => values::made(alloc, verb, one, &mut held.uids.uid, &mut held.values),
         "make-rank" => values::ranked(alloc, verb, one, other, &mut held.values),
@@ -84,12 +82,12 @@ fn of_values(alloc: Global, section: &str, case: &Case<'_>, held: &mut Held) -> 
         "make-literal-set" => values::literal_set(alloc, verb, one, &mut held.values),
         "make-record" => values::record(alloc, verb, one, &mut held.values),
         "top" => values::asked(alloc, verb, one, &mut held.values),
-        _ => of_restricted(alloc, section, case, held),
+        _ => of_restricted(alloc, section, step, held),
     }
 }
 
-fn of_restricted(alloc: Global, section: &str, case: &Case<'_>, held: &mut Held) -> Answer {
-    let (verb, one, other) = (case.verb, case.one.as_str(), case.other.as_str());
+fn of_restricted(alloc: Global, section: &str, step: &Step<'_>, held: &mut Held) -> Answer {
+    let (verb, one, other) = (step.verb, step.one.as_str(), step.other.as_str());
     let stack = &mut held.restricted;
     let expressions = &mut held.expressions;
     match section {
@@ -109,9 +107,9 @@ fn of_restricted(alloc: Global, section: &str, case: &Case<'_>, held: &mut Held)
 }
 
 fn answered(alloc: Global, step: &str, held: &mut Held) -> Answer {
-    let (section, rest) = step.split_once(' ').unwrap_or((step, ""));
-    let case = words::read(alloc, rest)?;
-    answer(alloc, section, &case, held)
+    let (section, rest) = cedar_rows::cut(step);
+    let step = cedar_rows::read(alloc, rest)?;
+    answer(alloc, section, &step, held)
 }
 
 /// What the last step of a line answers.
@@ -129,6 +127,7 @@ fn nothing(alloc: Global) -> Held {
         names: names::none(),
         uids: uids::none(),
         literals: literals::none(),
+        policies: policies::none(),
         values: Vec::new(alloc),
         restricted: Vec::new(alloc),
         expressions: registers::empty(alloc),

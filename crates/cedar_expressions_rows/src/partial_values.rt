@@ -1,12 +1,13 @@
 // Values that are written and read back, the arguments of calls that make them, and partial values.
-use crate::registers::{count_of, mapped, paired, place, put, separate, told_place, top};
-use crate::trees::{literal, unknown};
-use crate::words::{Answer, no_case, number, said, taken};
 use cedar_expressions::FromIn;
 use cedar_expressions::ast::{
     Argument, Expr, ExtensionValue, Literal, Name, NotValue, ParseNameError, PartialValue,
-    RepresentableExtensionValue, ToExpr, TryFromExpr, Unknown, Value, ValueKind, split,
+    RepresentableExtensionValue, RestrictedExpr, ToExpr, TryFromExpr, Unknown, Value, ValueKind,
+    split,
 };
+use cedar_rows::{Answer, count_of, mapped, no_case, number, paired, put, said, separate, taken};
+use cedar_tree_rows::registers::{place, told_place, top};
+use cedar_tree_rows::trees::{literal, unknown};
 use either::Either;
 use std::alloc::{AllocError, Global};
 use std::fmt::Display;
@@ -252,4 +253,47 @@ fn told_split(alloc: Global, split: Result<Either<Vec<Value>, Vec<Expr>>, AllocE
 pub(crate) fn parted(alloc: Global, count: &str, partials: &mut Vec<PartialValue>) -> Answer {
     let items = taken(alloc, number(count), partials)?;
     told_split(alloc, split(alloc, items))
+}
+
+fn are_equal<T: PartialEq + Drop, E: PartialEq + Drop>(
+    first: Result<T, E>,
+    second: Result<T, E>,
+) -> bool {
+    match (first, second) {
+        (Ok(first), Ok(second)) => first == second,
+        (Err(first), Err(second)) => first == second,
+        _ => false,
+    }
+}
+
+/// The text of the partial value on top; or whether the two on top are equal, or are refused alike as
+/// values, or as restricted expressions.
+pub(crate) fn compared_parts(
+    alloc: Global,
+    verb: &str,
+    partials: &mut Vec<PartialValue>,
+) -> Answer {
+    let Some(second) = partials.pop() else {
+        return no_case(alloc);
+    };
+    if verb == "text" {
+        return second.to_string(alloc);
+    }
+    let Some(first) = partials.pop() else {
+        return no_case(alloc);
+    };
+    match verb {
+        "equal" => said(alloc, first == second),
+        "values" => said(
+            alloc,
+            are_equal(Value::try_from(first), Value::try_from(second)),
+        ),
+        _ => said(
+            alloc,
+            are_equal(
+                RestrictedExpr::from_in(alloc, first),
+                RestrictedExpr::from_in(alloc, second),
+            ),
+        ),
+    }
 }

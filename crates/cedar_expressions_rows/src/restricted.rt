@@ -1,14 +1,13 @@
 // Restricted expressions on a stack of their own, and what is read of the one on its top.
-use crate::names::{Names, loc};
-use crate::registers::{count_of, paired};
-use crate::values::{Stack, long, rank};
-use crate::words::{Answer, alike, maybe, no_case, number, push, said, taken};
 use cedar_expressions::FromIn;
 use cedar_expressions::ast::{
     BorrowedRestrictedExpr, EntityUID, Expr, Literal, Name, ParseNameError, PartialValue,
     RepresentableExtensionValue, RestrictedElements, RestrictedExpr, RestrictedExprShapeOnly,
     RestrictedPairs, Unknown, ValueKind,
 };
+use cedar_rows::{Answer, alike, count_of, maybe, no_case, number, paired, push, said, taken};
+use cedar_value_rows::names::{Names, loc};
+use cedar_value_rows::values::{Stack, long, rank};
 use std::alloc::{AllocError, Global};
 use std::convert::AsRef;
 use std::fmt::Display;
@@ -233,6 +232,7 @@ pub(crate) fn read(alloc: Global, verb: &str, stack: &Restricted) -> Answer {
         "unknown" => maybe(alloc, top.as_unknown()),
         "set" => items(alloc, top.as_set_elements()),
         "record" => pairs(alloc, top.as_record_pairs()),
+        "shown" => top.to_string(alloc),
         _ => call(alloc, top.as_extn_fn_call()),
     }
 }
@@ -251,6 +251,7 @@ pub(crate) fn read_lent(alloc: Global, verb: &str, stack: &Restricted) -> Answer
         "unknown" => maybe(alloc, top.as_unknown()),
         "set" => items(alloc, top.as_set_elements()),
         "record" => pairs(alloc, top.as_record_pairs()),
+        "shown" => top.to_string(alloc),
         _ => call(alloc, top.as_extn_fn_call()),
     }
 }

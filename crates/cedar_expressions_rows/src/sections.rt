@@ -1,10 +1,8 @@
 // Which section knows a step.
 use crate::registers::Expressions;
-use crate::words::Answer;
-use crate::{
-    builders, errors, evaluation, extensions, partial_values, shapes, substitution, trees,
-    validation,
-};
+use crate::{errors, evaluation, extensions, operators, partial_values, substitution, validation};
+use cedar_rows::Answer;
+use cedar_tree_rows::{builders, shapes, trees};
 use std::alloc::Global;
 
 pub(crate) fn answer(
@@ -32,29 +30,8 @@ pub(crate) fn answer(
         "shape" => shapes::kept(alloc, verb, &mut held.stack, &mut held.kept),
         "shapes" => shapes::compared(alloc, verb, &held.stack),
         "walk" => shapes::walked(alloc, verb, &held.stack, &held.table),
-        "build" => built(alloc, verb, one, other, held),
+        "build" => builders::answer(alloc, verb, one, other, &mut held.builder, &mut held.stack),
         _ => valued(alloc, section, verb, one, other, held),
-    }
-}
-
-/// The steps of the builder name what is built before the verb.
-fn built(alloc: Global, kind: &str, one: &str, other: &str, held: &mut Expressions) -> Answer {
-    let (verb, word) = one.split_once(' ').unwrap_or((one, other));
-    let builder = held.builder.clone()?;
-    let stack = &mut held.stack;
-    match kind {
-        "leaf" => builders::leaf(alloc, verb, word, builder, stack),
-        "unary" => builders::unary(alloc, verb, word, builder, stack),
-        "binary" => builders::binary(alloc, verb, builder, stack),
-        "ternary" => builders::ternary(alloc, builder, stack),
-        "attribute" => builders::attribute(alloc, verb, word, builder, stack),
-        "type" => builders::typed(alloc, verb, word, builder, stack),
-        "call" => builders::call(alloc, verb, word, builder, stack),
-        "set" => builders::set(alloc, verb, builder, stack),
-        "record" => builders::record(alloc, verb, word, builder, stack),
-        "kind" => builders::kind(alloc, verb, builder, stack),
-        "data" => builders::data(alloc, verb),
-        _ => builders::moved(alloc, verb, word, stack, &mut held.builder),
     }
 }
 
@@ -83,6 +60,7 @@ fn valued(
         "partial" => partial_values::partial(alloc, verb, one, stack, values, &mut held.partials),
         "convert" => partial_values::converted(alloc, verb, one, stack, values, &mut held.partials),
         "split" => partial_values::parted(alloc, verb, &mut held.partials),
+        "partials" => partial_values::compared_parts(alloc, verb, &mut held.partials),
         _ => judged(alloc, section, verb, one, other, held),
     }
 }
@@ -113,6 +91,7 @@ fn judged(
         "extension" => extensions::read(alloc, verb, one, &held.extension),
         "twice" => extensions::refusal(alloc, verb, one),
         "gather" => extensions::gathered(alloc, verb),
+        "operate" => operators::answer(alloc, verb, one, &mut held.values, &held.table),
         "evaluate" => evaluation::answer(alloc, verb, &held.stack, &held.table),
         _ => validation::answer(alloc, &held.stack, &held.table),
     }

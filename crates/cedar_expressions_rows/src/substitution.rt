@@ -1,11 +1,11 @@
 // What is told of unknowns, and expressions with what is told in their places.
-use crate::registers::{hold, put, top};
-use crate::trees::unknown;
-use crate::words::{Answer, no_case, tell};
 use cedar_expressions::ast::{
-    Expr, ExprBuilder, IntoExpr, Substitute, SubstituteExprs, SubstitutionFunction,
-    TypedSubstitution, Unknown, UntypedSubstitution, Value,
+    Expr, ExprBuilder, ExpressionConstructionError, IntoExpr, Substitute, SubstituteExprs,
+    SubstitutionFunction, TypedSubstitution, Unknown, UntypedSubstitution, Value,
 };
+use cedar_rows::{Answer, hold, no_case, put, tell};
+use cedar_tree_rows::registers::top;
+use cedar_tree_rows::trees::unknown;
 use std::alloc::Global;
 use std::collections::HashMap;
 use std::rc::RcStr;
@@ -40,6 +40,21 @@ pub(crate) fn tell_expr(
     tell(alloc, told.len())
 }
 
+/// The expression as the own builder builds it again, with what is told where the verb says so.
+fn again(
+    alloc: Global,
+    verb: &str,
+    expr: &Expr,
+    told: &HashMap<RcStr, Expr>,
+) -> Result<Expr, ExpressionConstructionError> {
+    match verb {
+        "into_expr" => expr.into_expr::<ExprBuilder>(alloc),
+        "try_into_expr" => expr.try_into_expr::<ExprBuilder>(alloc),
+        "substitute_exprs" => Ok(expr.substitute_exprs(alloc, told)?),
+        _ => expr.substitute_exprs_into_expr::<ExprBuilder>(alloc, told),
+    }
+}
+
 /// The expression on top, built again.
 pub(crate) fn rebuilt(
     alloc: Global,
@@ -48,15 +63,7 @@ pub(crate) fn rebuilt(
     told: &HashMap<RcStr, Expr>,
 ) -> Answer {
     let expr = top(stack);
-    match verb {
-        "into_expr" => put(alloc, stack, expr.into_expr::<ExprBuilder>(alloc)),
-        "try_into_expr" => put(alloc, stack, expr.try_into_expr::<ExprBuilder>(alloc)),
-        "substitute_exprs" => put(alloc, stack, expr.substitute_exprs(alloc, told)),
-        _ => {
-            let built = expr.substitute_exprs_into_expr::<ExprBuilder>(alloc, told);
-            put(alloc, stack, built)
-        }
-    }
+    put(alloc, stack, again(alloc, verb, &expr, told))
 }
 
 /// The same of a chain that is too long to be shown.
@@ -67,13 +74,7 @@ pub(crate) fn rebuilt_chain(
     told: &HashMap<RcStr, Expr>,
 ) -> Answer {
     let expr = top(stack);
-    match verb {
-        "into_expr" => hold(alloc, stack, expr.into_expr::<ExprBuilder>(alloc)),
-        _ => {
-            let built = expr.substitute_exprs_into_expr::<ExprBuilder>(alloc, told);
-            hold(alloc, stack, built)
-        }
-    }
+    hold(alloc, stack, again(alloc, verb, &expr, told))
 }
 
 /// The expression on top with values in the places of its unknowns.

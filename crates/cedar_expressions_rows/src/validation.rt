@@ -1,7 +1,7 @@
 // Which calls are valid.
-use crate::words::{Answer, no_case};
 use cedar_expressions::Extensions;
 use cedar_expressions::ast::{Expr, ExprValidation, ExprValidationError};
+use cedar_rows::{Answer, no_case};
 use std::alloc::Global;
 
 fn told(alloc: Global, found: Result<(), ExprValidationError>) -> Answer {

@@ -3,10 +3,13 @@ use crate::refusing::NoCalls;
 use crate::words::{Answer, tell};
 use cedar_builders::own_builder::ExprBuilder;
 use cedar_conversion::to_expr;
-use cedar_conversion_leaves::{ConversionError, ExtStyles, ToASTError};
+use cedar_conversion_leaves::{
+    ConversionError, ExtStyles, ToASTError, to_any_ident, to_text, to_valid_ident,
+};
 use cedar_cst::cst;
+use cedar_cst::cst::{Ident, Str};
 use cedar_cst::node::Node;
-use cedar_loose::{parse_expr, parse_policies, parse_policy};
+use cedar_loose::{parse_expr, parse_ident, parse_policies, parse_policy};
 use cedar_names::errors::ParseNameError;
 use cedar_names::reading::FromNormalizedStr;
 use cedar_policy_conversion::{to_policy, to_policy_or_template, to_policy_template, to_policyset};
@@ -15,9 +18,11 @@ use cedar_policy_parts_conversion::PolicyError;
 use cedar_policy_set::sets::PolicySet;
 use cedar_templates::static_policies::StaticPolicy;
 use cedar_templates::templates::Template;
+use cedar_trees::errors::ExpressionConstructionError;
 use either::Either;
 use std::alloc::Global;
 use std::fmt::Display;
+use std::rc::RcStr;
 
 /// How deep a text may be nested.
 const DEPTH: u32 = 16;
@@ -106,6 +111,42 @@ fn policy_of(
     }
 }
 
+/// The identifier that a word is, and what isn't one.
+pub(crate) fn word(alloc: Global, verb: &str, text: &str) -> Answer {
+    match verb {
+        "invalid" => {
+            let text = String::from_str(alloc, text)?;
+            valid(alloc, &Node::new(Some(Ident::Invalid(text))))
+        }
+        "string" => {
+            let text = RcStr::from_str(alloc, text)?;
+            let node = Node::new(Some(Str::Invalid(text)));
+            converted(alloc, to_text::<ExpressionConstructionError>(alloc, &node))
+        }
+        _ => read_word(alloc, verb, text),
+    }
+}
+
+fn read_word(alloc: Global, verb: &str, text: &str) -> Answer {
+    match parse_ident(alloc, text) {
+        Ok(node) => match verb {
+            "any" => converted(
+                alloc,
+                to_any_ident::<ExpressionConstructionError>(alloc, &node),
+            ),
+            _ => valid(alloc, &node),
+        },
+        Err(errors) => errors.to_string(alloc),
+    }
+}
+
+fn valid(alloc: Global, node: &Node<Option<Ident>>) -> Answer {
+    converted(
+        alloc,
+        to_valid_ident::<ExpressionConstructionError>(alloc, node),
+    )
+}
+
 /// What was made, as it is printed, or all faults.
 fn converted<T: Display + Drop, E: Display + Drop>(
     alloc: Global,
@@ -127,7 +168,7 @@ fn sorted(alloc: Global, found: Result<Either<StaticPolicy, Template>, PolicyErr
 }
 
 /// The policies and templates of a set, each after its id.
-fn each(alloc: Global, set: &PolicySet) -> Answer {
+pub(crate) fn each(alloc: Global, set: &PolicySet) -> Answer {
     let mut told = String::new(alloc);
     for template in set.all_templates() {
         let next = format!(in alloc; "{}: {template} ", template.id())?;
@@ -151,7 +192,7 @@ fn faults<E: Display>(alloc: Global, error: &ConversionError<E>) -> Answer {
 }
 
 /// A fault with its place.
-fn fault(alloc: Global, fault: &ToASTError) -> Answer {
+pub(crate) fn fault(alloc: Global, fault: &ToASTError) -> Answer {
     match &fault.loc {
         Some(loc) => format!(in alloc; "{}..{}: {fault}", loc.start(), loc.end()),
         None => format!(in alloc; "nowhere: {fault}"),

@@ -8,6 +8,7 @@ mod errors;
 mod loose;
 mod nodes;
 mod refusing;
+mod strict;
 mod tokens;
 mod words;
 
@@ -48,6 +49,8 @@ fn answer(alloc: Global, section: &str, verb: &str, text: &str, held: &mut Held)
         "names" => conversion::listed(alloc, verb, text, &mut held.styles),
         "expression" => conversion::expression(alloc, verb, text, &held.styles),
         "policies" => conversion::policies(alloc, text, &held.styles),
+        "word" => conversion::word(alloc, verb, text),
+        "strict" => strict::read(alloc, verb, text),
         "policy" => conversion::policy(alloc, verb, text, &held.styles),
         _ => of_nodes(alloc, section, verb, text, &mut held.nodes),
     }

@@ -1,5 +1,6 @@
-// Devices that give and take little, and fail.
+// Devices that give and take little, and fail, and a client that waits for its answers.
 use std::alloc::Global;
+use std::cell::Cell;
 use std::io;
 use std::io::{Read, Write};
 
@@ -58,6 +59,64 @@ impl Narrow {
         Narrow {
             taken: Vec::new(alloc),
             room,
+        }
+    }
+}
+
+/// The sending half of a client that gives a byte a call. Before what stands behind a NUL it waits for one
+/// more line, and it breaks where none has come, since nobody would send it.
+#[derive(Drop)]
+pub(crate) struct Asking<'a> {
+    pub(crate) given: &'a [u8],
+    /// The lines that were sent to the client and that it hasn't waited for yet.
+    pub(crate) lines: &'a Cell<usize>,
+}
+
+impl Read for Asking<'_> {
+    fn read(&mut self, buf: &mut [u8]) -> io::Result<usize> {
+        if let Some(rest) = self.given.strip_prefix(b"\0") {
+            let Some(left) = self.lines.get().checked_sub(1) else {
+                return Err(io::Error::from(io::ErrorKind::TimedOut));
+            };
+            self.lines.set(left);
+            self.given = rest;
+        }
+        let few = buf.len().min(1);
+        self.given.read(&mut buf[..few])
+    }
+}
+
+/// The receiving half of that client: a writer whose lines come to it when they are flushed.
+#[derive(Drop)]
+pub(crate) struct Hearing<'a> {
+    /// What it took.
+    pub(crate) taken: Vec<u8>,
+    /// The line feeds that were written since the last flush.
+    unsent: usize,
+    lines: &'a Cell<usize>,
+}
+
+impl Write for Hearing<'_> {
+    fn write(&mut self, buf: &[u8]) -> io::Result<usize> {
+        self.taken.extend_from_slice(buf)?;
+        let ended = buf.iter().filter(|byte| **byte == b'\n').count();
+        self.unsent = self.unsent.saturating_add(ended);
+        Ok(buf.len())
+    }
+
+    fn flush(&mut self) -> io::Result<()> {
+        self.lines.set(self.lines.get().saturating_add(self.unsent));
+        self.unsent = 0;
+        Ok(())
+    }
+}
+
+impl<'a> Hearing<'a> {
+    pub(crate) fn new(alloc: Global, lines: &'a Cell<usize>) -> Hearing<'a> {
+        Hearing {
+            taken: Vec::new(alloc),
+            unsent: 0,
+            lines,
         }
     }
 }

@@ -10,9 +10,7 @@ mod runs;
 mod words;
 
 use crate::words::Answer;
-use cedar_extensions::extensions::Extensions;
-use cedar_replies::Refusal;
-use cedar_session::Session;
+use cedar_session::{Extensions, Refusal, Session};
 use cedar_trees::expr::Expr;
 use std::alloc::Global;
 use std::io;
@@ -63,6 +61,7 @@ fn answer(alloc: Global, line: &str, held: &mut Held<'_, '_>) -> Answer {
         "session" => begin(alloc, text.parse::<u32>().unwrap_or(DEPTH), held),
         "run" => runs::at_devices(text, &mut held.session),
         "program" => runs::of_program(alloc, text),
+        "failure" => runs::of_failure(alloc, text),
         "frames" => frames::answer(alloc, text),
         "replies" => replies::answer(alloc, text),
         "tree" => bodies::made(alloc, text, &mut held.stack),

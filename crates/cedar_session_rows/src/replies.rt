@@ -1,8 +1,9 @@
 // Lines that say what a command is answered.
 use crate::words::{Answer as Line, one_line, parted, plain};
-use cedar_frames::Watched;
-use cedar_policy_parts::PolicyID;
-use cedar_replies::{Answer, Decision, Erring, ErrorKind, PolicyIds, Refusal, Reply, put_line};
+use cedar_replies::put_line;
+use cedar_session::{
+    Answer, Decision, Erring, ErrorKind, PolicyID, PolicyIds, Refusal, Reply, Watched,
+};
 use std::alloc::{AllocError, Global};
 
 pub(crate) fn answer(alloc: Global, text: &str) -> Line {

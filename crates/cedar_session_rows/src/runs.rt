@@ -1,9 +1,9 @@
 // Runs of a session over memory, and of the program's work, at devices of each kind.
-use crate::devices::{Broken, Drip, Narrow};
+use crate::devices::{Asking, Broken, Drip, Hearing, Narrow};
 use crate::words::{Answer, bytes, number, one_line, parted};
-use cedar_frames::Watched;
-use cedar_session::{End, RunError, Session, program, run};
+use cedar_session::{End, RunError, Session, Watched, program, run};
 use std::alloc::{AllocError, Global};
+use std::cell::Cell;
 use std::io::{Read, Write};
 
 /// The frame of a command.
@@ -46,13 +46,15 @@ pub(crate) fn of_command(verb: &str, body: &str, session: &mut Session<'_, '_>) 
     }
 }
 
-/// A run over any bytes: whole, a byte at a time, with a reader that breaks behind them, or with a writer
-/// that has room for so many bytes.
+/// A run over any bytes: whole, a byte at a time, with a reader that breaks behind them, with a writer that
+/// has room for so many bytes, or at a client that waits for a line at each NUL.
 pub(crate) fn at_devices(text: &str, session: &mut Session<'_, '_>) -> Answer {
     let alloc = session.allocator();
     let (device, text) = parted(text);
-    if device == "narrow" {
-        return at_narrow(text, session);
+    match device {
+        "narrow" => return at_narrow(text, session),
+        "client" => return at_client(text, session),
+        _ => {}
     }
     let given = bytes(alloc, text)?;
     let mut written = Vec::new(alloc);
@@ -71,6 +73,27 @@ fn at_narrow(text: &str, session: &mut Session<'_, '_>) -> Answer {
     let mut narrow = Narrow::with_room(alloc, number(room));
     let end = ended(session, given.as_slice(), &mut narrow);
     told(alloc, narrow.taken.as_slice(), end)
+}
+
+fn at_client(text: &str, session: &mut Session<'_, '_>) -> Answer {
+    let alloc = session.allocator();
+    let given = bytes(alloc, text)?;
+    let lines = Cell::new(0);
+    let asking = Asking {
+        given: given.as_slice(),
+        lines: &lines,
+    };
+    let mut hearing = Hearing::new(alloc, &lines);
+    let end = ended(session, asking, &mut hearing);
+    told(alloc, hearing.taken.as_slice(), end)
+}
+
+/// How the failure of a device is told.
+pub(crate) fn of_failure(alloc: Global, device: &str) -> Answer {
+    match device {
+        "reader" => RunError::Read.to_string(alloc),
+        _ => RunError::Write.to_string(alloc),
+    }
 }
 
 /// The program's status, and what it writes on `errors`.

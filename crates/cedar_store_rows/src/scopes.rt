@@ -1,17 +1,17 @@
 // Annotations, the constraints of a scope, and what slots are bound to.
 use crate::expressions::slot;
 use crate::words::{Answer, Case, put, show, text, told, uid};
-use cedar_literals::slots::Slot;
-use cedar_literals::uids::{EntityType, EntityUID};
+use cedar_literals::slots::{Slot, SlotId};
 use cedar_names::errors::ParseNameError;
 use cedar_names::identifiers::AnyId;
 use cedar_names::names::Name;
 use cedar_names::places::{Loc, Span};
 use cedar_names::reading::FromNormalizedStr;
 use cedar_store::ast::{
-    ActionConstraint, Annotation, Annotations, PrincipalConstraint, PrincipalOrResource,
-    ResourceConstraint, SlotEnv,
+    ActionConstraint, Annotation, Annotations, EntityReference, EntityType, EntityUID,
+    PrincipalConstraint, PrincipalOrResource, ResourceConstraint, SlotEnv,
 };
+use cedar_store::prelude::FromIn;
 use std::alloc::{AllocError, Global};
 use std::collections::BTreeMap;
 use std::mem;
@@ -50,6 +50,17 @@ fn annotated(alloc: Global, key: &str, value: &str) -> Result<Annotations, Parse
     Ok(Annotations::from(entries))
 }
 
+/// Those of keys and values with dots between them, in their order.
+fn all_annotated(alloc: Global, words: &str) -> Result<Annotations, ParseNameError> {
+    let mut pairs = Vec::new(alloc);
+    for word in words.split(',') {
+        let (key, value) = word.split_once('.').unwrap_or((word, ""));
+        let key = AnyId::from_normalized_str(alloc, key)?;
+        pairs.push((key, annotation(alloc, value)?))?;
+    }
+    Ok(Annotations::from_iter(alloc, pairs)?)
+}
+
 /// Each key with its value.
 fn entries(alloc: Global, annotations: Annotations) -> Answer {
     let mut text = String::new(alloc);
@@ -62,6 +73,7 @@ fn entries(alloc: Global, annotations: Annotations) -> Answer {
 pub(crate) fn annotate(alloc: Global, case: &Case<'_>, at: &mut Annotations) -> Answer {
     match case.verb {
         "one" => put(alloc, at, annotated(alloc, case.one, case.two)?),
+        "all" => put(alloc, at, all_annotated(alloc, case.one)?),
         "take" => entries(alloc, mem::replace(at, Annotations::new(alloc))),
         _ => show(alloc, Annotation::with_optional_value(alloc, None, None)),
     }
@@ -99,8 +111,17 @@ fn constrained(alloc: Global, case: &Case<'_>) -> Result<PrincipalConstraint, Pa
     }
 }
 
+fn referred(alloc: Global, word: &str) -> Result<EntityReference, ParseNameError> {
+    Ok(EntityReference::from_in(alloc, uid(alloc, word)?)?)
+}
+
+fn refer(alloc: Global, reference: Result<EntityReference, ParseNameError>) -> Answer {
+    show(alloc, reference?.into_expr(alloc, SlotId::principal()))
+}
+
 pub(crate) fn principal(alloc: Global, case: &Case<'_>, at: &mut PrincipalConstraint) -> Answer {
     match case.verb {
+        "refer" => refer(alloc, referred(alloc, case.one)),
         "copy" => show(alloc, at.clone(alloc)),
         "condition" => show(alloc, at.as_expr(alloc)),
         "fill" => {

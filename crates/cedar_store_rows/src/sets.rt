@@ -1,25 +1,31 @@
 // Policy sets, their edits, and how one is merged into another.
 use crate::templates::Policies;
-use crate::words::{Answer, Case, done, listed, no_case, text, told};
+use crate::words::{Answer, Case, done, listed, no_case, put, text, told};
 use cedar_extensions::extensions::Extensions;
 use cedar_store::ast::{
-    LinkedPolicies, Merging, Policy, PolicyID, PolicySet, PolicySetGetLinksError,
+    LinkedPolicies, Policy, PolicyID, PolicySet, PolicySetError, PolicySetGetLinksError,
     PolicySetTemplateRemovalError, Renaming, SlotEnv, Template, renaming_of,
 };
+use cedar_store::prelude::Merging;
 use std::alloc::{AllocError, Global};
 use std::fmt::Display;
 use std::mem;
 use std::rc::Rc;
 
-/// The set at hand, and the one that is merged into it.
+/// The set at hand, the one that is merged into it, and policies that were put aside.
 pub(crate) struct Sets {
     set: PolicySet,
     theirs: PolicySet,
+    aside: Vec<Policy>,
 }
 
 impl Drop for Sets {
     fn drop(self) {
-        let Sets { set: _, theirs: _ } = self;
+        let Sets {
+            set: _,
+            theirs: _,
+            aside: _,
+        } = self;
     }
 }
 
@@ -27,6 +33,7 @@ pub(crate) fn none(alloc: Global) -> Sets {
     Sets {
         set: PolicySet::new(alloc),
         theirs: PolicySet::new(alloc),
+        aside: Vec::new(alloc),
     }
 }
 
@@ -54,6 +61,38 @@ pub(crate) fn add(alloc: Global, verb: &str, policies: &mut Policies, held: &mut
             *set = PolicySet::new(alloc);
             text(alloc, "ok")
         }
+    }
+}
+
+fn replaced(alloc: Global, at: &mut PolicySet, made: Result<PolicySet, PolicySetError>) -> Answer {
+    match made {
+        Ok(set) => put(alloc, at, set),
+        Err(error) => told(alloc, &error),
+    }
+}
+
+/// The policy is put aside, or the set is made of it alone, or of those that were put aside.
+pub(crate) fn collect(
+    alloc: Global,
+    verb: &str,
+    policy: &mut Option<Policy>,
+    held: &mut Sets,
+) -> Answer {
+    match (verb, policy.take()) {
+        ("aside", Some(policy)) => {
+            held.aside.push(policy)?;
+            text(alloc, "ok")
+        }
+        ("single", Some(policy)) => {
+            let set = PolicySet::singleton(alloc, policy);
+            replaced(alloc, &mut held.set, set)
+        }
+        ("all", None) => {
+            let aside = mem::replace(&mut held.aside, Vec::new(alloc));
+            let set = PolicySet::try_from_iter(alloc, aside);
+            replaced(alloc, &mut held.set, set)
+        }
+        _ => no_case(alloc),
     }
 }
 
@@ -166,7 +205,11 @@ fn joined(alloc: Global, held: &mut Sets) -> Result<(), AllocError> {
 
 /// The other set is merged into the one at hand.
 pub(crate) fn merge(alloc: Global, verb: &str, held: &mut Sets) -> Answer {
-    let Sets { set, theirs } = held;
+    let Sets {
+        set,
+        theirs,
+        aside: _,
+    } = held;
     match verb {
         "renaming" => renamed(alloc, renaming_of(alloc, set, theirs)),
         "merge" => renamed(alloc, set.merge_policyset(alloc, theirs, true)),

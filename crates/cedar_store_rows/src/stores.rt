@@ -112,6 +112,13 @@ fn found(alloc: Global, found: Result<Dereference<'_, Entity>, AllocError>) -> A
     }
 }
 
+fn shown(alloc: Global, found: Option<&Entity>) -> Answer {
+    match found {
+        Some(entity) => told(alloc, entity),
+        None => text(alloc, "none"),
+    }
+}
+
 /// Whether an entity that is held reaches another one.
 fn reaches(alloc: Global, case: &Case<'_>, store: &Entities) -> Answer {
     let to = uid(alloc, case.two)?;
@@ -143,6 +150,7 @@ pub(crate) fn ask(
         "is-empty" => said(alloc, store.is_empty()),
         "is-partial" => said(alloc, store.is_partial()),
         "at" => found(alloc, store.entity(alloc, &uid(alloc, case.one)?)),
+        "get" => shown(alloc, store.get(&uid(alloc, case.one)?)),
         "reaches" => reaches(alloc, case, store),
         "uids" => sorted(alloc, store.iter().map(Entity::uid).collect(alloc)),
         "lent" => told(alloc, &store.into_iter().count()),

@@ -1,17 +1,17 @@
 // Templates, static policies and links.
 use crate::expressions::Stack;
 use crate::scopes::{self, Scope};
-use crate::words::{Answer, Case, keep, no_case, said, show, text, told};
+use crate::words::{Answer, Case, done, keep, no_case, said, show, text, told};
 use cedar_extensions::extensions::Extensions;
-use cedar_literals::uids::EntityUID;
-use cedar_names::conversions::FromIn;
 use cedar_store::ast::{
-    Effect, Policy, PolicyID, SlotEnv, StaticPolicy, Template, TemplateLinks,
-    TemplateValidationError, UnexpectedSlotError,
+    Annotations, Effect, EntityUID, Policy, PolicyID, SlotEnv, StaticPolicy, Template,
+    TemplateBody, TemplateValidationError, UnexpectedSlotError,
 };
+use cedar_store::prelude::{FromIn, TemplateLinks};
 use cedar_trees::expr::Expr;
 use std::alloc::{AllocError, Global};
 use std::collections::BTreeSet;
+use std::convert::AsStr;
 use std::mem;
 use std::rc::Rc;
 
@@ -137,6 +137,71 @@ pub(crate) fn clause(
     }
 }
 
+fn from_clause(
+    alloc: Global,
+    effect: Effect,
+    when: Expr,
+    id: PolicyID,
+    annotations: Annotations,
+) -> Result<Policy, AllocError> {
+    let when = Rc::new(alloc, when)?;
+    let annotations = Rc::new(alloc, annotations)?;
+    Policy::from_when_clause_annos(alloc, effect, when, id, None, annotations)
+}
+
+/// The same with the annotations at hand.
+pub(crate) fn annotated(
+    alloc: Global,
+    case: &Case<'_>,
+    scope: &mut Scope,
+    stack: &mut Stack,
+    held: &mut Policies,
+) -> Answer {
+    let id = PolicyID::from_string(alloc, case.one)?;
+    let annotations = mem::replace(&mut scope.annotations, Annotations::new(alloc));
+    match stack.pop() {
+        Some(when) => {
+            let policy = from_clause(alloc, effect(case.verb), when, id, annotations);
+            keep(alloc, &mut held.policy, policy)
+        }
+        None => no_case(alloc),
+    }
+}
+
+fn of_body(alloc: Global, verb: &str, body: &TemplateBody) -> Answer {
+    match verb {
+        "principal" => show(alloc, body.principal_constraint_expr(alloc)),
+        "action" => show(alloc, body.action_constraint_expr(alloc)),
+        _ => show(alloc, body.resource_constraint_expr(alloc)),
+    }
+}
+
+fn of_static(alloc: Global, verb: &str, own: &StaticPolicy) -> Answer {
+    match verb {
+        "principal" => show(alloc, own.principal_constraint_expr(alloc)),
+        "action" => show(alloc, own.action_constraint_expr(alloc)),
+        _ => show(alloc, own.resource_constraint_expr(alloc)),
+    }
+}
+
+/// What the scope of the template asks of a variable, or that of the static policy where there is no
+/// template.
+pub(crate) fn asked(alloc: Global, verb: &str, held: &Policies) -> Answer {
+    match (&held.template, &held.own) {
+        (Some(template), _) => of_body(alloc, verb, template.body()),
+        (None, Some(own)) => of_static(alloc, verb, own),
+        (None, None) => no_case(alloc),
+    }
+}
+
+/// Whether the bindings at hand are for exactly the template's slots.
+pub(crate) fn binds(alloc: Global, bindings: &SlotEnv, held: &Policies) -> Answer {
+    match &held.template {
+        Some(template) => done(alloc, Template::check_binding(alloc, template, bindings)),
+        None => no_case(alloc),
+    }
+}
+
 fn valid(alloc: Global, answer: Result<(), TemplateValidationError>) -> Answer {
     match answer {
         Ok(()) => text(alloc, "valid"),
@@ -233,6 +298,22 @@ fn show_uids(alloc: Global, uids: Result<BTreeSet<EntityUID>, AllocError>) -> An
     Ok(text)
 }
 
+/// The link under the id `m` of the policy's template under the id `u`.
+fn relinked(alloc: Global, policy: &Policy) -> Result<Policy, AllocError> {
+    let id = PolicyID::from_string(alloc, "u")?;
+    let template = Rc::new(alloc, policy.template().new_id(alloc, id)?)?;
+    policy.relink(alloc, template, PolicyID::from_string(alloc, "m")?)
+}
+
+fn show_link(alloc: Global, link: Result<Policy, AllocError>) -> Answer {
+    let link = link?;
+    Ok(format!(in alloc; "{}: {link}", link.id())?)
+}
+
+fn lent<T: AsStr>(alloc: Global, value: &T) -> Answer {
+    text(alloc, value.as_str())
+}
+
 /// What is asked of the policy.
 pub(crate) fn policy(alloc: Global, verb: &str, policy: Option<&Policy>) -> Answer {
     let Some(policy) = policy else {
@@ -240,6 +321,8 @@ pub(crate) fn policy(alloc: Global, verb: &str, policy: Option<&Policy>) -> Answ
     };
     match verb {
         "id" => told(alloc, policy.id()),
+        "id-text" => lent(alloc, policy.id()),
+        "relink" => show_link(alloc, relinked(alloc, policy)),
         "is-static" => said(alloc, policy.is_static()),
         "condition" => show(alloc, policy.condition(alloc)),
         "principal" => show(alloc, policy.principal_constraint(alloc)),

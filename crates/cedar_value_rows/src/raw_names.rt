@@ -1,12 +1,14 @@
 // Raw names in the namespace `M`, where the common type `A` and the entity type `M::A` are declared.
-use crate::words::{Answer, show};
-use cedar_expressions::FromNormalizedStr;
-use cedar_expressions::ast::{InternalName, ParseNameError};
-use cedar_expressions::validator::{AllDefs, ConditionalName, RawName, ReferenceType};
+use cedar_names::errors::ParseNameError;
+use cedar_names::names::InternalName;
+use cedar_names::raw_names::{AllDefs, ConditionalName, RawName, ReferenceType};
+use cedar_names::reading::FromNormalizedStr;
+use cedar_rows::{Answer, show};
 use std::alloc::{AllocError, Global};
 use std::collections::BTreeSet;
 
-pub(crate) fn answer(alloc: Global, verb: &str, text: &str) -> Answer {
+/// What the text is read as, or resolves to as a reference of the kind that the verb names.
+pub fn answer(alloc: Global, verb: &str, text: &str) -> Answer {
     match verb {
         "raw" => show(alloc, RawName::from_normalized_str(alloc, text)),
         "common" => resolved(alloc, qualified(alloc, text, ReferenceType::Common)),

@@ -1,16 +1,19 @@
 // Entity uids, their types and slots.
 use crate::names::{Names, loc};
-use crate::words::{Answer, alike, keep, no_case, said, show, tell};
-use cedar_expressions::FromNormalizedStr;
-use cedar_expressions::ast::{
-    Eid, EntityType, EntityUID, ParseNameError, Slot, SlotId, StaticallyTyped,
-};
+use cedar_literals::slots::{Slot, SlotId};
+use cedar_literals::types::StaticallyTyped;
+use cedar_literals::uids::{Eid, EntityType, EntityUID};
+use cedar_names::errors::ParseNameError;
+use cedar_names::names::Name;
+use cedar_names::reading::FromNormalizedStr;
+use cedar_rows::{Answer, alike, keep, no_case, said, show, tell};
 use std::alloc::{AllocError, Global};
 use std::rc::RcStr;
 
 /// What was read last.
-pub(crate) struct Uids {
-    pub(crate) uid: Option<EntityUID>,
+pub struct Uids {
+    /// The uid that was read.
+    pub uid: Option<EntityUID>,
     second: Option<EntityUID>,
     entity_type: Option<EntityType>,
 }
@@ -25,7 +28,8 @@ impl Drop for Uids {
     }
 }
 
-pub(crate) fn none() -> Uids {
+/// Nothing was read yet.
+pub fn none() -> Uids {
     Uids {
         uid: None,
         second: None,
@@ -33,7 +37,8 @@ pub(crate) fn none() -> Uids {
     }
 }
 
-pub(crate) fn read(alloc: Global, verb: &str, text: &str, held: &mut Uids) -> Answer {
+/// Reads the text as what the verb names, and keeps what is to be asked later.
+pub fn read(alloc: Global, verb: &str, text: &str, held: &mut Uids) -> Answer {
     match verb {
         "entity-type" => keep(
             alloc,
@@ -94,20 +99,26 @@ fn slots(alloc: Global) -> Answer {
     said(alloc, alike(&placed, &bare))
 }
 
-pub(crate) fn qualified(alloc: Global, held: &Uids, names: &Names) -> Answer {
+/// The type held, in the namespace of the name held.
+pub fn qualified(alloc: Global, held: &Uids, names: &Names) -> Answer {
     let (Some(entity_type), Some(name)) = (&held.entity_type, &names.name) else {
         return no_case(alloc);
     };
     show(alloc, entity_type.qualify_with(alloc, Some(name)))
 }
 
-pub(crate) fn called(alloc: Global, verb: &str, held: &mut Uids) -> Answer {
+/// What is asked or made of the uid held.
+pub fn called(alloc: Global, verb: &str, held: &mut Uids) -> Answer {
     let Some(uid) = &held.uid else {
         return no_case(alloc);
     };
     match verb {
         "eid" => tell(alloc, uid.eid().as_str()),
         "static-type" => show(alloc, uid.type_of(alloc)),
+        "name-of-type" => match uid.entity_type().clone(alloc) {
+            Ok(entity_type) => show(alloc, Ok::<_, AllocError>(Name::from(entity_type))),
+            Err(error) => Err(error),
+        },
         "copied-uid" => keep(alloc, &mut held.second, uid.clone(alloc)),
         "type-of-uid" => keep(alloc, &mut held.entity_type, uid.entity_type().clone(alloc)),
         "placed-type" => {
@@ -135,7 +146,8 @@ fn put_together(alloc: Global, held: &mut Uids) -> Answer {
     }
 }
 
-pub(crate) fn compared(alloc: Global, verb: &str, held: &Uids) -> Answer {
+/// How the two uids held stand to one another, and whether the second has places.
+pub fn compared(alloc: Global, verb: &str, held: &Uids) -> Answer {
     let (Some(uid), Some(second)) = (&held.uid, &held.second) else {
         return no_case(alloc);
     };

@@ -1,14 +1,20 @@
 // Expressions by the builder of the library, whose place is that of what it builds.
-use crate::registers::{count_of, mapped, paired, place, put, told_place, top};
+use crate::registers::{place, told_place, top};
 use crate::trees::{binary_op, literal, made, path, pattern, slot, unary_op, unknown, variable};
-use crate::words::{Answer, no_case, number, taken, tell};
-use cedar_expressions::ast::{
-    EntityType, Expr, ExprBuilder, ExprKind, ExpressionConstructionError, Literal, Name,
-    ParseNameError, Unknown, Var,
-};
-use cedar_expressions::expr_builder::ExprBuilder as _;
-use cedar_expressions::parser::Loc;
-use cedar_expressions::{FromNormalizedStr, expr_builder};
+use cedar_builders::expr_builder;
+use cedar_builders::expr_builder::ExprBuilder as _;
+use cedar_builders::own_builder::ExprBuilder;
+use cedar_literals::literals::Literal;
+use cedar_literals::uids::EntityType;
+use cedar_literals::variables::Var;
+use cedar_names::errors::ParseNameError;
+use cedar_names::names::Name;
+use cedar_names::places::Loc;
+use cedar_names::reading::FromNormalizedStr;
+use cedar_rows::{Answer, count_of, mapped, no_case, number, paired, put, taken, tell};
+use cedar_trees::errors::ExpressionConstructionError;
+use cedar_trees::expr::{Expr, ExprKind};
+use cedar_trees::unknowns::Unknown;
 use std::alloc::{AllocError, Global};
 use std::rc::RcStr;
 
@@ -36,7 +42,7 @@ fn unknown_of(builder: ExprBuilder, unknown: Result<Unknown, ParseNameError>) ->
     }
 }
 
-pub(crate) fn leaf(
+fn leaf(
     alloc: Global,
     verb: &str,
     word: &str,
@@ -61,7 +67,7 @@ fn of_one(verb: &str, op: &str, builder: ExprBuilder, arg: Expr) -> Made {
     }
 }
 
-pub(crate) fn unary(
+fn unary(
     alloc: Global,
     verb: &str,
     op: &str,
@@ -101,18 +107,13 @@ fn of_members(verb: &str, builder: ExprBuilder, a: Expr, b: Expr) -> Made {
     }
 }
 
-pub(crate) fn binary(
-    alloc: Global,
-    verb: &str,
-    builder: ExprBuilder,
-    stack: &mut Vec<Expr>,
-) -> Answer {
+fn binary(alloc: Global, verb: &str, builder: ExprBuilder, stack: &mut Vec<Expr>) -> Answer {
     let b = top(stack);
     let a = top(stack);
     put(alloc, stack, of_two(verb, builder, a, b))
 }
 
-pub(crate) fn ternary(alloc: Global, builder: ExprBuilder, stack: &mut Vec<Expr>) -> Answer {
+fn ternary(alloc: Global, builder: ExprBuilder, stack: &mut Vec<Expr>) -> Answer {
     let c = top(stack);
     let b = top(stack);
     let a = top(stack);
@@ -129,7 +130,7 @@ fn of_type(verb: &str, builder: ExprBuilder, stack: &mut Vec<Expr>, ty: EntityTy
     builder.is_in_entity_type(expr, ty, group)
 }
 
-pub(crate) fn typed(
+fn typed(
     alloc: Global,
     verb: &str,
     word: &str,
@@ -145,7 +146,7 @@ pub(crate) fn typed(
     }
 }
 
-pub(crate) fn attribute(
+fn attribute(
     alloc: Global,
     verb: &str,
     word: &str,
@@ -176,7 +177,7 @@ pub(crate) fn attribute(
     }
 }
 
-pub(crate) fn call(
+fn call(
     alloc: Global,
     name: &str,
     count: &str,
@@ -190,17 +191,12 @@ pub(crate) fn call(
     }
 }
 
-pub(crate) fn set(
-    alloc: Global,
-    count: &str,
-    builder: ExprBuilder,
-    stack: &mut Vec<Expr>,
-) -> Answer {
+fn set(alloc: Global, count: &str, builder: ExprBuilder, stack: &mut Vec<Expr>) -> Answer {
     let items = taken(alloc, number(count), stack)?;
     put(alloc, stack, builder.set(items))
 }
 
-pub(crate) fn record(
+fn record(
     alloc: Global,
     verb: &str,
     keys: &str,
@@ -233,7 +229,7 @@ fn at(builder: ExprBuilder, loc: Option<Loc>) -> ExprBuilder {
 }
 
 /// Moves the builder, and says where it stands then.
-pub(crate) fn moved(
+fn moved(
     alloc: Global,
     verb: &str,
     word: &str,
@@ -251,18 +247,13 @@ pub(crate) fn moved(
 }
 
 /// The construct of the variable, at the builder's place.
-pub(crate) fn kind(
-    alloc: Global,
-    word: &str,
-    builder: ExprBuilder,
-    stack: &mut Vec<Expr>,
-) -> Answer {
+fn construct(alloc: Global, word: &str, builder: ExprBuilder, stack: &mut Vec<Expr>) -> Answer {
     let kind = ExprKind::Var(variable(word));
     put(alloc, stack, made(builder.with_expr_kind(kind)))
 }
 
 /// The data of what a builder with data builds.
-pub(crate) fn data(alloc: Global, word: &str) -> Answer {
+fn data(alloc: Global, word: &str) -> Answer {
     let builder = ExprBuilder {
         alloc,
         source_loc: None,
@@ -272,4 +263,32 @@ pub(crate) fn data(alloc: Global, word: &str) -> Answer {
         alloc,
         *builder.with_expr_kind(ExprKind::Var(Var::Context)).data(),
     )
+}
+
+/// What the builder makes of the stack. The word has the name of what is built before its own, where one
+/// kind has several.
+pub fn answer(
+    alloc: Global,
+    kind: &str,
+    one: &str,
+    other: &str,
+    held: &mut ExprBuilder,
+    stack: &mut Vec<Expr>,
+) -> Answer {
+    let (verb, word) = one.split_once(' ').unwrap_or((one, other));
+    let builder = held.clone()?;
+    match kind {
+        "leaf" => leaf(alloc, verb, word, builder, stack),
+        "unary" => unary(alloc, verb, word, builder, stack),
+        "binary" => binary(alloc, verb, builder, stack),
+        "ternary" => ternary(alloc, builder, stack),
+        "attribute" => attribute(alloc, verb, word, builder, stack),
+        "type" => typed(alloc, verb, word, builder, stack),
+        "call" => call(alloc, verb, word, builder, stack),
+        "set" => set(alloc, verb, builder, stack),
+        "record" => record(alloc, verb, word, builder, stack),
+        "kind" => construct(alloc, verb, builder, stack),
+        "data" => data(alloc, verb),
+        _ => moved(alloc, verb, word, stack, held),
+    }
 }

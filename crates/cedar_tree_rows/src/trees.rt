@@ -1,12 +1,22 @@
 // Expressions by their constructors, and what they say of themselves.
-use crate::registers::{count_of, mapped, paired, place, put, told_place, top};
-use crate::words::{Answer, explain, no_case, number, said, taken, tell};
-use cedar_expressions::ast::{
-    BinaryOp, DuplicateKeyError, EntityType, EntityUID, Expr, ExprKind,
-    ExpressionConstructionError, Literal, Name, NonEmpty, ParseNameError, Pattern, PatternElem,
-    SlotId, Type, UnaryOp, Unknown, Var,
+use crate::registers::{place, told_place, top};
+use cedar_literals::literals::Literal;
+use cedar_literals::operators::{BinaryOp, UnaryOp};
+use cedar_literals::patterns::{Pattern, PatternElem};
+use cedar_literals::slots::SlotId;
+use cedar_literals::types::Type;
+use cedar_literals::uids::{EntityType, EntityUID};
+use cedar_literals::variables::Var;
+use cedar_names::conversions::FromIn;
+use cedar_names::errors::ParseNameError;
+use cedar_names::names::Name;
+use cedar_names::reading::FromNormalizedStr;
+use cedar_rows::{
+    Answer, count_of, explain, mapped, no_case, number, paired, put, said, taken, tell,
 };
-use cedar_expressions::{FromIn, FromNormalizedStr};
+use cedar_trees::errors::{DuplicateKeyError, ExpressionConstructionError};
+use cedar_trees::expr::{Expr, ExprKind};
+use cedar_trees::unknowns::{NonEmpty, Unknown};
 use std::alloc::{AllocError, Global};
 use std::rc::{Rc, RcStr};
 
@@ -15,7 +25,8 @@ fn entity(alloc: Global, eid: &str) -> Result<Literal, ParseNameError> {
     Ok(Literal::EntityUID(Rc::new(alloc, uid)?))
 }
 
-pub(crate) fn literal(alloc: Global, verb: &str, text: &str) -> Result<Literal, ParseNameError> {
+/// The literal of this kind that the text writes.
+pub fn literal(alloc: Global, verb: &str, text: &str) -> Result<Literal, ParseNameError> {
     match verb {
         "bool" => Ok(Literal::Bool(text == "true")),
         "long" => Ok(Literal::Long(text.parse::<i64>().unwrap_or(0))),
@@ -24,7 +35,8 @@ pub(crate) fn literal(alloc: Global, verb: &str, text: &str) -> Result<Literal, 
     }
 }
 
-pub(crate) fn variable(text: &str) -> Var {
+/// The variable of this name; `context` of any other.
+pub fn variable(text: &str) -> Var {
     match text {
         "principal" => Var::Principal,
         "action" => Var::Action,
@@ -33,14 +45,16 @@ pub(crate) fn variable(text: &str) -> Var {
     }
 }
 
-pub(crate) fn slot(text: &str) -> SlotId {
+/// The principal's slot, or of another word the resource's.
+pub fn slot(text: &str) -> SlotId {
     if text == "principal" {
         return SlotId::principal();
     }
     SlotId::resource()
 }
 
-pub(crate) fn type_of(alloc: Global, text: &str) -> Result<Type, ParseNameError> {
+/// The type of this name, which is that of an entity where it names no other.
+pub fn type_of(alloc: Global, text: &str) -> Result<Type, ParseNameError> {
     match text {
         "bool" => Ok(Type::Bool),
         "long" => Ok(Type::Long),
@@ -52,7 +66,7 @@ pub(crate) fn type_of(alloc: Global, text: &str) -> Result<Type, ParseNameError>
 }
 
 /// The unknown of this name, and of the type where one is given.
-pub(crate) fn unknown(alloc: Global, name: &str, ty: &str) -> Result<Unknown, ParseNameError> {
+pub fn unknown(alloc: Global, name: &str, ty: &str) -> Result<Unknown, ParseNameError> {
     let name = RcStr::from_str(alloc, name)?;
     if ty.is_empty() {
         return Ok(Unknown::new_untyped(name));
@@ -68,17 +82,13 @@ fn unknown_of(unknown: Result<Unknown, ParseNameError>) -> Result<Expr, ParseNam
     Ok(Expr::unknown(unknown?))
 }
 
-pub(crate) fn made(expr: Expr) -> Result<Expr, AllocError> {
+/// What needs no memory is made.
+pub fn made(expr: Expr) -> Result<Expr, AllocError> {
     Ok(expr)
 }
 
-pub(crate) fn leaf(
-    alloc: Global,
-    verb: &str,
-    text: &str,
-    ty: &str,
-    stack: &mut Vec<Expr>,
-) -> Answer {
+/// Puts the leaf that the words name on the stack.
+pub fn leaf(alloc: Global, verb: &str, text: &str, ty: &str, stack: &mut Vec<Expr>) -> Answer {
     match verb {
         "var" => put(alloc, stack, made(Expr::var(variable(text)))),
         "slot" => put(alloc, stack, made(Expr::slot(slot(text)))),
@@ -93,7 +103,7 @@ fn copied(alloc: Global, unknown: &Unknown) -> Answer {
 }
 
 /// Of an unknown of this type and one of none.
-pub(crate) fn unknowns(alloc: Global, verb: &str, name: &str, ty: &str) -> Answer {
+pub fn unknowns(alloc: Global, verb: &str, name: &str, ty: &str) -> Answer {
     match (unknown(alloc, name, ty), unknown(alloc, name, "")) {
         (Ok(typed), Ok(untyped)) => match verb {
             "clone" => copied(alloc, &typed),
@@ -104,7 +114,8 @@ pub(crate) fn unknowns(alloc: Global, verb: &str, name: &str, ty: &str) -> Answe
     }
 }
 
-pub(crate) fn unary_op(text: &str) -> UnaryOp {
+/// The operator of this name; `isEmpty` of any other.
+pub fn unary_op(text: &str) -> UnaryOp {
     match text {
         "not" => UnaryOp::Not,
         "neg" => UnaryOp::Neg,
@@ -112,7 +123,8 @@ pub(crate) fn unary_op(text: &str) -> UnaryOp {
     }
 }
 
-pub(crate) fn binary_op(text: &str) -> BinaryOp {
+/// The operator of this name; `==` of any other.
+pub fn binary_op(text: &str) -> BinaryOp {
     match text {
         "less" => BinaryOp::Less,
         "add" => BinaryOp::Add,
@@ -131,7 +143,8 @@ fn of_one(alloc: Global, verb: &str, op: &str, arg: Expr) -> Result<Expr, AllocE
     }
 }
 
-pub(crate) fn unary(alloc: Global, verb: &str, op: &str, stack: &mut Vec<Expr>) -> Answer {
+/// An operator on the top of the stack.
+pub fn unary(alloc: Global, verb: &str, op: &str, stack: &mut Vec<Expr>) -> Answer {
     let arg = top(stack);
     put(alloc, stack, of_one(alloc, verb, op, arg))
 }
@@ -165,7 +178,8 @@ fn of_members(alloc: Global, verb: &str, a: Expr, b: Expr) -> Result<Expr, Alloc
     }
 }
 
-pub(crate) fn binary(alloc: Global, verb: &str, stack: &mut Vec<Expr>) -> Answer {
+/// An operator on the two on top, the second of which is its right operand.
+pub fn binary(alloc: Global, verb: &str, stack: &mut Vec<Expr>) -> Answer {
     let b = top(stack);
     let a = top(stack);
     put(alloc, stack, of_two(alloc, verb, a, b))
@@ -178,7 +192,8 @@ fn shared(alloc: Global, a: Expr, b: Expr, c: Expr) -> Result<Expr, AllocError> 
     Ok(Expr::ite_arc(a, b, c))
 }
 
-pub(crate) fn ternary(alloc: Global, verb: &str, stack: &mut Vec<Expr>) -> Answer {
+/// `if`, `then` and `else` of the three on top.
+pub fn ternary(alloc: Global, verb: &str, stack: &mut Vec<Expr>) -> Answer {
     let c = top(stack);
     let b = top(stack);
     let a = top(stack);
@@ -189,7 +204,7 @@ pub(crate) fn ternary(alloc: Global, verb: &str, stack: &mut Vec<Expr>) -> Answe
 }
 
 /// The path of a text as `a.b.c`.
-pub(crate) fn path(alloc: Global, text: &str) -> Result<NonEmpty<RcStr>, AllocError> {
+pub fn path(alloc: Global, text: &str) -> Result<NonEmpty<RcStr>, AllocError> {
     let (head, others) = text.split_once('.').unwrap_or((text, ""));
     let mut tail = Vec::new(alloc);
     if !others.is_empty() {
@@ -202,7 +217,7 @@ pub(crate) fn path(alloc: Global, text: &str) -> Result<NonEmpty<RcStr>, AllocEr
 }
 
 /// The pattern whose wildcards are the stars of the text.
-pub(crate) fn pattern(alloc: Global, text: &str) -> Result<Pattern, AllocError> {
+pub fn pattern(alloc: Global, text: &str) -> Result<Pattern, AllocError> {
     let mut elems = Vec::new(alloc);
     for c in text.chars() {
         elems.push(match c {
@@ -221,7 +236,8 @@ fn of_type(
     Ok(Expr::is_entity_type(alloc, expr, ty?)?)
 }
 
-pub(crate) fn attribute(alloc: Global, verb: &str, word: &str, stack: &mut Vec<Expr>) -> Answer {
+/// What is asked of an attribute of that on top, or whether it is like a pattern or of a type.
+pub fn attribute(alloc: Global, verb: &str, word: &str, stack: &mut Vec<Expr>) -> Answer {
     match verb {
         "get_attr" => {
             let attr = RcStr::from_str(alloc, word)?;
@@ -259,13 +275,15 @@ fn called(
     Ok(Expr::call_extension_fn(alloc, name?, args)?)
 }
 
-pub(crate) fn call(alloc: Global, name: &str, count: &str, stack: &mut Vec<Expr>) -> Answer {
+/// A call of the function of this name on as many from the top as the word says.
+pub fn call(alloc: Global, name: &str, count: &str, stack: &mut Vec<Expr>) -> Answer {
     let args = taken(alloc, number(count), stack)?;
     let name = Name::from_normalized_str(alloc, name);
     put(alloc, stack, called(alloc, name, args))
 }
 
-pub(crate) fn set(alloc: Global, count: &str, stack: &mut Vec<Expr>) -> Answer {
+/// A set of as many from the top as the word says.
+pub fn set(alloc: Global, count: &str, stack: &mut Vec<Expr>) -> Answer {
     let items = taken(alloc, number(count), stack)?;
     put(alloc, stack, Expr::set(alloc, items))
 }
@@ -278,7 +296,7 @@ fn shared_record(
 }
 
 /// A record of these keys, whose expressions are on top.
-pub(crate) fn record(alloc: Global, verb: &str, keys: &str, stack: &mut Vec<Expr>) -> Answer {
+pub fn record(alloc: Global, verb: &str, keys: &str, stack: &mut Vec<Expr>) -> Answer {
     let items = taken(alloc, count_of(keys), stack)?;
     let pairs = paired(alloc, keys, items)?;
     match verb {
@@ -288,7 +306,7 @@ pub(crate) fn record(alloc: Global, verb: &str, keys: &str, stack: &mut Vec<Expr
 }
 
 /// How a refusal of this key is told, alone and as the reason why no expression is made.
-pub(crate) fn key(alloc: Global, verb: &str, key: &str) -> Answer {
+pub fn key(alloc: Global, verb: &str, key: &str) -> Answer {
     let error = DuplicateKeyError::new(RcStr::from_str(alloc, key)?, "in record literal");
     match verb {
         "told" => error.to_string(alloc),
@@ -304,7 +322,8 @@ fn moved(alloc: Global, word: &str, stack: &mut Vec<Expr>) -> Answer {
     put(alloc, stack, made(expr.with_maybe_source_loc(place)))
 }
 
-pub(crate) fn asked(alloc: Global, verb: &str, word: &str, stack: &mut Vec<Expr>) -> Answer {
+/// What the expression on top says of itself, and its copies.
+pub fn asked(alloc: Global, verb: &str, word: &str, stack: &mut Vec<Expr>) -> Answer {
     if verb == "with_maybe_source_loc" {
         return moved(alloc, word, stack);
     }
@@ -325,7 +344,7 @@ pub(crate) fn asked(alloc: Global, verb: &str, word: &str, stack: &mut Vec<Expr>
 }
 
 /// The literal 1 with data.
-pub(crate) fn numbered(data: u8) -> Expr<u8> {
+pub fn numbered(data: u8) -> Expr<u8> {
     Expr {
         expr_kind: ExprKind::Lit(Literal::Long(1)),
         source_loc: None,
@@ -357,7 +376,7 @@ fn copied_parts(alloc: Global, copy: Result<Expr<u8>, AllocError>) -> Answer {
 }
 
 /// Of a literal whose data was 7 and is the word's number now.
-pub(crate) fn data(alloc: Global, verb: &str, word: &str) -> Answer {
+pub fn data(alloc: Global, verb: &str, word: &str) -> Answer {
     let mut expr = numbered(7);
     expr.set_data(word.parse::<u8>().unwrap_or(0));
     match verb {

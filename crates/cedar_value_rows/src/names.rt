@@ -1,18 +1,22 @@
 // Identifiers, names and places.
-use crate::words::{Answer, alike, keep, no_case, number, said, show, tell};
-use cedar_expressions::ast::{AnyId, Id, InternalName, Name, UnreservedId, is_normalized_ident};
-use cedar_expressions::parser::{Loc, Span};
-use cedar_expressions::{FromIn, FromNormalizedStr};
+use cedar_names::conversions::FromIn;
+use cedar_names::identifiers::{AnyId, Id, UnreservedId, is_normalized_ident};
+use cedar_names::names::{InternalName, Name};
+use cedar_names::places::{Loc, Span};
+use cedar_names::reading::FromNormalizedStr;
+use cedar_rows::{Answer, alike, keep, no_case, number, said, show, tell};
 use std::alloc::{AllocError, Global};
 use std::rc::RcStr;
 
 /// What was read last of each kind.
-pub(crate) struct Names {
+pub struct Names {
     id: Option<Id>,
     unreserved: Option<UnreservedId>,
-    pub(crate) internal: Option<InternalName>,
+    /// The name that may be reserved.
+    pub internal: Option<InternalName>,
     other: Option<InternalName>,
-    pub(crate) name: Option<Name>,
+    /// The name that is not reserved.
+    pub name: Option<Name>,
     second: Option<Name>,
 }
 
@@ -29,7 +33,8 @@ impl Drop for Names {
     }
 }
 
-pub(crate) fn none() -> Names {
+/// Nothing was read yet.
+pub fn none() -> Names {
     Names {
         id: None,
         unreserved: None,
@@ -40,7 +45,8 @@ pub(crate) fn none() -> Names {
     }
 }
 
-pub(crate) fn read(alloc: Global, verb: &str, text: &str, held: &mut Names) -> Answer {
+/// Reads the text as what the verb names, and keeps what is to be asked later.
+pub fn read(alloc: Global, verb: &str, text: &str, held: &mut Names) -> Answer {
     match verb {
         "any-id" => show(alloc, AnyId::from_normalized_str(alloc, text)),
         "id" => keep(alloc, &mut held.id, Id::from_normalized_str(alloc, text)),
@@ -75,7 +81,7 @@ pub(crate) fn read(alloc: Global, verb: &str, text: &str, held: &mut Names) -> A
 }
 
 /// What is made of the names held.
-pub(crate) fn called(alloc: Global, verb: &str, held: &mut Names) -> Answer {
+pub fn called(alloc: Global, verb: &str, held: &mut Names) -> Answer {
     let (Some(internal), Some(other)) = (&held.internal, &held.other) else {
         return no_case(alloc);
     };
@@ -87,7 +93,7 @@ pub(crate) fn called(alloc: Global, verb: &str, held: &mut Names) -> Answer {
 }
 
 /// An identifier is made a name, and a name an identifier.
-pub(crate) fn converted(alloc: Global, verb: &str, held: &mut Names) -> Answer {
+pub fn converted(alloc: Global, verb: &str, held: &mut Names) -> Answer {
     match verb {
         "name-of-id" => match held.unreserved.take() {
             Some(id) => keep(alloc, &mut held.name, Name::from_in(alloc, id)),
@@ -113,18 +119,13 @@ pub(crate) fn converted(alloc: Global, verb: &str, held: &mut Names) -> Answer {
 }
 
 /// The place in a text of four bytes, `aéb`.
-pub(crate) fn loc(alloc: Global, start: &str, end: &str) -> Result<Loc, AllocError> {
+pub fn loc(alloc: Global, start: &str, end: &str) -> Result<Loc, AllocError> {
     let (start, end) = (number(start), number(end));
     Loc::new(alloc, Span { start, end }, RcStr::from_str(alloc, "aéb")?)
 }
 
-pub(crate) fn placed(
-    alloc: Global,
-    verb: &str,
-    start: &str,
-    end: &str,
-    held: &mut Names,
-) -> Answer {
+/// The name held at the place between two numbers, or the text of that place.
+pub fn placed(alloc: Global, verb: &str, start: &str, end: &str, held: &mut Names) -> Answer {
     let loc = loc(alloc, start, end)?;
     match &held.name {
         Some(name) if verb == "place" => {
@@ -134,7 +135,8 @@ pub(crate) fn placed(
     }
 }
 
-pub(crate) fn compared(alloc: Global, verb: &str, held: &Names) -> Answer {
+/// How the last two names stand to one another, and whether the second has a place.
+pub fn compared(alloc: Global, verb: &str, held: &Names) -> Answer {
     let (Some(name), Some(second)) = (&held.name, &held.second) else {
         return no_case(alloc);
     };

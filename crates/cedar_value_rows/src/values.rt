@@ -1,16 +1,22 @@
 // Values that are put on a stack, and what is asked of those on its top.
 use crate::names::loc;
-use crate::registers::{count_of, mapped, paired};
-use crate::words::{Answer, alike, no_case, number, push, said, show, taken, tell};
-use cedar_expressions::FromIn;
-use cedar_expressions::ast::{
-    Argument, BoundedToString, EntityUID, ExtensionValue, Literal, Name, ParseNameError,
-    RepresentableExtensionValue, Set, StaticallyTyped, Value, ValueKind,
+use cedar_literals::literals::Literal;
+use cedar_literals::types::StaticallyTyped;
+use cedar_literals::uids::EntityUID;
+use cedar_names::conversions::FromIn;
+use cedar_names::errors::ParseNameError;
+use cedar_names::names::Name;
+use cedar_rows::{
+    Answer, alike, count_of, mapped, no_case, number, paired, push, said, show, taken, tell,
 };
+use cedar_values::bounded_display::BoundedToString;
+use cedar_values::extension_values::{Argument, ExtensionValue, RepresentableExtensionValue};
+use cedar_values::values::{Set, Value, ValueKind};
 use std::alloc::{AllocError, Global};
 use std::rc::{Rc, RcStr};
 
-pub(crate) type Stack = Vec<Value>;
+/// Values, the last of which is the top.
+pub type Stack = Vec<Value>;
 
 fn literal(literal: Result<Literal, AllocError>) -> Result<Value, AllocError> {
     Ok(Value::from(literal?))
@@ -24,11 +30,13 @@ fn setted(set: Result<Set, AllocError>) -> Result<Value, AllocError> {
     Ok(Value::new(ValueKind::Set(set?), None))
 }
 
-pub(crate) fn long(text: &str) -> Literal {
+/// The long that the word writes, or 0.
+pub fn long(text: &str) -> Literal {
     Literal::from(text.parse::<i64>().unwrap_or(0))
 }
 
-pub(crate) fn made(
+/// Puts on the stack what the verb makes of the word, or of the uid held.
+pub fn made(
     alloc: Global,
     verb: &str,
     text: &str,
@@ -83,7 +91,7 @@ fn keyed(alloc: Global, key: &str) -> Result<ExtensionValue, ParseNameError> {
 }
 
 /// The rank with this key, made by a call of `func`.
-pub(crate) fn rank(
+pub fn rank(
     alloc: Global,
     key: &str,
     func: &str,
@@ -103,18 +111,13 @@ fn extended(
     Ok(Value::new(ValueKind::ExtensionValue(value), None))
 }
 
-pub(crate) fn ranked(
-    alloc: Global,
-    text: &str,
-    key: &str,
-    func: &str,
-    stack: &mut Stack,
-) -> Answer {
+/// Puts the rank with this key on the stack, made by a call of `func`.
+pub fn ranked(alloc: Global, text: &str, key: &str, func: &str, stack: &mut Stack) -> Answer {
     push(alloc, stack, extended(alloc, rank(alloc, key, func, text)))
 }
 
 /// A set of as many values as the word says.
-pub(crate) fn set(alloc: Global, verb: &str, count: &str, stack: &mut Stack) -> Answer {
+pub fn set(alloc: Global, verb: &str, count: &str, stack: &mut Stack) -> Answer {
     let values = taken(alloc, number(count), stack)?;
     match verb {
         "set" => push(alloc, stack, Value::set(alloc, values, None)),
@@ -133,7 +136,8 @@ fn literals(alloc: Global, numbers: &str) -> Result<Vec<Literal>, AllocError> {
     Ok(literals)
 }
 
-pub(crate) fn literal_set(alloc: Global, verb: &str, numbers: &str, stack: &mut Stack) -> Answer {
+/// A set of the numbers between commas, made as the verb says.
+pub fn literal_set(alloc: Global, verb: &str, numbers: &str, stack: &mut Stack) -> Answer {
     let literals = literals(alloc, numbers)?;
     match verb {
         "set-of-literals" => push(alloc, stack, Value::set_of_lits(alloc, literals, None)),
@@ -147,7 +151,7 @@ pub(crate) fn literal_set(alloc: Global, verb: &str, numbers: &str, stack: &mut 
 }
 
 /// A record of these keys, whose values are on top.
-pub(crate) fn record(alloc: Global, verb: &str, keys: &str, stack: &mut Stack) -> Answer {
+pub fn record(alloc: Global, verb: &str, keys: &str, stack: &mut Stack) -> Answer {
     let values = taken(alloc, count_of(keys), stack)?;
     let pairs = paired(alloc, keys, values)?;
     match verb {
@@ -190,7 +194,8 @@ fn as_set(value: &Value) -> Option<&Set> {
     }
 }
 
-pub(crate) fn asked(alloc: Global, verb: &str, text: &str, stack: &mut Stack) -> Answer {
+/// What is asked or made of the values on top.
+pub fn asked(alloc: Global, verb: &str, text: &str, stack: &mut Stack) -> Answer {
     match verb {
         "clear" => {
             stack.clear();

@@ -1,19 +1,19 @@
-// Patterns, types, operators, and the ids of policies.
+// Patterns and types.
 use crate::names::Names;
-use crate::words::{Answer, alike, keep, no_case, said, show, tell};
-use cedar_expressions::FromIn;
-use cedar_expressions::ast::{BinaryOp, Pattern, PatternElem, Type, UnaryOp, Var};
-use cedar_policy_parts::{Effect, PolicyID};
+use cedar_literals::patterns::{Pattern, PatternElem};
+use cedar_literals::types::Type;
+use cedar_literals::variables::Var;
+use cedar_names::conversions::FromIn;
+use cedar_names::identifiers::{Id, UnreservedId};
+use cedar_rows::{Answer, alike, keep, no_case, said, show, tell};
 use std::alloc::{AllocError, Global};
 use std::rc::{Rc, RcStr};
 
 /// What was read last.
-pub(crate) struct Literals {
+pub struct Literals {
     pattern: Option<Pattern>,
     ty: Option<Type>,
     second_type: Option<Type>,
-    id: Option<PolicyID>,
-    second_id: Option<PolicyID>,
 }
 
 impl Drop for Literals {
@@ -22,19 +22,16 @@ impl Drop for Literals {
             pattern: _,
             ty: _,
             second_type: _,
-            id: _,
-            second_id: _,
         } = self;
     }
 }
 
-pub(crate) fn none() -> Literals {
+/// Nothing was read yet.
+pub fn none() -> Literals {
     Literals {
         pattern: None,
         ty: None,
         second_type: None,
-        id: None,
-        second_id: None,
     }
 }
 
@@ -54,7 +51,8 @@ fn elems(alloc: Global, text: &str) -> Result<Vec<PatternElem>, AllocError> {
     text.chars().map(elem).collect(alloc)
 }
 
-pub(crate) fn patterns(alloc: Global, verb: &str, text: &str, held: &mut Literals) -> Answer {
+/// What a step on patterns makes of the text, or asks of the pattern held.
+pub fn patterns(alloc: Global, verb: &str, text: &str, held: &mut Literals) -> Answer {
     match verb {
         "pattern" => keep(alloc, &mut held.pattern, pattern(alloc, text)),
         "pattern-in" => show(alloc, Pattern::from_in(alloc, elems(alloc, text)?)),
@@ -91,7 +89,8 @@ fn plain_type(text: &str) -> Type {
     }
 }
 
-pub(crate) fn types(
+/// What a step on types makes of the word, of the name held, or of the type held.
+pub fn types(
     alloc: Global,
     verb: &str,
     text: &str,
@@ -129,42 +128,19 @@ fn types_alike(alloc: Global, held: &Literals) -> Answer {
     }
 }
 
-pub(crate) fn policies(alloc: Global, verb: &str, text: &str, held: &mut Literals) -> Answer {
-    match verb {
-        "operators" => {
-            format!(in alloc;
-                "{} {} {}",
-                Var::Context,
-                UnaryOp::IsEmpty,
-                BinaryOp::LessEq
-            )
-        }
-        "permit" => show(alloc, Ok::<_, AllocError>(Effect::Permit)),
-        "forbid" => show(alloc, Ok::<_, AllocError>(Effect::Forbid)),
-        "policy-id" => keep(alloc, &mut held.id, PolicyID::from_string(alloc, text)),
-        "policy-text" => {
-            let id = PolicyID::from_smolstr(RcStr::from_str(alloc, text)?);
-            keep(alloc, &mut held.second_id, Ok::<_, AllocError>(id))
-        }
-        "policy-copy" => match &held.id {
-            Some(id) => keep(alloc, &mut held.second_id, id.clone()),
-            None => no_case(alloc),
-        },
-        "policy-smolstr" => match held.second_id.take() {
-            Some(id) => show(alloc, Ok::<_, AllocError>(id.into_smolstr())),
-            None => no_case(alloc),
-        },
-        _ => ids(alloc, verb, held),
+fn variable(word: &str) -> Var {
+    match word {
+        "principal" => Var::Principal,
+        "action" => Var::Action,
+        "resource" => Var::Resource,
+        _ => Var::Context,
     }
 }
 
-fn ids(alloc: Global, verb: &str, held: &Literals) -> Answer {
-    match (&held.id, &held.second_id) {
-        (Some(id), Some(second)) => match verb {
-            "ids-equal" => said(alloc, id == second),
-            "policy-str" => tell(alloc, id.as_str()),
-            _ => tell(alloc, id.cmp(second)),
-        },
-        _ => no_case(alloc),
+/// The variable as an identifier.
+pub fn variables(alloc: Global, verb: &str, word: &str) -> Answer {
+    match verb {
+        "id" => show(alloc, Id::from_in(alloc, variable(word))),
+        _ => show(alloc, UnreservedId::from_in(alloc, variable(word))),
     }
 }

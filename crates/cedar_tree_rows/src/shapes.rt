@@ -1,12 +1,19 @@
 // Shapes of expressions compared, hashed and walked, and chains that take no stack.
-use crate::registers::{hold, place, separate, told_place};
+use crate::registers::{place, told_place};
 use crate::trees::{numbered, slot};
-use crate::words::{Answer, no_case, number, said, tell};
-use cedar_expressions::ast::{
-    Expr, ExprIterator, ExprReaders, ExprShape, ExprShapeOnly, Literal, Name, ParseNameError,
-    Slots, Type, Unknown, Unknowns, Var,
-};
-use cedar_expressions::{Extensions, FromNormalizedStr};
+use cedar_literals::literals::Literal;
+use cedar_literals::types::Type;
+use cedar_literals::variables::Var;
+use cedar_names::errors::ParseNameError;
+use cedar_names::names::Name;
+use cedar_names::reading::FromNormalizedStr;
+use cedar_rows::{Answer, hold, no_case, number, said, separate, tell};
+use cedar_shapes::iteration::{ExprIterator, Slots, Unknowns};
+use cedar_shapes::readers::ExprReaders;
+use cedar_shapes::shapes::{ExprShape, ExprShapeOnly};
+use cedar_shapes::types::FunctionTypes;
+use cedar_trees::expr::Expr;
+use cedar_trees::unknowns::Unknown;
 use std::alloc::{AllocError, Global};
 use std::cmp::Ordering;
 use std::hash::{DefaultHasher, Hash, Hasher};
@@ -36,7 +43,7 @@ fn links(alloc: Global, verb: &str, count: usize, expr: Expr) -> Result<Expr, Pa
 }
 
 /// A chain of so many links, the first of which is on the stack. It is too long to be shown.
-pub(crate) fn chain(alloc: Global, verb: &str, count: &str, stack: &mut Vec<Expr>) -> Answer {
+pub fn chain(alloc: Global, verb: &str, count: &str, stack: &mut Vec<Expr>) -> Answer {
     match stack.pop() {
         Some(expr) => hold(alloc, stack, links(alloc, verb, number(count), expr)),
         None => no_case(alloc),
@@ -74,12 +81,7 @@ fn signs(alloc: Global, expr: &Expr, kept: &[Expr]) -> Answer {
 }
 
 /// Keeps the top of the stack, or compares it with all that were kept.
-pub(crate) fn kept(
-    alloc: Global,
-    verb: &str,
-    stack: &mut Vec<Expr>,
-    kept: &mut Vec<Expr>,
-) -> Answer {
+pub fn kept(alloc: Global, verb: &str, stack: &mut Vec<Expr>, kept: &mut Vec<Expr>) -> Answer {
     match stack.pop() {
         Some(expr) if verb == "keep" => {
             kept.push(expr)?;
@@ -128,7 +130,8 @@ fn of_two(alloc: Global, verb: &str, a: &Expr, b: &Expr) -> Answer {
     }
 }
 
-pub(crate) fn compared(alloc: Global, verb: &str, stack: &[Expr]) -> Answer {
+/// How the shapes of the two expressions on top stand to one another.
+pub fn compared(alloc: Global, verb: &str, stack: &[Expr]) -> Answer {
     match stack {
         [.., a, b] => of_two(alloc, verb, a, b),
         _ => no_case(alloc),
@@ -207,7 +210,7 @@ fn is_numbered(alloc: Global, expr: &Expr) -> Answer {
 }
 
 /// What the walks of the expression on top meet.
-pub(crate) fn walked(alloc: Global, verb: &str, stack: &[Expr], table: &Extensions<'_>) -> Answer {
+pub fn walked<F: FunctionTypes>(alloc: Global, verb: &str, stack: &[Expr], table: &F) -> Answer {
     let Some(expr) = stack.last() else {
         return no_case(alloc);
     };

@@ -1,0 +1,89 @@
+// Texts that are read by the strict grammar, with no function of an extension but `unknown` in bodies.
+use crate::words::Answer;
+use cedar_conversion_leaves::ExtStyles;
+use cedar_extensions::extensions::Extensions;
+use cedar_loose::{ParseError, ParseErrors};
+use cedar_parser::err::RestrictedExpressionParseError;
+use cedar_parser::prelude::StylesOfExtensions;
+use cedar_parser::strict::{
+    parse_euid_strict, parse_expr_strict, parse_policyset_strict, parse_restrictedexpr,
+};
+use cedar_policy_set::sets::PolicySet;
+use cedar_restricted::restricted::RestrictedExpr;
+use std::alloc::{AllocError, Global};
+use std::fmt::Display;
+
+/// How deep a text may be nested.
+const DEPTH: u32 = 4;
+
+pub(crate) fn read(alloc: Global, verb: &str, text: &str) -> Answer {
+    let extensions = Extensions::all_available(alloc)?;
+    match verb {
+        "body" => body(
+            alloc,
+            parse_restrictedexpr(alloc, text, &bodies(alloc, &extensions)?, DEPTH),
+        ),
+        "entity" => told(alloc, parse_euid_strict(alloc, text)),
+        "policies" => set(
+            alloc,
+            parse_policyset_strict(alloc, text, &policies(alloc, &extensions)?, DEPTH),
+        ),
+        _ => told(
+            alloc,
+            parse_expr_strict(alloc, text, &policies(alloc, &extensions)?, DEPTH),
+        ),
+    }
+}
+
+fn bodies(alloc: Global, extensions: &Extensions<'_>) -> Result<ExtStyles, AllocError> {
+    ExtStyles::from_extensions(alloc, extensions)
+}
+
+fn policies(alloc: Global, extensions: &Extensions<'_>) -> Result<ExtStyles, AllocError> {
+    ExtStyles::for_policies(alloc, extensions)
+}
+
+/// What was read, or all errors with their places.
+fn told<T: Display + Drop>(alloc: Global, read: Result<T, ParseErrors>) -> Answer {
+    match read {
+        Ok(value) => value.to_string(alloc),
+        Err(errors) => all(alloc, &errors),
+    }
+}
+
+fn set(alloc: Global, read: Result<PolicySet, ParseErrors>) -> Answer {
+    match read {
+        Ok(set) => crate::conversion::each(alloc, &set),
+        Err(errors) => all(alloc, &errors),
+    }
+}
+
+fn body(alloc: Global, read: Result<RestrictedExpr, RestrictedExpressionParseError>) -> Answer {
+    match read {
+        Ok(body) => body.to_string(alloc),
+        Err(RestrictedExpressionParseError::Parse(errors)) => all(alloc, &errors),
+        Err(error) => error.to_string(alloc),
+    }
+}
+
+fn all(alloc: Global, errors: &ParseErrors) -> Answer {
+    let mut told = error(alloc, &errors.0.head)?;
+    for next in &errors.0.tail {
+        let next = error(alloc, next)?;
+        told.push_str("; ")?;
+        told.push_str(next.as_str())?;
+    }
+    Ok(told)
+}
+
+/// An error, after its place.
+fn error(alloc: Global, error: &ParseError) -> Answer {
+    match error {
+        ParseError::ToCST(error) => match error.primary_source_span() {
+            Some(span) => format!(in alloc; "{}..{}: {error}", span.start, span.end),
+            None => error.to_string(alloc),
+        },
+        ParseError::ToAST(fault) => crate::conversion::fault(alloc, fault),
+        _ => error.to_string(alloc),
+    }
+}

@@ -1,0 +1,91 @@
+// How what was made is told.
+use std::alloc::{AllocError, Global};
+use std::fmt::{Debug, Display};
+use std::hash::{DefaultHasher, Hash, Hasher};
+
+/// The text that answers a step. Refused for memory alone.
+pub type Answer = Result<String, AllocError>;
+
+/// `true` or `false`.
+pub fn said(alloc: Global, holds: bool) -> Answer {
+    String::from_str(alloc, if holds { "true" } else { "false" })
+}
+
+/// That nothing is held of which a step could be asked.
+pub fn no_case(alloc: Global) -> Answer {
+    String::from_str(alloc, "no case")
+}
+
+/// Why nothing was made, by the error's text for programmers.
+pub fn refused<E: Debug + Drop>(alloc: Global, error: E) -> Answer {
+    format!(in alloc; "refused {error:?}")
+}
+
+/// Why nothing was made, by the error's text.
+pub fn refused_for<E: Display + Drop>(alloc: Global, error: E) -> Answer {
+    format!(in alloc; "refused: {error}")
+}
+
+/// The text of what was made, or that of the error for programmers.
+pub fn show<T: Display + Drop, E: Debug + Drop>(alloc: Global, found: Result<T, E>) -> Answer {
+    match found {
+        Ok(value) => value.to_string(alloc),
+        Err(error) => refused(alloc, error),
+    }
+}
+
+/// The text of what was made, or why it was not.
+pub fn explain<T: Display + Drop, E: Display + Drop>(alloc: Global, found: Result<T, E>) -> Answer {
+    match found {
+        Ok(value) => value.to_string(alloc),
+        Err(error) => refused_for(alloc, error),
+    }
+}
+
+/// The text of what was made, or that of the error alone.
+pub fn text_of<T: Display + Drop, E: Display + Drop>(alloc: Global, found: Result<T, E>) -> Answer {
+    match found {
+        Ok(value) => value.to_string(alloc),
+        Err(error) => error.to_string(alloc),
+    }
+}
+
+/// The text for programmers of what was made, or the text of the error alone.
+pub fn spell<T: Debug + Drop, E: Display + Drop>(alloc: Global, found: Result<T, E>) -> Answer {
+    match found {
+        Ok(value) => tell(alloc, value),
+        Err(error) => error.to_string(alloc),
+    }
+}
+
+/// The text for programmers.
+pub fn tell<T: Debug + Drop>(alloc: Global, found: T) -> Answer {
+    format!(in alloc; "{found:?}")
+}
+
+/// The text of what is there, if anything is.
+pub fn maybe<T: Display + Drop>(alloc: Global, found: Option<T>) -> Answer {
+    match found {
+        Some(value) => value.to_string(alloc),
+        None => String::from_str(alloc, "none"),
+    }
+}
+
+/// Puts what stands between parts behind a text that has one. Refused for memory alone.
+pub fn separate(text: &mut String) -> Result<(), AllocError> {
+    if text.is_empty() {
+        return Ok(());
+    }
+    text.push_str(", ")
+}
+
+/// Whether the two are equal and have one hash.
+pub fn alike<T: Hash + PartialEq>(one: &T, other: &T) -> bool {
+    *one == *other && hash_of(one) == hash_of(other)
+}
+
+fn hash_of<T: Hash>(value: &T) -> u64 {
+    let mut hasher = DefaultHasher::new();
+    value.hash(&mut hasher);
+    hasher.finish()
+}

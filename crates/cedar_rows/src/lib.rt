@@ -1,0 +1,15 @@
+//! What the programs that answer lines of steps share: the words of a step, what is kept of what a step
+//! makes, and how an answer is told. What is made by a call goes to a generic function, by value, so that
+//! no function which makes the call lets go of anything.
+#![tactic(auto)]
+
+mod answers;
+mod registers;
+mod steps;
+
+pub use answers::{
+    Answer, alike, explain, maybe, no_case, refused, refused_for, said, separate, show, spell,
+    tell, text_of,
+};
+pub use registers::{count_of, hold, keep, mapped, paired, push, put, taken};
+pub use steps::{Step, cut, number, plain, read};
