@@ -1,3 +1,4 @@
 pub mod Errors
+pub mod ErrorsLeft
 pub mod Parts
 pub mod Texts

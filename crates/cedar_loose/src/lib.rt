@@ -2,13 +2,13 @@
 #![tactic(auto)]
 
 mod errors;
-mod literals;
+mod iteration;
 mod parse;
 mod policies;
 mod refusal;
 
 pub use errors::{ParseError, ParseErrors, ToCSTError};
-pub use literals::LiteralParseError;
+pub use iteration::{IntoIter, Iter};
 pub use parse::{
     parse_expr, parse_ident, parse_name, parse_policies, parse_policy, parse_primary, parse_ref,
 };

@@ -3,3 +3,4 @@ mod Texts
 mod Reading
 mod Bodies
 mod Callers
+mod Operands

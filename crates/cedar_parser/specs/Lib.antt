@@ -1,3 +1,5 @@
+pub mod Literals
+pub mod Sameness
 pub mod Settings
 pub mod Strict
 pub use Rattle.cedar_tokens.specs.Kinds as TokenKinds

@@ -5,7 +5,8 @@ pub use cedar_conversion_leaves::{
     flatten_tuple_2, flatten_tuple_3, flatten_tuple_4, to_any_ident, to_ref, to_string_literal,
 };
 pub use cedar_policy_conversion::{
-    to_policy, to_policy_or_template, to_policy_template, to_policyset, to_template,
+    NumberedPolicies, to_policy, to_policy_or_template, to_policy_template, to_policyset,
+    to_template, with_generated_policyids,
 };
 pub use cedar_policy_parts_conversion::{
     OneOrMultipleRefs, extract_scope, get_ast_annotations, to_kv_pair, to_ref_or_slot, to_refs,

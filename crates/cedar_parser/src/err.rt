@@ -1,8 +1,9 @@
 // Why a text is refused.
 
+pub use crate::literals::LiteralParseError;
 pub use crate::restricted::RestrictedExpressionParseError;
 pub use cedar_conversion_leaves::{ConversionError, ToASTError, ToASTErrorKind};
-pub use cedar_loose::{LiteralParseError, ParseError, ParseErrors, ToCSTError};
+pub use cedar_loose::{IntoIter, Iter, ParseError, ParseErrors, ToCSTError};
 pub use cedar_policy_parts::{
     ExpectedStaticPolicy, ExpectedTemplate, InvalidActionType, Ref, SlotsInConditionClause,
     WrongEntityArgument,

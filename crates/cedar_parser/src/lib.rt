@@ -9,6 +9,7 @@ pub mod err;
 mod expressions;
 mod height;
 mod leaves;
+mod literals;
 pub mod prelude;
 mod refusals;
 mod restricted;

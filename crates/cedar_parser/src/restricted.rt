@@ -17,7 +17,7 @@ use std::alloc::Global;
 use thiserror::Error;
 
 /// Why a text isn't read as a restricted expression.
-#[derive(Debug, Drop, Error)]
+#[derive(Debug, PartialEq, Eq, Drop, Error)]
 pub enum RestrictedExpressionParseError {
     /// The text is no expression.
     #[error(transparent)]

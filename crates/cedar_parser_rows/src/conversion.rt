@@ -12,7 +12,9 @@ use cedar_cst::node::Node;
 use cedar_loose::{parse_expr, parse_ident, parse_policies, parse_policy};
 use cedar_names::errors::ParseNameError;
 use cedar_names::reading::FromNormalizedStr;
-use cedar_policy_conversion::{to_policy, to_policy_or_template, to_policy_template, to_policyset};
+use cedar_policy_conversion::{
+    to_policy, to_policy_or_template, to_policy_template, to_policyset, with_generated_policyids,
+};
 use cedar_policy_parts::PolicyID;
 use cedar_policy_parts_conversion::PolicyError;
 use cedar_policy_set::sets::PolicySet;
@@ -77,15 +79,45 @@ pub(crate) fn expression(alloc: Global, verb: &str, text: &str, styles: &ExtStyl
     }
 }
 
-/// The policy set of a text.
-pub(crate) fn policies(alloc: Global, text: &str, styles: &ExtStyles) -> Answer {
+/// The policy set of a text, or its policies as they are written, under their numbers.
+pub(crate) fn policies(alloc: Global, verb: &str, text: &str, styles: &ExtStyles) -> Answer {
     let tree = match parse_policies(alloc, text, DEPTH) {
         Ok(tree) => tree,
         Err(errors) => return errors.to_string(alloc),
     };
-    match to_policyset(alloc, &tree, styles) {
+    match verb {
+        "missing" => numbered(alloc, &Node::new(None)),
+        "numbered" => numbered(alloc, &tree),
+        _ => set_of(alloc, &tree, styles),
+    }
+}
+
+fn set_of(alloc: Global, tree: &Node<Option<cst::Policies>>, styles: &ExtStyles) -> Answer {
+    match to_policyset(alloc, tree, styles) {
         Ok(set) => each(alloc, &set),
         Err(error) => faults(alloc, &error),
+    }
+}
+
+/// The policies of a tree, each with its id and its place.
+fn numbered(alloc: Global, tree: &Node<Option<cst::Policies>>) -> Answer {
+    let policies = match with_generated_policyids(alloc, tree) {
+        Ok(policies) => policies,
+        Err(error) => return faults(alloc, &error),
+    };
+    let mut told = String::new(alloc);
+    for policy in policies {
+        let (id, node) = policy?;
+        let next = placed(alloc, &id, node)?;
+        told.push_str(next.as_str())?;
+    }
+    Ok(told)
+}
+
+fn placed(alloc: Global, id: &PolicyID, node: &Node<Option<cst::Policy>>) -> Answer {
+    match node.loc() {
+        Some(loc) => format!(in alloc; "{id} at {}..{} ", loc.start(), loc.end()),
+        None => format!(in alloc; "{id} nowhere "),
     }
 }
 

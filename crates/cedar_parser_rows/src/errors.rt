@@ -1,8 +1,9 @@
 // Kinds of tokens that are expected, and errors of parsers.
-use crate::words::{Answer, show, tell};
+use crate::words::{Answer, cut, said, show, tell};
 use cedar_literals::variables::Var;
-use cedar_loose::{LiteralParseError, ParseError, ParseErrors, ToCSTError};
+use cedar_loose::{ParseError, ParseErrors, ToCSTError};
 use cedar_names::places::{Loc, Span};
+use cedar_parser::err::{LiteralParseError, RestrictedExpressionParseError};
 use cedar_tokens::{Kinds, POLICY_TOKEN_CONFIG, expected_to_string};
 use cedar_trees::expr::Expr;
 use std::alloc::{AllocError, Global};
@@ -59,7 +60,9 @@ pub(crate) fn placed(alloc: Global, verb: &str, names: &str) -> Answer {
         "token" => told(alloc, ToCSTError::unrecognized_token(place(alloc)?, kinds)),
         "end" => told(alloc, ToCSTError::unrecognized_eof(place(alloc)?, kinds)),
         "invalid" => show(alloc, invalid(alloc)),
+        "alike" => alike(alloc, names),
         "no-expression" => literal(alloc, LiteralParseError::from(invalid(alloc)?)),
+        "no-body" => body(alloc),
         _ => literal(
             alloc,
             LiteralParseError::InvalidLiteral(Expr::var(Var::Principal)),
@@ -75,4 +78,25 @@ fn told(alloc: Global, error: ToCSTError) -> Answer {
 
 fn literal(alloc: Global, error: LiteralParseError) -> Answer {
     error.to_string(alloc)
+}
+
+/// Whether two texts are no literals for the same: a text outside the grammar, or a variable.
+fn alike(alloc: Global, words: &str) -> Answer {
+    let (one, other) = cut(words);
+    said(alloc, no_literal(alloc, one)? == no_literal(alloc, other)?)
+}
+
+fn no_literal(alloc: Global, word: &str) -> Result<LiteralParseError, AllocError> {
+    match word {
+        "invalid" => Ok(LiteralParseError::from(invalid(alloc)?)),
+        "principal" => Ok(LiteralParseError::InvalidLiteral(Expr::var(Var::Principal))),
+        _ => Ok(LiteralParseError::InvalidLiteral(Expr::var(Var::Resource))),
+    }
+}
+
+/// Whether two texts are no bodies for the same.
+fn body(alloc: Global) -> Answer {
+    let one = RestrictedExpressionParseError::from(invalid(alloc)?);
+    let other = RestrictedExpressionParseError::from(invalid(alloc)?);
+    said(alloc, one == other)
 }

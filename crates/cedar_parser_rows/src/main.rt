@@ -48,7 +48,7 @@ fn answer(alloc: Global, section: &str, verb: &str, text: &str, held: &mut Held)
         "errors" => errors::placed(alloc, verb, text),
         "names" => conversion::listed(alloc, verb, text, &mut held.styles),
         "expression" => conversion::expression(alloc, verb, text, &held.styles),
-        "policies" => conversion::policies(alloc, text, &held.styles),
+        "policies" => conversion::policies(alloc, verb, text, &held.styles),
         "word" => conversion::word(alloc, verb, text),
         "strict" => strict::read(alloc, verb, text),
         "policy" => conversion::policy(alloc, verb, text, &held.styles),

@@ -2,11 +2,13 @@
 use crate::words::Answer;
 use cedar_conversion_leaves::ExtStyles;
 use cedar_extensions::extensions::Extensions;
+use cedar_literals::literals::Literal;
 use cedar_loose::{ParseError, ParseErrors};
-use cedar_parser::err::RestrictedExpressionParseError;
+use cedar_parser::err::{LiteralParseError, RestrictedExpressionParseError};
 use cedar_parser::prelude::StylesOfExtensions;
 use cedar_parser::strict::{
-    parse_euid_strict, parse_expr_strict, parse_policyset_strict, parse_restrictedexpr,
+    parse_euid_strict, parse_expr_strict, parse_literal_strict, parse_policyset_strict,
+    parse_restrictedexpr,
 };
 use cedar_policy_set::sets::PolicySet;
 use cedar_restricted::restricted::RestrictedExpr;
@@ -24,6 +26,10 @@ pub(crate) fn read(alloc: Global, verb: &str, text: &str) -> Answer {
             parse_restrictedexpr(alloc, text, &bodies(alloc, &extensions)?, DEPTH),
         ),
         "entity" => told(alloc, parse_euid_strict(alloc, text)),
+        "literal" => literal(
+            alloc,
+            parse_literal_strict(alloc, text, &bodies(alloc, &extensions)?, DEPTH),
+        ),
         "policies" => set(
             alloc,
             parse_policyset_strict(alloc, text, &policies(alloc, &extensions)?, DEPTH),
@@ -47,7 +53,7 @@ fn policies(alloc: Global, extensions: &Extensions<'_>) -> Result<ExtStyles, All
 fn told<T: Display + Drop>(alloc: Global, read: Result<T, ParseErrors>) -> Answer {
     match read {
         Ok(value) => value.to_string(alloc),
-        Err(errors) => all(alloc, &errors),
+        Err(errors) => taken(alloc, errors),
     }
 }
 
@@ -66,14 +72,37 @@ fn body(alloc: Global, read: Result<RestrictedExpr, RestrictedExpressionParseErr
     }
 }
 
+fn literal(alloc: Global, read: Result<Literal, LiteralParseError>) -> Answer {
+    match read {
+        Ok(literal) => literal.to_string(alloc),
+        Err(LiteralParseError::Parse(errors)) => all(alloc, &errors),
+        Err(error) => error.to_string(alloc),
+    }
+}
+
 fn all(alloc: Global, errors: &ParseErrors) -> Answer {
-    let mut told = error(alloc, &errors.0.head)?;
-    for next in &errors.0.tail {
-        let next = error(alloc, next)?;
-        told.push_str("; ")?;
-        told.push_str(next.as_str())?;
+    let mut told = String::new(alloc);
+    for next in errors {
+        add(&mut told, error(alloc, next)?.as_str())?;
     }
     Ok(told)
+}
+
+/// The same of errors that are taken out.
+fn taken(alloc: Global, errors: ParseErrors) -> Answer {
+    let mut told = String::new(alloc);
+    for next in errors {
+        add(&mut told, error(alloc, &next)?.as_str())?;
+    }
+    Ok(told)
+}
+
+/// Adds an error behind others.
+fn add(told: &mut String, next: &str) -> Result<(), AllocError> {
+    if !told.is_empty() {
+        told.push_str("; ")?;
+    }
+    told.push_str(next)
 }
 
 /// An error, after its place.

@@ -10,26 +10,18 @@ ghost use Rattle.cedar_policy_set.specs.Refused.{IsOccupied, taken};
 ghost use Rattle.cedar_policy_set.specs.Texts.{text_entry, text_entries};
 ghost use Rattle.cedar_policy_conversion.specs.Kinds.{entry_made, id_made};
 
+use crate::numbers::numbered_id;
 use crate::policies::to_policy_or_template;
 use cedar_conversion_leaves::{ConversionError, ExtStyles, flatten_tuple_2};
 use cedar_cst::cst;
 use cedar_cst::node::Node;
-use cedar_policy_parts::PolicyID;
 use cedar_policy_parts_conversion::PolicyError;
 use cedar_policy_set::errors::PolicySetError;
 use cedar_policy_set::sets::PolicySet;
 use cedar_templates::static_policies::StaticPolicy;
 use cedar_templates::templates::Template;
 use either::Either;
-use std::alloc::{AllocError, Global};
-
-// The id of the policy with this number in its text.
-fn numbered_id(alloc: Global, number: usize) -> Result<PolicyID, AllocError>
-    ensures { IfOk result (λ id. id ≡ numbered number) }
-{
-    let text = format!(in alloc; "policy{number}")?;
-    PolicyID::from_string(alloc, text.as_str())
-}
+use std::alloc::Global;
 
 // Adds a static policy or a template to a set.
 fn add(

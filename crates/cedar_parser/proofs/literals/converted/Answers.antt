@@ -1,0 +1,18 @@
+-- By the law of what the own builder makes, and by the reason of the refusal.
+use Rattle.cedar_grammar.specs.Converting.{primary_tree}
+use Rattle.cedar_cst.specs.View.{shown_primary}
+use Rattle.cedar_conversion_leaves.specs.Reasons.{reason}
+use Rattle.cedar_loose.specs.Errors.{cause_of}
+use Rattle.cedar_builders.specs.Own.{own_operations}
+use Rattle.cedar_conversion.specs.Building.{IsRefused}
+use Rattle.cedar_parser.proofs.Operands.{operand_written}
+use Rattle.cedar_parser.proofs.Reading.{told_misses}
+use Rattle.cedar_parser.proofs.literals.converted.Goals as goal
+
+pub returns-in-Ok : goal.returns-in-Ok
+returns-in-Ok c =
+    operand_written c.trees_are_built.ensures c.args.styles.now (shown_primary c.args.tree.now) c.in-Ok.expr c.in-Ok.ensures
+
+pub returns-in-Err : goal.returns-in-Err
+returns-in-Err c =
+    told_misses (IsRefused own_operations) _ (reason c.in-Err.error) (cause_of c.refused.result.0.head) (primary_tree c.args.styles.now (shown_primary c.args.tree.now)) c.refused.ensures.cause c.in-Err.ensures
