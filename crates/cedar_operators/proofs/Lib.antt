@@ -1,4 +1,10 @@
+pub mod Passing
 pub mod ByOperand
 pub mod ByOrder
 pub mod BySets
 pub mod ByPart
+pub mod ByStore
+pub mod ByHierarchy
+pub mod ByLookup
+pub mod FactsOf
+pub mod ByTag

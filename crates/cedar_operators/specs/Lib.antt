@@ -1,3 +1,7 @@
 pub mod Operands
 pub mod Comparing
 pub mod Sets
+pub mod Store
+pub mod StoreLaws
+pub mod Hierarchy
+pub mod Lookups

@@ -11,7 +11,12 @@ use cedar_restricted::partial_values::PartialValue;
 use cedar_values::values::Value;
 use std::alloc::Global;
 
-// What a function of the table answers, at the place of its call, or why it doesn't.
+/// What a function of the table answers, at the place of its call: a value, or the unknown that the
+/// built-in function names by its text.
+///
+/// It errs at this place with `FailedExtensionFunctionLookup` where the table lacks the function,
+/// `WrongNumArguments` for another number of arguments than it takes, `FailedExtensionFunctionExecution`
+/// where it has no answer, and `Memory`. (Cedar language reference, "Operators and functions".)
 pub fn call(
     alloc: Global,
     name: &Name,

@@ -6,4 +6,6 @@ mod calls;
 mod interpreting;
 mod records;
 
+pub use calls::call;
 pub use interpreting::interpret_restricted;
+pub use records::keyed;

@@ -6,7 +6,8 @@ use std::alloc::{AllocError, Global};
 use std::collections::BTreeMap;
 use std::rc::RcStr;
 
-// These items, one after another, at the keys of `entries`; refused for memory alone.
+/// The map that has these items, one after another, at the keys of `entries`: what is found of the
+/// entries of a record stands in it at their keys. Refused for memory alone.
 pub fn keyed<T, U: Drop>(
     alloc: Global,
     entries: &BTreeMap<RcStr, T>,
