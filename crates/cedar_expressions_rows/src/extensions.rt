@@ -1,7 +1,6 @@
 // What tables of extension functions and the functions answer.
 ghost use Rattle.std.specs.Iterator.{IsFinite};
 
-use crate::partial_values::told;
 use cedar_expressions::ast::{
     CallStyle, Extension, ExtensionFunction, ExtensionOutputValue, FunctionTypes, Name,
     ParseNameError, PartialValue, Value,
@@ -13,6 +12,7 @@ use cedar_expressions::extensions::{
     FuncMultiplyDefinedError, MultipleConstructorsSameSignatureError, collect_no_duplicates,
 };
 use cedar_expressions::{Extensions, FromNormalizedStr};
+use cedar_restricted_rows::partial_values::told;
 use cedar_rows::{Answer, explain, no_case, refused, said, separate, tell};
 use cedar_tree_rows::trees::type_of;
 use std::alloc::{AllocError, Global};

@@ -6,17 +6,14 @@ mod errors;
 mod evaluation;
 mod extensions;
 mod operators;
-mod partial_values;
 mod policies;
 mod registers;
-mod restricted;
 mod sections;
-mod substitution;
 mod validation;
 
 use crate::policies::Policies;
 use crate::registers::Expressions;
-use crate::restricted::Restricted;
+use cedar_restricted_rows::restricted::{self, Restricted};
 use cedar_rows::{Answer, Step};
 use cedar_value_rows::literals::Literals;
 use cedar_value_rows::names::Names;

@@ -1,6 +1,7 @@
 // Which section knows a step.
 use crate::registers::Expressions;
-use crate::{errors, evaluation, extensions, operators, partial_values, substitution, validation};
+use crate::{errors, evaluation, extensions, operators, validation};
+use cedar_restricted_rows::{partial_values, substitution};
 use cedar_rows::Answer;
 use cedar_tree_rows::{builders, shapes, trees};
 use std::alloc::Global;

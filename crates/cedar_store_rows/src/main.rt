@@ -3,23 +3,18 @@
 #![tactic(auto)]
 
 mod entities;
-mod expressions;
 mod graphs;
-mod scopes;
-mod sets;
 mod stores;
-mod templates;
-mod words;
 
 use crate::entities::Made;
-use crate::expressions::Stack;
 use crate::graphs::Graph;
-use crate::scopes::Scope;
-use crate::sets::Sets;
 use crate::stores::Stores;
-use crate::templates::Policies;
-use crate::words::{Answer, Case};
 use cedar_extensions::extensions::Extensions;
+use cedar_policy_rows::expressions::{self, Stack};
+use cedar_policy_rows::scopes::{self, Scope};
+use cedar_policy_rows::sets::{self, Sets};
+use cedar_policy_rows::templates::{self, Policies};
+use cedar_policy_rows::words::{self, Answer, Case};
 use cedar_store::ast::SlotEnv;
 use std::alloc::Global;
 use std::collections::HashMap;

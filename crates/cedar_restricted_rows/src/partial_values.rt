@@ -67,12 +67,7 @@ fn push_argument(
 }
 
 /// Puts an argument on its stack, and says how it is written.
-pub(crate) fn argument(
-    alloc: Global,
-    verb: &str,
-    word: &str,
-    arguments: &mut Vec<Argument>,
-) -> Answer {
+pub fn argument(alloc: Global, verb: &str, word: &str, arguments: &mut Vec<Argument>) -> Answer {
     let argument = argument_of(alloc, verb, word, arguments);
     push_argument(alloc, argument, arguments)
 }
@@ -90,7 +85,7 @@ fn rank_value(
 }
 
 /// The value of arguments on top.
-pub(crate) fn rank_of(
+pub fn rank_of(
     alloc: Global,
     count: &str,
     arguments: &mut Vec<Argument>,
@@ -100,7 +95,7 @@ pub(crate) fn rank_of(
     put(alloc, values, rank_value(alloc, rank(alloc, args)))
 }
 
-pub(crate) fn value(alloc: Global, verb: &str, word: &str, values: &mut Vec<Value>) -> Answer {
+pub fn value(alloc: Global, verb: &str, word: &str, values: &mut Vec<Value>) -> Answer {
     match verb {
         "set" => {
             let items = taken(alloc, number(word), values)?;
@@ -116,12 +111,7 @@ pub(crate) fn value(alloc: Global, verb: &str, word: &str, values: &mut Vec<Valu
 }
 
 /// Puts what writes the value on top on the stack of expressions.
-pub(crate) fn written(
-    alloc: Global,
-    verb: &str,
-    values: &[Value],
-    stack: &mut Vec<Expr>,
-) -> Answer {
+pub fn written(alloc: Global, verb: &str, values: &[Value], stack: &mut Vec<Expr>) -> Answer {
     let Some(value) = values.last() else {
         return no_case(alloc);
     };
@@ -137,7 +127,7 @@ fn kind_read(kind: Result<ValueKind, NotValue>) -> Result<Value, NotValue> {
 }
 
 /// Puts the value that is read of the expression on top on the stack of values.
-pub(crate) fn read(alloc: Global, verb: &str, stack: &[Expr], values: &mut Vec<Value>) -> Answer {
+pub fn read(alloc: Global, verb: &str, stack: &[Expr], values: &mut Vec<Value>) -> Answer {
     let Some(expr) = stack.last() else {
         return no_case(alloc);
     };
@@ -152,7 +142,7 @@ pub(crate) fn read(alloc: Global, verb: &str, stack: &[Expr], values: &mut Vec<V
 }
 
 /// Whether the two values on top are equal, and whether their kinds are.
-pub(crate) fn compared(alloc: Global, verb: &str, values: &[Value]) -> Answer {
+pub fn compared(alloc: Global, verb: &str, values: &[Value]) -> Answer {
     match values {
         [.., a, b] if verb == "kinds" => said(alloc, a.value_kind() == b.value_kind()),
         [.., a, b] => said(alloc, a == b),
@@ -160,7 +150,7 @@ pub(crate) fn compared(alloc: Global, verb: &str, values: &[Value]) -> Answer {
     }
 }
 
-pub(crate) fn told(alloc: Global, partial: &PartialValue) -> Answer {
+pub fn told(alloc: Global, partial: &PartialValue) -> Answer {
     match partial {
         PartialValue::Value(value) => {
             let place = told_place(alloc, value.source_loc())?;
@@ -191,7 +181,7 @@ fn hold_unknown(
 }
 
 /// A partial value of a value, of an expression, or of the name of an unknown.
-pub(crate) fn partial(
+pub fn partial(
     alloc: Global,
     verb: &str,
     word: &str,
@@ -210,7 +200,7 @@ pub(crate) fn partial(
 }
 
 /// What is made of the partial value on top.
-pub(crate) fn converted(
+pub fn converted(
     alloc: Global,
     verb: &str,
     word: &str,
@@ -250,7 +240,7 @@ fn told_split(alloc: Global, split: Result<Either<Vec<Value>, Vec<Expr>>, AllocE
 }
 
 /// The split of so many partial values.
-pub(crate) fn parted(alloc: Global, count: &str, partials: &mut Vec<PartialValue>) -> Answer {
+pub fn parted(alloc: Global, count: &str, partials: &mut Vec<PartialValue>) -> Answer {
     let items = taken(alloc, number(count), partials)?;
     told_split(alloc, split(alloc, items))
 }
@@ -268,11 +258,7 @@ fn are_equal<T: PartialEq + Drop, E: PartialEq + Drop>(
 
 /// The text of the partial value on top; or whether the two on top are equal, or are refused alike as
 /// values, or as restricted expressions.
-pub(crate) fn compared_parts(
-    alloc: Global,
-    verb: &str,
-    partials: &mut Vec<PartialValue>,
-) -> Answer {
+pub fn compared_parts(alloc: Global, verb: &str, partials: &mut Vec<PartialValue>) -> Answer {
     let Some(second) = partials.pop() else {
         return no_case(alloc);
     };

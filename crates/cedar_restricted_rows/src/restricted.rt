@@ -13,7 +13,7 @@ use std::convert::AsRef;
 use std::fmt::Display;
 use std::rc::RcStr;
 
-pub(crate) type Restricted = Vec<RestrictedExpr>;
+pub type Restricted = Vec<RestrictedExpr>;
 
 /// Puts what was made on the stack, which is told as an expression.
 fn put<T: AsRef<Expr> + Drop, E: Display + Drop>(
@@ -40,7 +40,7 @@ fn unknown(alloc: Global, name: &str) -> Result<RestrictedExpr, AllocError> {
     Ok(RestrictedExpr::unknown(unknown))
 }
 
-pub(crate) fn made(
+pub fn made(
     alloc: Global,
     verb: &str,
     text: &str,
@@ -60,7 +60,7 @@ pub(crate) fn made(
 }
 
 /// A construct of those on top: as many as the word says, or as it has keys.
-pub(crate) fn joined(
+pub fn joined(
     alloc: Global,
     verb: &str,
     word: &str,
@@ -96,12 +96,7 @@ fn of_kind(
 }
 
 /// What writes the value on top of the stack of values.
-pub(crate) fn of_values(
-    alloc: Global,
-    verb: &str,
-    values: &mut Stack,
-    stack: &mut Restricted,
-) -> Answer {
+pub fn of_values(alloc: Global, verb: &str, values: &mut Stack, stack: &mut Restricted) -> Answer {
     if verb == "kind" {
         return match values.last() {
             Some(top) => put(alloc, stack, of_kind(alloc, top.value_kind().clone(alloc))),
@@ -121,18 +116,12 @@ fn of_rank(
     Ok(RestrictedExpr::from_in(alloc, value?)?)
 }
 
-pub(crate) fn ranked(
-    alloc: Global,
-    text: &str,
-    key: &str,
-    func: &str,
-    stack: &mut Restricted,
-) -> Answer {
+pub fn ranked(alloc: Global, text: &str, key: &str, func: &str, stack: &mut Restricted) -> Answer {
     put(alloc, stack, of_rank(alloc, rank(alloc, key, func, text)))
 }
 
 /// What the partial value on top of their stack is.
-pub(crate) fn of_partials(
+pub fn of_partials(
     alloc: Global,
     partials: &mut Vec<PartialValue>,
     stack: &mut Restricted,
@@ -144,7 +133,7 @@ pub(crate) fn of_partials(
 }
 
 /// Of the expression on top of their stack, or back.
-pub(crate) fn of_exprs(
+pub fn of_exprs(
     alloc: Global,
     verb: &str,
     exprs: &mut Vec<Expr>,
@@ -176,7 +165,7 @@ fn part<'a>(verb: &str, whole: &'a RestrictedExpr, n: usize) -> Option<BorrowedR
 }
 
 /// Puts on the stack what is made of that on its top.
-pub(crate) fn again(alloc: Global, verb: &str, text: &str, stack: &mut Restricted) -> Answer {
+pub fn again(alloc: Global, verb: &str, text: &str, stack: &mut Restricted) -> Answer {
     let Some(top) = stack.last() else {
         return no_case(alloc);
     };
@@ -190,7 +179,7 @@ pub(crate) fn again(alloc: Global, verb: &str, text: &str, stack: &mut Restricte
     put(alloc, stack, made)
 }
 
-pub(crate) fn changed(alloc: Global, verb: &str, stack: &mut Restricted) -> Answer {
+pub fn changed(alloc: Global, verb: &str, stack: &mut Restricted) -> Answer {
     let loc = match verb {
         "placed" => Some(loc(alloc, "0", "1")?),
         _ => None,
@@ -205,7 +194,7 @@ pub(crate) fn changed(alloc: Global, verb: &str, stack: &mut Restricted) -> Answ
     }
 }
 
-pub(crate) fn compared(alloc: Global, verb: &str, stack: &Restricted) -> Answer {
+pub fn compared(alloc: Global, verb: &str, stack: &Restricted) -> Answer {
     let [.., low, high] = stack.as_slice() else {
         return no_case(alloc);
     };
@@ -220,7 +209,7 @@ pub(crate) fn compared(alloc: Global, verb: &str, stack: &Restricted) -> Answer 
     }
 }
 
-pub(crate) fn read(alloc: Global, verb: &str, stack: &Restricted) -> Answer {
+pub fn read(alloc: Global, verb: &str, stack: &Restricted) -> Answer {
     let Some(top) = stack.last() else {
         return no_case(alloc);
     };
@@ -238,7 +227,7 @@ pub(crate) fn read(alloc: Global, verb: &str, stack: &Restricted) -> Answer {
 }
 
 /// The same of what is lent.
-pub(crate) fn read_lent(alloc: Global, verb: &str, stack: &Restricted) -> Answer {
+pub fn read_lent(alloc: Global, verb: &str, stack: &Restricted) -> Answer {
     let Some(top) = stack.last() else {
         return no_case(alloc);
     };

@@ -19,14 +19,14 @@ use std::rc::{Rc, RcStr};
 
 /// What the next policy is made of.
 #[derive(Drop)]
-pub(crate) struct Scope {
-    pub(crate) annotations: Annotations,
-    pub(crate) principal: PrincipalConstraint,
-    pub(crate) action: ActionConstraint,
-    pub(crate) resource: ResourceConstraint,
+pub struct Scope {
+    pub annotations: Annotations,
+    pub principal: PrincipalConstraint,
+    pub action: ActionConstraint,
+    pub resource: ResourceConstraint,
 }
 
-pub(crate) fn any(alloc: Global) -> Scope {
+pub fn any(alloc: Global) -> Scope {
     Scope {
         annotations: Annotations::new(alloc),
         principal: PrincipalConstraint::any(),
@@ -70,7 +70,7 @@ fn entries(alloc: Global, annotations: Annotations) -> Answer {
     Ok(text)
 }
 
-pub(crate) fn annotate(alloc: Global, case: &Case<'_>, at: &mut Annotations) -> Answer {
+pub fn annotate(alloc: Global, case: &Case<'_>, at: &mut Annotations) -> Answer {
     match case.verb {
         "one" => put(alloc, at, annotated(alloc, case.one, case.two)?),
         "all" => put(alloc, at, all_annotated(alloc, case.one)?),
@@ -119,7 +119,7 @@ fn refer(alloc: Global, reference: Result<EntityReference, ParseNameError>) -> A
     show(alloc, reference?.into_expr(alloc, SlotId::principal()))
 }
 
-pub(crate) fn principal(alloc: Global, case: &Case<'_>, at: &mut PrincipalConstraint) -> Answer {
+pub fn principal(alloc: Global, case: &Case<'_>, at: &mut PrincipalConstraint) -> Answer {
     match case.verb {
         "refer" => refer(alloc, referred(alloc, case.one)),
         "copy" => show(alloc, at.clone(alloc)),
@@ -147,7 +147,7 @@ fn show_slot(alloc: Global, slot: Result<Option<Slot>, AllocError>) -> Answer {
     }
 }
 
-pub(crate) fn resource(alloc: Global, case: &Case<'_>, at: &mut ResourceConstraint) -> Answer {
+pub fn resource(alloc: Global, case: &Case<'_>, at: &mut ResourceConstraint) -> Answer {
     match case.verb {
         "copy" => show(alloc, at.clone(alloc)),
         "condition" => show(alloc, at.as_expr(alloc)),
@@ -170,7 +170,7 @@ fn all_shared(alloc: Global, words: &str) -> Result<Vec<Rc<EntityUID>>, ParseNam
     Ok(all)
 }
 
-pub(crate) fn action(alloc: Global, case: &Case<'_>, at: &mut ActionConstraint) -> Answer {
+pub fn action(alloc: Global, case: &Case<'_>, at: &mut ActionConstraint) -> Answer {
     match case.verb {
         "copy" => show(alloc, at.clone(alloc)),
         "condition" => show(alloc, at.as_expr(alloc)),
@@ -191,7 +191,7 @@ pub(crate) fn action(alloc: Global, case: &Case<'_>, at: &mut ActionConstraint) 
     }
 }
 
-pub(crate) fn bind(alloc: Global, case: &Case<'_>, at: &mut SlotEnv) -> Answer {
+pub fn bind(alloc: Global, case: &Case<'_>, at: &mut SlotEnv) -> Answer {
     let before = at.insert(slot(case.verb), uid(alloc, case.one)?);
     match before {
         Some(uid) => told(alloc, &uid),

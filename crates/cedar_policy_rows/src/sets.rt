@@ -13,7 +13,7 @@ use std::mem;
 use std::rc::Rc;
 
 /// The set at hand, the one that is merged into it, and policies that were put aside.
-pub(crate) struct Sets {
+pub struct Sets {
     set: PolicySet,
     theirs: PolicySet,
     aside: Vec<Policy>,
@@ -29,7 +29,7 @@ impl Drop for Sets {
     }
 }
 
-pub(crate) fn none(alloc: Global) -> Sets {
+pub fn none(alloc: Global) -> Sets {
     Sets {
         set: PolicySet::new(alloc),
         theirs: PolicySet::new(alloc),
@@ -38,7 +38,7 @@ pub(crate) fn none(alloc: Global) -> Sets {
 }
 
 /// What was made is added.
-pub(crate) fn add(alloc: Global, verb: &str, policies: &mut Policies, held: &mut Sets) -> Answer {
+pub fn add(alloc: Global, verb: &str, policies: &mut Policies, held: &mut Sets) -> Answer {
     let set = &mut held.set;
     match verb {
         "template" => match policies.template.take() {
@@ -72,12 +72,7 @@ fn replaced(alloc: Global, at: &mut PolicySet, made: Result<PolicySet, PolicySet
 }
 
 /// The policy is put aside, or the set is made of it alone, or of those that were put aside.
-pub(crate) fn collect(
-    alloc: Global,
-    verb: &str,
-    policy: &mut Option<Policy>,
-    held: &mut Sets,
-) -> Answer {
+pub fn collect(alloc: Global, verb: &str, policy: &mut Option<Policy>, held: &mut Sets) -> Answer {
     match (verb, policy.take()) {
         ("aside", Some(policy)) => {
             held.aside.push(policy)?;
@@ -122,12 +117,7 @@ fn links(alloc: Global, links: Result<LinkedPolicies<'_>, PolicySetGetLinksError
 }
 
 /// The set is edited by ids.
-pub(crate) fn edit(
-    alloc: Global,
-    case: &Case<'_>,
-    bindings: &mut SlotEnv,
-    held: &mut Sets,
-) -> Answer {
+pub fn edit(alloc: Global, case: &Case<'_>, bindings: &mut SlotEnv, held: &mut Sets) -> Answer {
     let set = &mut held.set;
     let id = PolicyID::from_string(alloc, case.one)?;
     match case.verb {
@@ -166,12 +156,7 @@ fn given_up(alloc: Global, set: PolicySet) -> Answer {
     Ok(text)
 }
 
-pub(crate) fn ask(
-    alloc: Global,
-    verb: &str,
-    extensions: &Extensions<'_>,
-    held: &mut Sets,
-) -> Answer {
+pub fn ask(alloc: Global, verb: &str, extensions: &Extensions<'_>, held: &mut Sets) -> Answer {
     let set = &mut held.set;
     match verb {
         "show" => told(alloc, set),
@@ -204,7 +189,7 @@ fn joined(alloc: Global, held: &mut Sets) -> Result<(), AllocError> {
 }
 
 /// The other set is merged into the one at hand.
-pub(crate) fn merge(alloc: Global, verb: &str, held: &mut Sets) -> Answer {
+pub fn merge(alloc: Global, verb: &str, held: &mut Sets) -> Answer {
     let Sets {
         set,
         theirs,

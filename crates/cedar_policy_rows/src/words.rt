@@ -7,23 +7,23 @@ use std::collections::HashSet;
 use std::fmt::Display;
 
 /// An answer, or why a word isn't a name.
-pub(crate) type Answer = Result<String, ParseNameError>;
+pub type Answer = Result<String, ParseNameError>;
 
 /// A section, its verb and three words, each empty where the line has none.
 #[derive(Drop)]
-pub(crate) struct Case<'a> {
-    pub(crate) section: &'a str,
-    pub(crate) verb: &'a str,
-    pub(crate) one: &'a str,
-    pub(crate) two: &'a str,
-    pub(crate) three: &'a str,
+pub struct Case<'a> {
+    pub section: &'a str,
+    pub verb: &'a str,
+    pub one: &'a str,
+    pub two: &'a str,
+    pub three: &'a str,
 }
 
 fn cut<'a>(text: &'a str, separator: char) -> (&'a str, &'a str) {
     text.split_once(separator).unwrap_or((text, ""))
 }
 
-pub(crate) fn read(line: &str) -> Case<'_> {
+pub fn read(line: &str) -> Case<'_> {
     let (section, rest) = cut(line, ' ');
     let (verb, words) = cut(rest, ' ');
     let (one, words) = cut(words, '|');
@@ -37,20 +37,20 @@ pub(crate) fn read(line: &str) -> Case<'_> {
     }
 }
 
-pub(crate) fn text(alloc: Global, text: &str) -> Answer {
+pub fn text(alloc: Global, text: &str) -> Answer {
     Ok(String::from_str(alloc, text)?)
 }
 
-pub(crate) fn said(alloc: Global, holds: bool) -> Answer {
+pub fn said(alloc: Global, holds: bool) -> Answer {
     text(alloc, if holds { "true" } else { "false" })
 }
 
-pub(crate) fn no_case(alloc: Global) -> Answer {
+pub fn no_case(alloc: Global) -> Answer {
     text(alloc, "no case")
 }
 
 /// The text of what is lent.
-pub(crate) fn told<T: Display>(alloc: Global, value: &T) -> Answer {
+pub fn told<T: Display>(alloc: Global, value: &T) -> Answer {
     Ok(value.to_string(alloc)?)
 }
 
@@ -59,10 +59,7 @@ fn refused<E: Display + Drop>(alloc: Global, error: E) -> Answer {
 }
 
 /// The text of what was made, or the error.
-pub(crate) fn show<T: Display + Drop, E: Display + Drop>(
-    alloc: Global,
-    found: Result<T, E>,
-) -> Answer {
+pub fn show<T: Display + Drop, E: Display + Drop>(alloc: Global, found: Result<T, E>) -> Answer {
     match found {
         Ok(value) => told(alloc, &value),
         Err(error) => refused(alloc, error),
@@ -70,7 +67,7 @@ pub(crate) fn show<T: Display + Drop, E: Display + Drop>(
 }
 
 /// That it was done, or the error.
-pub(crate) fn done<E: Display + Drop>(alloc: Global, found: Result<(), E>) -> Answer {
+pub fn done<E: Display + Drop>(alloc: Global, found: Result<(), E>) -> Answer {
     match found {
         Ok(()) => text(alloc, "ok"),
         Err(error) => refused(alloc, error),
@@ -78,7 +75,7 @@ pub(crate) fn done<E: Display + Drop>(alloc: Global, found: Result<(), E>) -> An
 }
 
 /// Keeps what was made.
-pub(crate) fn keep<T: Display + Drop, E: Display + Drop>(
+pub fn keep<T: Display + Drop, E: Display + Drop>(
     alloc: Global,
     at: &mut Option<T>,
     found: Result<T, E>,
@@ -94,13 +91,13 @@ pub(crate) fn keep<T: Display + Drop, E: Display + Drop>(
 }
 
 /// The same in the place of another value.
-pub(crate) fn put<T: Display + Drop>(alloc: Global, at: &mut T, value: T) -> Answer {
+pub fn put<T: Display + Drop>(alloc: Global, at: &mut T, value: T) -> Answer {
     *at = value;
     told(alloc, at)
 }
 
 /// Puts what was made on the stack.
-pub(crate) fn push<T: Display + Drop, E: Display + Drop>(
+pub fn push<T: Display + Drop, E: Display + Drop>(
     alloc: Global,
     stack: &mut Vec<T>,
     found: Result<T, E>,
@@ -116,7 +113,7 @@ pub(crate) fn push<T: Display + Drop, E: Display + Drop>(
 }
 
 /// The texts behind one another.
-pub(crate) fn listed<T: Display>(alloc: Global, items: Result<Vec<&T>, AllocError>) -> Answer {
+pub fn listed<T: Display>(alloc: Global, items: Result<Vec<&T>, AllocError>) -> Answer {
     let mut text = String::new(alloc);
     for item in &items? {
         write!(text, "{item};")?;
@@ -125,27 +122,24 @@ pub(crate) fn listed<T: Display>(alloc: Global, items: Result<Vec<&T>, AllocErro
 }
 
 /// The same in their order.
-pub(crate) fn sorted<T: Display + Ord>(
-    alloc: Global,
-    items: Result<Vec<&T>, AllocError>,
-) -> Answer {
+pub fn sorted<T: Display + Ord>(alloc: Global, items: Result<Vec<&T>, AllocError>) -> Answer {
     let mut items = items?;
     items.sort_unstable();
     listed(alloc, Ok(items))
 }
 
-pub(crate) fn number(text: &str) -> i64 {
+pub fn number(text: &str) -> i64 {
     text.parse::<i64>().unwrap_or(0)
 }
 
 /// The uid of a type and an id with a dot between them.
-pub(crate) fn uid(alloc: Global, word: &str) -> Result<EntityUID, ParseNameError> {
+pub fn uid(alloc: Global, word: &str) -> Result<EntityUID, ParseNameError> {
     let (entity_type, id) = cut(word, '.');
     EntityUID::with_eid_and_type(alloc, entity_type, id)
 }
 
 /// Those of the words between commas.
-pub(crate) fn uids(alloc: Global, words: &str) -> Result<HashSet<EntityUID>, ParseNameError> {
+pub fn uids(alloc: Global, words: &str) -> Result<HashSet<EntityUID>, ParseNameError> {
     let mut all = HashSet::new(alloc);
     for word in words.split(',') {
         if !word.is_empty() {

@@ -11,7 +11,7 @@ use std::collections::HashMap;
 use std::rc::RcStr;
 
 /// Tells the value on top of this name.
-pub(crate) fn tell_value(
+pub fn tell_value(
     alloc: Global,
     name: &str,
     values: &mut Vec<Value>,
@@ -28,7 +28,7 @@ pub(crate) fn tell_value(
 }
 
 /// Tells the expression on top of this name.
-pub(crate) fn tell_expr(
+pub fn tell_expr(
     alloc: Global,
     name: &str,
     stack: &mut Vec<Expr>,
@@ -56,7 +56,7 @@ fn again(
 }
 
 /// The expression on top, built again.
-pub(crate) fn rebuilt(
+pub fn rebuilt(
     alloc: Global,
     verb: &str,
     stack: &mut Vec<Expr>,
@@ -67,7 +67,7 @@ pub(crate) fn rebuilt(
 }
 
 /// The same of a chain that is too long to be shown.
-pub(crate) fn rebuilt_chain(
+pub fn rebuilt_chain(
     alloc: Global,
     verb: &str,
     stack: &mut Vec<Expr>,
@@ -78,7 +78,7 @@ pub(crate) fn rebuilt_chain(
 }
 
 /// The expression on top with values in the places of its unknowns.
-pub(crate) fn substituted(
+pub fn substituted(
     alloc: Global,
     verb: &str,
     stack: &mut Vec<Expr>,
@@ -117,7 +117,7 @@ fn of_one(
 }
 
 /// What stands for the unknown of this name and type, by the value that is told of it.
-pub(crate) fn one(
+pub fn one(
     alloc: Global,
     verb: &str,
     name: &str,

@@ -16,12 +16,12 @@ use std::mem;
 use std::rc::Rc;
 
 /// What was made last of each kind.
-pub(crate) struct Policies {
-    pub(crate) template: Option<Template>,
+pub struct Policies {
+    pub template: Option<Template>,
     second: Option<Template>,
     shared: Option<Rc<Template>>,
-    pub(crate) own: Option<StaticPolicy>,
-    pub(crate) policy: Option<Policy>,
+    pub own: Option<StaticPolicy>,
+    pub policy: Option<Policy>,
 }
 
 impl Drop for Policies {
@@ -36,7 +36,7 @@ impl Drop for Policies {
     }
 }
 
-pub(crate) fn none() -> Policies {
+pub fn none() -> Policies {
     Policies {
         template: None,
         second: None,
@@ -95,7 +95,7 @@ fn static_policy(
 }
 
 /// A policy of the scope at hand, whose clause is the topmost expression.
-pub(crate) fn make(
+pub fn make(
     alloc: Global,
     case: &Case<'_>,
     scope: &mut Scope,
@@ -119,7 +119,7 @@ pub(crate) fn make(
 }
 
 /// The policy whose one clause is the topmost expression.
-pub(crate) fn clause(
+pub fn clause(
     alloc: Global,
     case: &Case<'_>,
     stack: &mut Stack,
@@ -150,7 +150,7 @@ fn from_clause(
 }
 
 /// The same with the annotations at hand.
-pub(crate) fn annotated(
+pub fn annotated(
     alloc: Global,
     case: &Case<'_>,
     scope: &mut Scope,
@@ -186,7 +186,7 @@ fn of_static(alloc: Global, verb: &str, own: &StaticPolicy) -> Answer {
 
 /// What the scope of the template asks of a variable, or that of the static policy where there is no
 /// template.
-pub(crate) fn asked(alloc: Global, verb: &str, held: &Policies) -> Answer {
+pub fn asked(alloc: Global, verb: &str, held: &Policies) -> Answer {
     match (&held.template, &held.own) {
         (Some(template), _) => of_body(alloc, verb, template.body()),
         (None, Some(own)) => of_static(alloc, verb, own),
@@ -195,7 +195,7 @@ pub(crate) fn asked(alloc: Global, verb: &str, held: &Policies) -> Answer {
 }
 
 /// Whether the bindings at hand are for exactly the template's slots.
-pub(crate) fn binds(alloc: Global, bindings: &SlotEnv, held: &Policies) -> Answer {
+pub fn binds(alloc: Global, bindings: &SlotEnv, held: &Policies) -> Answer {
     match &held.template {
         Some(template) => done(alloc, Template::check_binding(alloc, template, bindings)),
         None => no_case(alloc),
@@ -210,7 +210,7 @@ fn valid(alloc: Global, answer: Result<(), TemplateValidationError>) -> Answer {
 }
 
 /// What is asked of the template.
-pub(crate) fn ask(
+pub fn ask(
     alloc: Global,
     case: &Case<'_>,
     extensions: &Extensions<'_>,
@@ -243,7 +243,7 @@ fn of_two(alloc: Global, verb: &str, template: &Template, second: &Template) -> 
 }
 
 /// The template is shared, or made a static policy.
-pub(crate) fn turn(alloc: Global, verb: &str, held: &mut Policies) -> Answer {
+pub fn turn(alloc: Global, verb: &str, held: &mut Policies) -> Answer {
     let Some(template) = held.template.take() else {
         return no_case(alloc);
     };
@@ -254,12 +254,7 @@ pub(crate) fn turn(alloc: Global, verb: &str, held: &mut Policies) -> Answer {
 }
 
 /// What was shared is made a policy, by its own id or by another one and bindings.
-pub(crate) fn link(
-    alloc: Global,
-    case: &Case<'_>,
-    bindings: &mut SlotEnv,
-    held: &mut Policies,
-) -> Answer {
+pub fn link(alloc: Global, case: &Case<'_>, bindings: &mut SlotEnv, held: &mut Policies) -> Answer {
     let id = PolicyID::from_string(alloc, case.one)?;
     let Some(template) = held.shared.take() else {
         return no_case(alloc);
@@ -280,7 +275,7 @@ fn show_linked(alloc: Global, linked: Result<(Rc<Template>, Policy), AllocError>
 }
 
 /// The static policy is made a policy.
-pub(crate) fn own(alloc: Global, verb: &str, held: &mut Policies) -> Answer {
+pub fn own(alloc: Global, verb: &str, held: &mut Policies) -> Answer {
     let Some(own) = held.own.take() else {
         return no_case(alloc);
     };
@@ -315,7 +310,7 @@ fn lent<T: AsStr>(alloc: Global, value: &T) -> Answer {
 }
 
 /// What is asked of the policy.
-pub(crate) fn policy(alloc: Global, verb: &str, policy: Option<&Policy>) -> Answer {
+pub fn policy(alloc: Global, verb: &str, policy: Option<&Policy>) -> Answer {
     let Some(policy) = policy else {
         return no_case(alloc);
     };

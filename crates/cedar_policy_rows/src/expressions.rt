@@ -10,9 +10,9 @@ use cedar_trees::unknowns::Unknown;
 use std::alloc::{AllocError, Global};
 use std::rc::RcStr;
 
-pub(crate) type Stack = Vec<Expr>;
+pub type Stack = Vec<Expr>;
 
-pub(crate) fn slot(name: &str) -> SlotId {
+pub fn slot(name: &str) -> SlotId {
     if name == "principal" {
         SlotId::principal()
     } else {
@@ -45,7 +45,7 @@ fn made(expr: Expr) -> Result<Expr, AllocError> {
     Ok(expr)
 }
 
-pub(crate) fn answer(alloc: Global, case: &Case<'_>, stack: &mut Stack) -> Answer {
+pub fn answer(alloc: Global, case: &Case<'_>, stack: &mut Stack) -> Answer {
     let word = case.one;
     match case.verb {
         "number" => push(alloc, stack, made(Expr::val(Literal::Long(number(word))))),
