@@ -3,29 +3,92 @@
 //! its last step.
 #![tactic(auto)]
 
+use cedar_expressions::Extensions;
+use cedar_expressions::ast::{Expr, Value};
 use cedar_operator_rows::operators;
 use cedar_operator_rows::stores::{self, Stores};
+use cedar_request_rows::requests::{self, Requests};
+use cedar_restricted_rows::{partial_values, substitution};
 use cedar_rows::{Answer, Step, no_case};
+use cedar_tree_rows::trees;
 use std::alloc::Global;
+use std::collections::HashMap;
 use std::io;
+use std::rc::RcStr;
 
-fn answer(alloc: Global, section: &str, step: &Step<'_>, held: &mut Stores) -> Answer {
+/// What earlier steps left. The stacks, and what is told, are empty where a line begins.
+struct Held {
+    stores: Stores,
+    requests: Requests,
+    exprs: Vec<Expr>,
+    values: Vec<Value>,
+    told: HashMap<RcStr, Value>,
+    table: Extensions<'static>,
+}
+
+impl Drop for Held {
+    fn drop(self) {
+        let Held {
+            stores: _,
+            requests: _,
+            exprs: _,
+            values: _,
+            told: _,
+            table: _,
+        } = self;
+    }
+}
+
+fn nothing(alloc: Global) -> Held {
+    Held {
+        stores: stores::none(alloc),
+        requests: requests::none(alloc),
+        exprs: Vec::new(alloc),
+        values: Vec::new(alloc),
+        told: HashMap::new(alloc),
+        table: Extensions::none(alloc),
+    }
+}
+
+/// The section that knows a verb of stores and of operators.
+fn answer(alloc: Global, section: &str, step: &Step<'_>, held: &mut Held) -> Answer {
     let (verb, one, other) = (step.verb, step.one.as_str(), step.other.as_str());
     match section {
-        "value" => stores::value(alloc, verb, one, other, held),
-        "hold" => stores::hold(alloc, verb, one, other, held),
-        "operate" => operators::operate(alloc, verb, one, held),
+        "value" => stores::value(alloc, verb, one, other, &mut held.stores),
+        "hold" => stores::hold(alloc, verb, one, other, &mut held.stores),
+        "operate" => operators::operate(alloc, verb, one, &mut held.stores),
+        _ => requested(alloc, section, step, held),
+    }
+}
+
+/// That of requests, and of the expressions and values that they are made of.
+fn requested(alloc: Global, section: &str, step: &Step<'_>, held: &mut Held) -> Answer {
+    let (verb, one, other) = (step.verb, step.one.as_str(), step.other.as_str());
+    let exprs = &mut held.exprs;
+    match section {
+        "leaf" => trees::leaf(alloc, verb, one, other, exprs),
+        "record" => trees::record(alloc, verb, one, exprs),
+        "call" => trees::call(alloc, verb, one, exprs),
+        "given" => partial_values::value(alloc, verb, one, &mut held.values),
+        "tell" => substitution::tell_value(alloc, verb, &mut held.values, &mut held.told),
+        "request" => {
+            let (told, table, state) = (&held.told, &held.table, &mut held.requests);
+            requests::answer(alloc, verb, one, other, exprs, told, table, state)
+        }
         _ => no_case(alloc),
     }
 }
 
-fn answered(alloc: Global, step: &str, held: &mut Stores) -> Answer {
+fn answered(alloc: Global, step: &str, held: &mut Held) -> Answer {
     let (section, rest) = cedar_rows::cut(step);
     let step = cedar_rows::read(alloc, rest)?;
     answer(alloc, section, &step, held)
 }
 
-fn last_answer(alloc: Global, line: &str, held: &mut Stores) -> Answer {
+fn last_answer(alloc: Global, line: &str, held: &mut Held) -> Answer {
+    held.exprs.clear();
+    held.values.clear();
+    held.told.clear();
     let mut answer = String::new(alloc);
     for step in line.split("; ") {
         answer = answered(alloc, step, held)?;
@@ -34,7 +97,7 @@ fn last_answer(alloc: Global, line: &str, held: &mut Stores) -> Answer {
 }
 
 fn main(rt: HostRuntime) -> io::Result<()> {
-    let mut held = stores::none(rt.alloc());
+    let mut held = nothing(rt.alloc());
     for line in rt.lines(rt.alloc()) {
         let line = line?;
         let answer = last_answer(rt.alloc(), line.as_str(), &mut held)?;

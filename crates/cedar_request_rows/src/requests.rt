@@ -1,0 +1,368 @@
+// Entries, contexts and requests.
+use crate::refusing::RefusesAll;
+use cedar_extensions::extensions::Extensions;
+use cedar_literals::uids::{EntityType, EntityUID};
+use cedar_names::conversions::FromIn;
+use cedar_names::errors::ParseNameError;
+use cedar_names::places::Loc;
+use cedar_names::reading::FromNormalizedStr;
+use cedar_requests::{
+    Context, ContextCreationError, EntityUIDEntry, Request, RequestSchema, RequestSchemaAllPass,
+    UnwrapInfallible,
+};
+use cedar_restricted::borrowed::BorrowedRestrictedExpr;
+use cedar_restricted::errors::RestrictedExpressionError;
+use cedar_restricted::partial_values::PartialValue;
+use cedar_restricted::restricted::RestrictedExpr;
+use cedar_rows::{Answer, explain, maybe, no_case, paired, refused_for, said, taken, tell};
+use cedar_tree_rows::registers::{place, told_place};
+use cedar_tree_rows::trees::variable;
+use cedar_trees::expr::Expr;
+use cedar_values::values::Value;
+use std::alloc::{AllocError, Global};
+use std::collections::HashMap;
+use std::rc::RcStr;
+
+/// What was made last: entries on a stack, a context and a request.
+pub struct Requests {
+    entries: Vec<EntityUIDEntry>,
+    context: Option<Context>,
+    request: Option<Request>,
+}
+
+impl Drop for Requests {
+    fn drop(self) {
+        let Requests {
+            entries: _,
+            context: _,
+            request: _,
+        } = self;
+    }
+}
+
+/// Nothing was made yet.
+pub fn none(alloc: Global) -> Requests {
+    Requests {
+        entries: Vec::new(alloc),
+        context: None,
+        request: None,
+    }
+}
+
+/// The value, or what is left, and its place.
+fn told_part(alloc: Global, found: Result<PartialValue, AllocError>) -> Answer {
+    match found {
+        Ok(part) => {
+            let place = match &part {
+                PartialValue::Value(value) => told_place(alloc, value.source_loc())?,
+                PartialValue::Residual(expr) => told_place(alloc, expr.source_loc())?,
+            };
+            format!(in alloc; "{part} {place}")
+        }
+        Err(error) => refused_for(alloc, error),
+    }
+}
+
+/// Keeps an entry, and answers how many there are.
+fn kept(alloc: Global, entries: &mut Vec<EntityUIDEntry>, entry: EntityUIDEntry) -> Answer {
+    entries.push(entry)?;
+    tell(alloc, entries.len())
+}
+
+/// An entry of this uid or type, at this place.
+fn made(
+    alloc: Global,
+    verb: &str,
+    one: &str,
+    other: &str,
+    entries: &mut Vec<EntityUIDEntry>,
+) -> Answer {
+    let loc: Option<Loc> = place(alloc, other)?;
+    match verb {
+        "known" => match EntityUID::with_eid_and_type(alloc, "User", one) {
+            Ok(uid) => kept(alloc, entries, EntityUIDEntry::known(alloc, uid, loc)?),
+            Err(error) => refused_for(alloc, error),
+        },
+        "from" => match EntityUID::with_eid_and_type(alloc, "User", one) {
+            Ok(uid) => kept(alloc, entries, EntityUIDEntry::from_in(alloc, uid)?),
+            Err(error) => refused_for(alloc, error),
+        },
+        "typed" => match EntityType::from_normalized_str(alloc, one) {
+            Ok(ty) => kept(alloc, entries, EntityUIDEntry::unknown_with_type(ty, loc)),
+            Err(error) => refused_for(alloc, error),
+        },
+        _ => kept(alloc, entries, EntityUIDEntry::unknown()),
+    }
+}
+
+/// What is read of the entry on top.
+fn read(alloc: Global, verb: &str, word: &str, entries: &[EntityUIDEntry]) -> Answer {
+    let Some(entry) = entries.last() else {
+        return no_case(alloc);
+    };
+    match verb {
+        "uid" => maybe(alloc, entry.uid()),
+        "type" => maybe(alloc, entry.get_type()),
+        "copied" => maybe(alloc, entry.clone(alloc)?.get_type()),
+        _ => told_part(alloc, entry.evaluate(alloc, variable(word))),
+    }
+}
+
+fn restricted_of(
+    alloc: Global,
+    exprs: Vec<Expr>,
+) -> Result<Vec<RestrictedExpr>, RestrictedExpressionError> {
+    let mut restricted = Vec::new(alloc);
+    for expr in exprs {
+        restricted
+            .push(RestrictedExpr::new(alloc, expr)?)
+            .map_err(|_| { RestrictedExpressionError::Memory(AllocError) })?;
+    }
+    Ok(restricted)
+}
+
+/// The context of the expressions on top at these keys.
+fn of_pairs(
+    alloc: Global,
+    keys: &str,
+    depth: u32,
+    stack: &mut Vec<Expr>,
+    table: &Extensions<'_>,
+) -> Result<Context, ContextCreationError> {
+    let exprs = taken(alloc, cedar_rows::count_of(keys), stack)?;
+    match restricted_of(alloc, exprs) {
+        Ok(items) => Context::from_pairs(alloc, paired(alloc, keys, items)?, table, depth),
+        Err(_error) => Ok(Context::empty(alloc)?),
+    }
+}
+
+/// The context of the expression on top.
+fn of_expr(
+    alloc: Global,
+    depth: u32,
+    stack: &[Expr],
+    table: &Extensions<'_>,
+) -> Result<Context, ContextCreationError> {
+    let Some(expr) = stack.last() else {
+        return Ok(Context::empty(alloc)?);
+    };
+    match BorrowedRestrictedExpr::new(alloc, expr) {
+        Ok(expr) => Context::from_expr(alloc, expr, table, depth),
+        Err(_error) => Ok(Context::empty(alloc)?),
+    }
+}
+
+/// Keeps a context, and answers its text with the number of its keys; or answers why it was not made.
+fn held(
+    alloc: Global,
+    at: &mut Option<Context>,
+    found: Result<Context, ContextCreationError>,
+) -> Answer {
+    match found {
+        Ok(context) => {
+            let kind = match &context {
+                Context::Value(_) => "value",
+                Context::RestrictedResidual(_) => "residual",
+            };
+            let text = format!(in alloc; "{kind} {context} of {}", context.num_keys())?;
+            *at = Some(context);
+            Ok(text)
+        }
+        Err(error) => refused_for(alloc, error),
+    }
+}
+
+/// What is made of the context.
+fn of_context(
+    alloc: Global,
+    verb: &str,
+    depth: u32,
+    told: &HashMap<RcStr, Value>,
+    table: &Extensions<'_>,
+    at: &mut Option<Context>,
+) -> Answer {
+    let Some(context) = at.take() else {
+        return no_case(alloc);
+    };
+    match verb {
+        "substitute" => match context.substitute(alloc, told, table, depth) {
+            Ok(context) => held(alloc, at, Ok(context)),
+            Err(error) => refused_for(alloc, error),
+        },
+        "partial" => told_part(alloc, Ok(PartialValue::from(context))),
+        "restricted" => explain(alloc, RestrictedExpr::from_in(alloc, context)),
+        _ => {
+            let copy = context.clone(alloc)?;
+            held(alloc, at, Ok(copy))
+        }
+    }
+}
+
+/// The last three entries, in their order.
+fn three(
+    entries: &mut Vec<EntityUIDEntry>,
+) -> Option<(EntityUIDEntry, EntityUIDEntry, EntityUIDEntry)> {
+    let resource = entries.pop()?;
+    let action = entries.pop()?;
+    let principal = entries.pop()?;
+    Some((principal, action, resource))
+}
+
+/// Keeps a request, and answers its text.
+fn shown(alloc: Global, at: &mut Option<Request>, request: Request) -> Answer {
+    let text = request.to_string(alloc)?;
+    *at = Some(request);
+    Ok(text)
+}
+
+/// The request of the entries on top and the context.
+fn of_entries(alloc: Global, verb: &str, table: &Extensions<'_>, state: &mut Requests) -> Answer {
+    let Some((principal, action, resource)) = three(&mut state.entries) else {
+        return no_case(alloc);
+    };
+    let context = state.context.take();
+    match verb {
+        "with-unknowns" => shown(
+            alloc,
+            &mut state.request,
+            Request::new_with_unknowns(
+                principal,
+                action,
+                resource,
+                context,
+                Some(&RequestSchemaAllPass),
+                table,
+            )
+            .unwrap_infallible(),
+        ),
+        "refused" => match Request::new_with_unknowns(
+            principal,
+            action,
+            resource,
+            context,
+            Some(&RefusesAll),
+            table,
+        ) {
+            Ok(request) => shown(alloc, &mut state.request, request),
+            Err(error) => refused_for(alloc, error),
+        },
+        _ => shown(
+            alloc,
+            &mut state.request,
+            Request::new_unchecked(principal, action, resource, context),
+        ),
+    }
+}
+
+fn user(alloc: Global, id: &str) -> Result<EntityUID, ParseNameError> {
+    EntityUID::with_eid_and_type(alloc, "User", id)
+}
+
+/// The request of three uids and the context, of which this schema is asked, if any is.
+fn of_uids<S: RequestSchema>(
+    alloc: Global,
+    schema: Option<&S>,
+    table: &Extensions<'_>,
+    state: &mut Requests,
+) -> Answer {
+    let context = match state.context.take() {
+        Some(context) => context,
+        None => Context::empty(alloc)?,
+    };
+    match (user(alloc, "a"), user(alloc, "b"), user(alloc, "c")) {
+        (Ok(a), Ok(b), Ok(c)) => {
+            let (a, b, c) = ((a, None), (b, None), (c, None));
+            match Request::new(alloc, a, b, c, context, schema, table) {
+                Ok(request) => shown(alloc, &mut state.request, request),
+                Err(error) => refused_for(alloc, error),
+            }
+        }
+        _ => no_case(alloc),
+    }
+}
+
+/// What the schemas answer of the request's parts.
+fn asked(alloc: Global, verb: &str, table: &Extensions<'_>, request: &Request) -> Answer {
+    let (Some(context), Some(action)) = (request.context(), request.action().uid()) else {
+        return no_case(alloc);
+    };
+    let all = RequestSchemaAllPass;
+    match verb {
+        "context-passes" => {
+            all.validate_context(context, action, table)
+                .unwrap_infallible();
+            said(alloc, true)
+        }
+        "scope-passes" => {
+            all.validate_scope_variables(None, Some(action), None)
+                .unwrap_infallible();
+            said(alloc, true)
+        }
+        _ => said(alloc, RefusesAll.validate_request(request, table).is_ok()),
+    }
+}
+
+/// What is read of the request.
+fn parts(alloc: Global, verb: &str, table: &Extensions<'_>, state: &Requests) -> Answer {
+    let Some(request) = &state.request else {
+        return no_case(alloc);
+    };
+    match verb {
+        "principal" => maybe(alloc, request.principal().uid()),
+        "action" => maybe(alloc, request.action().uid()),
+        "resource" => maybe(alloc, request.resource().uid()),
+        "context" => maybe(alloc, request.context()),
+        "type-of" => match request.to_request_type(alloc)? {
+            Some(ty) => {
+                let (principal, action, resource) = (&ty.principal, &ty.action, &ty.resource);
+                format!(in alloc; "{principal} {action} {resource}")
+            }
+            None => String::from_str(alloc, "none"),
+        },
+        "again" => request.clone(alloc)?.to_string(alloc),
+        _ => asked(alloc, verb, table, request),
+    }
+}
+
+fn depth_of(word: &str) -> u32 {
+    word.parse::<u32>().unwrap_or(0)
+}
+
+/// What a step on requests answers, where the stack has the expressions that earlier steps made and `told`
+/// the values that they told. Refused for memory alone.
+pub fn answer(
+    alloc: Global,
+    verb: &str,
+    one: &str,
+    other: &str,
+    stack: &mut Vec<Expr>,
+    told: &HashMap<RcStr, Value>,
+    table: &Extensions<'_>,
+    state: &mut Requests,
+) -> Answer {
+    let depth = depth_of(one);
+    match verb {
+        "known" | "from" | "typed" | "unknown" => {
+            made(alloc, verb, one, other, &mut state.entries)
+        }
+        "uid" | "type" | "copied" | "evaluate" => read(alloc, verb, one, &state.entries),
+        "empty" => held(alloc, &mut state.context, Ok(Context::empty(alloc)?)),
+        "pairs" => {
+            let depth = depth_of(other);
+            let context = of_pairs(alloc, one, depth, stack, table);
+            held(alloc, &mut state.context, context)
+        }
+        "expr" => {
+            let context = of_expr(alloc, depth, stack, table);
+            held(alloc, &mut state.context, context)
+        }
+        "substitute" | "partial" | "restricted" | "copy" => {
+            of_context(alloc, verb, depth, told, table, &mut state.context)
+        }
+        "unchecked" | "with-unknowns" | "refused" => of_entries(alloc, verb, table, state),
+        "new" => of_uids::<RequestSchemaAllPass>(alloc, None, table, state),
+        "new-passes" => of_uids(alloc, Some(&RequestSchemaAllPass), table, state),
+        "new-refused" => of_uids(alloc, Some(&RefusesAll), table, state),
+        _ => parts(alloc, verb, table, state),
+    }
+}

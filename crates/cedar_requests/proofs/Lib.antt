@@ -1,0 +1,6 @@
+mod Making
+mod Mistyping
+mod PutIn
+mod RecordsStay
+mod Refusing
+mod ToldRecords

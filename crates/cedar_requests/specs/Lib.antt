@@ -1,0 +1,9 @@
+pub mod Answers
+pub mod Asking
+pub mod Contexts
+pub mod Creating
+pub mod Holding
+pub mod Parts
+pub mod Refusals
+pub mod Residuals
+pub mod Telling

@@ -1,0 +1,102 @@
+// Why no context or no request is made.
+ghost use Rattle.std.specs.Prelude.{◌≡◌};
+
+use cedar_extensions::evaluation_error::EvaluationError;
+use cedar_trees::errors::ExpressionConstructionError;
+use cedar_trees::expr::Expr;
+use std::alloc::{AllocError, AllocFailed};
+use std::fmt::Display;
+use thiserror::Error;
+
+/// An expression that should be a record isn't written as one.
+#[derive(Debug, Drop, Error)]
+#[error("expression is not a record: {expr}")]
+pub struct NotARecord {
+    /// The expression.
+    pub expr: Expr,
+}
+
+/// Why no context is made.
+#[derive(Debug, Error)]
+pub enum ContextCreationError {
+    /// The expression isn't written as a record.
+    #[error(transparent)]
+    NotARecord(NotARecord),
+    /// Its evaluation errs.
+    #[error(transparent)]
+    Evaluation(EvaluationError),
+    /// A key stands twice among its entries.
+    #[error(transparent)]
+    ExpressionConstruction(ExpressionConstructionError),
+    /// Memory ran out.
+    #[error(transparent)]
+    Memory(AllocError),
+}
+
+// By hand, so that letting go of one is a call, whichever it is.
+impl Drop for ContextCreationError {
+    fn drop(self) {
+        match self {
+            ContextCreationError::NotARecord(_error) => {}
+            ContextCreationError::Evaluation(_error) => {}
+            ContextCreationError::ExpressionConstruction(_error) => {}
+            ContextCreationError::Memory(_error) => {}
+        }
+    }
+}
+
+impl From<EvaluationError> for ContextCreationError {
+    ghost use Rattle.cedar_requests.specs.Refusals.{by_evaluation};
+
+    ghost from_gives = { λ error made. made ≡ by_evaluation error };
+
+    /// Want of memory stays want of memory.
+    fn from(error: EvaluationError) -> ContextCreationError {
+        match &error {
+            EvaluationError::Memory => ContextCreationError::Memory(AllocError),
+            _ => ContextCreationError::Evaluation(error),
+        }
+    }
+}
+
+impl From<AllocError> for ContextCreationError {
+    ghost use Rattle.cedar_requests.specs.declared.errors.ContextCreationError.TheVariants.{Memory};
+
+    ghost from_gives = { λ error made. made ≡ Memory error };
+
+    fn from(error: AllocError) -> ContextCreationError {
+        ContextCreationError::Memory(error)
+    }
+}
+
+impl<T: Drop> From<AllocFailed<T>> for ContextCreationError {
+    ghost use Rattle.std.specs.Prelude.{alloc_error};
+    ghost use Rattle.cedar_requests.specs.declared.errors.ContextCreationError.TheVariants.{Memory};
+
+    ghost from_gives = { λ _ made. made ≡ Memory alloc_error };
+
+    fn from(_error: AllocFailed<T>) -> ContextCreationError {
+        ContextCreationError::Memory(AllocError)
+    }
+}
+
+/// Why no request is made.
+#[derive(Debug, Drop, Error)]
+pub enum RequestError<E: Display> {
+    /// The schema refuses it.
+    #[error("{0}")]
+    Schema(E),
+    /// Memory ran out.
+    #[error(transparent)]
+    Memory(AllocError),
+}
+
+impl<E: Display> From<AllocError> for RequestError<E> {
+    ghost use Rattle.cedar_requests.specs.declared.errors.RequestError.TheVariants.{Memory};
+
+    ghost from_gives = { λ error made. made ≡ Memory error };
+
+    fn from(error: AllocError) -> RequestError<E> {
+        RequestError::Memory(error)
+    }
+}

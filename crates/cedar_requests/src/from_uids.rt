@@ -1,0 +1,24 @@
+// Entries from uids.
+use crate::entries::EntityUIDEntry;
+use cedar_literals::uids::EntityUID;
+use cedar_names::conversions::FromIn;
+use std::alloc::{AllocError, Global};
+
+impl FromIn<EntityUID> for EntityUIDEntry {
+    type Error = AllocError;
+
+    ghost use Rattle.std.specs.Prelude.{◌≡◌, IfOk};
+    ghost use Rattle.cedar_partial_evaluation.specs.Question.{Given};
+    ghost use Rattle.cedar_requests.specs.Parts.{part_of};
+
+    ghost from_in_gives = { λ uid result. IfOk result (λ entry. part_of entry ≡ Given uid) };
+
+    /// The entity of this uid, at the uid's place; refused for memory alone.
+    fn from_in(alloc: Global, uid: EntityUID) -> Result<EntityUIDEntry, AllocError> {
+        let loc = match uid.loc() {
+            None => None,
+            Some(loc) => Some(loc.clone(alloc)?),
+        };
+        EntityUIDEntry::known(alloc, uid, loc)
+    }
+}
