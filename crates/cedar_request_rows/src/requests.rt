@@ -7,8 +7,8 @@ use cedar_names::errors::ParseNameError;
 use cedar_names::places::Loc;
 use cedar_names::reading::FromNormalizedStr;
 use cedar_requests::{
-    Context, ContextCreationError, EntityUIDEntry, Request, RequestSchema, RequestSchemaAllPass,
-    UnwrapInfallible,
+    Context, ContextCreationError, EntityUIDEntry, Request, RequestError, RequestSchema,
+    RequestSchemaAllPass, UnwrapInfallible,
 };
 use cedar_restricted::borrowed::BorrowedRestrictedExpr;
 use cedar_restricted::errors::RestrictedExpressionError;
@@ -264,7 +264,7 @@ fn of_uids<S: RequestSchema>(
     schema: Option<&S>,
     table: &Extensions<'_>,
     state: &mut Requests,
-) -> Answer {
+) -> Result<Option<Request>, RequestError<S::Error>> {
     let context = match state.context.take() {
         Some(context) => context,
         None => Context::empty(alloc)?,
@@ -272,12 +272,33 @@ fn of_uids<S: RequestSchema>(
     match (user(alloc, "a"), user(alloc, "b"), user(alloc, "c")) {
         (Ok(a), Ok(b), Ok(c)) => {
             let (a, b, c) = ((a, None), (b, None), (c, None));
-            match Request::new(alloc, a, b, c, context, schema, table) {
-                Ok(request) => shown(alloc, &mut state.request, request),
-                Err(error) => refused_for(alloc, error),
-            }
+            Ok(Some(Request::new(alloc, a, b, c, context, schema, table)?))
         }
-        _ => no_case(alloc),
+        _ => Ok(None),
+    }
+}
+
+/// The request of a schema that refuses nothing.
+fn accepted(
+    alloc: Global,
+    schema: Option<&RequestSchemaAllPass>,
+    table: &Extensions<'_>,
+    state: &mut Requests,
+) -> Answer {
+    match of_uids(alloc, schema, table, state) {
+        Ok(Some(request)) => shown(alloc, &mut state.request, request),
+        Ok(None) => no_case(alloc),
+        Err(RequestError::Memory(error)) => refused_for(alloc, error),
+        Err(RequestError::Schema(error)) => match error {},
+    }
+}
+
+/// That of the schema that refuses everything.
+fn refused(alloc: Global, table: &Extensions<'_>, state: &mut Requests) -> Answer {
+    match of_uids(alloc, Some(&RefusesAll), table, state) {
+        Ok(Some(request)) => shown(alloc, &mut state.request, request),
+        Ok(None) => no_case(alloc),
+        Err(error) => refused_for(alloc, error),
     }
 }
 
@@ -360,9 +381,9 @@ pub fn answer(
             of_context(alloc, verb, depth, told, table, &mut state.context)
         }
         "unchecked" | "with-unknowns" | "refused" => of_entries(alloc, verb, table, state),
-        "new" => of_uids::<RequestSchemaAllPass>(alloc, None, table, state),
-        "new-passes" => of_uids(alloc, Some(&RequestSchemaAllPass), table, state),
-        "new-refused" => of_uids(alloc, Some(&RefusesAll), table, state),
+        "new" => accepted(alloc, None, table, state),
+        "new-passes" => accepted(alloc, Some(&RequestSchemaAllPass), table, state),
+        "new-refused" => refused(alloc, table, state),
         _ => parts(alloc, verb, table, state),
     }
 }

@@ -5,7 +5,7 @@ use cedar_extensions::evaluation_error::EvaluationError;
 use cedar_trees::errors::ExpressionConstructionError;
 use cedar_trees::expr::Expr;
 use std::alloc::{AllocError, AllocFailed};
-use std::fmt::Display;
+use std::{error, fmt};
 use thiserror::Error;
 
 /// An expression that should be a record isn't written as one.
@@ -81,17 +81,27 @@ impl<T: Drop> From<AllocFailed<T>> for ContextCreationError {
 }
 
 /// Why no request is made.
-#[derive(Debug, Drop, Error)]
-pub enum RequestError<E: Display> {
+#[derive(Debug, Drop)]
+pub enum RequestError<E> {
     /// The schema refuses it.
-    #[error("{0}")]
     Schema(E),
     /// Memory ran out.
-    #[error(transparent)]
     Memory(AllocError),
 }
 
-impl<E: Display> From<AllocError> for RequestError<E> {
+/// What the schema says, or that memory ran out.
+impl<E: fmt::Display> fmt::Display for RequestError<E> {
+    fn fmt<W: fmt::Write>(&self, f: &mut fmt::Formatter<W>) -> fmt::Result {
+        match self {
+            RequestError::Schema(error) => error.fmt(f),
+            RequestError::Memory(error) => error.fmt(f),
+        }
+    }
+}
+
+impl<E: error::Error> error::Error for RequestError<E> {}
+
+impl<E> From<AllocError> for RequestError<E> {
     ghost use Rattle.cedar_requests.specs.declared.errors.RequestError.TheVariants.{Memory};
 
     ghost from_gives = { λ error made. made ≡ Memory error };

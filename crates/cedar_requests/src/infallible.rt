@@ -1,30 +1,6 @@
-// Errors that are never met.
+// Results that are never errors.
 
-use std::convert;
-use thiserror::Error;
-
-/// The error of what never fails, as an error of this library: there is none.
-#[derive(Debug, Drop, Error)]
-#[error(transparent)]
-pub struct Infallible(pub convert::Infallible);
-
-/// Types of which there is no value.
-pub trait IsInfallible {
-    /// Nothing, since there is no value to call it on.
-    fn never_returns(self) -> convert::Infallible;
-}
-
-impl IsInfallible for convert::Infallible {
-    fn never_returns(self) -> convert::Infallible {
-        self
-    }
-}
-
-impl IsInfallible for Infallible {
-    fn never_returns(self) -> convert::Infallible {
-        self.0
-    }
-}
+use std::convert::Infallible;
 
 /// Results that are never errors.
 pub trait UnwrapInfallible<A> {
@@ -36,7 +12,7 @@ pub trait UnwrapInfallible<A> {
         ensures { holds self result };
 }
 
-impl<A, B: IsInfallible> UnwrapInfallible<A> for Result<A, B> {
+impl<A> UnwrapInfallible<A> for Result<A, Infallible> {
     ghost use Rattle.std.specs.Prelude.{◌≡◌, Ok};
 
     ghost holds = { λ result value. result ≡ Ok value };
@@ -44,7 +20,7 @@ impl<A, B: IsInfallible> UnwrapInfallible<A> for Result<A, B> {
     fn unwrap_infallible(self) -> A {
         match self {
             Ok(value) => value,
-            Err(error) => match error.never_returns() {},
+            Err(error) => match error {},
         }
     }
 }

@@ -18,7 +18,7 @@ mod telling;
 pub use contexts::Context;
 pub use entries::EntityUIDEntry;
 pub use errors::{ContextCreationError, NotARecord, RequestError};
-pub use infallible::{Infallible, IsInfallible, UnwrapInfallible};
+pub use infallible::UnwrapInfallible;
 pub use requests::{Request, RequestType};
 pub use residuals::ResidualEntries;
 pub use schemas::{RequestSchema, RequestSchemaAllPass};

@@ -1,11 +1,10 @@
 // Schemas that requests are held against.
 
 use crate::contexts::Context;
-use crate::infallible::Infallible;
 use crate::requests::Request;
 use cedar_extensions::extensions::Extensions;
 use cedar_literals::uids::EntityUID;
-use std::fmt::Display;
+use std::convert::Infallible;
 
 /// What accepts or refuses requests, their contexts and the variables of their scopes.
 /// (Cedar language reference, "Schema".)
@@ -21,7 +20,7 @@ pub trait RequestSchema {
     ghost use Rattle.cedar_requests.specs.Holding.{RequestParts, request_parts};
 
     /// Why something is refused.
-    type Error: Display + Drop;
+    type Error: Drop;
 
     // holds of each answer that the schema may give of a request
     ghost validates: { Self → RequestParts → table.Extensions → Result (Unit {0}) Self.Error → Type 0 };
