@@ -3,6 +3,8 @@
 //! its last step.
 #![tactic(auto)]
 
+mod evaluators;
+
 use cedar_expressions::Extensions;
 use cedar_expressions::ast::{Expr, Value};
 use cedar_operator_rows::operators;
@@ -57,18 +59,36 @@ fn answer(alloc: Global, section: &str, step: &Step<'_>, held: &mut Held) -> Ans
         "value" => stores::value(alloc, verb, one, other, &mut held.stores),
         "hold" => stores::hold(alloc, verb, one, other, &mut held.stores),
         "operate" => operators::operate(alloc, verb, one, &mut held.stores),
-        _ => requested(alloc, section, step, held),
+        _ => evaluated(alloc, section, step, held),
     }
 }
 
-/// That of requests, and of the expressions and values that they are made of.
-fn requested(alloc: Global, section: &str, step: &Step<'_>, held: &mut Held) -> Answer {
+/// That of expressions, and of their evaluation.
+fn evaluated(alloc: Global, section: &str, step: &Step<'_>, held: &mut Held) -> Answer {
     let (verb, one, other) = (step.verb, step.one.as_str(), step.other.as_str());
     let exprs = &mut held.exprs;
     match section {
         "leaf" => trees::leaf(alloc, verb, one, other, exprs),
+        "unary" => trees::unary(alloc, verb, one, exprs),
+        "binary" => trees::binary(alloc, verb, exprs),
+        "ternary" => trees::ternary(alloc, verb, exprs),
+        "attribute" => trees::attribute(alloc, verb, one, exprs),
+        "set" => trees::set(alloc, verb, exprs),
         "record" => trees::record(alloc, verb, one, exprs),
         "call" => trees::call(alloc, verb, one, exprs),
+        "evaluate" => {
+            let (store, table) = (&held.stores.store, &held.table);
+            evaluators::answer(alloc, verb, one, other, exprs, store, table)
+        }
+        _ => requested(alloc, section, step, held),
+    }
+}
+
+/// That of requests, and of the values that are told.
+fn requested(alloc: Global, section: &str, step: &Step<'_>, held: &mut Held) -> Answer {
+    let (verb, one, other) = (step.verb, step.one.as_str(), step.other.as_str());
+    let exprs = &mut held.exprs;
+    match section {
         "given" => partial_values::value(alloc, verb, one, &mut held.values),
         "tell" => substitution::tell_value(alloc, verb, &mut held.values, &mut held.told),
         "request" => {

@@ -25,7 +25,8 @@ pub struct Stores {
     attrs: Parts,
     tags: Parts,
     entities: Vec<Entity>,
-    pub(crate) store: Entities,
+    /// The store that was made last.
+    pub store: Entities,
 }
 
 impl Drop for Stores {

@@ -345,7 +345,8 @@ fn parts(alloc: Global, verb: &str, table: &Extensions<'_>, state: &Requests) ->
     }
 }
 
-fn depth_of(word: &str) -> u32 {
+/// The depth that a word says; 0 where it is no number.
+pub fn word_depth(word: &str) -> u32 {
     word.parse::<u32>().unwrap_or(0)
 }
 
@@ -361,7 +362,7 @@ pub fn answer(
     table: &Extensions<'_>,
     state: &mut Requests,
 ) -> Answer {
-    let depth = depth_of(one);
+    let depth = word_depth(one);
     match verb {
         "known" | "from" | "typed" | "unknown" => {
             made(alloc, verb, one, other, &mut state.entries)
@@ -369,7 +370,7 @@ pub fn answer(
         "uid" | "type" | "copied" | "evaluate" => read(alloc, verb, one, &state.entries),
         "empty" => held(alloc, &mut state.context, Ok(Context::empty(alloc)?)),
         "pairs" => {
-            let depth = depth_of(other);
+            let depth = word_depth(other);
             let context = of_pairs(alloc, one, depth, stack, table);
             held(alloc, &mut state.context, context)
         }

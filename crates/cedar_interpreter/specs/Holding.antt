@@ -1,0 +1,61 @@
+-- What an evaluator holds: of the request, and of the entities and functions besides.
+use Rattle.std.specs.Prelude.{◌≡◌, ◌<◌, ⊤, ℕ, Bool, true, false, List, [], ◌∷◌}
+use Rattle.cedar_language.specs.Tree.{Variable, Principal, Action, Resource, Context, Tree, Unknown}
+use Rattle.cedar_language.specs.Facts.{Facts}
+use Rattle.cedar_language.specs.Height.{height, heights}
+use Rattle.cedar_language.specs.Meaning.{slot_outcome}
+use Rattle.cedar_partial_evaluation.specs.Mentions.{mentions_only, all_mention_only}
+use Rattle.cedar_partial_evaluation.specs.Partial.{Answer, Evaluated, ResidualTree, answer_of, LeafAnswers}
+use Rattle.cedar_grammar.specs.Build.{trees}
+use Rattle.cedar_constraints.specs.Bindings.{Bindings, binding_of}
+use Rattle.cedar_operators.specs.Store.{HasFacts}
+use Rattle.cedar_restricted.specs.PartialValues.{partial_of}
+use Rattle.cedar_restricted.specs.declared.partial_values.PartialValue.{PartialValue}
+use Rattle.cedar_interpreter.specs.Meeting.{part_answer}
+use Rattle.cedar_interpreter.specs.Operating.{HasFunctions, NamesNothing}
+use Rattle.cedar_interpreter.specs.declared.evaluator.Variables.{Variables}
+use Rattle.cedar_interpreter.specs.declared.evaluator.Evaluator.{Evaluator}
+
+abbrev pub variable_in : Variables → Variable → PartialValue
+variable_in vs Principal = vs.principal
+variable_in vs Action = vs.action
+variable_in vs Resource = vs.resource
+variable_in vs Context = vs.context
+
+abbrev pub variable_held : Evaluator → Variable → Answer
+variable_held ev v = part_answer (partial_of (variable_in ev.variables v))
+
+-- what stands for variables, unknowns and slots; of an unknown no value is told
+abbrev pub held_by : Evaluator → Bindings → LeafAnswers
+held_by ev slots = record {
+  variable = variable_held ev;
+  unknown = λ n ty. ResidualTree (Unknown n ty);
+  slot = λ s. answer_of (slot_outcome (binding_of slots s));
+}
+
+-- the facts are those of what is held, and no call in the tree names an unknown
+pub record Serves (ev : Evaluator) (facts : Facts) (t : Tree) : Type 0 where
+  pub entities : HasFacts ev.entities.now facts
+  pub functions : HasFunctions ev.extensions.now facts
+  pub names_nothing : NamesNothing ev.extensions.now t
+
+-- the variable has a value
+abbrev pub is_evaluated : Answer → Bool
+is_evaluated (Evaluated v) = true
+is_evaluated _ = false
+
+abbrev pub is_held : Evaluator → Variable → Bool
+is_held ev v = is_evaluated (variable_held ev v)
+
+-- a tree that mentions nothing unknown is higher than the limit
+abbrev pub Deep : Evaluator → ℕ → Tree → Type 0
+Deep ev depth t = (facts : Facts) → Serves ev facts t → mentions_only (is_held ev) true t ≡ true → depth < height t
+
+-- ---- trees one after another
+
+abbrev pub ServesEach : Evaluator → Facts → List Tree → Type 0
+ServesEach ev facts [] = ⊤
+ServesEach ev facts (t ∷ ts) = Serves ev facts t × ServesEach ev facts ts
+
+abbrev pub DeepEach : Evaluator → ℕ → List Tree → Type 0
+DeepEach ev depth ts = (facts : Facts) → ServesEach ev facts ts → all_mention_only (is_held ev) true (trees ts) ≡ true → depth < heights (trees ts)

@@ -1,0 +1,5 @@
+pub mod Forms
+pub mod Meeting
+pub mod Operating
+pub mod Projecting
+pub mod Holding

@@ -1,0 +1,78 @@
+-- What the code answers, against an answer of partial evaluation at given facts.
+use Rattle.std.specs.Prelude.{◌≡◌, ⊤, Bool, true, false, Option, Some, None, List, [], ◌∷◌, map, Result, Ok, Err}
+use Rattle.std.specs.Global.{Vec}
+use Rattle.std.specs.declared.alloc.Global.{Global}
+use Rattle.std.specs.declared.rc.Rc.{Rc}
+use Rattle.either.specs.declared.Either.{Either}
+use Rattle.either.specs.declared.Either.TheVariants.{Left, Right}
+use Rattle.cedar_language.specs.Tree.{Boolean, Tree}
+use Rattle.cedar_language.specs.Value.{Value, Plain}
+use Rattle.cedar_language.specs.Facts.{Facts}
+use Rattle.cedar_partial_evaluation.specs.Alike.{Alike, Same, gathered}
+use Rattle.cedar_partial_evaluation.specs.Partial.{Answer, Evaluated, ResidualTree, Failed, SomeFailed, last_answer}
+use Rattle.cedar_trees.specs.Bare.{bare}
+use Rattle.cedar_trees.specs.declared.expr.Expr.{Expr}
+use Rattle.cedar_restricted.specs.PartialValues.{partial_of}
+use Rattle.cedar_restricted.specs.declared.partial_values.PartialValue.{PartialValue}
+use Rattle.cedar_extensions.specs.Failures.{Failure, OfKind, LimitMet, MemoryRanOut, failure_of}
+use Rattle.cedar_extensions.specs.Giving.{GivesBy}
+use Rattle.cedar_extensions.specs.declared.evaluation_error.EvaluationError.{EvaluationError}
+use Rattle.cedar_interpreter.specs.declared.lazy.Tested.{Tested}
+use Rattle.cedar_interpreter.specs.declared.lazy.Tested.TheVariants as tested
+
+-- the limit of depth was met
+abbrev pub IsLimit : {X : Type 0} → Result X EvaluationError → Type 0
+IsLimit (Ok x) = ⊥
+IsLimit (Err e) = failure_of e ≡ LimitMet
+
+-- a value or a residual, as an answer
+abbrev pub part_answer : Either Value Tree → Answer
+part_answer (Left v) = Evaluated v
+part_answer (Right r) = ResidualTree r
+
+-- the answer b; the limit may be met where the evaluation is deep
+abbrev pub MeetsAt : Facts → Type 0 → Answer → Result PartialValue EvaluationError → Type 0
+MeetsAt facts deep b result = GivesBy (λ p. Same facts (part_answer (partial_of p)) b) (λ k. b ≡ Failed k) deep result
+
+-- ---- answers one after another
+
+-- each is the answer at its place
+abbrev pub SameEach : Facts → List (Either Value Tree) → List Answer → Type 0
+SameEach facts [] [] = ⊤
+SameEach facts (p ∷ ps) (b ∷ bs) = Same facts (part_answer p) b × SameEach facts ps bs
+SameEach facts ps bs = ⊥
+
+-- all of these answers, or the first error among them
+abbrev pub MeetEachAt : Facts → List Answer → Result (Vec PartialValue) EvaluationError → Type 0
+MeetEachAt facts bs result = GivesBy (λ ps. SameEach facts (map partial_of ps.items) bs) (λ k. gathered facts bs ≡ SomeFailed k) ⊤ result
+
+-- ---- operands that are tested
+
+-- the Boolean that a value is
+abbrev pub boolean_in : Value → Option Bool
+boolean_in (Plain (Boolean b)) = Some b
+boolean_in v = None
+
+-- a Boolean, what is left of one, or an error
+abbrev pub tested_answer : Answer → Answer
+tested_answer b = last_answer (λ r. r) b
+
+abbrev pub IsTested : Facts → Answer → Tested → Type 0
+IsTested facts c tested.No = c ≡ Evaluated (Plain (Boolean false))
+IsTested facts c tested.Yes = c ≡ Evaluated (Plain (Boolean true))
+IsTested facts c (tested.Open rest) = (t : Tree) × (c ≡ ResidualTree t) × Alike facts (bare rest) t
+
+abbrev pub TestsAt : Facts → Answer → Result Tested EvaluationError → Type 0
+TestsAt facts c result = GivesBy (IsTested facts c) (λ k. c ≡ Failed k) ⊤ result
+
+-- ---- best effort
+
+-- an operand in best effort never errs, the limit and want of memory aside
+abbrev pub EffortAt : Facts → Tree → Result (Rc (Expr (Unit {0})) Global) EvaluationError → Type 0
+EffortAt facts t result = GivesBy (λ e. Alike facts (bare e.value) t) (λ k. ⊥) ⊤ result
+
+-- these are no errors of an operand, and are handed on
+abbrev pub is_passed_up : Failure → Bool
+is_passed_up (OfKind k) = false
+is_passed_up LimitMet = true
+is_passed_up MemoryRanOut = true

@@ -1,0 +1,116 @@
+// Attributes of what a part is found to be.
+ghost use Rattle.std.specs.Prelude.{◌≡◌, IfOk};
+ghost use Rattle.std.specs.Rc.{rc_str_bytes};
+ghost use Rattle.cedar_language.specs.Facts.{Facts};
+ghost use Rattle.cedar_language.specs.Tree as tree;
+ghost use Rattle.cedar_language.specs.Tree.{Tree};
+ghost use Rattle.cedar_language.specs.Value.{Value, no_values, RecordAttrDoesNotExist};
+ghost use Rattle.cedar_partial_evaluation.specs.Alike.{Same};
+ghost use Rattle.cedar_partial_evaluation.specs.Partial.{Answer, AllEvaluated, LeafAnswers, and_next, apply_answer};
+ghost use Rattle.cedar_trees.specs.Bare.{bare};
+ghost use Rattle.cedar_restricted.specs.PartialValues.{partial_of};
+ghost use Rattle.cedar_extensions.specs.Failures.{OfKind, failure_of};
+ghost use Rattle.either.specs.declared.Either.{Either};
+ghost use Rattle.cedar_operators.specs.Store.{HasFacts};
+ghost use Rattle.cedar_interpreter.specs.Meeting.{MeetsAt, part_answer};
+ghost use Rattle.cedar_interpreter.specs.Projecting.{ProjectsAt, ProjectsOf, TakesOf};
+
+use crate::applying::known;
+use cedar_entities::store::Entities;
+use cedar_extensions::evaluation_error::EvaluationError;
+use cedar_names::places::Loc;
+use cedar_operators::get_attr;
+use cedar_partial_evaluation::{likeness_is_kept, projecting_is_evaluating};
+use cedar_restricted::partial_values::PartialValue;
+use cedar_shapes::readers::ExprReaders;
+use cedar_trees::expr::{Expr, ExprKind};
+use std::alloc::{AllocError, Global};
+use std::rc::RcStr;
+
+/// What an attribute of a part is found to be.
+#[derive(Drop)]
+pub(crate) enum Projected {
+    /// This.
+    Done(PartialValue),
+    /// What this entry of a residual record is evaluated to.
+    Entry(Expr),
+}
+
+/// The attribute of what a part is found to be.
+pub(crate) fn attribute(
+    alloc: Global,
+    part: PartialValue,
+    attr: &RcStr,
+    loc: Option<&Loc>,
+    entities: &Entities,
+) -> Result<Projected, EvaluationError>
+    ensures { (facts : Facts) → HasFacts entities.now facts → (holds : LeafAnswers) (b : Answer) → Same facts (part_answer (partial_of part)) b →
+        ProjectsAt facts holds (partial_of part) (apply_answer facts holds (tree.GetAttr (rc_str_bytes attr.now)) (and_next facts b (AllEvaluated no_values))) result }
+{
+    likeness_is_kept();
+    projecting_is_evaluating();
+    match part {
+        PartialValue::Value(value) => { done(known(get_attr(alloc, entities, &value, attr, loc))) }
+        PartialValue::Residual(rest) => project(alloc, rest, attr, loc),
+    }
+}
+
+fn done(answer: Result<PartialValue, EvaluationError>) -> Result<Projected, EvaluationError>
+    ensures { (facts : Facts) (holds : LeafAnswers) (part : Either Value Tree) (c : Answer) → MeetsAt facts ⊥ c answer → ProjectsAt facts holds part c result }
+{
+    Ok(Projected::Done(answer?))
+}
+
+// The attribute of what is left of a part.
+fn project(
+    alloc: Global,
+    rest: Expr,
+    attr: &RcStr,
+    loc: Option<&Loc>,
+) -> Result<Projected, EvaluationError>
+    ensures { (facts : Facts) (holds : LeafAnswers) → ProjectsOf facts holds (rc_str_bytes attr.now) (bare rest) result }
+{
+    match taken(alloc, &rest, attr, loc)? {
+        Some(entry) => Ok(Projected::Entry(entry)),
+        None => {
+            let access = Expr::get_attr(alloc, rest, attr.clone()?)?;
+            Ok(Projected::Done(PartialValue::from(access)))
+        }
+    }
+}
+
+// The entry of a record of which nothing can err, or none where the access waits. It errs where a record
+// lacks the attribute.
+fn taken(
+    alloc: Global,
+    rest: &Expr,
+    attr: &RcStr,
+    loc: Option<&Loc>,
+) -> Result<Option<Expr>, EvaluationError>
+    ensures { (facts : Facts) (holds : LeafAnswers) → TakesOf facts holds (rc_str_bytes attr.now) (bare rest.now) result }
+{
+    match &rest.expr_kind {
+        ExprKind::Record(entries) => match entries.get(attr.as_str()) {
+            None => Err(missing(alloc, attr, loc)?),
+            Some(entry) => {
+                if rest.is_projectable() {
+                    Ok(Some(entry.clone(alloc)?))
+                } else {
+                    Ok(None)
+                }
+            }
+        },
+        _ => Ok(None),
+    }
+}
+
+// The error of a record that lacks the attribute; refused for memory alone.
+fn missing(alloc: Global, attr: &RcStr, loc: Option<&Loc>) -> Result<EvaluationError, AllocError>
+    ensures { IfOk result (λ error. failure_of error ≡ OfKind RecordAttrDoesNotExist) }
+{
+    let loc = match loc {
+        None => None,
+        Some(loc) => Some(loc.clone(alloc)?),
+    };
+    Ok(EvaluationError::record_attr_does_not_exist(attr.clone()?, loc))
+}

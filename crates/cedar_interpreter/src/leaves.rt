@@ -1,0 +1,91 @@
+// Expressions without parts.
+ghost use Rattle.std.specs.Prelude.{◌≡◌, true, IfOk};
+ghost use Rattle.cedar_language.specs.Facts.{Facts};
+ghost use Rattle.cedar_language.specs.Meaning.{slot_outcome};
+ghost use Rattle.cedar_literals.specs.Variables.{variable_of};
+ghost use Rattle.cedar_partial_evaluation.specs.Partial.{answer_of, partial_in};
+ghost use Rattle.cedar_constraints.specs.Bindings.{binding_of};
+ghost use Rattle.cedar_trees.specs.Bare.{bare};
+ghost use Rattle.cedar_restricted.specs.PartialValues.{partial_of};
+ghost use Rattle.cedar_interpreter.specs.Forms.{is_leaf};
+ghost use Rattle.cedar_interpreter.specs.Holding.{held_by, variable_in};
+ghost use Rattle.cedar_interpreter.specs.Meeting.{MeetsAt};
+
+use crate::evaluator::{Evaluator, Variables};
+use cedar_constraints::bindings::SlotEnv;
+use cedar_extensions::evaluation_error::EvaluationError;
+use cedar_literals::literals::Literal;
+use cedar_literals::slots::SlotId;
+use cedar_literals::variables::Var;
+use cedar_restricted::partial_values::PartialValue;
+use cedar_trees::expr::{Expr, ExprKind};
+use cedar_values::values::Value;
+use std::alloc::{AllocError, Global};
+use std::rc::Rc;
+
+impl<'e> Evaluator<'e> {
+    /// The answer of an expression without parts.
+    pub(crate) fn leaf(
+        &self,
+        alloc: Global,
+        expr: &Expr,
+        slots: &SlotEnv,
+    ) -> Result<PartialValue, EvaluationError>
+        requires { is_leaf (bare expr.now) ≡ true }
+        ensures { (facts : Facts) → MeetsAt facts ⊥ (partial_in facts (held_by self.now slots.now) (bare expr.now)) result }
+    {
+        match &expr.expr_kind {
+            ExprKind::Lit(literal) => Ok(PartialValue::from(Value::from(literal.clone()?))),
+            ExprKind::Var(var) => Ok(variable(alloc, &self.variables, *var)?),
+            ExprKind::Slot(slot) => bound(alloc, slots, slot),
+            ExprKind::Unknown(unknown) => Ok(PartialValue::unknown(unknown.clone()?)),
+            ExprKind::If { .. } => unreachable!(),
+            ExprKind::And { .. } => unreachable!(),
+            ExprKind::Or { .. } => unreachable!(),
+            ExprKind::UnaryApp { .. } => unreachable!(),
+            ExprKind::BinaryApp { .. } => unreachable!(),
+            ExprKind::ExtensionFunctionApp { .. } => unreachable!(),
+            ExprKind::GetAttr { .. } => unreachable!(),
+            ExprKind::HasAttr { .. } => unreachable!(),
+            ExprKind::ExtHasAttr { .. } => unreachable!(),
+            ExprKind::Like { .. } => unreachable!(),
+            ExprKind::Is { .. } => unreachable!(),
+            ExprKind::Set(_) => unreachable!(),
+            ExprKind::Record(_) => unreachable!(),
+        }
+    }
+}
+
+// What stands for a variable; refused for memory alone.
+fn variable(alloc: Global, variables: &Variables, var: Var) -> Result<PartialValue, AllocError>
+    ensures { IfOk result (λ p. partial_of p ≡ partial_of (variable_in variables.now (variable_of var))) }
+{
+    match var {
+        Var::Principal => copied(alloc, &variables.principal),
+        Var::Action => copied(alloc, &variables.action),
+        Var::Resource => copied(alloc, &variables.resource),
+        Var::Context => copied(alloc, &variables.context),
+    }
+}
+
+fn copied(alloc: Global, partial: &PartialValue) -> Result<PartialValue, AllocError>
+    ensures { IfOk result (λ p. partial_of p ≡ partial_of partial.now) }
+{
+    match partial {
+        PartialValue::Value(value) => Ok(PartialValue::Value(value.clone(alloc)?)),
+        PartialValue::Residual(rest) => Ok(PartialValue::Residual(rest.clone(alloc)?)),
+    }
+}
+
+// The entity that a slot is bound to. It errs with `UnlinkedSlot` where it isn't bound.
+fn bound(alloc: Global, slots: &SlotEnv, slot: &SlotId) -> Result<PartialValue, EvaluationError>
+    ensures { (facts : Facts) → MeetsAt facts ⊥ (answer_of (slot_outcome (binding_of slots.now slot.now))) result }
+{
+    match slots.get(slot) {
+        Some(uid) => {
+            let uid = Rc::new(alloc, uid.clone(alloc)?)?;
+            Ok(PartialValue::from(Value::from(Literal::EntityUID(uid))))
+        }
+        None => Err(EvaluationError::unlinked_slot(*slot, None)),
+    }
+}

@@ -1,0 +1,21 @@
+//! Expressions of Cedar evaluated for a request over the entities of a store: to a value, or to what is
+//! left of them where some of what they read isn't known. (Cedar language reference, "Semantics of
+//! operators".)
+#![tactic(auto)]
+
+mod applying;
+mod asking;
+mod attributes;
+mod evaluator;
+mod forms;
+mod interpreting;
+mod lazy;
+mod leaves;
+mod nodes;
+mod operating;
+mod parts;
+mod places;
+mod stated;
+mod waiting;
+
+pub use evaluator::{Evaluator, Variables};
