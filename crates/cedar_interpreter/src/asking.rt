@@ -19,15 +19,15 @@ use cedar_trees::expr::Expr;
 use cedar_values::values::Value;
 use std::alloc::Global;
 
-impl<'e> Evaluator<'e> {
+impl<'s, 'e, 'f> Evaluator<'s, 'e, 'f> {
     /// The evaluator of a request for whose variables these stand, over these entities and functions. No
     /// evaluation nests deeper than `depth`, the outermost expression being at 1.
     pub fn new(
         variables: Variables,
-        entities: &'e Entities,
-        extensions: &'e Extensions<'e>,
+        entities: &'s Entities,
+        extensions: &'e Extensions<'f>,
         depth: u32,
-    ) -> Evaluator<'e>
+    ) -> Evaluator<'s, 'e, 'f>
         ensures variables { result.variables ≡ variables }
         ensures depth { result.depth ≡ depth }
     {

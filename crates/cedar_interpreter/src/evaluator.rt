@@ -20,9 +20,9 @@ pub struct Variables {
 /// A request and what is held besides it, by which expressions are evaluated: the entities of a store
 /// and the functions of extensions; no evaluation nests deeper than `depth`.
 #[derive(Drop)]
-pub struct Evaluator<'e> {
+pub struct Evaluator<'s, 'e, 'f> {
     pub(crate) variables: Variables,
-    pub(crate) entities: &'e Entities,
-    pub(crate) extensions: &'e Extensions<'e>,
+    pub(crate) entities: &'s Entities,
+    pub(crate) extensions: &'e Extensions<'f>,
     pub(crate) depth: u32,
 }

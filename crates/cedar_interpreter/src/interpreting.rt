@@ -27,7 +27,7 @@ use cedar_trees::expr::Expr;
 use std::alloc::Global;
 use std::rc::{Rc, RcStr};
 
-impl<'e> Evaluator<'e> {
+impl<'s, 'e, 'f> Evaluator<'s, 'e, 'f> {
     /// The value of an expression, or what is left of it.
     #[cycle(interpret)]
     #[tactic(none)]

@@ -23,7 +23,7 @@ use cedar_values::values::Value;
 use std::alloc::{AllocError, Global};
 use std::rc::Rc;
 
-impl<'e> Evaluator<'e> {
+impl<'s, 'e, 'f> Evaluator<'s, 'e, 'f> {
     /// The answer of an expression without parts.
     pub(crate) fn leaf(
         &self,

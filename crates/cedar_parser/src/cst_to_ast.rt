@@ -2,7 +2,8 @@
 
 pub use cedar_conversion::to_expr;
 pub use cedar_conversion_leaves::{
-    flatten_tuple_2, flatten_tuple_3, flatten_tuple_4, to_any_ident, to_ref, to_string_literal,
+    flatten_tuple_2, flatten_tuple_3, flatten_tuple_4, to_any_ident, to_lit, to_ref,
+    to_string_literal, to_valid_ident,
 };
 pub use cedar_policy_conversion::{
     NumberedPolicies, to_policy, to_policy_or_template, to_policy_template, to_policyset,
