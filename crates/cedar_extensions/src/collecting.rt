@@ -3,14 +3,19 @@ ghost use Rattle.cedar_extensions.specs.Collecting.{Collects};
 
 use std::alloc::{AllocError, AllocFailed, Global};
 use std::collections::HashMap;
+use std::fmt::Display;
 use std::hash::Hash;
+use thiserror::Error;
 
 /// Why pairs aren't collected in a map: a key stands twice, or memory ran out.
-#[derive(Debug, Drop)]
+#[derive(Debug, PartialEq, Eq, Drop, Error)]
+#[error_bound(K: Display)]
 pub enum CollectError<K> {
     /// This key stands twice.
+    #[error("key `{0}` stands multiple times")]
     Duplicate(K),
     /// Memory ran out.
+    #[error(transparent)]
     Memory(AllocError),
 }
 

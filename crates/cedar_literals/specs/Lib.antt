@@ -6,6 +6,7 @@ pub mod Reading
 pub mod Laws
 pub mod Heads
 pub mod Literals
+pub mod TextBounds
 pub mod Types
 pub mod Patterns
 pub mod Matching

@@ -5,6 +5,7 @@ ghost use Rattle.cedar_trees.specs.Unknowns.{unknown_name, unknown_type};
 ghost use Rattle.cedar_restricted.specs.PartialValues.{partial_of};
 ghost use Rattle.either.specs.declared.Either.TheVariants.{Right};
 
+use cedar_literals::bounded_display::BoundedDisplay;
 use cedar_names::places::Loc;
 use cedar_shapes::shapes::ExprShape;
 use cedar_trees::expr::Expr;
@@ -66,13 +67,24 @@ impl Eq for PartialValue {
     ghost laws = { same_partial_value_equiv };
 }
 
+/// The text of the value, or of the residual, with the first elements alone of each set and each record.
+impl BoundedDisplay for PartialValue {
+    ghost use Rattle.std.specs.Prelude.{None};
+
+    ghost bounded_output = { λ partial n. None };
+
+    fn fmt<W: fmt::Write>(&self, f: &mut fmt::Formatter<W>, n: Option<usize>) -> fmt::Result {
+        match self {
+            PartialValue::Value(value) => BoundedDisplay::fmt(value, f, n),
+            PartialValue::Residual(expr) => BoundedDisplay::fmt(expr, f, n),
+        }
+    }
+}
+
 /// The text of the value, or of the residual.
 impl fmt::Display for PartialValue {
     fn fmt<W: fmt::Write>(&self, f: &mut fmt::Formatter<W>) -> fmt::Result {
-        match self {
-            PartialValue::Value(value) => write!(f, "{value}"),
-            PartialValue::Residual(expr) => write!(f, "{expr}"),
-        }
+        self.fmt_unbounded(f)
     }
 }
 

@@ -1,4 +1,5 @@
 // Values that are put on a stack, and what is asked of those on its top.
+use cedar_literals::bounded_display::BoundedToString;
 use crate::names::loc;
 use cedar_literals::literals::Literal;
 use cedar_literals::types::StaticallyTyped;
@@ -9,7 +10,6 @@ use cedar_names::names::Name;
 use cedar_rows::{
     Answer, alike, count_of, mapped, no_case, number, paired, push, said, show, taken, tell,
 };
-use cedar_values::bounded_display::BoundedToString;
 use cedar_values::extension_values::{Argument, ExtensionValue, RepresentableExtensionValue};
 use cedar_values::values::{Set, Value, ValueKind};
 use std::alloc::{AllocError, Global};

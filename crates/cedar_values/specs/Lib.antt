@@ -9,5 +9,4 @@ pub mod Occurring
 pub mod Orders
 pub mod Records
 pub mod Sizes
-pub mod TextBounds
 pub mod Types

@@ -1,9 +1,9 @@
 // How values are printed.
 
-use crate::bounded_display::BoundedDisplay;
-use crate::text_bounds::one_less;
 use crate::texts::{write_key, write_separator};
 use crate::values::{Set, Value, ValueKind};
+use cedar_literals::bounded_display::BoundedDisplay;
+use cedar_literals::text_bounds::one_less;
 use std::collections::BTreeMap;
 use std::fmt;
 use std::rc::RcStr;
