@@ -1,5 +1,6 @@
 // Why a constraint is refused.
 use cedar_literals::slots::Slot;
+use cedar_policy_parts::ExpectedStaticPolicy;
 pub use cedar_policy_parts::InvalidActionType;
 use std::alloc::{AllocError, AllocFailed};
 use thiserror::Error;
@@ -34,6 +35,23 @@ impl<T: Drop> From<AllocFailed<T>> for UnexpectedSlotError {
 
     fn from(_error: AllocFailed<T>) -> UnexpectedSlotError {
         UnexpectedSlotError::Memory(AllocError)
+    }
+}
+
+impl TryFrom<UnexpectedSlotError> for ExpectedStaticPolicy {
+    type Error = AllocError;
+
+    ghost use Rattle.std.specs.Prelude.{◌≡◌, MatchResult};
+    ghost use Rattle.cedar_constraints.specs.declared.errors.UnexpectedSlotError.TheVariants.{FoundSlot, Memory};
+
+    ghost try_from_gives = { λ error result. MatchResult result (λ expected. error ≡ FoundSlot expected.slot) (λ refused. error ≡ Memory refused) };
+
+    /// A static policy was expected where this slot was found; refused where memory ran out instead.
+    fn try_from(error: UnexpectedSlotError) -> Result<ExpectedStaticPolicy, AllocError> {
+        match error {
+            UnexpectedSlotError::FoundSlot(slot) => Ok(ExpectedStaticPolicy { slot }),
+            UnexpectedSlotError::Memory(error) => Err(error),
+        }
     }
 }
 

@@ -5,6 +5,7 @@ ghost use Rattle.cedar_cst.specs.LeafView.{view_slot};
 ghost use Rattle.cedar_cst.specs.Slots.{own_slot};
 
 use crate::node::Node;
+use cedar_literals::slots::SlotId;
 use cedar_literals::variables::Var;
 use std::rc::RcStr;
 
@@ -102,6 +103,22 @@ impl Slot {
         match (self, var) {
             (Slot::Principal, Var::Principal) | (Slot::Resource, Var::Resource) => true,
             _ => false,
+        }
+    }
+}
+
+/// The slot of a template as it is written.
+impl From<SlotId> for Slot {
+    ghost use Rattle.std.specs.Prelude.{◌≡◌};
+    ghost use Rattle.cedar_cst.specs.LeafView.{view_slot};
+    ghost use Rattle.cedar_cst.specs.Slots.{written_slot};
+
+    ghost from_gives = { λ id slot. view_slot slot ≡ written_slot id };
+
+    fn from(id: SlotId) -> Slot {
+        match id.is_principal() {
+            true => Slot::Principal,
+            false => Slot::Resource,
         }
     }
 }

@@ -4,11 +4,11 @@ ghost use Rattle.std.specs.Option.{option_map};
 ghost use Rattle.cedar_language.specs.Answering.{Judged, decision_by, satisfied_permit, satisfied_forbid, residual_permit, residual_forbid};
 ghost use Rattle.cedar_world.specs.Scope.{standing_met};
 ghost use Rattle.cedar_policy_parts.specs.Effects.{effect_of};
-ghost use Rattle.cedar_replies.specs.Decisions.{decision_of};
+ghost use Rattle.cedar_policy_parts.specs.Decisions.{decision_of};
 ghost use Rattle.cedar_held.specs.Choices.{is_chosen, is_chosen_by, with_one};
 
 use cedar_policy_parts::Effect;
-use cedar_replies::Decision;
+use cedar_policy_parts::Decision;
 
 /// Some of the four groups of policies that are satisfied or open.
 #[derive(Clone, Copy)]

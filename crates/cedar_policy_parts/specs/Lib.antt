@@ -1,3 +1,4 @@
 pub mod Effects
+pub mod Decisions
 pub mod Annotations
 pub mod Sameness

@@ -1,4 +1,3 @@
-pub mod Decisions
 pub mod Erring
 pub mod Kinds
 pub mod Lines

@@ -7,7 +7,7 @@ use Rattle.cedar_replies.specs.declared.answer.Answer as declared_answer
 use Rattle.cedar_replies.specs.declared.answer.Reply.{Reply}
 use Rattle.cedar_replies.specs.declared.answer.Reply.TheVariants.{Done, Ids, Answer}
 use Rattle.cedar_replies.specs.declared.refusal.Refusal.{Refusal}
-use Rattle.cedar_replies.specs.Decisions.{decision_of}
+use Rattle.cedar_policy_parts.specs.Decisions.{decision_of}
 use Rattle.cedar_replies.specs.Refusals.{refusal_of}
 
 abbrev pub answer_of : declared_answer.Answer → world_answer.Answer

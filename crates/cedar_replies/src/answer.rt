@@ -1,10 +1,9 @@
 // What accepted commands are answered.
 ghost use Rattle.std.specs.Prelude.{◌≡◌};
 
-use crate::decision::Decision;
 use crate::erring::Erring;
 use crate::policy_ids::PolicyIds;
-use cedar_policy_parts::PolicyID;
+use cedar_policy_parts::{Decision, PolicyID};
 use std::alloc::AllocError;
 
 /// What a question is answered.

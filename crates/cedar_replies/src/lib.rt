@@ -2,7 +2,6 @@
 #![tactic(auto)]
 
 mod answer;
-mod decision;
 mod erring;
 mod error_kind;
 mod lines;
@@ -10,7 +9,6 @@ mod policy_ids;
 mod refusal;
 
 pub use answer::{Answer, Reply};
-pub use decision::Decision;
 pub use erring::Erring;
 pub use error_kind::ErrorKind;
 pub use lines::put_line;

@@ -3,17 +3,16 @@ ghost use Rattle.std.specs.Prelude.{◌≡◌, map};
 ghost use Rattle.std.specs.Option.{option_map};
 ghost use Rattle.cedar_frames.specs.Writing.{Writes};
 ghost use Rattle.cedar_frames.specs.Quoting.{quoted};
+ghost use Rattle.cedar_policy_parts.specs.Decisions.{decision_of};
 ghost use Rattle.cedar_world.specs.Lines.{further, listed, decision_name, answer_line, line_of};
-ghost use Rattle.cedar_replies.specs.Decisions.{decision_of};
 ghost use Rattle.cedar_replies.specs.Lines.{with_name};
 ghost use Rattle.cedar_replies.specs.Replies.{answer_of, accepted, reply_of};
 
 use crate::answer::{Answer, Reply};
-use crate::decision::Decision;
 use crate::error_kind::ErrorKind;
 use crate::refusal::Refusal;
 use cedar_frames::{Watched, put, put_quoted};
-use cedar_policy_parts::PolicyID;
+use cedar_policy_parts::{Decision, PolicyID};
 use std::io::Write;
 
 /// How a decision is written.
@@ -21,7 +20,8 @@ fn decision_text(decision: Option<Decision>) -> &'static str
     ensures { result.now ≡ decision_name (option_map decision_of decision) }
 {
     match decision {
-        Some(decision) => decision.name(),
+        Some(Decision::Allow) => "allow",
+        Some(Decision::Deny) => "deny",
         None => "open",
     }
 }

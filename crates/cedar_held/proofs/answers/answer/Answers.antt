@@ -1,7 +1,7 @@
 use Rattle.std.proofs.Common.{◌∙◌, ap, map}
 use Rattle.std.specs.Option.{option_map}
 use Rattle.cedar_world.specs.Answer.{ids_of}
-use Rattle.cedar_replies.specs.Decisions.{decision_of}
+use Rattle.cedar_policy_parts.specs.Decisions.{decision_of}
 use Rattle.cedar_held.specs.Judged.{judged_of}
 use Rattle.cedar_held.specs.Within.{is_in_store}
 use Rattle.cedar_held.proofs.Answering.{answers}
