@@ -3,6 +3,7 @@ pub mod Appending
 pub mod Distinct
 pub mod Edits
 pub mod Finding
+pub mod SameBound
 pub mod Sameness
 pub mod Views
 pub mod Wholes

@@ -25,6 +25,26 @@ pub enum Bound {
     Template(Rc<Template>),
 }
 
+/// Both stand under one id and are the same; places don't count.
+impl PartialEq for Bound {
+    ghost use Rattle.std.specs.Cmp.{partial_equiv_from_equiv};
+    ghost use Rattle.cedar_policy_set.specs.SameSets.{same_bound, same_bound_equiv};
+
+    ghost eq = { same_bound };
+
+    ghost laws = { partial_equiv_from_equiv same_bound_equiv };
+
+    fn eq(&self, other: &Bound) -> bool {
+        self.id() == other.id() && self.is_same(other)
+    }
+}
+
+impl Eq for Bound {
+    ghost use Rattle.cedar_policy_set.specs.SameSets.{same_bound_equiv};
+
+    ghost laws = { same_bound_equiv };
+}
+
 impl Bound {
     ghost use Rattle.cedar_policy_set.specs.Bounds.{bound_id, entry_of};
 

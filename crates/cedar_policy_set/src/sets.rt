@@ -43,6 +43,26 @@ impl Model for PolicySet {
     ghost invariant = { λ s. IsSound s.bound.entries };
 }
 
+/// Both bind the same ids to the same things, in whatever order; places don't count.
+impl PartialEq for PolicySet {
+    ghost use Rattle.std.specs.Cmp.{partial_equiv_from_equiv};
+    ghost use Rattle.cedar_policy_set.specs.SameSets.{same_sets, same_sets_equiv};
+
+    ghost eq = { same_sets };
+
+    ghost laws = { partial_equiv_from_equiv same_sets_equiv };
+
+    fn eq(&self, other: &PolicySet) -> bool {
+        self.bound == other.bound
+    }
+}
+
+impl Eq for PolicySet {
+    ghost use Rattle.cedar_policy_set.specs.SameSets.{same_sets_equiv};
+
+    ghost laws = { same_sets_equiv };
+}
+
 impl PolicySet {
     ghost use Rattle.cedar_policy_set.specs.Entries.{bound_at, is_bound, without, HasItsTemplate, IsFull, IsWhole, template, has_links};
     ghost use Rattle.cedar_policy_set.specs.Bounds.{entry_of, bound_id, entries_of, seen, IsNamed, IsSound};

@@ -1,0 +1,9 @@
+use Rattle.std.proofs.Common.{◌∙◌}
+use Rattle.cedar_policy_set.specs.SameSets.{same_sets}
+use Rattle.cedar_policy_set.proofs.SameBound.{maps_same}
+use Rattle.cedar_policy_set.proofs.sets.PolicySetPartialEq.eq.Goals as goal
+
+pub returns : goal.returns
+returns c =
+    c.eq.ensures ∙ maps_same c.self.inside.bound c.other.inside.bound c.self.invariant.named c.other.invariant.named
+    ∙ (λ i. same_sets (c.self.view_is i) (c.other.view_is i))
