@@ -17,7 +17,7 @@ use cedar_names::places::Loc;
 use cedar_policy_parts::annotations::Annotations;
 use cedar_policy_parts::{Effect, PolicyID};
 use cedar_policy_parts_conversion::{
-    PolicyError, extract_scope, get_ast_annotations, to_clauses, to_effect,
+    PolicyError, extract_scope, to_annotations, to_clauses, to_effect,
 };
 use cedar_templates::templates::Template;
 use cedar_trees::expr::Expr;
@@ -44,7 +44,7 @@ fn to_parts(
     ensures { Finds parts_syntax result (policy_syntax styles.now (view_policy_impl policy.now)) }
 {
     let effect = to_effect(alloc, &policy.effect);
-    let annotations = get_ast_annotations(alloc, &policy.annotations);
+    let annotations = to_annotations(alloc, &policy.annotations);
     let scope = extract_scope(alloc, &policy.variables, loc);
     let clauses = to_clauses(alloc, styles, &policy.conds, loc);
     let head = flatten_tuple_2(effect, annotations);

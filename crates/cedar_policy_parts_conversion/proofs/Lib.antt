@@ -1,6 +1,8 @@
 pub mod Gathering
 pub mod Joining
+mod Making
 mod Ordering
+mod OwnNotes
 mod Words
 pub mod Acting
 pub mod Asking

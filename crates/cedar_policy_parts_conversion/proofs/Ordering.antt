@@ -1,22 +1,23 @@
 -- One more annotation.
-use Rattle.std.proofs.Common.{◌≡◌, Bool, true, false, List, [], ◌∷◌, ◌++◌, Option, Some, None, Result, Ok, Err, refl, sym, ap, ◌∙◌}
+use Rattle.std.proofs.Common.{◌≡◌, Bool, true, false, List, [], ◌∷◌, ◌++◌, Option, Some, None, Ok, Err, refl, sym, ap, ◌∙◌}
 use Rattle.std.specs.Prelude.{cond, ◌||◌, is_some}
 use Rattle.std.specs.BTreeMap.{insert_entry, is_at}
 use Rattle.std.specs.Cmp.Lexicographic.{slice_cmp, texts_ties}
 use Rattle.std.specs.declared.cmp.Ordering.{Ordering}
 use Rattle.std.specs.declared.cmp.Ordering.TheVariants.{Less, Equal, Greater}
 use Rattle.std.specs.Map.{lookup}
-use Rattle.std.specs.Option.{option_map}
 use Rattle.std.specs.Ordering.{nat_cmp, is_lt, is_eq, match_ordering}
 use Rattle.cedar_language.specs.Uid.{Text}
-use Rattle.cedar_grammar.specs.Names.{is_text, are_distinct, is_among}
-use Rattle.cedar_grammar.specs.Build.{Keyed, keys, put, by_key}
+use Rattle.cedar_grammar.specs.Names.{is_text, is_among}
+use Rattle.cedar_grammar.specs.Build.{Keyed, keys, put}
 use Rattle.cedar_grammar.specs.Reading.{◌>>=◌}
-use Rattle.cedar_grammar.specs.Converting.{each, annotation_syntax, distinct_keys}
-use Rattle.cedar_grammar.specs.Loose as loose
+use Rattle.cedar_grammar.specs.Converting.{each}
+use Rattle.cedar_cst.specs.declared.cst.Annotation.{Annotation}
+use Rattle.cedar_cst.specs.declared.node.Node.{Node}
 use Rattle.cedar_trees.proofs.Records.{all_put}
+use Rattle.cedar_conversion.specs.Entries.{ordered}
 use Rattle.cedar_conversion.proofs.Ordering.{given, ordered_put}
-use Rattle.cedar_policy_parts_conversion.specs.Notes.{notes_of, put_new}
+use Rattle.cedar_policy_parts_conversion.specs.Notes.{put_new, placed_note, placed_notes}
 use Rattle.cedar_policy_parts_conversion.proofs.Joining.{each_last}
 
 -- ---- a map's own insertion and look-up
@@ -37,17 +38,17 @@ or_false_right : (a b : Bool) → (a || b) ≡ false → b ≡ false
 or_false_right false b h = h
 or_false_right true b h = cc
 
-insert_is_put : (k t : Text) (es : List (Keyed Text)) → is_among k (keys es) ≡ false → insert_entry order es k t ≡ put (k, t) es
+insert_is_put : {A : Type 0} (k : Text) (t : A) (es : List (Keyed A)) → is_among k (keys es) ≡ false → insert_entry order es k t ≡ put (k, t) es
 insert_is_put k t [] h = refl
 insert_is_put k t (e ∷ es) h =
     put_at (order k (e.0)) ((k, t) ∷ e ∷ es) ((e.0, t) ∷ es) (e ∷ insert_entry order es k t) (sym (texts_ties k (e.0)) ∙ or_false_left _ _ h)
     ∙ ap (λ rest. cond (is_lt (order k (e.0))) ((k, t) ∷ e ∷ es) (e ∷ rest)) (insert_is_put k t es (or_false_right _ _ h))
 
-found_at : (b : Bool) (x : Text) (o : Option Text) → is_some (cond b (Some x) o) ≡ (b || is_some o)
+found_at : {A : Type 0} (b : Bool) (x : A) (o : Option A) → is_some (cond b (Some x) o) ≡ (b || is_some o)
 found_at true x o = refl
 found_at false x o = refl
 
-found_is_among : (k : Text) (es : List (Keyed Text)) → is_some (lookup (is_at (order k)) es) ≡ is_among k (keys es)
+found_is_among : {A : Type 0} (k : Text) (es : List (Keyed A)) → is_some (lookup (is_at (order k)) es) ≡ is_among k (keys es)
 found_is_among k [] = refl
 found_is_among k (e ∷ es) =
     found_at (is_eq (order k (e.0))) (e.1) (lookup (is_at (order k)) es)
@@ -55,51 +56,42 @@ found_is_among k (e ∷ es) =
     ∙ ap (λ b. is_text k (e.0) || b) (found_is_among k es)
 
 -- an annotation whose key is found isn't put, and another one is where the map inserts it
-pub put_found : (k t : Text) (es : List (Keyed Text)) (b : Bool) → b ≡ is_some (lookup (is_at (order k)) es) → b ≡ true → put_new (k, t) es ≡ None
+pub put_found : {A : Type 0} (k : Text) (t : A) (es : List (Keyed A)) (b : Bool) → b ≡ is_some (lookup (is_at (order k)) es) → b ≡ true → put_new (k, t) es ≡ None
 put_found k t es b found is = ap (λ c. cond c None (Some (put (k, t) es))) (sym (found_is_among k es) ∙ sym found ∙ is)
 
-pub put_unfound : (k t : Text) (es : List (Keyed Text)) (b : Bool) → b ≡ is_some (lookup (is_at (order k)) es) → b ≡ false → put_new (k, t) es ≡ Some (insert_entry order es k t)
+pub put_unfound : {A : Type 0} (k : Text) (t : A) (es : List (Keyed A)) (b : Bool) → b ≡ is_some (lookup (is_at (order k)) es) → b ≡ false → put_new (k, t) es ≡ Some (insert_entry order es k t)
 put_unfound k t es b found is =
     let new : is_among k (keys es) ≡ false = sym (found_is_among k es) ∙ sym found ∙ is in
     ap (λ c. cond c None (Some (put (k, t) es))) new ∙ ap Some (sym (insert_is_put k t es new))
 
 -- ---- annotations in order
 
-abbrev in_order : List (Keyed Text) → Option (List (Keyed Text))
-in_order es = option_map by_key (distinct_keys es)
-
-at_test : (b : Bool) (es : List (Keyed Text)) → option_map by_key (cond b (Some es) None) ≡ cond b (Some (by_key es)) None
-at_test true es = refl
-at_test false es = refl
-
-in_order_put : (es : List (Keyed Text)) → in_order es ≡ given (all_put [] es)
-in_order_put es = at_test (are_distinct (keys es)) es ∙ ordered_put es
-
 given_at : {A R : Type 0} (b : Bool) (e : R) (x : A) → given (cond b (Err e) (Ok x)) ≡ cond b None (Some x)
 given_at true e x = refl
 given_at false e x = refl
-
--- one more behind those that are put in
-put_behind : (done es : List (Keyed Text)) (e : Keyed Text) → given (all_put done (es ++ e ∷ [])) ≡ (given (all_put done es) >>= put_new e)
-put_behind done [] e = given_at (is_among e.0 (keys done)) e.0 (put e done)
-put_behind done (d ∷ ds) e = by (is_among d.0 (keys done)) (put_behind (put d done) ds e)
-  where
-    by : (b : Bool) → given (all_put (put d done) (ds ++ e ∷ [])) ≡ (given (all_put (put d done) ds) >>= put_new e)
-        → given (cond b (Err d.0) (all_put (put d done) (ds ++ e ∷ []))) ≡ (given (cond b (Err d.0) (all_put (put d done) ds)) >>= put_new e)
-    by true h = refl
-    by false h = h
-
-one_behind : (es : List (Keyed Text)) (e : Keyed Text) → in_order (es ++ e ∷ []) ≡ (in_order es >>= put_new e)
-one_behind es e = in_order_put (es ++ e ∷ []) ∙ put_behind [] es e ∙ ap (λ o. o >>= put_new e) (sym (in_order_put es))
 
 never : {A B : Type 0} (o : Option A) → (o >>= λ x. let z : Option B = None in z) ≡ None
 never None = refl
 never (Some x) = refl
 
-notes_turn : (v : Option (List (Keyed Text))) (w : Option (Keyed Text)) → option_map by_key ((v >>= λ es. w >>= λ e. let z : Option (List (Keyed Text)) = Some (es ++ e ∷ []) in z) >>= distinct_keys) ≡ (option_map by_key (v >>= distinct_keys) >>= λ ns. w >>= λ e. put_new e ns)
-notes_turn None w = refl
-notes_turn (Some es) None = sym (never (in_order es))
-notes_turn (Some es) (Some e) = one_behind es e
+module _ {A : Type 0} where
+  -- one more behind those that are put in
+  put_behind : (done es : List (Keyed A)) (e : Keyed A) → given (all_put done (es ++ e ∷ [])) ≡ (given (all_put done es) >>= put_new e)
+  put_behind done [] e = given_at (is_among e.0 (keys done)) e.0 (put e done)
+  put_behind done (d ∷ ds) e = by (is_among d.0 (keys done)) (put_behind (put d done) ds e)
+    where
+      by : (b : Bool) → given (all_put (put d done) (ds ++ e ∷ [])) ≡ (given (all_put (put d done) ds) >>= put_new e)
+          → given (cond b (Err d.0) (all_put (put d done) (ds ++ e ∷ []))) ≡ (given (cond b (Err d.0) (all_put (put d done) ds)) >>= put_new e)
+      by true h = refl
+      by false h = h
 
-pub notes_more : (xs : List loose.Annotation) (x : loose.Annotation) → notes_of (xs ++ x ∷ []) ≡ (notes_of xs >>= λ ns. annotation_syntax x >>= λ e. put_new e ns)
-notes_more xs x = ap (λ v. option_map by_key (v >>= distinct_keys)) (each_last annotation_syntax xs x) ∙ notes_turn (each annotation_syntax xs) (annotation_syntax x)
+  one_behind : (es : List (Keyed A)) (e : Keyed A) → ordered (es ++ e ∷ []) ≡ (ordered es >>= put_new e)
+  one_behind es e = ordered_put (es ++ e ∷ []) ∙ put_behind [] es e ∙ ap (λ o. o >>= put_new e) (sym (ordered_put es))
+
+  notes_turn : (v : Option (List (Keyed A))) (w : Option (Keyed A)) → ((v >>= λ es. w >>= λ e. let z : Option (List (Keyed A)) = Some (es ++ e ∷ []) in z) >>= ordered) ≡ ((v >>= ordered) >>= λ ns. w >>= λ e. put_new e ns)
+  notes_turn None w = refl
+  notes_turn (Some es) None = sym (never (ordered es))
+  notes_turn (Some es) (Some e) = one_behind es e
+
+pub notes_more : (ns : List (Node (Option Annotation))) (n : Node (Option Annotation)) → placed_notes (ns ++ n ∷ []) ≡ (placed_notes ns >>= λ hs. placed_note n >>= λ h. put_new h hs)
+notes_more ns n = ap (λ v. v >>= ordered) (each_last placed_note ns n) ∙ notes_turn (each placed_note ns) (placed_note n)

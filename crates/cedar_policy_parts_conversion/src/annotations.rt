@@ -1,14 +1,12 @@
 // Annotations.
 ghost use Rattle.std.specs.Prelude.{◌≡◌, List, map, Option};
 ghost use Rattle.std.specs.Option.{option_map};
+ghost use Rattle.std.specs.Rc.{rc_str_bytes};
 ghost use Rattle.cedar_grammar.specs.Build.{Keyed};
-ghost use Rattle.cedar_language.specs.Uid.{Text};
-ghost use Rattle.cedar_grammar.specs.Converting.{annotation_syntax, annotation_value};
 ghost use Rattle.cedar_cst.specs.LeafView.{shown_str};
 ghost use Rattle.cedar_cst.specs.View.{shown_annotation};
-ghost use Rattle.cedar_policy_parts.specs.Annotations.{text_or_empty};
 ghost use Rattle.cedar_conversion_leaves.specs.Converts.{and_then, Finds};
-ghost use Rattle.cedar_policy_parts_conversion.specs.Notes.{notes_of, put_new};
+ghost use Rattle.cedar_policy_parts_conversion.specs.Notes.{notes_of, put_new, written_value, placed_note, placed_notes, Handed, IsMadeAt, AreMade, Makes};
 
 use cedar_conversion_leaves::{
     ConversionError, ToASTErrorKind, flatten_tuple_2, to_any_ident, to_text,
@@ -19,7 +17,7 @@ use cedar_cst::node::Node;
 use cedar_names::identifiers::AnyId;
 use cedar_names::places::Loc;
 use cedar_policy_parts::annotations::{Annotation, Annotations};
-use std::alloc::Global;
+use std::alloc::{AllocError, Global};
 use std::collections::BTreeMap;
 use std::rc::RcStr;
 
@@ -28,7 +26,7 @@ fn to_value<E: Drop>(
     alloc: Global,
     value: &Option<Node<Option<Str>>>,
 ) -> Result<Option<RcStr>, ConversionError<E>>
-    ensures { Finds text_or_empty result (annotation_value (option_map shown_str value.now)) }
+    ensures { Finds (option_map rc_str_bytes) result (written_value (option_map shown_str value.now)) }
 {
     match value {
         None => Ok(None),
@@ -36,13 +34,14 @@ fn to_value<E: Drop>(
     }
 }
 
-/// The key of an annotation and its value, which is empty where none is written. Faults where it is missing,
-/// the key is no word, or the value stands for no text. (Cedar language reference, "Annotations".)
-pub fn to_kv_pair<E: Drop>(
+// The key of an annotation, and what a maker makes of its value and its place.
+fn to_made<T: Drop, E: Drop, F: Fn(Option<RcStr>, Option<Loc>) -> Result<T, AllocError>>(
     alloc: Global,
     node: &Node<Option<cst::Annotation>>,
-) -> Result<(AnyId, Annotation), ConversionError<E>>
-    ensures { Finds (λ pair. pair) result (annotation_syntax (shown_annotation node.now)) }
+    maker: &F,
+) -> Result<(AnyId, T), ConversionError<E>>
+    requires { F.IsAlwaysCallable maker.now }
+    ensures { Makes (IsMadeAt (F.post maker.now)) result (placed_note node.now) }
 {
     let Some(annotation) = &node.node else {
         return Err(ConversionError::missing(alloc, node.loc()));
@@ -51,17 +50,31 @@ pub fn to_kv_pair<E: Drop>(
     let value = to_value(alloc, &annotation.value);
     let (key, value) = flatten_tuple_2(key, value)?;
     let loc = node.loc().cloned()?;
-    let value = Annotation::with_optional_value(alloc, value, loc)?;
-    Ok((key, value))
+    let made = maker(value, loc)?;
+    Ok((key, made))
 }
 
-// Puts an annotation among others; faults where its key isn't new.
-fn insert_new<E: Drop>(
+/// The key of an annotation, and what `maker` makes of its value, which may be left out, and of its place.
+/// Faults where the annotation is missing, the key is no word, or the value stands for no text. (Cedar
+/// language reference, "Annotations".)
+pub fn to_kv_pair<T: Drop, E: Drop, F: Fn(Option<RcStr>, Option<Loc>) -> Result<T, AllocError>>(
+    alloc: Global,
+    node: &Node<Option<cst::Annotation>>,
+    maker: F,
+) -> Result<(AnyId, T), ConversionError<E>>
+    requires { F.IsAlwaysCallable maker }
+    ensures { Makes (IsMadeAt (F.post maker)) result (placed_note node.now) }
+{
+    to_made(alloc, node, &maker)
+}
+
+// Puts what was made of an annotation among others; faults where its key isn't new.
+fn insert_new<T: Drop, E: Drop>(
     alloc: Global,
     loc: Option<&Loc>,
-    notes: &mut BTreeMap<AnyId, Annotation>,
+    notes: &mut BTreeMap<AnyId, T>,
     key: AnyId,
-    value: Annotation,
+    value: T,
 ) -> Result<(), ConversionError<E>>
     ensures { Finds (λ done. notes.new.entries) result (put_new (key, value) notes.old.entries) }
 {
@@ -73,48 +86,73 @@ fn insert_new<E: Drop>(
     Ok(())
 }
 
-// Puts the annotation of a node among others; faults where it has some, or its key isn't new.
-fn insert_node<E: Drop>(
+// Puts what is made of a node's annotation among others; faults where it has some, or its key isn't new.
+fn insert_node<T: Drop, E: Drop, F: Fn(Option<RcStr>, Option<Loc>) -> Result<T, AllocError>>(
     alloc: Global,
-    notes: &mut BTreeMap<AnyId, Annotation>,
+    notes: &mut BTreeMap<AnyId, T>,
     node: &Node<Option<cst::Annotation>>,
+    maker: &F,
 ) -> Result<(), ConversionError<E>>
-    ensures { Finds (λ done. notes.new.entries) result
-        (and_then (annotation_syntax (shown_annotation node.now)) (λ note. put_new note notes.old.entries)) }
+    requires { F.IsAlwaysCallable maker.now }
+    ensures { (before : List (Keyed Handed)) → AreMade (F.post maker.now) notes.old.entries before →
+        Makes (λ done. AreMade (F.post maker.now) notes.new.entries) result
+        (and_then (placed_note node.now) (λ note. put_new note before)) }
 {
-    let (key, value) = to_kv_pair(alloc, node)?;
+    let (key, value) = to_made(alloc, node, maker)?;
     insert_new(alloc, node.loc(), notes, key, value)
 }
 
-// Puts one more annotation among others, or gathers the faults of all.
-fn insert_next<E: Drop>(
+// Puts what is made of one more annotation among others, or gathers the faults of all.
+fn insert_next<T: Drop, E: Drop, F: Fn(Option<RcStr>, Option<Loc>) -> Result<T, AllocError>>(
     alloc: Global,
     earlier: Result<(), ConversionError<E>>,
-    notes: &mut BTreeMap<AnyId, Annotation>,
+    notes: &mut BTreeMap<AnyId, T>,
     node: &Node<Option<cst::Annotation>>,
+    maker: &F,
 ) -> Result<(), ConversionError<E>>
-    ensures { (before : Option (List (Keyed Text))) → Finds (λ done. notes.old.entries) earlier before →
-        Finds (λ done. notes.new.entries) result
-        (and_then before (λ es. and_then (annotation_syntax (shown_annotation node.now)) (λ note. put_new note es))) }
+    requires { F.IsAlwaysCallable maker.now }
+    ensures { (before : Option (List (Keyed Handed))) → Makes (λ done. AreMade (F.post maker.now) notes.old.entries) earlier before →
+        Makes (λ done. AreMade (F.post maker.now) notes.new.entries) result
+        (and_then before (λ es. and_then (placed_note node.now) (λ note. put_new note es))) }
 {
-    let next = insert_node(alloc, notes, node);
+    let next = insert_node(alloc, notes, node, maker);
     let (_, _) = flatten_tuple_2(earlier, next)?;
     Ok(())
 }
 
-/// The annotations of a policy. The faults of all of them are gathered; one too where a key stands twice.
-/// (Cedar language reference, "Annotations".)
-pub fn get_ast_annotations<E: Drop>(
+/// What `maker` makes of the annotations of a policy, by their keys: of each value, which may be left out, and
+/// of its place. The faults of all annotations are gathered; one too where a key stands twice. (Cedar language
+/// reference, "Annotations".)
+pub fn get_ast_annotations<
+    T: Drop,
+    E: Drop,
+    F: Fn(Option<RcStr>, Option<Loc>) -> Result<T, AllocError>,
+>(
+    alloc: Global,
+    nodes: &Vec<Node<Option<cst::Annotation>>>,
+    maker: F,
+) -> Result<BTreeMap<AnyId, T>, ConversionError<E>>
+    requires { F.IsAlwaysCallable maker }
+    ensures { Makes (λ made. AreMade (F.post maker) made.entries) result (placed_notes nodes.now.items) }
+{
+    let mut notes = BTreeMap::new(alloc);
+    let mut sound = Ok(());
+    'nodes: for node in nodes {
+        sound = insert_next(alloc, sound, &mut notes, node, &maker);
+    }
+    sound?;
+    Ok(notes)
+}
+
+/// The annotations of a policy; the value of one is empty where it is left out. The faults of all of them are
+/// gathered; one too where a key stands twice. (Cedar language reference, "Annotations".)
+pub fn to_annotations<E: Drop>(
     alloc: Global,
     nodes: &Vec<Node<Option<cst::Annotation>>>,
 ) -> Result<Annotations, ConversionError<E>>
     ensures { Finds (λ annotations. annotations) result (notes_of (map shown_annotation nodes.now.items)) }
 {
-    let mut notes = BTreeMap::new(alloc);
-    let mut sound = Ok(());
-    'nodes: for node in nodes {
-        sound = insert_next(alloc, sound, &mut notes, node);
-    }
-    sound?;
-    Ok(Annotations::from(notes))
+    let maker = |value, loc| Annotation::with_optional_value(alloc, value, loc);
+    let made = get_ast_annotations(alloc, nodes, maker)?;
+    Ok(Annotations::from(made))
 }

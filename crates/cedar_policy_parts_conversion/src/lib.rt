@@ -14,7 +14,7 @@ mod scopes;
 mod variables;
 
 pub use actions::to_action_constraint;
-pub use annotations::{get_ast_annotations, to_kv_pair};
+pub use annotations::{get_ast_annotations, to_annotations, to_kv_pair};
 pub use clauses::{PolicyError, to_clauses};
 pub use constraints::to_principal_or_resource_constraint;
 pub use effects::to_effect;

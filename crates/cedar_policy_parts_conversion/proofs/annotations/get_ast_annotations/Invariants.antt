@@ -1,9 +1,7 @@
-use Rattle.std.proofs.Common.{map, take}
-use Rattle.cedar_cst.specs.View.{shown_annotation}
-use Rattle.cedar_conversion_leaves.specs.Converts.{Finds}
-use Rattle.cedar_policy_parts_conversion.specs.Notes.{notes_of}
+use Rattle.std.proofs.Common.{take}
+use Rattle.cedar_policy_parts_conversion.specs.Notes.{placed_notes, AreMade, Makes}
 use Rattle.cedar_policy_parts_conversion.proofs.annotations.get_ast_annotations.Given as goal
 
--- what the annotations so far are
+-- what was made of the annotations so far
 abbrev pub invariant-nodes : goal.invariant-nodes
-invariant-nodes g l = Finds (λ done. l.notes.entries) l.sound (notes_of (map shown_annotation (take l.node-index l.node-items)))
+invariant-nodes g l = Makes (λ done. AreMade (λ v p r. goal.F-post g l.maker v p r) l.notes.entries) l.sound (placed_notes (take l.node-index l.node-items))
