@@ -13,7 +13,7 @@ use cedar_expressions::extensions::{
 };
 use cedar_expressions::{Extensions, FromNormalizedStr};
 use cedar_restricted_rows::partial_values::told;
-use cedar_rows::{Answer, explain, no_case, refused, said, separate, tell};
+use cedar_rows::{Answer, explain, no_case, refused, refused_for, said, separate, tell};
 use cedar_tree_rows::trees::type_of;
 use std::alloc::{AllocError, Global};
 use std::collections::HashMap;
@@ -225,7 +225,7 @@ pub(crate) fn refusal(alloc: Global, verb: &str, name: &str) -> Answer {
 fn at_keys(alloc: Global, found: Result<HashMap<u8, u8>, CollectError<u8>>) -> Answer {
     match found {
         Ok(map) => tell(alloc, (map.get(&1).copied(), map.get(&2).copied())),
-        Err(error) => refused(alloc, error),
+        Err(error) => refused_for(alloc, error),
     }
 }
 

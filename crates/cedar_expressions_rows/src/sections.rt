@@ -1,7 +1,7 @@
 // Which section knows a step.
 use crate::registers::Expressions;
 use crate::{errors, evaluation, extensions, operators, validation};
-use cedar_restricted_rows::{partial_values, substitution};
+use cedar_restricted_rows::{bounded, partial_values, substitution};
 use cedar_rows::Answer;
 use cedar_tree_rows::{builders, shapes, trees};
 use std::alloc::Global;
@@ -62,6 +62,7 @@ fn valued(
         "convert" => partial_values::converted(alloc, verb, one, stack, values, &mut held.partials),
         "split" => partial_values::parted(alloc, verb, &mut held.partials),
         "partials" => partial_values::compared_parts(alloc, verb, &mut held.partials),
+        "bounded" => bounded::shown(alloc, verb, one, stack, &held.partials),
         _ => judged(alloc, section, verb, one, other, held),
     }
 }

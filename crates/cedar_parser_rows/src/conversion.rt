@@ -210,7 +210,7 @@ pub(crate) fn each(alloc: Global, set: &PolicySet) -> Answer {
 }
 
 /// All faults in their order, or the builder's own error.
-fn faults<E: Display>(alloc: Global, error: &ConversionError<E>) -> Answer {
+pub(crate) fn faults<E: Display>(alloc: Global, error: &ConversionError<E>) -> Answer {
     let ConversionError::Faults(faults) = error else {
         return error.to_string(alloc);
     };

@@ -3,6 +3,7 @@
 //! again with its answer.
 #![tactic(auto)]
 
+mod annotations;
 mod conversion;
 mod errors;
 mod loose;
@@ -52,6 +53,7 @@ fn answer(alloc: Global, section: &str, verb: &str, text: &str, held: &mut Held)
         "word" => conversion::word(alloc, verb, text),
         "strict" => strict::read(alloc, verb, text),
         "policy" => conversion::policy(alloc, verb, text, &held.styles),
+        "annotations" => annotations::answer(alloc, verb, text),
         _ => of_nodes(alloc, section, verb, text, &mut held.nodes),
     }
 }
@@ -66,6 +68,7 @@ fn of_nodes(alloc: Global, section: &str, verb: &str, text: &str, held: &mut Nod
         "maybe" => nodes::of_maybe(alloc, verb, text, held),
         "taken-maybe" => nodes::of_maybe_taken(alloc, verb, held),
         "slot" => nodes::matched(alloc, verb, text),
+        "slot-of" => nodes::written(alloc, verb),
         _ => nodes::named(alloc, verb, text),
     }
 }

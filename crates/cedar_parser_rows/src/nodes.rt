@@ -3,6 +3,7 @@ use crate::words::{Answer, alike, no_case, number, said, show, tell};
 use cedar_cst::cst::{Ident, Name, Slot};
 use cedar_cst::errors::{EmptyNodeError, PlacedError};
 use cedar_cst::node::Node;
+use cedar_literals::slots::SlotId;
 use cedar_literals::variables::Var;
 use cedar_names::places::{Loc, Span};
 use std::alloc::{AllocError, Global};
@@ -222,6 +223,15 @@ fn var(text: &str) -> Var {
 pub(crate) fn matched(alloc: Global, slot: &str, var: &str) -> Answer {
     let slot = self::slot(alloc, slot)?;
     said(alloc, slot.matches(self::var(var)))
+}
+
+/// A template's slot as it is written: that of the principal, or of another word the resource's.
+pub(crate) fn written(alloc: Global, word: &str) -> Answer {
+    let id = match word {
+        "principal" => SlotId::principal(),
+        _ => SlotId::resource(),
+    };
+    tell(alloc, Slot::from(id))
 }
 
 /// The word's node, which is empty where the word is.

@@ -1,6 +1,6 @@
 // Policy sets, their edits, and how one is merged into another.
 use crate::templates::Policies;
-use crate::words::{Answer, Case, done, listed, no_case, put, text, told};
+use crate::words::{Answer, Case, done, listed, no_case, put, said, text, told};
 use cedar_extensions::extensions::Extensions;
 use cedar_store::ast::{
     LinkedPolicies, Policy, PolicyID, PolicySet, PolicySetError, PolicySetGetLinksError,
@@ -161,6 +161,7 @@ pub fn ask(alloc: Global, verb: &str, extensions: &Extensions<'_>, held: &mut Se
     match verb {
         "show" => told(alloc, set),
         "len" => told(alloc, &set.len()),
+        "equal" => said(alloc, *set == held.theirs),
         "policies" => policies(alloc, set.policies().collect(alloc)),
         "static-policies" => policies(alloc, set.static_policies().collect(alloc)),
         "all-templates" => listed(alloc, set.all_templates().map(Template::id).collect(alloc)),

@@ -1,8 +1,10 @@
 // Templates, static policies and links.
-use crate::expressions::Stack;
+use crate::expressions::{Stack, slot};
 use crate::scopes::{self, Scope};
 use crate::words::{Answer, Case, done, keep, no_case, said, show, text, told};
 use cedar_extensions::extensions::Extensions;
+use cedar_literals::slots::Slot;
+use cedar_policy_parts::ExpectedStaticPolicy;
 use cedar_store::ast::{
     Annotations, Effect, EntityUID, Policy, PolicyID, SlotEnv, StaticPolicy, Template,
     TemplateBody, TemplateValidationError, UnexpectedSlotError,
@@ -323,4 +325,16 @@ pub fn policy(alloc: Global, verb: &str, policy: Option<&Policy>) -> Answer {
         "principal" => show(alloc, policy.principal_constraint(alloc)),
         _ => show_uids(alloc, policy.unknown_entities(alloc)),
     }
+}
+
+/// What is told of this slot, or of want of memory, where a static policy was expected.
+pub fn unexpected(alloc: Global, verb: &str) -> Answer {
+    let error = match verb {
+        "memory" => UnexpectedSlotError::Memory(AllocError),
+        _ => UnexpectedSlotError::FoundSlot(Slot {
+            id: slot(verb),
+            loc: None,
+        }),
+    };
+    show(alloc, ExpectedStaticPolicy::try_from(error))
 }

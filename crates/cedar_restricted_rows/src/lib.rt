@@ -3,6 +3,7 @@
 //! is to be printed.
 #![tactic(auto)]
 
+pub mod bounded;
 pub mod partial_values;
 pub mod restricted;
 pub mod substitution;

@@ -97,6 +97,7 @@ fn policies(alloc: Global, case: &Case<'_>, table: &Extensions<'_>, held: &mut H
         "turn" => templates::turn(alloc, case.verb, made),
         "shared" => templates::link(alloc, case, &mut held.bindings, made),
         "static" => templates::own(alloc, case.verb, made),
+        "unexpected" => templates::unexpected(alloc, case.verb),
         "policy" => templates::policy(alloc, case.verb, made.policy.as_ref()),
         "add" => sets::add(alloc, case.verb, made, &mut held.sets),
         "collect" => sets::collect(alloc, case.verb, &mut made.policy, &mut held.sets),

@@ -1,0 +1,28 @@
+// Texts with so many elements alone of each set and each record.
+use cedar_expressions::ast::{BoundedToString, Expr, PartialValue};
+use cedar_rows::{Answer, no_case, number};
+use std::alloc::Global;
+
+fn text<T: BoundedToString>(alloc: Global, count: &str, made: Option<&T>) -> Answer {
+    let Some(made) = made else {
+        return no_case(alloc);
+    };
+    match count {
+        "all" => made.to_string_unbounded(alloc),
+        _ => made.to_string_bounded(alloc, number(count)),
+    }
+}
+
+/// The text of the expression on top, or of the partial value on top.
+pub fn shown(
+    alloc: Global,
+    verb: &str,
+    count: &str,
+    stack: &[Expr],
+    partials: &[PartialValue],
+) -> Answer {
+    match verb {
+        "expr" => text(alloc, count, stack.last()),
+        _ => text(alloc, count, partials.last()),
+    }
+}
