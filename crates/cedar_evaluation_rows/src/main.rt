@@ -80,6 +80,11 @@ fn evaluated(alloc: Global, section: &str, step: &Step<'_>, held: &mut Held) -> 
             let (store, table) = (&held.stores.store, &held.table);
             evaluators::answer(alloc, verb, one, other, exprs, store, table)
         }
+        "asked" => {
+            let (requests, store, table) = (&held.requests, &held.stores.store, &held.table);
+            evaluators::answer_of(alloc, verb, one, exprs, requests, store, table)
+        }
+        "restricted" => evaluators::restricted(alloc, verb, one, exprs, &held.table),
         _ => requested(alloc, section, step, held),
     }
 }

@@ -6,3 +6,5 @@ pub mod Operated
 pub mod Projected
 pub mod Applied
 pub mod Serving
+pub mod Meant
+pub mod Asked

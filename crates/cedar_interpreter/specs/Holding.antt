@@ -11,7 +11,7 @@ use Rattle.cedar_constraints.specs.Bindings.{Bindings, binding_of}
 use Rattle.cedar_operators.specs.Store.{HasFacts}
 use Rattle.cedar_restricted.specs.PartialValues.{partial_of}
 use Rattle.cedar_restricted.specs.declared.partial_values.PartialValue.{PartialValue}
-use Rattle.cedar_interpreter.specs.Meeting.{part_answer}
+use Rattle.cedar_requests.specs.Answers.{part_answer}
 use Rattle.cedar_interpreter.specs.Operating.{HasFunctions, NamesNothing}
 use Rattle.cedar_interpreter.specs.declared.evaluator.Variables.{Variables}
 use Rattle.cedar_interpreter.specs.declared.evaluator.Evaluator.{Evaluator}
@@ -24,6 +24,10 @@ variable_in vs Context = vs.context
 
 abbrev pub variable_held : Evaluator → Variable → Answer
 variable_held ev v = part_answer (partial_of (variable_in ev.variables v))
+
+-- no evaluation nests deeper
+abbrev pub depth_of : Evaluator → ℕ
+depth_of ev = ev.depth
 
 -- what stands for variables, unknowns and slots; of an unknown no value is told
 abbrev pub held_by : Evaluator → Bindings → LeafAnswers

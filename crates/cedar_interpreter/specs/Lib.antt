@@ -3,3 +3,5 @@ pub mod Meeting
 pub mod Operating
 pub mod Projecting
 pub mod Holding
+pub mod Asking
+pub mod Restricted

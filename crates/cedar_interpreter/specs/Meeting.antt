@@ -1,14 +1,14 @@
 -- What the code answers, against an answer of partial evaluation at given facts.
-use Rattle.std.specs.Prelude.{◌≡◌, ⊤, Bool, true, false, Option, Some, None, List, [], ◌∷◌, map, Result, Ok, Err}
+use Rattle.std.specs.Prelude.{◌≡◌, ◌⊎◌, ⊤, Bool, true, false, Option, Some, None, List, [], ◌∷◌, map, Result, Ok, Err}
 use Rattle.std.specs.Global.{Vec}
 use Rattle.std.specs.declared.alloc.Global.{Global}
 use Rattle.std.specs.declared.rc.Rc.{Rc}
 use Rattle.either.specs.declared.Either.{Either}
-use Rattle.either.specs.declared.Either.TheVariants.{Left, Right}
 use Rattle.cedar_language.specs.Tree.{Boolean, Tree}
-use Rattle.cedar_language.specs.Value.{Value, Plain}
+use Rattle.cedar_language.specs.Value.{Value, Plain, NonValue}
 use Rattle.cedar_language.specs.Facts.{Facts}
 use Rattle.cedar_partial_evaluation.specs.Alike.{Alike, Same, gathered}
+use Rattle.cedar_partial_evaluation.specs.Leaves.{is_left}
 use Rattle.cedar_partial_evaluation.specs.Partial.{Answer, Evaluated, ResidualTree, Failed, SomeFailed, last_answer}
 use Rattle.cedar_trees.specs.Bare.{bare}
 use Rattle.cedar_trees.specs.declared.expr.Expr.{Expr}
@@ -17,6 +17,7 @@ use Rattle.cedar_restricted.specs.declared.partial_values.PartialValue.{PartialV
 use Rattle.cedar_extensions.specs.Failures.{Failure, OfKind, LimitMet, MemoryRanOut, failure_of}
 use Rattle.cedar_extensions.specs.Giving.{GivesBy}
 use Rattle.cedar_extensions.specs.declared.evaluation_error.EvaluationError.{EvaluationError}
+pub use Rattle.cedar_requests.specs.Answers.{part_answer}
 use Rattle.cedar_interpreter.specs.declared.lazy.Tested.{Tested}
 use Rattle.cedar_interpreter.specs.declared.lazy.Tested.TheVariants as tested
 
@@ -25,14 +26,14 @@ abbrev pub IsLimit : {X : Type 0} → Result X EvaluationError → Type 0
 IsLimit (Ok x) = ⊥
 IsLimit (Err e) = failure_of e ≡ LimitMet
 
--- a value or a residual, as an answer
-abbrev pub part_answer : Either Value Tree → Answer
-part_answer (Left v) = Evaluated v
-part_answer (Right r) = ResidualTree r
-
 -- the answer b; the limit may be met where the evaluation is deep
 abbrev pub MeetsAt : Facts → Type 0 → Answer → Result PartialValue EvaluationError → Type 0
 MeetsAt facts deep b result = GivesBy (λ p. Same facts (part_answer (partial_of p)) b) (λ k. b ≡ Failed k) deep result
+
+-- the value that the answer b is, its error, or `NonValue` where something is left
+abbrev pub ValueAt : Type 0 → Answer → Result Value EvaluationError → Type 0
+ValueAt deep b result =
+    GivesBy (λ v. b ≡ Evaluated v) (λ k. (b ≡ Failed k) ⊎ ((k ≡ NonValue) × (is_left b ≡ true))) deep result
 
 -- ---- answers one after another
 

@@ -1,42 +1,50 @@
 // An evaluator made, and asked.
-ghost use Rattle.std.specs.Prelude.{◌≡◌, ◌⊎◌, ⊤, true};
+ghost use Rattle.std.specs.Prelude.{◌≡◌, ⊤, option_map, IfOk};
 ghost use Rattle.cedar_language.specs.Facts.{Facts};
-ghost use Rattle.cedar_language.specs.Value.{NonValue};
-ghost use Rattle.cedar_partial_evaluation.specs.Leaves.{is_left};
-ghost use Rattle.cedar_partial_evaluation.specs.Partial.{Evaluated, Failed, partial_in};
+ghost use Rattle.cedar_partial_evaluation.specs.Partial.{Answer, partial_in};
 ghost use Rattle.cedar_trees.specs.Bare.{bare};
-ghost use Rattle.cedar_extensions.specs.Giving.{GivesBy};
-ghost use Rattle.cedar_interpreter.specs.Holding.{held_by, Serves, Deep};
-ghost use Rattle.cedar_interpreter.specs.Meeting.{MeetsAt, IsLimit};
+ghost use Rattle.cedar_restricted.specs.PartialValues.{partial_of};
+ghost use Rattle.cedar_requests.specs.Answers.{part_answer};
+ghost use Rattle.cedar_requests.specs.Contexts.{context_part};
+ghost use Rattle.cedar_requests.specs.Holding.{request_parts};
+ghost use Rattle.cedar_interpreter.specs.Asking.{context_asked, StandFor, IsEvaluatorOf, MeansTree};
+ghost use Rattle.cedar_interpreter.specs.Holding.{held_by, Serves, Deep, depth_of};
+ghost use Rattle.cedar_interpreter.specs.Meeting.{MeetsAt, ValueAt, IsLimit};
 
 use crate::evaluator::{Evaluator, Variables};
 use cedar_constraints::bindings::SlotEnv;
 use cedar_entities::store::Entities;
 use cedar_extensions::evaluation_error::EvaluationError;
 use cedar_extensions::extensions::Extensions;
+use cedar_literals::variables::Var;
+use cedar_partial_evaluation::{known_is_meaning, leaves_dont_matter};
+use cedar_requests::{Context, Request};
 use cedar_restricted::partial_values::PartialValue;
 use cedar_trees::expr::Expr;
+use cedar_trees::unknowns::Unknown;
 use cedar_values::values::Value;
-use std::alloc::Global;
+use std::alloc::{AllocError, Global};
+use std::rc::RcStr;
 
 impl<'s, 'e, 'f> Evaluator<'s, 'e, 'f> {
-    /// The evaluator of a request for whose variables these stand, over these entities and functions. No
-    /// evaluation nests deeper than `depth`, the outermost expression being at 1.
+    /// The evaluator of a request over these entities and functions. What the request doesn't give is
+    /// unknown, and named as its variable. No evaluation nests deeper than `depth`, the outermost
+    /// expression being at 1. Refused for memory alone. (Cedar language reference, "Request".)
     pub fn new(
-        variables: Variables,
+        alloc: Global,
+        request: &Request,
         entities: &'s Entities,
         extensions: &'e Extensions<'f>,
         depth: u32,
-    ) -> Evaluator<'s, 'e, 'f>
-        ensures variables { result.variables ≡ variables }
-        ensures depth { result.depth ≡ depth }
+    ) -> Result<Evaluator<'s, 'e, 'f>, AllocError>
+        ensures { IfOk result (λ ev. IsEvaluatorOf (request_parts request.now) entities.now extensions.now depth ev) }
     {
-        Evaluator {
-            variables,
+        Ok(Evaluator {
+            variables: variables_of(alloc, request)?,
             entities,
             extensions,
             depth,
-        }
+        })
     }
 
     /// The value of an expression, or what is left of it where some of what it reads isn't known.
@@ -50,28 +58,65 @@ impl<'s, 'e, 'f> Evaluator<'s, 'e, 'f> {
         slots: &SlotEnv,
     ) -> Result<PartialValue, EvaluationError>
         ensures found { (facts : Facts) → Serves self.now facts (bare expr.now) → MeetsAt facts ⊤ (partial_in facts (held_by self.now slots.now) (bare expr.now)) result }
-        ensures limit { IsLimit result → Deep self.now self.now.depth (bare expr.now) }
+        ensures limit { IsLimit result → Deep self.now (depth_of self.now) (bare expr.now) }
     {
         self.interpret_within(alloc, expr, slots, self.depth)
     }
 
-    /// The value of an expression. It errs besides with `NonValue` where something is left of it.
+    /// The value of an expression: what it means, where it reads nothing that is unknown. It errs besides
+    /// with `NonValue` where something is left of it.
     pub fn interpret(
         &self,
         alloc: Global,
         expr: &Expr,
         slots: &SlotEnv,
     ) -> Result<Value, EvaluationError>
-        ensures found { (facts : Facts) → Serves self.now facts (bare expr.now) → GivesBy
-            (λ v. partial_in facts (held_by self.now slots.now) (bare expr.now) ≡ Evaluated v)
-            (λ k. (partial_in facts (held_by self.now slots.now) (bare expr.now) ≡ Failed k)
-            ⊎ ((k ≡ NonValue) × (is_left (partial_in facts (held_by self.now slots.now) (bare expr.now)) ≡ true))) ⊤ result }
-        ensures limit { IsLimit result → Deep self.now self.now.depth (bare expr.now) }
+        ensures means { (facts : Facts) → Serves self.now facts (bare expr.now) → MeansTree facts (held_by self.now slots.now) (depth_of self.now) (bare expr.now) result }
+        ensures found { (facts : Facts) → Serves self.now facts (bare expr.now) → ValueAt ⊤ (partial_in facts (held_by self.now slots.now) (bare expr.now)) result }
+        ensures limit { IsLimit result → Deep self.now (depth_of self.now) (bare expr.now) }
     {
-        match self.partial_interpret(alloc, expr, slots) {
-            Ok(PartialValue::Value(value)) => Ok(value),
-            Ok(PartialValue::Residual(rest)) => Err(EvaluationError::non_value(alloc, rest)?),
-            Err(error) => Err(error),
+        known_is_meaning();
+        leaves_dont_matter();
+        value_of(alloc, self.partial_interpret(alloc, expr, slots))
+    }
+}
+
+// The value that an answer is; it errs with `NonValue` where something is left.
+fn value_of(
+    alloc: Global,
+    answer: Result<PartialValue, EvaluationError>,
+) -> Result<Value, EvaluationError>
+    ensures found { (facts : Facts) (b : Answer) → MeetsAt facts ⊤ b answer → ValueAt ⊤ b result }
+    ensures limit { IsLimit result → IsLimit answer }
+{
+    match answer {
+        Ok(PartialValue::Value(value)) => Ok(value),
+        Ok(PartialValue::Residual(rest)) => Err(EvaluationError::non_value(alloc, rest)?),
+        Err(error) => Err(error),
+    }
+}
+
+// What stands for the variables of a request; refused for memory alone.
+fn variables_of(alloc: Global, request: &Request) -> Result<Variables, AllocError>
+    ensures { IfOk result (λ vs. StandFor (request_parts request.now) vs) }
+{
+    Ok(Variables {
+        principal: request.principal().evaluate(alloc, Var::Principal)?,
+        action: request.action().evaluate(alloc, Var::Action)?,
+        resource: request.resource().evaluate(alloc, Var::Resource)?,
+        context: context_of(alloc, request.context())?,
+    })
+}
+
+// What stands for the context, which is shared; refused for memory alone.
+fn context_of(alloc: Global, context: Option<&Context>) -> Result<PartialValue, AllocError>
+    ensures { IfOk result (λ p. part_answer (partial_of p) ≡ context_asked (option_map (λ given. context_part given.now) context.entry)) }
+{
+    match context {
+        Some(context) => Ok(PartialValue::from(context.clone(alloc)?)),
+        None => {
+            let name = RcStr::from_str(alloc, "context")?;
+            Ok(PartialValue::unknown(Unknown::new_untyped(name)))
         }
     }
 }

@@ -3,22 +3,20 @@ use cedar_entities::store::Entities;
 use cedar_extensions::extensions::Extensions;
 use cedar_restricted::partial_values::PartialValue;
 
-/// What stands for the variables of a request: an entity or an unknown for the first three, and for the
-/// context a record, or what is left of one.
+// What stands for the variables of a request: an entity or an unknown for the first three, and for the
+// context a record, what is left of one, or an unknown.
 #[derive(Drop)]
-pub struct Variables {
-    /// The entity that asks.
-    pub principal: PartialValue,
-    /// What it asks to do.
-    pub action: PartialValue,
-    /// What it asks to do it to.
-    pub resource: PartialValue,
-    /// What is known besides.
-    pub context: PartialValue,
+pub(crate) struct Variables {
+    pub(crate) principal: PartialValue,
+    pub(crate) action: PartialValue,
+    pub(crate) resource: PartialValue,
+    pub(crate) context: PartialValue,
 }
 
 /// A request and what is held besides it, by which expressions are evaluated: the entities of a store
-/// and the functions of extensions; no evaluation nests deeper than `depth`.
+/// and the functions of extensions. No evaluation nests deeper than a limit. Contracts see it by
+/// `held_by`, what is held of the leaves of trees, by `Serves`, the facts and trees that it serves, and by
+/// `depth_of`, its limit.
 #[derive(Drop)]
 pub struct Evaluator<'s, 'e, 'f> {
     pub(crate) variables: Variables,

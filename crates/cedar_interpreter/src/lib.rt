@@ -15,7 +15,9 @@ mod nodes;
 mod operating;
 mod parts;
 mod places;
+mod restricted;
 mod stated;
 mod waiting;
 
-pub use evaluator::{Evaluator, Variables};
+pub use evaluator::Evaluator;
+pub use restricted::RestrictedEvaluator;

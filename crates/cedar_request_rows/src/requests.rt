@@ -40,6 +40,13 @@ impl Drop for Requests {
     }
 }
 
+impl Requests {
+    /// The request that was made last, if one was.
+    pub fn request(&self) -> Option<&Request> {
+        self.request.as_ref()
+    }
+}
+
 /// Nothing was made yet.
 pub fn none(alloc: Global) -> Requests {
     Requests {

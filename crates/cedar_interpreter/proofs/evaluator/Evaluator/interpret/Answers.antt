@@ -1,8 +1,18 @@
--- What partial evaluation errs with is what is told.
-use Rattle.std.proofs.Common.{inl}
-use Rattle.cedar_extensions.specs.Failures.{failure_of}
-use Rattle.cedar_extensions.specs.Giving.{fails_on}
+-- What is answered of a tree that mentions only what is known is what it means.
+use Rattle.std.proofs.Common.{◌≡◌}
+use Rattle.cedar_trees.specs.Bare.{bare}
+use Rattle.cedar_interpreter.specs.Holding.{depth_of}
+use Rattle.cedar_interpreter.proofs.Meant.{means_tree}
 use Rattle.cedar_interpreter.proofs.evaluator.Evaluator.interpret.Goals as goal
 
-pub returns-in-Err-clause-found : goal.returns-in-Err-clause-found
-returns-in-Err-clause-found c = λ facts serves. fails_on (failure_of c.in-Err.error) (λ k h. inl h) (λ h. h) (c.in-Err.ensures.found facts serves)
+pub returns-clause-means : goal.returns-clause-means
+returns-clause-means c =
+    means_tree c.leaves_dont_matter.ensures c.known_is_meaning.ensures c.args.self.now c.args.slots.now (depth_of c.args.self.now) (bare c.args.expr.now) c.value_of.result
+    (λ facts serves. c.value_of.ensures.found facts _ (c.partial_interpret.ensures.found facts serves))
+    (λ l. c.partial_interpret.ensures.limit (c.value_of.ensures.limit l))
+
+pub returns-clause-found : goal.returns-clause-found
+returns-clause-found c = λ facts serves. c.value_of.ensures.found facts _ (c.partial_interpret.ensures.found facts serves)
+
+pub returns-clause-limit : goal.returns-clause-limit
+returns-clause-limit c = λ l. c.partial_interpret.ensures.limit (c.value_of.ensures.limit l)

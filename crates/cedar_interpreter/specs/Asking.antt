@@ -1,0 +1,79 @@
+-- What an evaluator answers: it holds what its request holds, and an answer to a tree that mentions only what is known is what
+-- the tree means.
+use Rattle.std.specs.Prelude.{◌≡◌, ◌<◌, ℕ, Bool, true, Option, Some, None, codes, Result}
+use Rattle.either.specs.declared.Either.{Either}
+use Rattle.cedar_language.specs.Tree.{Variable, Principal, Action, Resource, Context, SlotId, Tree, Unknown}
+use Rattle.cedar_language.specs.Value.{Value}
+use Rattle.cedar_language.specs.Facts.{Facts}
+use Rattle.cedar_language.specs.Height.{height}
+use Rattle.cedar_language.specs.Meaning.{Request, slot_outcome, meaning}
+use Rattle.cedar_partial_evaluation.specs.Mentions.{mentions_only}
+use Rattle.cedar_partial_evaluation.specs.Partial.{Answer, Evaluated, ResidualTree, answer_of, LeafAnswers}
+use Rattle.cedar_partial_evaluation.specs.Question.{part_held}
+use Rattle.cedar_constraints.specs.Bindings.{Bindings, binding_of}
+use Rattle.cedar_entities.specs.declared.store.Entities.{Entities}
+use Rattle.cedar_extensions.specs.Giving.{Gives}
+use Rattle.cedar_extensions.specs.declared.evaluation_error.EvaluationError.{EvaluationError}
+use Rattle.cedar_extensions.specs.declared.extensions.Extensions.{Extensions}
+use Rattle.cedar_operators.specs.Store.{HasFacts}
+use Rattle.cedar_restricted.specs.PartialValues.{partial_of}
+use Rattle.cedar_requests.specs.Answers.{part_answer}
+use Rattle.cedar_requests.specs.Holding.{RequestParts}
+use Rattle.cedar_interpreter.specs.Holding.{held_by, is_evaluated, Serves, depth_of}
+use Rattle.cedar_interpreter.specs.Operating.{HasFunctions, NamesNothing}
+use Rattle.cedar_interpreter.specs.declared.evaluator.Variables.{Variables}
+use Rattle.cedar_interpreter.specs.declared.evaluator.Evaluator.{Evaluator}
+
+-- ---- an evaluator of a request
+
+-- the context's record, or what is left of it; where none is given, the unknown that is named `context`
+abbrev pub context_asked : Option (Either Value Tree) → Answer
+context_asked (Some part) = part_answer part
+context_asked None = ResidualTree (Unknown (codes "context") None)
+
+-- what stands for a variable: an entity that is given, or the unknown that is named as the variable
+abbrev pub variable_asked : RequestParts → Variable → Answer
+variable_asked r Principal = part_held r.principal None (codes "principal")
+variable_asked r Action = part_held r.action None (codes "action")
+variable_asked r Resource = part_held r.resource None (codes "resource")
+variable_asked r Context = context_asked r.context
+
+-- what is held of a request's variables, of unknowns and of slots; of no unknown a value is told
+abbrev pub request_held : RequestParts → Bindings → LeafAnswers
+request_held r slots = record {
+  variable = variable_asked r;
+  unknown = λ n ty. ResidualTree (Unknown n ty);
+  slot = λ s. answer_of (slot_outcome (binding_of slots s));
+}
+
+-- these stand for its variables
+pub record StandFor (r : RequestParts) (vs : Variables) : Type 0 where
+  pub principal : part_answer (partial_of vs.principal) ≡ variable_asked r Principal
+  pub action : part_answer (partial_of vs.action) ≡ variable_asked r Action
+  pub resource : part_answer (partial_of vs.resource) ≡ variable_asked r Resource
+  pub context : part_answer (partial_of vs.context) ≡ variable_asked r Context
+
+-- it answers for this request, over these entities and functions, to this depth
+pub record IsEvaluatorOf (r : RequestParts) (entities : Entities) (table : Extensions) (depth : ℕ) (ev : Evaluator) : Type 0 where
+  pub holds : (slots : Bindings) → held_by ev slots ≡ request_held r slots
+  pub serves : (facts : Facts) (t : Tree) → HasFacts entities facts → HasFunctions table facts → NamesNothing table t → Serves ev facts t
+  pub limit : depth_of ev ≡ depth
+
+-- ---- what is known
+
+-- the variable has a value
+abbrev pub is_known_in : LeafAnswers → Variable → Bool
+is_known_in holds v = is_evaluated (holds.variable v)
+
+-- each variable that has a value has that of the request, and the slots are bound as in the request
+pub record IsHeldOf (holds : LeafAnswers) (request : Request) : Type 0 where
+  pub variable : (v : Variable) (w : Value) → holds.variable v ≡ Evaluated w → request.variable v ≡ w
+  pub slot : (s : SlotId) → holds.slot s ≡ answer_of (slot_outcome (request.slots s))
+
+-- a tree that mentions only variables that have a value, and no unknown, is answered by what it means for each such request, kinds
+-- of errors included; the limit may be met where the tree is higher, and want of memory says nothing
+abbrev pub MeansTree : Facts → LeafAnswers → ℕ → Tree → Result Value EvaluationError → Type 0
+MeansTree facts holds depth t result =
+    mentions_only (is_known_in holds) true t ≡ true →
+    (request : Request) → IsHeldOf holds request →
+    Gives (λ v. v) (depth < height t) result (meaning facts request t)
