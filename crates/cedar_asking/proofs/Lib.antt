@@ -1,0 +1,10 @@
+pub mod Lists
+pub mod Members
+pub mod Naming
+pub mod Known
+pub mod InForce
+pub mod Standings
+pub mod Sayings
+pub mod Errors
+pub mod Firsts
+pub mod Facts

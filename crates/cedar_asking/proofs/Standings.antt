@@ -1,0 +1,130 @@
+-- How policies stand by what was found of them, and that the code's answers are those to the question.
+use Rattle.std.proofs.Common.{◌≡◌, ◌<◌, ℕ, Bool, true, false, ◌&&◌, Option, Some, None, refl, sym, ◌∙◌, ap, subst}
+use Rattle.std.specs.FinMap as finite
+use Rattle.cedar_language.specs.Uid.{Text}
+use Rattle.cedar_language.specs.Tree.{Variable, SlotId, PrincipalSlot, ResourceSlot, Tree, Var, Unknown}
+use Rattle.cedar_language.specs.Facts.{Facts}
+use Rattle.cedar_language.specs.Height.{height, LinkingKeepsHeight}
+use Rattle.cedar_language.specs.Meaning.{Slots, slot_outcome}
+use Rattle.cedar_language.specs.Order.{text_cmp}
+use Rattle.cedar_language.specs.Answering as answering
+use Rattle.cedar_language.specs.Answering.{Standing, Judged}
+use Rattle.cedar_language.specs.Slots.{bound_tree}
+use Rattle.cedar_partial_evaluation.specs.Early.{standing_of_answer}
+use Rattle.cedar_partial_evaluation.specs.Leaves.{MentionedIsMeant}
+use Rattle.cedar_partial_evaluation.specs.LinkingEarly.{StandAlike, LinkingIsWritingEarly}
+use Rattle.cedar_partial_evaluation.specs.Mentions.{mentions_only}
+use Rattle.cedar_partial_evaluation.specs.Partial.{Answer, Evaluated, ResidualTree, Failed, LeafAnswers, answer_of, partial_in}
+use Rattle.cedar_partial_evaluation.specs.Question.{name_held, variable_held, held_of}
+use Rattle.cedar_grammar.specs.Laws.{LinkConditions}
+use Rattle.cedar_grammar.specs.Calls.{calls_only}
+use Rattle.cedar_world.specs.Asking.{Question}
+use Rattle.cedar_world.specs.First.{IsData, HasRequest}
+use Rattle.cedar_world.specs.Question.{IsKnown}
+use Rattle.cedar_world.specs.Setting.{Setting, functions_alone}
+use Rattle.cedar_world.specs.Syntax.{PolicySyntax, condition}
+use Rattle.cedar_asking.proofs.Known.{all_known}
+use Rattle.cedar_constraints.specs.Bindings.{Bindings, binding_of, unbound}
+use Rattle.cedar_extensions.specs.Failures.{Failure, OfKind, LimitMet, MemoryRanOut}
+use Rattle.cedar_extensions.specs.declared.extensions.Extensions.{Extensions}
+use Rattle.cedar_requests.specs.Holding.{RequestParts}
+use Rattle.cedar_interpreter.specs.Asking.{variable_asked, request_held}
+use Rattle.cedar_interpreter.specs.Holding.{is_evaluated}
+use Rattle.cedar_interpreter.specs.Operating.{HasFunctions}
+use Rattle.cedar_policy_set.specs.Entries.{Entry, static_policy, template, link}
+use Rattle.cedar_policy_set.specs.Texts.{syntax_in}
+use Rattle.cedar_asking.specs.Evaluations.{Found, Satisfied, Unsatisfied, Erred, Open, Finds, bindings_in, condition_in, is_given, Kept}
+use Rattle.cedar_asking.specs.Requests.{HoldsQuestion, IsRequestOf}
+use Rattle.cedar_asking.proofs.InForce.{written_entry}
+use Rattle.cedar_asking.proofs.Naming.{no_unknown, is_other, bound_mentions}
+
+-- ---- what was found
+
+-- how a policy stands by what was found; a bound that was met stands for nothing
+abbrev pub standing_found : Found → Standing
+standing_found Satisfied = answering.Satisfied
+standing_found Unsatisfied = answering.Unsatisfied
+standing_found (Erred (OfKind k)) = answering.Erring k
+standing_found (Erred LimitMet) = answering.Unsatisfied
+standing_found (Erred MemoryRanOut) = answering.Unsatisfied
+standing_found (Open r) = answering.Residual
+
+abbrev pub judged : Kept → Judged
+judged k = record { id = k.id; effect = k.effect; standing = standing_found k.found }
+
+-- no bound of the evaluation was met
+abbrev pub is_settled : Found → Bool
+is_settled (Erred LimitMet) = false
+is_settled (Erred MemoryRanOut) = false
+is_settled f = true
+
+pub stands_as_found : (facts : Facts) (b : Answer) (f : Found) → is_settled f ≡ true → Finds facts b f → standing_found f ≡ standing_of_answer b
+stands_as_found facts b Satisfied s h = sym (ap standing_of_answer h)
+stands_as_found facts b Unsatisfied s h = sym (ap standing_of_answer h)
+stands_as_found facts b (Erred (OfKind k)) s h = sym h
+stands_as_found facts b (Erred LimitMet) s h = cc
+stands_as_found facts b (Erred MemoryRanOut) s h = absurd h
+stands_as_found facts b (Open r) s (t, e, alike) = sym (ap standing_of_answer e)
+
+-- ---- what is held of the request is what is held of the question
+
+nothing_bound : (s : SlotId) → binding_of unbound s ≡ None
+nothing_bound PrincipalSlot = refl
+nothing_bound ResourceSlot = refl
+
+stand_alike : (a b : Answer) → StandAlike a b → standing_of_answer a ≡ standing_of_answer b
+stand_alike (Evaluated v) b h = sym (ap standing_of_answer h)
+stand_alike (ResidualTree r) b (s, e) = sym (ap standing_of_answer e)
+stand_alike (Failed k) b h = sym (ap standing_of_answer h)
+
+abbrev no_slots : Slots
+no_slots s = None
+
+module _ (table : Extensions) (q : Question) (r : RequestParts) (holds : HoldsQuestion table q r) (facts : Facts) (served : HasFunctions table facts) where
+  nothing_told : (n : Text) (ty : _) → ResidualTree (Unknown n ty) ≡ name_held (finite.get {R = text_cmp} finite.empty n) n ty
+  nothing_told n ty = ap (λ o. name_held o n ty) (sym (finite.get-empty text_cmp n))
+
+  held_so : (slots : Bindings) → request_held r slots ≡ held_of facts q (binding_of slots) finite.empty
+  held_so slots = λ i. record {
+    variable = λ v. holds facts served v i;
+    unknown = λ n ty. nothing_told n ty i;
+    slot = λ s. answer_of (slot_outcome (binding_of slots s));
+  }
+
+  unbound_held : request_held r unbound ≡ held_of facts q no_slots finite.empty
+  unbound_held = held_so unbound ∙ (λ i. held_of facts q (λ s. nothing_bound s i) finite.empty)
+
+  -- a policy is answered as it is written
+  pub stands_as_written : LinkingIsWritingEarly → LinkConditions → (e : Entry) →
+      standing_of_answer (partial_in facts (request_held r (bindings_in e)) (condition_in e)) ≡ standing_of_answer (partial_in facts (held_of facts q no_slots finite.empty) (condition (written_entry e)))
+  stands_as_written early conditions (static_policy s) = ap (λ h. standing_of_answer (partial_in facts h (condition s))) unbound_held
+  stands_as_written early conditions (template s) = ap (λ h. standing_of_answer (partial_in facts h (condition s))) unbound_held
+  stands_as_written early conditions (link t s b) =
+      ap (λ h. standing_of_answer (partial_in facts h (condition s))) (held_so b)
+      ∙ stand_alike _ _ (early.answers facts q (binding_of b) finite.empty (condition s))
+      ∙ ap (λ c. standing_of_answer (partial_in facts (held_of facts q no_slots finite.empty) c)) (sym (conditions (binding_of b) s))
+
+-- ---- a known question
+
+module _ (meant : MentionedIsMeant) (by : Setting) (table : Extensions) (q : Question) (r : RequestParts) (asked : IsRequestOf by table q r) (served : HasFunctions table (functions_alone by.functions)) (known : IsKnown q) where
+  given : (v : Variable) → is_given r v ≡ true
+  given v =
+      let (request, fills) = asked.request known in
+      ap is_evaluated (asked.holds (functions_alone by.functions) served v
+      ∙ meant.answers (functions_alone by.functions) q no_slots finite.empty request (meant.fillings (functions_alone by.functions) q finite.empty request fills.fills) (Var v) (all_known q asked.is_data known v))
+
+  pub all_given : (t : Tree) → mentions_only (λ v. true) true t ≡ true → mentions_only (is_given r) true t ≡ true
+  all_given t h = let same : is_given r ≡ (λ v. true) = λ i v. given v i in ap (λ f. mentions_only f true t) same ∙ h
+
+-- ---- policies as they are written
+
+pub height_as_written : LinkConditions → LinkingKeepsHeight → (e : Entry) → height (condition (written_entry e)) ≡ height (condition_in e)
+height_as_written conditions keeps (static_policy s) = refl
+height_as_written conditions keeps (template s) = refl
+height_as_written conditions keeps (link t s b) = ap height (conditions (binding_of b) s) ∙ keeps (binding_of b) (condition s)
+
+pub names_as_written : LinkConditions → (e : Entry) → calls_only is_other (condition_in e) ≡ true → mentions_only (λ v. true) true (condition (written_entry e)) ≡ true
+names_as_written conditions (static_policy s) h = no_unknown is_other (condition s) h
+names_as_written conditions (template s) h = no_unknown is_other (condition s) h
+names_as_written conditions (link t s b) h =
+    ap (mentions_only (λ v. true) true) (conditions (binding_of b) s) ∙ bound_mentions (λ v. true) (binding_of b) (condition s) ∙ no_unknown is_other (condition s) h

@@ -1,0 +1,88 @@
+-- What a response to a question's request says of the policies that a world holds is a first answer to the question.
+use Rattle.std.specs.Prelude.{◌≡◌, ℕ, true, false, not, Some, List, map}
+use Rattle.std.specs.FinMap as finite
+use Rattle.cedar_language.specs.Facts.{Facts}
+use Rattle.cedar_language.specs.Uid.{Text}
+use Rattle.cedar_language.specs.Answering.{decision, in_must, in_may}
+use Rattle.cedar_grammar.specs.Calls.{calls_only}
+use Rattle.cedar_partial_evaluation.specs.MadeAgain.{HoldsMade}
+use Rattle.cedar_world.specs.Answer.{Answer, ids_of}
+use Rattle.cedar_world.specs.Answers.{ids_with}
+use Rattle.cedar_world.specs.Asking.{Question}
+use Rattle.cedar_world.specs.Functions.{is_the_unknown}
+use Rattle.cedar_world.specs.Question.{IsKnown}
+use Rattle.cedar_world.specs.Setting.{Setting, functions_alone}
+use Rattle.cedar_world.specs.Step.{IsFirstAnswer}
+use Rattle.cedar_world.specs.World.{World}
+use Rattle.cedar_world.specs.WorldFacts.{AreFactsOf}
+use Rattle.cedar_entities.specs.Shown.{Shows}
+use Rattle.cedar_entities.specs.Store.{held_at, is_partial_store, IsClosed}
+use Rattle.cedar_entities.specs.declared.store.Entities.{Entities}
+use Rattle.cedar_extensions.specs.declared.extensions.Extensions.{Extensions}
+use Rattle.cedar_interpreter.specs.Operating.{HasFunctions}
+use Rattle.cedar_operators.specs.Store.{HasFacts}
+use Rattle.cedar_policy_set.specs.Entries.{Entry, Entries, bound_at, IsWhole, policies_of}
+use Rattle.cedar_policy_set.specs.Texts.{HaveSlots}
+use Rattle.cedar_policy_set.specs.Worlds.{policies_in}
+use Rattle.cedar_replies.specs.Erring.{have_kinds, with_kinds}
+use Rattle.cedar_replies.specs.declared.error_kind.ErrorKind.{ErrorKind}
+use Rattle.cedar_requests.specs.Holding.{RequestParts}
+use Rattle.cedar_asking.specs.Answers.{IsSettingOf, SomeTooHigh}
+use Rattle.cedar_asking.specs.Built.{HoldsBuilt}
+use Rattle.cedar_asking.specs.Erring.{with_failure, SomeAtLimit}
+use Rattle.cedar_asking.specs.Evaluations.{Kept, AreKept, condition_in}
+use Rattle.cedar_asking.specs.Requests.{IsRequestOf}
+use Rattle.cedar_asking.specs.Responses.{Holding, holding_of, judged_held}
+
+-- ---- the facts of a world
+
+-- a whole store that shows the world's entities has its facts
+abbrev pub StoresHaveWorldFacts : Type 0
+StoresHaveWorldFacts = (by : Setting) (world : World) (facts : Facts) (s : Entities) → AreFactsOf by world facts → Shows (held_at s) world.entities → IsClosed s → is_partial_store s ≡ false → HasFacts s facts
+
+-- a table that has the setting's functions has those of its worlds
+abbrev pub TablesServeWorlds : Type 0
+TablesServeWorlds = (by : Setting) (world : World) (facts : Facts) (table : Extensions) → AreFactsOf by world facts → HasFunctions table (functions_alone by.functions) → HasFunctions table facts
+
+-- what a world holds is made again by trees for it, where no extension value stands in it
+abbrev pub WorldsAreMade : Type 0
+WorldsAreMade = (by : Setting) (world : World) (facts : Facts) (table : Extensions) → HasFunctions table facts → HoldsBuilt world → AreFactsOf by world facts → HoldsMade facts
+
+-- ---- responses
+
+-- no unknown stands in a condition of the set, and none calls the function by which one is named
+abbrev pub NameNoUnknown : Entries → Type 0
+NameNoUnknown es = (id : Text) (e : Entry) → bound_at es id ≡ Some e → calls_only (λ name. not (is_the_unknown name)) (condition_in e) ≡ true
+
+-- a world has the policies of a whole set, and its facts are those of a store and a table
+pub record IsHeldBy (by : Setting) (world : World) (facts : Facts) (es : Entries) (s : Entities) (table : Extensions) : Type 0 where
+  pub whole : IsWhole es
+  pub slots : HaveSlots es
+  pub names : NameNoUnknown es
+  pub policies : world.policies ≡ policies_in es
+  pub are_facts : AreFactsOf by world facts
+  pub store : HasFacts s facts
+  pub functions : HasFunctions table facts
+
+-- the answer has the decision of what a response holds, its ids that must and that may be reasons, and its errors by these names
+pub record SaysHeld (h : Holding) (listed : List (Text × ErrorKind)) (answer : Answer) : Type 0 where
+  pub kinds : have_kinds listed ≡ true
+  pub errors : map with_failure listed ≡ h.errors
+  pub decided : answer.decision ≡ decision (judged_held h)
+  pub must : answer.must ≡ ids_of (ids_with (in_must (judged_held h)) (judged_held h))
+  pub may : answer.may ≡ ids_of (ids_with (in_may (judged_held h)) (judged_held h))
+  pub erring : answer.erring ≡ finite.from_entries (with_kinds listed)
+
+module _ (by : Setting) (world : World) (facts : Facts) (es : Entries) (s : Entities) (table : Extensions) (depth : ℕ) (q : Question) (r : RequestParts) (ks : List Kept) where
+  pub record AnswersQuestion : Type 0 where
+    -- where no limit was met, what the response says is a first answer
+    pub first : HoldsMade facts → (listed : List (Text × ErrorKind)) (answer : Answer) → SaysHeld (holding_of ks) listed answer → IsFirstAnswer by world q answer
+    -- the limit is met at a known question only where a condition in force is higher
+    pub limit : IsSettingOf table depth by → SomeAtLimit (holding_of ks).errors → IsKnown q → SomeTooHigh by world
+
+-- what is kept of the policies held, evaluated for the request of a question, answers it
+abbrev pub ResponsesAnswerQuestions : Type 0
+ResponsesAnswerQuestions =
+    (by : Setting) (world : World) (facts : Facts) (es : Entries) (s : Entities) (table : Extensions) (depth : ℕ) (q : Question) (r : RequestParts) (ks : List Kept)
+    → IsHeldBy by world facts es s table → IsRequestOf by table q r → AreKept r s table depth (policies_of es) ks
+    → AnswersQuestion by world facts es s table depth q r ks

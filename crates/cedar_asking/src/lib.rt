@@ -1,0 +1,27 @@
+//! Questions asked of policies and entities by requests: what a response to the request of a question says
+//! is a first answer to it. Definitions and their laws; no command asks so yet.
+#![tactic(auto)]
+
+ghost use Rattle.cedar_asking.specs.Laws.{StoresHaveWorldFacts, TablesServeWorlds, WorldsAreMade, ResponsesAnswerQuestions};
+
+/// The facts of a world are those of a whole store that shows its entities and of a table that has its
+/// functions, and what it holds is made again by trees for it.
+pub fn worlds_are_shown()
+    ensures stores { StoresHaveWorldFacts }
+    ensures tables { TablesServeWorlds }
+    ensures made { WorldsAreMade }
+{}
+
+/// What is kept of the policies held, each evaluated for the request of a question, gives a first answer to
+/// the question, and meets the limit at a known one only where a condition in force is higher.
+pub fn responses_answer_questions()
+    ensures { ResponsesAnswerQuestions }
+{
+    cedar_language::linking_keeps_height();
+    cedar_grammar::linking_binds_the_condition();
+    cedar_partial_evaluation::mentioned_is_meant();
+    cedar_partial_evaluation::linking_is_writing_early();
+    cedar_world::early_answers_stand();
+    cedar_world::answers_are_made();
+    cedar_policy_set::worlds::policy_sets_are_worlds();
+}
