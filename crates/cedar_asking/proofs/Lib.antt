@@ -8,3 +8,7 @@ pub mod Sayings
 pub mod Errors
 pub mod Firsts
 pub mod Facts
+pub mod Data
+pub mod Filled
+pub mod Asked
+pub mod Asking

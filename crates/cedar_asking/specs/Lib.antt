@@ -4,4 +4,5 @@ pub mod Requests
 pub mod Answers
 pub mod Erring
 pub mod Built
+pub mod Contexts
 pub mod Laws

@@ -2,6 +2,7 @@
 //! is a first answer to it. Definitions and their laws; no command asks so yet.
 #![tactic(auto)]
 
+ghost use Rattle.cedar_asking.specs.Contexts.{QuestionsAreAsked};
 ghost use Rattle.cedar_asking.specs.Laws.{StoresHaveWorldFacts, TablesServeWorlds, WorldsAreMade, ResponsesAnswerQuestions};
 
 /// The facts of a world are those of a whole store that shows its entities and of a table that has its
@@ -10,6 +11,12 @@ pub fn worlds_are_shown()
     ensures stores { StoresHaveWorldFacts }
     ensures tables { TablesServeWorlds }
     ensures made { WorldsAreMade }
+{}
+
+/// A request that has the parts of a question, and for its context what that was evaluated to, is a
+/// request of the question.
+pub fn questions_are_asked()
+    ensures { QuestionsAreAsked }
 {}
 
 /// What is kept of the policies held, each evaluated for the request of a question, gives a first answer to

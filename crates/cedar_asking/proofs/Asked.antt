@@ -1,0 +1,148 @@
+-- Contexts that are evaluated: what is held of a question's context is what the context answers.
+use Rattle.std.proofs.Common.{◌≡◌, ◌∙◌, ◌≢◌, refl, ap, sym, subst, suc, true≢false, arith}
+use Rattle.std.proofs.lemmas.Bool.{ne_eqb}
+use Rattle.std.specs.FinMap as map
+use Rattle.std.specs.Prelude.{Bool, true, false, cond, nat_eq, ◌&&◌, ◌||◌, Option, Some, None, option_map, List}
+use Rattle.either.specs.declared.Either.{Either}
+use Rattle.either.specs.declared.Either.TheVariants.{Left, Right}
+use Rattle.cedar_language.specs.Uid.{Text, Name}
+use Rattle.cedar_language.specs.Tree.{String, MakeSet, MakeRecord, Call, Tree, Lit, Unknown, Apply, Trees, no_trees, a_tree}
+use Rattle.cedar_language.specs.Value.{Value, Plain, ExtensionOf, Extension, Values, no_values, a_value, Kind, WrongNumArguments, FailedExtensionFunctionExecution, Outcome, Gives, Fails}
+use Rattle.cedar_language.specs.Facts.{Facts, Written}
+use Rattle.cedar_language.specs.Operators.{called, count, or_fails}
+use Rattle.cedar_language.specs.Restricted.{is_restricted, are_restricted}
+use Rattle.cedar_partial_evaluation.specs.Like.{Writes, IsLike, itself, writes_too, if_like, and_like, or_like, apply_like, AreLike, none_like, more_like}
+use Rattle.cedar_partial_evaluation.specs.Settling.{Is, Settlings, SomeOpen, SomeErrs, AllAre, kindless, apply_settled, all_settled_in}
+use Rattle.cedar_partial_evaluation.specs.Partial.{Answer, Evaluated, ResidualTree, Failed, partial_in}
+use Rattle.cedar_partial_evaluation.specs.Question.{IsAccepted, context_held, settled_names}
+use Rattle.cedar_world.specs.Asking.{WithEntries}
+use Rattle.cedar_world.specs.Bodies.{unknown_or, named_call, named, all_named, some_name_of, holds_call, hold_call, is_one_of}
+use Rattle.cedar_world.specs.Functions.{is_the_unknown, one_string, unknown_function}
+use Rattle.cedar_world.specs.Setting.{Setting, functions_alone}
+use Rattle.cedar_world.specs.Values.{holds_unknown, errs_alone, context_errs, variable_names}
+use Rattle.cedar_extensions.specs.Functions.{meaning_in, meaning_of}
+use Rattle.cedar_extensions.specs.Holding.{found_in}
+use Rattle.cedar_extensions.specs.Tables as tables
+use Rattle.cedar_extensions.specs.Tables.{functions_in, function_called}
+use Rattle.cedar_extensions.specs.declared.extensions.Extensions.{Extensions}
+use Rattle.cedar_extensions.specs.declared.functions.Function.{Function}
+use Rattle.cedar_extensions.specs.declared.functions.Function.TheVariants as function
+use Rattle.cedar_extensions.specs.declared.functions.ExtensionFunction.{ExtensionFunction}
+use Rattle.cedar_requests.specs.Answers.{part_answer}
+use Rattle.cedar_restricted_evaluation.specs.Evaluations.{HasFunctions, named_by, answer_in, IsAnswer, nothing_told}
+use Rattle.cedar_asking.proofs.Data.{accepts, all_named_are_data}
+
+and_left : (a b : Bool) → (a && b) ≡ true → a ≡ true
+and_left true b h = refl
+and_left false b h = h
+
+and_right : (a b : Bool) → (a && b) ≡ true → b ≡ true
+and_right true b h = h
+and_right false b h = cc
+
+or_left : (a b : Bool) → (a || b) ≡ false → a ≡ false
+or_left false b h = refl
+or_left true b h = h
+
+or_right : (a b : Bool) → (a || b) ≡ false → b ≡ false
+or_right false b h = h
+or_right true b h = cc
+
+neither : (a b : Bool) → a ≡ false → b ≡ false → (a || b) ≡ false
+neither a b h k = rw (h, k) refl
+
+-- ---- no function of a table gives an extension value
+
+means_unknown : (g : Function) → meaning_in g ≡ unknown_function
+means_unknown function.Unknown = refl
+
+others_refused : (b : Bool) (o : Outcome) (v : Value) → b ≡ false → cond b o (Fails WrongNumArguments) ≡ Gives v → ⊥
+others_refused true o v e h = cc
+others_refused false o v e h = cc
+
+texts_alone : (vs : Values) (e : Extension) → called (Some unknown_function) vs ≡ Gives (ExtensionOf e) → ⊥
+texts_alone no_values e h = cc
+texts_alone (a_value (Plain (String t)) no_values) e h = cc
+texts_alone (a_value w no_values) e h = cc
+texts_alone (a_value v (a_value w ws)) e h =
+    others_refused (nat_eq 1 (suc (suc (count ws)))) (or_fails FailedExtensionFunctionExecution (one_string (a_value v (a_value w ws)))) (ExtensionOf e) (ne_eqb 1 (suc (suc (count ws))) (λ i. absurd (omega (arith, i)))) h
+
+gives_none : (o : Option ExtensionFunction) (vs : Values) (e : Extension) → called (option_map meaning_of o) vs ≡ Gives (ExtensionOf e) → ⊥
+gives_none None vs e h = cc
+gives_none (Some f) vs e h = texts_alone vs e (sym (ap (λ g. called (Some g) vs) (means_unknown f.function)) ∙ h)
+
+module _ (table : Extensions) (facts : Facts) (has : HasFunctions table facts) where
+  is_given : (f : Name) (vs : Values) (e : Extension) (o : Outcome) → called (facts.function f) vs ≡ o → kindless o ≡ Is (ExtensionOf e) → ⊥
+  is_given f vs e (Gives v) is h =
+      let same : v ≡ ExtensionOf e = cc in
+      gives_none (found_in (functions_in table) f) vs e (sym (ap (λ g. called g vs) (has f)) ∙ is ∙ ap Gives same)
+  is_given f vs e (Fails k) is h = cc
+
+  none_settles : (f : Name) (xs : Settlings) (e : Extension) → apply_settled facts (Call f) xs ≡ Is (ExtensionOf e) → ⊥
+  none_settles f SomeOpen e h = cc
+  none_settles f SomeErrs e h = cc
+  none_settles f (AllAre vs) e h = is_given f vs e (called (facts.function f) vs) refl h
+
+  none_writes : (w : Written) (e : Extension) → Writes facts w e → ⊥
+  none_writes w e h = none_settles w.function (all_settled_in facts (settled_names map.empty) w.arguments) e (h (settled_names map.empty))
+
+  -- so what is like another tree is that tree
+  mutual
+    same_tree : {s t : Tree} → IsLike facts s t → s ≡ t
+    same_tree itself = refl
+    same_tree (writes_too {e} w x h k) = absurd (none_writes w e h)
+    same_tree (if_like h i j) = rw (same_tree h, same_tree i, same_tree j) refl
+    same_tree (and_like h i) = rw (same_tree h, same_tree i) refl
+    same_tree (or_like h i) = rw (same_tree h, same_tree i) refl
+    same_tree (apply_like {op} h) = ap (Apply op) (same_trees h)
+
+    same_trees : {ts us : Trees} → AreLike facts ts us → ts ≡ us
+    same_trees none_like = refl
+    same_trees (more_like h i) = rw (same_tree h, same_trees i) refl
+
+  pub answer_is : (p : Either Value Tree) (a : Answer) → IsAnswer facts a p → a ≡ part_answer p
+  answer_is (Left v) a h = h
+  answer_is (Right r) a h = h.1 ∙ ap ResidualTree (sym (same_tree h.2))
+
+-- ---- trees without calls of `unknown`
+
+stays_call : (f : Name) (ts : Trees) → is_the_unknown f ≡ false → named_call (Call f) ts ≡ Apply (Call f) ts
+stays_call f no_trees h = refl
+stays_call f (a_tree t ts) h = ap (λ b. unknown_or b f t ts) h
+
+mutual
+  unnamed : (t : Tree) → is_restricted t ≡ true → holds_call t ≡ false → named t ≡ t
+  unnamed (Lit l) g h = refl
+  unnamed (Unknown n ty) g h = refl
+  unnamed (Apply MakeSet ts) g h = ap (Apply MakeSet) (all_unnamed ts g h)
+  unnamed (Apply (MakeRecord ks) ts) g h = ap (Apply (MakeRecord ks)) (all_unnamed ts g h)
+  unnamed (Apply (Call f) ts) g h = ap (named_call (Call f)) (all_unnamed ts g (or_right _ _ h)) ∙ stays_call f ts (or_left _ _ h)
+  unnamed t g h = cc
+
+  all_unnamed : (ts : Trees) → are_restricted ts ≡ true → hold_call ts ≡ false → all_named ts ≡ ts
+  all_unnamed no_trees g h = refl
+  all_unnamed (a_tree t ts) g h = (λ i. a_tree (unnamed t (and_left _ _ g) (or_left _ _ h) i) (all_unnamed ts (and_right _ _ g) (or_right _ _ h) i))
+
+names_as : (b : Bool) (t : Tree) → is_restricted t ≡ true → (b ≡ false → holds_call t ≡ false) → named_by b t ≡ named t
+names_as true t r h = refl
+names_as false t r h = sym (unnamed t r (h refl))
+
+-- ---- a context that was evaluated
+
+not_failed : (p : Either Value Tree) (k : Kind) → part_answer p ≡ Failed k → ⊥
+not_failed (Left v) k h = cc
+not_failed (Right r) k h = cc
+
+module _ (table : Extensions) (ks : List Text) (ts : Trees) (given : are_restricted ts ≡ true) (held : tables.holds_unknown table ≡ false → hold_call ts ≡ false)
+    (p : Either Value Tree) (answers : (facts : Facts) → HasFunctions table facts → IsAnswer facts (answer_in table facts (Apply (MakeRecord ks) ts)) p) where
+  -- the context as the world has it
+  abbrev written : Tree
+  written = Apply (MakeRecord ks) ts
+
+  pub context_is : (facts : Facts) → HasFunctions table facts → context_held facts map.empty (WithEntries ks (all_named ts)) ≡ part_answer p
+  context_is facts has =
+      ap (partial_in facts nothing_told) (sym (names_as (tables.holds_unknown table) written given held))
+      ∙ answer_is table facts has p (answer_in table facts written) (answers facts has)
+
+  pub context_accepted : (facts : Facts) → HasFunctions table facts → IsAccepted facts map.empty (WithEntries ks (all_named ts))
+  context_accepted facts has = accepts facts (WithEntries ks (all_named ts)) (all_named_are_data ts given) (λ k e. not_failed p k (sym (context_is facts has) ∙ e))
