@@ -7,8 +7,7 @@ ghost use Rattle.cedar_policy_parts.specs.Effects.{effect_of};
 ghost use Rattle.cedar_policy_parts.specs.Decisions.{decision_of};
 ghost use Rattle.cedar_held.specs.Choices.{is_chosen, is_chosen_by, with_one};
 
-use cedar_policy_parts::Effect;
-use cedar_policy_parts::Decision;
+use cedar_policy_parts::{Decision, Effect};
 
 /// Some of the four groups of policies that are satisfied or open.
 #[derive(Clone, Copy)]

@@ -1,6 +1,6 @@
 // Values that are put on a stack, and what is asked of those on its top.
-use cedar_literals::bounded_display::BoundedToString;
 use crate::names::loc;
+use cedar_literals::bounded_display::BoundedToString;
 use cedar_literals::literals::Literal;
 use cedar_literals::types::StaticallyTyped;
 use cedar_literals::uids::EntityUID;
