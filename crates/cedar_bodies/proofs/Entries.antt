@@ -45,10 +45,12 @@ use Rattle.cedar_replies.specs.declared.refusal.Refusal.TheVariants as refusal
 use Rattle.cedar_restricted_evaluation.specs.Evaluations as evaluation
 use Rattle.cedar_restricted_evaluation.specs.Evaluations.{HasFunctions, named_by, answer_in, IsAnswer}
 use Rattle.cedar_entities.specs.Attributes.{Entries, seen_entries}
+use Rattle.cedar_bodies.specs.Built.{IsBuiltPart}
 use Rattle.cedar_bodies.specs.Entities.{named_all}
 use Rattle.cedar_bodies.specs.Reading.{GiveNoText, TreesAreRead, nothing_told, IsRead}
 use Rattle.cedar_bodies.specs.Refusals.{refusal_by}
 use Rattle.cedar_bodies.specs.Fields.{deeper, Serves, part_answer, IsEvaluated, as_entries, HoldValues, err, hold_unknowns, AreValues, AreOpen, AreFound, AreEvaluated}
+use Rattle.cedar_bodies.proofs.Built.{built_append}
 use Rattle.cedar_bodies.proofs.Carrying.{or_left, or_right, or_true, false_back, Carries, at_first, next_value, next_open, all_fine, all_unknowns, all_given}
 
 -- ---- the functions of a table
@@ -162,7 +164,7 @@ module _ (table : Extensions) where
   begins all = record {
     names = refl;
     inside = λ test h. h;
-    hold_values = λ unset. ([], refl);
+    hold_values = λ unset. ([], refl, tt);
     carries = λ by serves. at_first (Seen []) (err by (bare_entries all)) (hold_unknowns by (bare_entries all)) (values by (named_all (bare_entries all))) refl;
   }
 
@@ -197,7 +199,7 @@ module _ (table : Extensions) where
     stops depth refusal.Memory h = tt
     stops depth r h = absurd h
 
-    module _ (next : Entries) (l : RcStr Global) (v : PartialValue) (flagged : Bool) (depth : ℕ) (same : rc_str_bytes l ≡ rc_str_bytes k) (evaluated : IsEvaluated table depth t (Ok v)) (marked : flagged ≡ (flag || is_residual (partial_of v))) where
+    module _ (next : Entries) (l : RcStr Global) (v : PartialValue) (flagged : Bool) (depth : ℕ) (same : rc_str_bytes l ≡ rc_str_bytes k) (evaluated : IsEvaluated table depth t (Ok v)) (built : IsBuiltPart (partial_of v)) (marked : flagged ≡ (flag || is_residual (partial_of v))) where
       seen_next : next ≡ made ++ (l, v) ∷ [] → (p : Either Value Tree) → partial_of v ≡ p → seen_entries next ≡ seen_entries made ++ (rc_str_bytes k, p) ∷ []
       seen_next last p is =
           ap seen_entries last ∙ map-append (λ (x : RcStr Global × PartialValue). (rc_str_bytes x.0, partial_of x.1)) made ((l, v) ∷ [])
@@ -215,7 +217,7 @@ module _ (table : Extensions) where
       values_next : next ≡ made ++ (l, v) ∷ [] → (p : Either Value Tree) → partial_of v ≡ p → flagged ≡ false → HoldValues (seen_entries next)
       values_next last (Left w) is unset =
           let before = underway.hold_values (or_left flag (is_residual (partial_of v)) (sym marked ∙ unset)) in
-          (before.0 ++ (rc_str_bytes k, w) ∷ [], seen_after last w is before.0 before.1)
+          (before.0 ++ (rc_str_bytes k, w) ∷ [], seen_after last w is before.0 before.1, built_append _ before.0 (rc_str_bytes k, w) before.2 (subst IsBuiltPart is built))
       values_next last (Right r) is unset =
           let never : true ≡ false = ap is_residual (sym is) ∙ or_right flag (is_residual (partial_of v)) (sym marked ∙ unset) in
           absurd cc

@@ -20,6 +20,7 @@ use Rattle.cedar_bodies.specs.Entities.{written_of, named_body, written_bodies}
 use Rattle.cedar_bodies.specs.Fields.{unrestricted, deeper, Serves}
 use Rattle.cedar_bodies.specs.Making.{some_in, IsMade}
 use Rattle.cedar_bodies.specs.Listing.{all_named, ShowVersions, AreVersions, AreMade, AreListed}
+use Rattle.cedar_bodies.proofs.Built.{built_append}
 use Rattle.cedar_bodies.proofs.Carrying.{or_true, false_back, Carries, at_first, next_value, next_open, all_fine, all_unknowns, all_given}
 use Rattle.cedar_bodies.proofs.Parts.{bodies_fine, restricted_rises, calls_rise, heights_rise}
 
@@ -45,7 +46,7 @@ module _ (table : Extensions) where
   pub begins : (all : List EntityBody) → IsUnderway all all [] false
   begins all = record {
     inside = λ test h. h;
-    show_versions = λ unset. ([], refl);
+    show_versions = λ unset. ([], refl, tt);
     carries = λ by serves. at_first (Shown []) (some_entry (errs_alone by) (all_named all)) (some_entry holds_unknown (all_named all)) (versions by (all_named all)) refl;
   }
 
@@ -86,7 +87,7 @@ module _ (table : Extensions) where
       inside = onward;
       show_versions = λ unset.
           let before = underway.show_versions unset in
-          (before.0 ++ is.shows_version.0 ∷ [], shown_after e next last is.shows_version.0 is.shows_version.1 before.0 before.1);
+          (before.0 ++ is.shows_version.0 ∷ [], shown_after e next last is.shows_version.0 is.shows_version.1 before.0 before.1, built_append _ before.0 is.shows_version.0 before.2 is.shows_version.2);
       carries = λ by serves.
           let version = is.is_version by (serves_here by serves) in
           next_value (Shown made) (Shown next) _ _ _ flag flag (some_in (errs_alone by) (named_body b)) (some_entry (errs_alone by) (all_named more)) (some_in holds_unknown (named_body b)) (some_entry holds_unknown (all_named more)) _ (versions by (all_named more))

@@ -20,9 +20,11 @@ use Rattle.cedar_replies.specs.declared.refusal.Refusal.TheVariants as refusal
 use Rattle.cedar_entities.specs.Attributes.{attributes_of, seen_entries}
 use Rattle.cedar_entities.specs.Data.{EntityData}
 use Rattle.cedar_entities.specs.Shown.{as_attributes, as_entity}
+use Rattle.cedar_bodies.specs.Built.{AreBuiltEntries, IsBuiltVersion}
 use Rattle.cedar_bodies.specs.Entities.{named_body}
 use Rattle.cedar_bodies.specs.Fields.{deeper, Serves, as_entries, err, hold_unknowns, AreEvaluated}
 use Rattle.cedar_bodies.specs.Making.{set_listed, some_in, IsMade}
+use Rattle.cedar_bodies.proofs.Built.{got_built}
 use Rattle.cedar_bodies.proofs.Carrying.{or_left, or_right, or_true, or_false}
 
 -- ---- values as attributes
@@ -98,9 +100,12 @@ module _ (table : Extensions) (depth : ℕ) (b : EntityBody) where
         let shown_tags = shown_as tags tagged seen_tagged in
         is ∙ (λ i. record { uid = b.uid; attributes = shown_attributes i; tags = shown_tags i; parents = b.parents; indirect = set_listed [] })
 
+    version_built : (own tagged : List (Text × Value)) → AreBuiltEntries own → AreBuiltEntries tagged → IsBuiltVersion (version_of own tagged)
+    version_built own tagged h k = record { attribute = got_built own h; tag = got_built tagged k }
+
     pub made : AreEvaluated table depth b.attributes (Ok (Some attributes)) → AreEvaluated table depth b.tags (Ok (Some tags)) → IsMade table depth b (Ok (Some e))
     made h k = record {
-      shows_version = (version_of h.hold_values.0 k.hold_values.0, shown h.hold_values.0 k.hold_values.0 h.hold_values.1 k.hold_values.1);
+      shows_version = (version_of h.hold_values.0 k.hold_values.0, shown h.hold_values.0 k.hold_values.0 h.hold_values.1 k.hold_values.1, version_built h.hold_values.0 k.hold_values.0 h.hold_values.2 k.hold_values.2);
       is_version = λ by serves.
           let a = h.are_values by (for_attributes by serves) in
           let t = k.are_values by (for_tags by serves) in

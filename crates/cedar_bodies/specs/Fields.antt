@@ -22,6 +22,7 @@ use Rattle.cedar_replies.specs.declared.refusal.Refusal.{Refusal}
 use Rattle.cedar_replies.specs.declared.refusal.Refusal.TheVariants.{Depth, Evaluation, Memory}
 use Rattle.cedar_restricted_evaluation.specs.Evaluations.{HasFunctions}
 use Rattle.cedar_entities.specs.Attributes.{Attribute, seen_entries}
+use Rattle.cedar_bodies.specs.Built.{AreBuiltEntries}
 use Rattle.cedar_bodies.specs.Entities.{named_all}
 use Rattle.cedar_bodies.specs.Reading.{IsRead}
 
@@ -57,9 +58,9 @@ IsEvaluated table depth t (Err r) = ⊥
 abbrev pub as_entries : List (Text × Value) → List (Text × Attribute)
 as_entries vs = map (λ e. (e.0, Left e.1)) vs
 
--- what stands at each name is a value
+-- what stands at each name is a built value
 abbrev pub HoldValues : List (Text × Attribute) → Type 0
-HoldValues found = (given : List (Text × Value)) × (found ≡ as_entries given)
+HoldValues found = (given : List (Text × Value)) × (found ≡ as_entries given) × AreBuiltEntries given
 
 module _ (by : Setting) (fs : Fields) where
   -- some tree errs
@@ -83,7 +84,7 @@ module _ (by : Setting) (fs : Fields) where
     pub fine : err ≡ false
     pub unknown : hold_unknowns ≡ true
 
--- what is found is values, those of the trees
+-- what is found is built values, those of the trees
 pub record AreFound (table : Extensions) (fs : Fields) (found : List (Text × Attribute)) : Type 0 where
   pub hold_values : HoldValues found
   pub are_values : (by : Setting) → Serves table by (some_field holds_call fs) → AreValues by fs found

@@ -4,6 +4,7 @@ pub mod Questions
 pub mod Entities
 pub mod Reading
 pub mod Refusals
+pub mod Built
 pub mod Fields
 pub mod Making
 pub mod Listing

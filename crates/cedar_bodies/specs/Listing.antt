@@ -12,6 +12,7 @@ use Rattle.cedar_replies.specs.declared.refusal.Refusal.{Refusal}
 use Rattle.cedar_replies.specs.declared.refusal.Refusal.TheVariants.{Depth, Shape, Evaluation, NotAValue, Memory}
 use Rattle.cedar_entities.specs.Data.{EntityData}
 use Rattle.cedar_entities.specs.Shown.{as_entities}
+use Rattle.cedar_bodies.specs.Built.{AreBuiltVersions}
 use Rattle.cedar_bodies.specs.Entities.{named_body}
 use Rattle.cedar_bodies.specs.Fields.{Serves, deeper}
 
@@ -32,9 +33,9 @@ module _ (by : Setting) (bs : List EntityBody) where
 abbrev pub all_named : List EntityBody → List EntityBody
 all_named bs = map named_body bs
 
--- the entities are some versions
+-- the entities are some versions whose attributes and tags are built
 abbrev pub ShowVersions : List EntityData → Type 0
-ShowVersions es = (vs : List Version) × (es ≡ as_entities vs)
+ShowVersions es = (vs : List Version) × (es ≡ as_entities vs) × AreBuiltVersions vs
 
 -- the entities are versions, those of the bodies
 pub record AreFound (table : Extensions) (bs : List EntityBody) (es : List EntityData) : Type 0 where

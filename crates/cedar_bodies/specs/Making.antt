@@ -12,6 +12,7 @@ use Rattle.cedar_replies.specs.declared.refusal.Refusal.{Refusal}
 use Rattle.cedar_replies.specs.declared.refusal.Refusal.TheVariants.{Depth, Evaluation, Memory}
 use Rattle.cedar_entities.specs.Data.{EntityData, UidSet}
 use Rattle.cedar_entities.specs.Shown.{as_entity}
+use Rattle.cedar_bodies.specs.Built.{IsBuiltVersion}
 use Rattle.cedar_bodies.specs.Entities.{named_body}
 use Rattle.cedar_bodies.specs.Fields.{Serves, deeper}
 
@@ -34,9 +35,9 @@ module _ (by : Setting) (b : EntityBody) where
     pub fine : some_in (errs_alone by) b ≡ false
     pub unknown : some_in holds_unknown b ≡ true
 
--- the entity is some version
+-- the entity is some version whose attributes and tags are built
 abbrev pub ShowsVersion : EntityData → Type 0
-ShowsVersion e = (v : Version) × (e ≡ as_entity v)
+ShowsVersion e = (v : Version) × (e ≡ as_entity v) × IsBuiltVersion v
 
 -- the entity is a version, that of the body
 pub record IsFound (table : Extensions) (b : EntityBody) (e : EntityData) : Type 0 where

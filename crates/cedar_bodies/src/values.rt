@@ -1,9 +1,11 @@
 // The evaluation of one attribute or tag.
-ghost use Rattle.std.specs.Prelude.{◌≡◌, true};
+ghost use Rattle.std.specs.Prelude.{◌≡◌, IfOk, true};
 ghost use Rattle.cedar_language.specs.Restricted.{is_restricted};
 ghost use Rattle.cedar_extensions.specs.Failures.{failure_by, failure_of};
 ghost use Rattle.cedar_extensions.specs.Causes.{lookup_cause};
+ghost use Rattle.cedar_restricted.specs.PartialValues.{partial_of};
 ghost use Rattle.cedar_trees.specs.Bare.{bare};
+ghost use Rattle.cedar_bodies.specs.Built.{IsBuiltPart};
 ghost use Rattle.cedar_bodies.specs.Fields.{IsEvaluated};
 ghost use Rattle.cedar_bodies.specs.Refusals.{refusal_by};
 
@@ -46,7 +48,8 @@ pub fn evaluated(
     depth: u32,
 ) -> Result<PartialValue, Refusal>
     requires { is_restricted (bare expr.now) ≡ true }
-    ensures { IsEvaluated extensions.now depth (bare expr.now) result }
+    ensures evaluated { IsEvaluated extensions.now depth (bare expr.now) result }
+    ensures built { IfOk result (λ value. IsBuiltPart (partial_of value)) }
 {
     let tree = BorrowedRestrictedExpr::new_unchecked(expr);
     match interpret_restricted(alloc, tree, extensions, depth) {

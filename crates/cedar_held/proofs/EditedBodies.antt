@@ -18,9 +18,10 @@ use Rattle.cedar_entities.specs.Shown.{as_held, as_entities, Shows}
 use Rattle.cedar_entities.specs.Laws.{IsTaken}
 use Rattle.cedar_replies.specs.declared.refusal.Refusal.{Refusal}
 use Rattle.cedar_replies.specs.declared.refusal.Refusal.TheVariants.{Shape, Evaluation, NotAValue, Duplicate, Cycle, Depth, Memory}
+use Rattle.cedar_bodies.specs.Built.{HoldBuilt}
 use Rattle.cedar_bodies.specs.Listing.{AreVersions, AreListed}
 use Rattle.cedar_held.specs.EntityEdits.{ListsVersions, PutsBody, AddsBody, RemovesBody}
-use Rattle.cedar_held.specs.HoldingEntities.{IsShown, shown_is_one}
+use Rattle.cedar_held.specs.HoldingEntities.{IsShown, ShowsBuilt, shown_is_one}
 use Rattle.cedar_held.specs.Stores.{PutsVersions, AddsVersions, RemovesUids}
 
 -- ---- what stores show
@@ -33,6 +34,9 @@ shows_as s is old same = subst (Shows (held_at s)) same is.shows
 
 pub left_shown : (Takes : world.Entities → Type 0) (left : world.Entities) (s : Entities) → IsTaken Takes left s → IsShown s
 left_shown Takes left s is = record { entities = left; shows = is.shows }
+
+pub left_built : (Takes : world.Entities → Type 0) (left : world.Entities) (s : Entities) → IsTaken Takes left s → HoldBuilt left → ShowsBuilt s
+left_built Takes left s is built new shows = subst HoldBuilt (shown_is_one (held_at s) left new is.shows shows) built
 
 -- what the store left shows is what is taken
 taken : (Takes : world.Entities → Type 0) (left new : world.Entities) (s : Entities) → IsTaken Takes left s → Shows (held_at s) new → Takes new

@@ -5,6 +5,7 @@ mod Removed
 mod Loaded
 mod EditedStores
 mod EditedBodies
+mod BuiltEdits
 pub mod Answering
 pub mod Choosing
 pub mod InForce

@@ -18,11 +18,21 @@ use Rattle.cedar_entities.specs.Store.{held_at, is_partial_store, IsClosed}
 use Rattle.cedar_entities.specs.declared.store.Entities.{Entities}
 use Rattle.cedar_entities.specs.Shown.{Shows}
 use Rattle.cedar_entities.proofs.Shown.{shown_inj}
+use Rattle.cedar_bodies.specs.Built.{HoldBuilt}
 
 -- its ancestors are whole, and what it doesn't hold isn't there
 pub record IsWhole (s : Entities) : Type 0 where
   pub closed : IsClosed s
   pub concrete : is_partial_store s ≡ false
+
+-- what it shows is built
+abbrev pub ShowsBuilt : Entities → Type 0
+ShowsBuilt s = (entities : world.Entities) → Shows (held_at s) entities → HoldBuilt entities
+
+-- a whole store that shows entities whose attributes and tags are built
+pub record IsBuiltStore (s : Entities) : Type 0 where
+  pub whole : IsWhole s
+  pub built : ShowsBuilt s
 
 -- the store shows these entities of the world
 pub record IsShown (s : Entities) : Type 0 where

@@ -6,9 +6,10 @@ ghost use Rattle.cedar_world.specs.Bodies.{holds_call};
 ghost use Rattle.cedar_world.specs.Setting.{Setting};
 ghost use Rattle.cedar_entities.specs.Store.{held_at, is_partial_store, IsClosed};
 ghost use Rattle.cedar_entities.specs.Shown.{Shows};
+ghost use Rattle.cedar_bodies.specs.Built.{HoldBuilt};
 ghost use Rattle.cedar_bodies.specs.Fields.{Serves};
 ghost use Rattle.cedar_held.specs.EntityEdits.{PutsBody, AddsBody, RemovesBody};
-ghost use Rattle.cedar_held.specs.HoldingEntities.{IsShown, IsWhole, shown_prop};
+ghost use Rattle.cedar_held.specs.HoldingEntities.{IsShown, IsWhole, ShowsBuilt, shown_prop};
 
 use crate::stores::{with_added, with_put, without};
 use cedar_bodies::{listed_entities, set_of, uids_of};
@@ -19,8 +20,8 @@ use cedar_restricted::borrowed::BorrowedRestrictedExpr;
 use std::alloc::Global;
 use std::marker::Model;
 
-/// The entities that a session holds, whose attributes and tags are values. Contracts see them as the
-/// world does: with their direct parents alone, which never make a cycle.
+/// The entities that a session holds, whose attributes and tags are values in which no extension value
+/// stands. Contracts see them as the world does: with their direct parents alone, which never make a cycle.
 #[derive(Drop)]
 pub struct HeldEntities {
     store: Entities,
@@ -29,7 +30,7 @@ pub struct HeldEntities {
 
 impl Model for HeldEntities {
     ghost use Rattle.cedar_world.specs.World as world;
-    ghost use Rattle.cedar_held.specs.HoldingEntities.{IsWhole, entities_code};
+    ghost use Rattle.cedar_held.specs.HoldingEntities.{IsBuiltStore, entities_code};
 
     ghost Value = { world.Entities };
 
@@ -37,7 +38,7 @@ impl Model for HeldEntities {
 
     ghost view = { λ held. held.shown.entities };
 
-    ghost invariant = { λ held. IsWhole held.store };
+    ghost invariant = { λ held. IsBuiltStore held.store };
 }
 
 impl HeldEntities {
@@ -52,6 +53,7 @@ impl HeldEntities {
     fn from_store(store: Entities) -> HeldEntities
         requires shown { IsShown store }
         requires whole { IsWhole store }
+        requires built { ShowsBuilt store }
         ensures { Shows (held_at store) result }
     {
         HeldEntities { store }
@@ -62,6 +64,7 @@ impl HeldEntities {
         ensures shows { Shows (held_at result.now) self.now }
         ensures closed { IsClosed result.now }
         ensures whole { is_partial_store result.now ≡ false }
+        ensures built { HoldBuilt self.now }
     {
         &self.store
     }

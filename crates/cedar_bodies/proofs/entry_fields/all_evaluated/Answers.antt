@@ -6,14 +6,14 @@ use Rattle.cedar_bodies.proofs.entry_fields.all_evaluated.Goals as goal
 pub returns-in_err-value : goal.returns-in_err-value
 returns-in_err-value c =
     let p = err_from_is_err_and c.from_residual.result c.from_residual.ensures.1 in
-    rw (p.1, p.2) (stops c.args.extensions.now c.args.entries.now.entries c.loop-name.name-iterator c.next.new.self c.loop-name.values.entries c.loop-name.holds_unknown c.in-Some.name.now c.in-Some.expr.now c.loop-name.invariant.2 c.in-Some.ensures.steps c.args.depth c.in_err-value.field-0.0 c.in_err-value.ensures)
+    rw (p.1, p.2) (stops c.args.extensions.now c.args.entries.now.entries c.loop-name.name-iterator c.next.new.self c.loop-name.values.entries c.loop-name.holds_unknown c.in-Some.name.now c.in-Some.expr.now c.loop-name.invariant.2 c.in-Some.ensures.steps c.args.depth c.in_err-value.field-0.0 c.in_err-value.ensures.evaluated)
 
 pub loop-name-preserved-in_ok-insert : goal.loop-name-preserved-in_ok-insert
 loop-name-preserved-in_ok-insert c = (
   tt,
   tt,
   goes_on c.args.extensions.now c.args.entries.now.entries c.loop-name.name-iterator c.next.new.self c.loop-name.values.entries c.loop-name.holds_unknown c.in-Some.name.now c.in-Some.expr.now c.loop-name.invariant.2 c.in-Some.ensures.steps
-      c.insert.new.self.entries c.in_ok-clone.field-0 c.in_ok-value.value (c.loop-name.holds_unknown || c.is_residual.result) c.args.depth c.in_ok-clone.ensures.cases c.in_ok-value.ensures
+      c.insert.new.self.entries c.in_ok-clone.field-0 c.in_ok-value.value (c.loop-name.holds_unknown || c.is_residual.result) c.args.depth c.in_ok-clone.ensures.cases c.in_ok-value.ensures.evaluated c.in_ok-value.ensures.built
       (ap (λ b. c.loop-name.holds_unknown || b) c.is_residual.ensures) c.into_iter-name-iterator.ensures.into_iter_gives.5 c.in_ok-insert.ensures.entries,
 )
 
@@ -22,7 +22,7 @@ loop-name-preserved-in_ok-insert-2 c = (
   tt,
   tt,
   goes_on c.args.extensions.now c.args.entries.now.entries c.loop-name.name-iterator c.next.new.self c.loop-name.values.entries c.loop-name.holds_unknown c.in-Some.name.now c.in-Some.expr.now c.loop-name.invariant.2 c.in-Some.ensures.steps
-      c.insert.new.self.entries c.in_ok-clone.field-0 c.in_ok-value.value (c.loop-name.holds_unknown || c.is_residual.result) c.args.depth c.in_ok-clone.ensures.cases c.in_ok-value.ensures
+      c.insert.new.self.entries c.in_ok-clone.field-0 c.in_ok-value.value (c.loop-name.holds_unknown || c.is_residual.result) c.args.depth c.in_ok-clone.ensures.cases c.in_ok-value.ensures.evaluated c.in_ok-value.ensures.built
       (ap (λ b. c.loop-name.holds_unknown || b) c.is_residual.ensures) c.into_iter-name-iterator.ensures.into_iter_gives.5 c.in_ok-insert.ensures.entries,
 )
 
@@ -31,7 +31,7 @@ loop-name-preserved-in_ok-insert-3 c = (
   tt,
   tt,
   goes_on c.args.extensions.now c.args.entries.now.entries c.loop-name.name-iterator c.next.new.self c.loop-name.values.entries c.loop-name.holds_unknown c.in-Some.name.now c.in-Some.expr.now c.loop-name.invariant.2 c.in-Some.ensures.steps
-      c.insert.new.self.entries c.in_ok-clone.field-0 c.in_ok-value.value (c.loop-name.holds_unknown || c.is_residual.result) c.args.depth c.in_ok-clone.ensures.cases c.in_ok-value.ensures
+      c.insert.new.self.entries c.in_ok-clone.field-0 c.in_ok-value.value (c.loop-name.holds_unknown || c.is_residual.result) c.args.depth c.in_ok-clone.ensures.cases c.in_ok-value.ensures.evaluated c.in_ok-value.ensures.built
       (ap (λ b. c.loop-name.holds_unknown || b) c.is_residual.ensures) c.into_iter-name-iterator.ensures.into_iter_gives.5 c.in_ok-insert.ensures.entries,
 )
 
@@ -40,7 +40,7 @@ loop-name-preserved c = (
   tt,
   tt,
   goes_on c.args.extensions.now c.args.entries.now.entries c.loop-name.name-iterator c.next.new.self c.loop-name.values.entries c.loop-name.holds_unknown c.in-Some.name.now c.in-Some.expr.now c.loop-name.invariant.2 c.in-Some.ensures.steps
-      c.insert.new.self.entries c.in_ok-clone.field-0 c.in_ok-value.value (c.loop-name.holds_unknown || c.is_residual.result) c.args.depth c.in_ok-clone.ensures.cases c.in_ok-value.ensures
+      c.insert.new.self.entries c.in_ok-clone.field-0 c.in_ok-value.value (c.loop-name.holds_unknown || c.is_residual.result) c.args.depth c.in_ok-clone.ensures.cases c.in_ok-value.ensures.evaluated c.in_ok-value.ensures.built
       (ap (λ b. c.loop-name.holds_unknown || b) c.is_residual.ensures) c.into_iter-name-iterator.ensures.into_iter_gives.5 c.in_ok-insert.ensures.entries,
 )
 

@@ -1,6 +1,7 @@
 use Rattle.std.proofs.lemmas.Result.{err_from_is_err_and}
 use Rattle.cedar_restricted.specs.Views.{borrowed_tree}
-use Rattle.cedar_held.proofs.EditedBodies.{shows_as, left_shown, add_unread, add_refused, add_done}
+use Rattle.cedar_held.proofs.EditedBodies.{shows_as, left_shown, left_built, add_unread, add_refused, add_done}
+use Rattle.cedar_held.proofs.BuiltEdits.{add_built}
 use Rattle.cedar_held.proofs.held_entities.HeldEntities.add.Goals as goal
 
 pub returns-in_err-versions : goal.returns-in_err-versions
@@ -21,6 +22,12 @@ from_store-requires-clause-shown c =
     let versions = c.in_ok-versions.ensures.versions in
     let shows = shows_as c.self.inside.store c.self.inside.shown c.args.self.now c.self.view_is in
     left_shown _ _ c.in_ok-store.store (c.in_ok-store.ensures.edited c.args.self.now versions.0 shows versions.1)
+
+pub from_store-requires-clause-built : goal.from_store-requires-clause-built
+from_store-requires-clause-built c =
+    let versions = c.in_ok-versions.ensures.versions in
+    let shows = shows_as c.self.inside.store c.self.inside.shown c.args.self.now c.self.view_is in
+    left_built _ _ c.in_ok-store.store (c.in_ok-store.ensures.edited c.args.self.now versions.0 shows versions.1) (add_built c.args.self.now (c.self.invariant.built c.args.self.now shows) versions.0 versions.2)
 
 pub returns : goal.returns
 returns c =

@@ -4,7 +4,8 @@ use Rattle.std.proofs.lemmas.Result.{err_from_is_err_and}
 use Rattle.cedar_restricted.specs.Views.{borrowed_tree}
 use Rattle.cedar_world.specs.Bodies.{uids_of}
 use Rattle.cedar_bodies.specs.Making.{set_listed}
-use Rattle.cedar_held.proofs.EditedBodies.{shows_as, left_shown, remove_refused, remove_done}
+use Rattle.cedar_held.proofs.EditedBodies.{shows_as, left_shown, left_built, remove_refused, remove_done}
+use Rattle.cedar_held.proofs.BuiltEdits.{remove_built}
 use Rattle.cedar_held.proofs.held_entities.HeldEntities.remove.Goals as goal
 
 pub returns-in_err-store : goal.returns-in_err-store
@@ -17,6 +18,11 @@ pub from_store-requires-clause-shown : goal.from_store-requires-clause-shown
 from_store-requires-clause-shown c =
     let shows = shows_as c.self.inside.store c.self.inside.shown c.args.self.now c.self.view_is in
     left_shown _ _ c.in_ok-store.store (c.in_ok-store.ensures.edited c.args.self.now shows)
+
+pub from_store-requires-clause-built : goal.from_store-requires-clause-built
+from_store-requires-clause-built c =
+    let shows = shows_as c.self.inside.store c.self.inside.shown c.args.self.now c.self.view_is in
+    left_built _ _ c.in_ok-store.store (c.in_ok-store.ensures.edited c.args.self.now shows) (remove_built c.args.self.now (c.self.invariant.built c.args.self.now shows) (set.from_list c.in_ok-uids-2.uids.keys))
 
 pub returns : goal.returns
 returns c =

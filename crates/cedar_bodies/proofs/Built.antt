@@ -1,0 +1,212 @@
+-- The values that restricted trees are evaluated to are built: no function of a table gives an extension value.
+use Rattle.std.proofs.Common.{◌≡◌, ◌∙◌, ℕ, refl, ap, sym, subst, Bool, true, false, ◌&&◌, cond, Option, Some, None, option_map, List, [], ◌∷◌, ◌++◌, Ordering, Ok}
+use Rattle.std.specs.FinMap as finite
+use Rattle.std.specs.FinMap.{get-empty}
+use Rattle.std.specs.List.{AllByRecursion}
+use Rattle.std.specs.Ordering.{eq_by_cmp}
+use Rattle.std.specs.declared.cmp.Ordering.TheVariants as ordering
+use Rattle.either.specs.declared.Either.{Either}
+use Rattle.either.specs.declared.Either.TheVariants.{Left, Right}
+use Rattle.cedar_language.proofs.Rising.{rising_rises}
+use Rattle.cedar_language.specs.Facts.{Facts}
+use Rattle.cedar_language.specs.Operators.{called, count, or_fails, takes}
+use Rattle.cedar_language.specs.Order.{text_cmp, value_cmp, placed, put, rising}
+use Rattle.cedar_language.specs.OrderLaws.{text_cmp_total}
+use Rattle.cedar_language.specs.Restricted.{is_restricted, are_restricted}
+use Rattle.cedar_language.specs.Tree.{String, MakeSet, MakeRecord, Call, Tree, Lit, Unknown, Apply, Trees, no_trees, a_tree, ValueType}
+use Rattle.cedar_language.specs.Uid.{Text, Name}
+use Rattle.cedar_language.specs.Value.{Value, Plain, SetOf, RecordOf, ExtensionOf, Values, no_values, a_value, WrongNumArguments, FailedExtensionFunctionExecution, Outcome, Gives, Fails}
+use Rattle.cedar_partial_evaluation.specs.Partial.{Answer, Evaluated, ResidualTree, Failed, Answers, AllEvaluated, SomeResiduals, SomeFailed, answer_of, and_next, apply_answer, partial_in, all_partial_in}
+use Rattle.cedar_partial_evaluation.specs.Question.{name_held}
+use Rattle.cedar_world.specs.Bodies.{named, all_named, named_call, unknown_or}
+use Rattle.cedar_world.specs.Functions.{is_the_unknown, one_string, unknown_function}
+use Rattle.cedar_extensions.specs.Functions.{meaning_in, meaning_of}
+use Rattle.cedar_extensions.specs.Holding.{found_in}
+use Rattle.cedar_extensions.specs.Tables.{functions_in, function_called, holds_unknown}
+use Rattle.cedar_extensions.specs.declared.extensions.Extensions.{Extensions}
+use Rattle.cedar_extensions.specs.declared.functions.ExtensionFunction.{ExtensionFunction}
+use Rattle.cedar_extensions.specs.declared.functions.Function.{Function}
+use Rattle.cedar_extensions.specs.declared.functions.Function.TheVariants as function
+use Rattle.cedar_restricted.specs.PartialValues.{partial_of}
+use Rattle.cedar_restricted.specs.declared.partial_values.PartialValue.{PartialValue}
+use Rattle.cedar_restricted_evaluation.specs.Evaluations as evaluation
+use Rattle.cedar_restricted_evaluation.specs.Evaluations.{HasFunctions, nothing_told, named_by, answer_in, IsAnswer}
+use Rattle.cedar_bodies.specs.Built.{IsBuilt, AreBuilt, IsBuiltPart, AreBuiltEntries}
+
+-- ---- sets
+
+placed_built : (o : Ordering) (v w : Value) (ws vs : Values) → IsBuilt v → IsBuilt w → AreBuilt ws → AreBuilt vs → AreBuilt (placed o v w ws vs)
+placed_built ordering.Less v w ws vs h i j k = (h, (i, j))
+placed_built ordering.Equal v w ws vs h i j k = (i, j)
+placed_built ordering.Greater v w ws vs h i j k = (i, k)
+
+put_built : (v : Value) (ws : Values) → IsBuilt v → AreBuilt ws → AreBuilt (put v ws)
+put_built v no_values h k = (h, tt)
+put_built v (a_value w ws) h k = placed_built (value_cmp v w) v w ws (put v ws) h k.0 k.1 (put_built v ws h k.1)
+
+rising_built : (vs : Values) → AreBuilt vs → AreBuilt (rising vs)
+rising_built no_values h = tt
+rising_built (a_value v vs) h = put_built v (rising vs) h.0 (rising_built vs h.1)
+
+-- ---- calls
+
+abbrev IsBuiltOutcome : Outcome → Type 0
+IsBuiltOutcome (Gives v) = IsBuilt v
+IsBuiltOutcome (Fails k) = Unit {0}
+
+either_built : (b : Bool) (o p : Outcome) → IsBuiltOutcome o → IsBuiltOutcome p → IsBuiltOutcome (cond b o p)
+either_built true o p h k = h
+either_built false o p h k = k
+
+text_built : (vs : Values) → IsBuiltOutcome (or_fails FailedExtensionFunctionExecution (one_string vs))
+text_built (a_value (Plain (String s)) no_values) = tt
+text_built vs = tt
+
+-- the built-in function gives a text, and a table has no other
+answer_built : (g : Function) (vs : Values) → IsBuiltOutcome (called (Some (meaning_in g)) vs)
+answer_built function.Unknown vs = either_built (takes unknown_function.takes (count vs)) (or_fails FailedExtensionFunctionExecution (one_string vs)) (Fails WrongNumArguments) (text_built vs) tt
+
+call_built : (o : Option ExtensionFunction) (vs : Values) → IsBuiltOutcome (called (option_map meaning_of o) vs)
+call_built None vs = tt
+call_built (Some f) vs = answer_built f.function vs
+
+-- ---- answers
+
+abbrev IsBuiltAnswer : Answer → Type 0
+IsBuiltAnswer (Evaluated v) = IsBuilt v
+IsBuiltAnswer (ResidualTree r) = Unit {0}
+IsBuiltAnswer (Failed k) = Unit {0}
+
+abbrev AreBuiltAnswers : Answers → Type 0
+AreBuiltAnswers (AllEvaluated vs) = AreBuilt vs
+AreBuiltAnswers (SomeResiduals rs) = Unit {0}
+AreBuiltAnswers (SomeFailed k) = Unit {0}
+
+outcome_built : (o : Outcome) → IsBuiltOutcome o → IsBuiltAnswer (answer_of o)
+outcome_built (Gives v) h = h
+outcome_built (Fails k) h = tt
+
+and_left : (a b : Bool) → (a && b) ≡ true → a ≡ true
+and_left true b h = refl
+and_left false b h = h
+
+and_right : (a b : Bool) → (a && b) ≡ true → b ≡ true
+and_right true b h = h
+and_right false b h = cc
+
+both : (a b : Bool) → a ≡ true → b ≡ true → (a && b) ≡ true
+both a b h k = rw (h, k) refl
+
+module _ (table : Extensions) (facts : Facts) (has : HasFunctions table facts) where
+  unknown_built : (n : Text) (ty : Option ValueType) → IsBuiltAnswer (partial_in facts nothing_told (Unknown n ty))
+  unknown_built n ty = subst (λ o. IsBuiltAnswer (name_held o n ty)) (sym (get-empty text_cmp n)) tt
+
+  next_built : (a : Answer) (as_ : Answers) → IsBuiltAnswer a → AreBuiltAnswers as_ → AreBuiltAnswers (and_next facts a as_)
+  next_built (Evaluated v) (AllEvaluated vs) h k = (h, k)
+  next_built (Evaluated v) (SomeResiduals rs) h k = tt
+  next_built (Evaluated v) (SomeFailed e) h k = tt
+  next_built (ResidualTree r) (AllEvaluated vs) h k = tt
+  next_built (ResidualTree r) (SomeResiduals rs) h k = tt
+  next_built (ResidualTree r) (SomeFailed e) h k = tt
+  next_built (Failed e) as_ h k = tt
+
+  set_built : (as_ : Answers) → AreBuiltAnswers as_ → IsBuiltAnswer (apply_answer facts nothing_told MakeSet as_)
+  set_built (AllEvaluated vs) h = (rising_rises vs, rising_built vs h)
+  set_built (SomeResiduals rs) h = tt
+  set_built (SomeFailed k) h = tt
+
+  record_built : (ks : List Text) (as_ : Answers) → AreBuiltAnswers as_ → IsBuiltAnswer (apply_answer facts nothing_told (MakeRecord ks) as_)
+  record_built ks (AllEvaluated vs) h = h
+  record_built ks (SomeResiduals rs) h = tt
+  record_built ks (SomeFailed k) h = tt
+
+  function_built : (f : Name) (as_ : Answers) → IsBuiltAnswer (apply_answer facts nothing_told (Call f) as_)
+  function_built f (AllEvaluated vs) =
+      outcome_built (called (facts.function f) vs) (subst (λ o. IsBuiltOutcome (called o vs)) (sym (has f)) (call_built (found_in (functions_in table) f) vs))
+  function_built f (SomeResiduals rs) = tt
+  function_built f (SomeFailed k) = tt
+
+  mutual
+    tree_built : (t : Tree) → is_restricted t ≡ true → IsBuiltAnswer (partial_in facts nothing_told t)
+    tree_built (Lit l) h = tt
+    tree_built (Unknown n ty) h = unknown_built n ty
+    tree_built (Apply MakeSet ts) h = set_built (all_partial_in facts nothing_told ts) (trees_built ts h)
+    tree_built (Apply (MakeRecord ks) ts) h = record_built ks (all_partial_in facts nothing_told ts) (trees_built ts h)
+    tree_built (Apply (Call f) ts) h = function_built f (all_partial_in facts nothing_told ts)
+    tree_built t h = cc
+
+    trees_built : (ts : Trees) → are_restricted ts ≡ true → AreBuiltAnswers (all_partial_in facts nothing_told ts)
+    trees_built no_trees h = tt
+    trees_built (a_tree t ts) h = next_built (partial_in facts nothing_told t) (all_partial_in facts nothing_told ts) (tree_built t (and_left _ _ h)) (trees_built ts (and_right _ _ h))
+
+-- ---- trees whose calls of `unknown` are unknowns
+
+unknown_restricted : (b : Bool) (f : Name) (t : Tree) (ts : Trees) → are_restricted (a_tree t ts) ≡ true → is_restricted (unknown_or b f t ts) ≡ true
+unknown_restricted true f (Lit (String n)) no_trees h = refl
+unknown_restricted false f t ts h = h
+unknown_restricted true f t ts h = h
+
+call_restricted : (f : Name) (ts : Trees) → are_restricted ts ≡ true → is_restricted (named_call (Call f) ts) ≡ true
+call_restricted f no_trees h = refl
+call_restricted f (a_tree t ts) h = unknown_restricted (is_the_unknown f) f t ts h
+
+mutual
+  named_restricted : (t : Tree) → is_restricted t ≡ true → is_restricted (named t) ≡ true
+  named_restricted (Lit l) h = refl
+  named_restricted (Unknown n ty) h = refl
+  named_restricted (Apply MakeSet ts) h = all_named_restricted ts h
+  named_restricted (Apply (MakeRecord ks) ts) h = all_named_restricted ts h
+  named_restricted (Apply (Call f) ts) h = call_restricted f (all_named ts) (all_named_restricted ts h)
+  named_restricted t h = cc
+
+  all_named_restricted : (ts : Trees) → are_restricted ts ≡ true → are_restricted (all_named ts) ≡ true
+  all_named_restricted no_trees h = refl
+  all_named_restricted (a_tree t ts) h = both _ _ (named_restricted t (and_left _ _ h)) (all_named_restricted ts (and_right _ _ h))
+
+named_by_restricted : (b : Bool) (t : Tree) → is_restricted t ≡ true → is_restricted (named_by b t) ≡ true
+named_by_restricted true t h = named_restricted t h
+named_by_restricted false t h = h
+
+-- ---- what an evaluation gives
+
+-- the functions of a table alone
+abbrev functions_of : Extensions → Facts
+functions_of table = record {
+  entity = λ uid. None;
+  reaches = λ a b. false;
+  function = function_called table;
+  written = λ e. record { function = []; arguments = no_trees };
+}
+
+part_built : (facts : Facts) (a : Answer) → IsBuiltAnswer a → (p : Either Value Tree) → IsAnswer facts a p → IsBuiltPart p
+part_built facts a h (Left v) is = subst IsBuiltAnswer is h
+part_built facts a h (Right r) is = tt
+
+pub value_built : (table : Extensions) (depth : ℕ) (t : Tree) → is_restricted t ≡ true → (p : PartialValue) → evaluation.Answers table depth t (Ok p) → IsBuiltPart (partial_of p)
+value_built table depth t restricted p h =
+    part_built (functions_of table) (answer_in table (functions_of table) t)
+    (tree_built table (functions_of table) (λ n. refl) (named_by (holds_unknown table) t) (named_by_restricted (holds_unknown table) t restricted)) (partial_of p) (h (functions_of table) (λ n. refl))
+
+-- ---- values at their names
+
+abbrev IsBuiltOption : Option Value → Type 0
+IsBuiltOption (Some v) = IsBuilt v
+IsBuiltOption None = Unit {0}
+
+picked : (b : Bool) (v : Value) (o : Option Value) → IsBuilt v → IsBuiltOption o → IsBuiltOption (cond b (Some v) o)
+picked true v o h k = h
+picked false v o h k = k
+
+found_built : (q : Text) (es : List (Text × Value)) → AreBuiltEntries es → IsBuiltOption (finite.find text_cmp q es)
+found_built q [] h = tt
+found_built q (e ∷ es) h = picked (eq_by_cmp text_cmp q e.0) e.1 (finite.find text_cmp q es) h.0 (found_built q es h.1)
+
+-- what is got of a map of built values is built
+pub got_built : (es : List (Text × Value)) → AreBuiltEntries es → (q : Text) (v : Value) → finite.get (finite.from_entries {R = text_cmp} es) q ≡ Some v → IsBuilt v
+got_built es h q v is = subst IsBuiltOption (sym (finite.get-from_entries text_cmp_total es q) ∙ is) (found_built q es h)
+
+-- ---- one after another
+
+pub built_append : {A : Type 0} (P : A → Type 0) (xs : List A) (y : A) → AllByRecursion P xs → P y → AllByRecursion P (xs ++ y ∷ [])
+built_append P [] y h k = (k, tt)
+built_append P (x ∷ xs) y h k = (h.0, built_append P xs y h.1 k)

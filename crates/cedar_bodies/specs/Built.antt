@@ -1,0 +1,51 @@
+-- Values that are written again without calls: no extension value stands in them.
+use Rattle.std.specs.Prelude.{◌≡◌, Some, List}
+use Rattle.std.specs.FinMap as finite
+use Rattle.std.specs.List.{AllByRecursion}
+use Rattle.either.specs.declared.Either.{Either}
+use Rattle.either.specs.declared.Either.TheVariants.{Left, Right}
+use Rattle.cedar_language.specs.Order.{IsRising}
+use Rattle.cedar_language.specs.Tree.{Tree}
+use Rattle.cedar_language.specs.Uid.{Text, Uid}
+use Rattle.cedar_language.specs.Value.{Value, Plain, SetOf, RecordOf, ExtensionOf, Values, no_values, a_value}
+use Rattle.cedar_world.specs.World as world
+use Rattle.cedar_world.specs.EntityEdits.{Version}
+
+-- literals, sets that rise, and records of such values
+abbrev mutual
+  pub IsBuilt : Value → Type 0
+  IsBuilt (Plain l) = Unit {0}
+  IsBuilt (SetOf vs) = IsRising vs × AreBuilt vs
+  IsBuilt (RecordOf ks vs) = AreBuilt vs
+  IsBuilt (ExtensionOf e) = ⊥
+
+  pub AreBuilt : Values → Type 0
+  AreBuilt no_values = Unit {0}
+  AreBuilt (a_value v vs) = IsBuilt v × AreBuilt vs
+
+-- where it is a value
+abbrev pub IsBuiltPart : Either Value Tree → Type 0
+IsBuiltPart (Left v) = IsBuilt v
+IsBuiltPart (Right r) = Unit {0}
+
+-- the value at each name
+abbrev pub AreBuiltEntries : List (Text × Value) → Type 0
+AreBuiltEntries es = AllByRecursion (λ (e : Text × Value). IsBuilt e.1) es
+
+-- ---- entities
+
+-- each attribute and tag is such a value
+pub record IsBuiltData (h : world.EntityData) : Type 0 where
+  pub attribute : (a : Text) (v : Value) → finite.get h.attributes a ≡ Some v → IsBuilt v
+  pub tag : (a : Text) (v : Value) → finite.get h.tags a ≡ Some v → IsBuilt v
+
+abbrev pub IsBuiltVersion : Version → Type 0
+IsBuiltVersion v = IsBuiltData v.held
+
+abbrev pub AreBuiltVersions : List Version → Type 0
+AreBuiltVersions vs = AllByRecursion IsBuiltVersion vs
+
+-- each attribute and tag that is held is such a value
+pub record HoldBuilt (entities : world.Entities) : Type 0 where
+  pub attribute : (u : Uid) (h : world.EntityData) (a : Text) (v : Value) → finite.get entities u ≡ Some h → finite.get h.attributes a ≡ Some v → IsBuilt v
+  pub tag : (u : Uid) (h : world.EntityData) (a : Text) (v : Value) → finite.get entities u ≡ Some h → finite.get h.tags a ≡ Some v → IsBuilt v
