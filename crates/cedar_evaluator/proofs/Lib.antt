@@ -1,0 +1,9 @@
+mod Answered
+mod Apart
+mod Entered
+mod Gathered
+mod Keeping
+mod Kept
+mod Responding
+mod Deciding
+mod Reading
