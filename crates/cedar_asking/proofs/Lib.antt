@@ -12,6 +12,3 @@ pub mod Data
 pub mod Filled
 pub mod Asked
 pub mod Asking
-pub mod Listed
-pub mod Answered
-pub mod Named

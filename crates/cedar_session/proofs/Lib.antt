@@ -1,4 +1,4 @@
-pub mod Asking
+pub mod Questions
 pub mod Runs
 pub mod Statuses
 pub mod Texts

@@ -1,9 +1,0 @@
-mod Answered
-mod Apart
-mod Entered
-mod Gathered
-mod Keeping
-mod Kept
-mod Responding
-mod Deciding
-mod Reading
