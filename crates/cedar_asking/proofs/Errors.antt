@@ -10,8 +10,8 @@ use Rattle.cedar_replies.specs.Erring.{has_kind, have_kinds, and_kind, with_kind
 use Rattle.cedar_replies.specs.Kinds.{kind_of}
 use Rattle.cedar_replies.specs.declared.error_kind.ErrorKind.{ErrorKind}
 use Rattle.cedar_replies.specs.declared.error_kind.ErrorKind.TheVariants.{EntityDoesNotExist, EntityAttrDoesNotExist, RecordAttrDoesNotExist, FailedExtensionFunctionLookup, TypeError, WrongNumArguments, IntegerOverflow, UnlinkedSlot, FailedExtensionFunctionExecution, NonValue, RecursionLimit, Memory}
-use Rattle.cedar_asking.specs.Evaluations.{Found, Satisfied, Unsatisfied, Erred, Open, Kept}
-use Rattle.cedar_asking.specs.Responses.{error_id, errors_of}
+use Rattle.cedar_evaluator.specs.Evaluations.{Found, Satisfied, Unsatisfied, Erred, Open, Kept}
+use Rattle.cedar_evaluator.specs.Responses.{error_id, errors_of}
 use Rattle.cedar_asking.specs.Erring.{failure_named, with_failure}
 use Rattle.cedar_asking.proofs.Lists.{IsAmong, and_left, and_right, contained}
 use Rattle.cedar_asking.proofs.Members.{ungathered}

@@ -23,7 +23,7 @@ use Rattle.cedar_extensions.specs.declared.functions.Function as code
 use Rattle.cedar_extensions.specs.declared.functions.Function.TheVariants as function
 use Rattle.cedar_extensions.specs.declared.functions.ExtensionFunction.{ExtensionFunction}
 use Rattle.cedar_operators.specs.Store.{IsShown, HasFacts}
-use Rattle.cedar_asking.specs.Built.{IsBuilt, AreBuilt, HoldsBuilt}
+use Rattle.cedar_bodies.specs.Built.{IsBuilt, AreBuilt, HoldBuilt}
 use Rattle.cedar_restricted_evaluation.specs.Evaluations.{HasFunctions}
 
 -- ---- the store
@@ -95,7 +95,7 @@ module _ (facts : Facts) where
   of_seen None h e = cc
   of_seen (Some d) h e = (d, refl, cc)
 
-pub facts_are_made : (by : Setting) (world : World) (facts : Facts) (table : Extensions) → HasFunctions table facts → HoldsBuilt world → AreFactsOf by world facts → HoldsMade facts
+pub facts_are_made : (by : Setting) (world : World) (facts : Facts) (table : Extensions) → HasFunctions table facts → HoldBuilt world.entities → AreFactsOf by world facts → HoldsMade facts
 facts_are_made by world facts table has built are = record {
   attribute = λ u h a v e f.
       let (d, is, same) = of_seen facts (finite.get world.entities u) h (sym (are.entity u) ∙ e) in

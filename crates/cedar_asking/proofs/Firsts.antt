@@ -40,8 +40,8 @@ use Rattle.cedar_policy_set.specs.Texts.{HaveSlots, syntax_in}
 use Rattle.cedar_policy_set.specs.Worlds.{policies_in, FindsAsWorlds}
 use Rattle.cedar_replies.specs.Erring.{have_kinds, with_kinds}
 use Rattle.cedar_replies.specs.declared.error_kind.ErrorKind.{ErrorKind}
-use Rattle.cedar_asking.specs.Evaluations.{Erred, Kept, IsKept, AreKept, IsServed, condition_in}
-use Rattle.cedar_asking.specs.Responses.{errors_of, holding_of, judged_held}
+use Rattle.cedar_evaluator.specs.Evaluations.{Erred, Kept, IsKept, AreKept, IsServed, condition_in}
+use Rattle.cedar_evaluator.specs.Responses.{errors_of, holding_of, judged_held}
 use Rattle.cedar_asking.specs.Answers.{IsSettingOf, SomeTooHigh}
 use Rattle.cedar_asking.specs.Erring.{with_failure, SomeAtLimit}
 use Rattle.cedar_asking.specs.Requests.{IsRequestOf}

@@ -12,3 +12,7 @@ pub mod Data
 pub mod Filled
 pub mod Asked
 pub mod Asking
+pub mod Listed
+pub mod Answered
+pub mod Named
+pub mod Stated

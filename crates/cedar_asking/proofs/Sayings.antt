@@ -13,8 +13,8 @@ use Rattle.cedar_world.specs.Answers.{ids_with}
 use Rattle.cedar_asking.proofs.Lists.{IsAmong, contained, contains, mapped, unmapped, some_of, of_some, and_right, or_left, or_right, or_cases}
 use Rattle.cedar_world.specs.Standing.{Says, ErrOnce, AnswersAreMade}
 use Rattle.cedar_extensions.specs.Failures.{Failure, OfKind, LimitMet, MemoryRanOut}
-use Rattle.cedar_asking.specs.Evaluations.{Found, Satisfied, Unsatisfied, Erred, Open, Kept}
-use Rattle.cedar_asking.specs.Responses.{if_effect, satisfied_id, false_id, open_id, satisfied_of, false_of, open_of, holding_of, stands, judged_held}
+use Rattle.cedar_evaluator.specs.Evaluations.{Found, Satisfied, Unsatisfied, Erred, Open, Kept}
+use Rattle.cedar_evaluator.specs.Responses.{if_effect, satisfied_id, false_id, open_id, satisfied_of, false_of, open_of, holding_of, stands, judged_held}
 use Rattle.cedar_asking.proofs.Members.{among_left, among_right, among_either, gathered, ungathered}
 use Rattle.cedar_asking.proofs.Standings.{standing_found, judged}
 

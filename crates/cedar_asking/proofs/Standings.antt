@@ -33,7 +33,7 @@ use Rattle.cedar_interpreter.specs.Holding.{is_evaluated}
 use Rattle.cedar_interpreter.specs.Operating.{HasFunctions}
 use Rattle.cedar_policy_set.specs.Entries.{Entry, static_policy, template, link}
 use Rattle.cedar_policy_set.specs.Texts.{syntax_in}
-use Rattle.cedar_asking.specs.Evaluations.{Found, Satisfied, Unsatisfied, Erred, Open, Finds, bindings_in, condition_in, is_given, Kept}
+use Rattle.cedar_evaluator.specs.Evaluations.{Found, Satisfied, Unsatisfied, Erred, Open, Finds, bindings_in, condition_in, is_given, Kept}
 use Rattle.cedar_asking.specs.Requests.{HoldsQuestion, IsRequestOf}
 use Rattle.cedar_asking.proofs.InForce.{written_entry}
 use Rattle.cedar_asking.proofs.Naming.{no_unknown, is_other, bound_mentions}

@@ -1,15 +1,13 @@
 -- What a response to a question's request says of the policies that a world holds is a first answer to the question.
-use Rattle.std.specs.Prelude.{◌≡◌, ℕ, true, false, not, Some, List, map}
+use Rattle.std.specs.Prelude.{◌≡◌, ℕ, true, false, List, map}
 use Rattle.std.specs.FinMap as finite
 use Rattle.cedar_language.specs.Facts.{Facts}
 use Rattle.cedar_language.specs.Uid.{Text}
 use Rattle.cedar_language.specs.Answering.{decision, in_must, in_may}
-use Rattle.cedar_grammar.specs.Calls.{calls_only}
 use Rattle.cedar_partial_evaluation.specs.MadeAgain.{HoldsMade}
 use Rattle.cedar_world.specs.Answer.{Answer, ids_of}
 use Rattle.cedar_world.specs.Answers.{ids_with}
 use Rattle.cedar_world.specs.Asking.{Question}
-use Rattle.cedar_world.specs.Functions.{is_the_unknown}
 use Rattle.cedar_world.specs.Question.{IsKnown}
 use Rattle.cedar_world.specs.Setting.{Setting, functions_alone}
 use Rattle.cedar_world.specs.Step.{IsFirstAnswer}
@@ -21,18 +19,18 @@ use Rattle.cedar_entities.specs.declared.store.Entities.{Entities}
 use Rattle.cedar_extensions.specs.declared.extensions.Extensions.{Extensions}
 use Rattle.cedar_interpreter.specs.Operating.{HasFunctions}
 use Rattle.cedar_operators.specs.Store.{HasFacts}
-use Rattle.cedar_policy_set.specs.Entries.{Entry, Entries, bound_at, IsWhole, policies_of}
-use Rattle.cedar_policy_set.specs.Texts.{HaveSlots}
+use Rattle.cedar_policy_set.specs.Entries.{Entries, IsWhole, policies_of}
+use Rattle.cedar_policy_set.specs.Texts.{HaveSlots, NameNoUnknown}
 use Rattle.cedar_policy_set.specs.Worlds.{policies_in}
 use Rattle.cedar_replies.specs.Erring.{have_kinds, with_kinds}
 use Rattle.cedar_replies.specs.declared.error_kind.ErrorKind.{ErrorKind}
 use Rattle.cedar_requests.specs.Holding.{RequestParts}
 use Rattle.cedar_asking.specs.Answers.{IsSettingOf, SomeTooHigh}
-use Rattle.cedar_asking.specs.Built.{HoldsBuilt}
+use Rattle.cedar_bodies.specs.Built.{HoldBuilt}
 use Rattle.cedar_asking.specs.Erring.{with_failure, SomeAtLimit}
-use Rattle.cedar_asking.specs.Evaluations.{Kept, AreKept, condition_in}
+use Rattle.cedar_evaluator.specs.Evaluations.{Kept, AreKept}
 use Rattle.cedar_asking.specs.Requests.{IsRequestOf}
-use Rattle.cedar_asking.specs.Responses.{Holding, holding_of, judged_held}
+use Rattle.cedar_evaluator.specs.Responses.{Holding, holding_of, judged_held}
 
 -- ---- the facts of a world
 
@@ -46,13 +44,9 @@ TablesServeWorlds = (by : Setting) (world : World) (facts : Facts) (table : Exte
 
 -- what a world holds is made again by trees for it, where no extension value stands in it
 abbrev pub WorldsAreMade : Type 0
-WorldsAreMade = (by : Setting) (world : World) (facts : Facts) (table : Extensions) → HasFunctions table facts → HoldsBuilt world → AreFactsOf by world facts → HoldsMade facts
+WorldsAreMade = (by : Setting) (world : World) (facts : Facts) (table : Extensions) → HasFunctions table facts → HoldBuilt world.entities → AreFactsOf by world facts → HoldsMade facts
 
 -- ---- responses
-
--- no unknown stands in a condition of the set, and none calls the function by which one is named
-abbrev pub NameNoUnknown : Entries → Type 0
-NameNoUnknown es = (id : Text) (e : Entry) → bound_at es id ≡ Some e → calls_only (λ name. not (is_the_unknown name)) (condition_in e) ≡ true
 
 -- a world has the policies of a whole set, and its facts are those of a store and a table
 pub record IsHeldBy (by : Setting) (world : World) (facts : Facts) (es : Entries) (s : Entities) (table : Extensions) : Type 0 where

@@ -1,8 +1,8 @@
-pub mod Evaluations
-pub mod Responses
 pub mod Requests
 pub mod Answers
 pub mod Erring
-pub mod Built
 pub mod Contexts
 pub mod Laws
+pub mod Bodies
+pub mod Answering
+pub mod Unknowns

@@ -1,9 +1,17 @@
-//! Questions asked of policies and entities by requests: what a response to the request of a question says
-//! is a first answer to it. Definitions and their laws; no command asks so yet.
+//! Questions asked of policies and entities by requests: the request of a body, its answer, and the laws by
+//! which what a response says is a first answer to the question.
 #![tactic(auto)]
+
+mod answering;
+mod bodies;
+mod listing;
+mod unknowns;
 
 ghost use Rattle.cedar_asking.specs.Contexts.{QuestionsAreAsked};
 ghost use Rattle.cedar_asking.specs.Laws.{StoresHaveWorldFacts, TablesServeWorlds, WorldsAreMade, ResponsesAnswerQuestions};
+
+pub use answering::answer;
+pub use bodies::request_of;
 
 /// The facts of a world are those of a whole store that shows its entities and of a table that has its
 /// functions, and what it holds is made again by trees for it.

@@ -127,14 +127,14 @@ module _ (read : TreesAreRead) (table : Extensions) (functions_named : are_named
       subst (IsRead by (named t)) (ap (partial_in (functions_alone by.functions) nothing_told) (sym (names_as (tables.holds_unknown table) t restricted serves.held)) ∙ is)
       (read by (no_text table functions_named by serves.functions) t restricted)
 
-  part_read : (by : Setting) → Serves table by (holds_call t) → (p : Either Value Tree) → IsAnswer (functions_alone by.functions) (answer_in table (functions_alone by.functions) t) p → IsRead by (named t) (part_answer p)
+  pub part_read : (by : Setting) → Serves table by (holds_call t) → (p : Either Value Tree) → IsAnswer (functions_alone by.functions) (answer_in table (functions_alone by.functions) t) p → IsRead by (named t) (part_answer p)
   part_read by serves (Left v) h = answered by serves (Evaluated v) h
   part_read by serves (Right r) h = answered by serves (ResidualTree h.0) h.1
 
   pub value_is : (p : PartialValue) → evaluation.Answers table depth t (Ok p) → IsEvaluated table depth t (Ok p)
   value_is p h by serves = part_read by serves (partial_of p) (h (functions_alone by.functions) serves.functions)
 
-  failure_is : (f : Failure) → ((facts : Facts) → HasFunctions table facts → FailsBy (depth < height t) (λ k. answer_in table facts t ≡ Failed k) f) → IsEvaluated table depth t (Err (refusal_by f))
+  pub failure_is : (f : Failure) → ((facts : Facts) → HasFunctions table facts → FailsBy (depth < height t) (λ k. answer_in table facts t ≡ Failed k) f) → IsEvaluated table depth t (Err (refusal_by f))
   failure_is (OfKind k) h = λ by serves. answered by serves (Failed k) (h (functions_alone by.functions) serves.functions)
   failure_is LimitMet h = h (functions_of table) (λ n. refl)
   failure_is MemoryRanOut h = tt

@@ -1,40 +1,15 @@
 -- What is read of a record, from its parts.
-use Rattle.std.proofs.Common.{◌≡◌, ◌∙◌, refl, ap, sym, Option, Some, None, option_map, List, [], ◌∷◌, map, codes, length, Global, BTreeMap, Bor}
+use Rattle.std.proofs.Common.{◌≡◌, ◌∙◌, refl, ap, sym, Option, Some, None, option_map, List, codes, Global, BTreeMap, Bor}
 use Rattle.std.specs.FinSet as set
 use Rattle.std.specs.declared.rc.RcStr.{RcStr}
 use Rattle.cedar_language.specs.Uid.{Uid}
-use Rattle.cedar_language.specs.Tree.{Tree}
-use Rattle.cedar_grammar.specs.Build.{keys, trees}
-use Rattle.cedar_trees.specs.Bare.{bare_entries, record_tree}
 use Rattle.cedar_trees.specs.declared.expr.Expr.{Expr}
-use Rattle.cedar_world.specs.Asking.{WithEntries}
-use Rattle.cedar_world.specs.Bodies.{Fields, all_named, required, optional, entity_of, uids_of, fields_of, entity_with, context_of}
+use Rattle.cedar_world.specs.Bodies.{Fields, required, optional, entity_of, uids_of, fields_of, entity_with}
 use Rattle.cedar_bodies.specs.Lent.{fields_in}
 use Rattle.cedar_bodies.specs.Entities.{listed_or_none, written_fields, lent_fields}
 
 abbrev Map : Type 0
 Map = BTreeMap (RcStr Global) (Expr (Unit {0}))
-
--- ---- contexts
-
-none_there : (es : List (RcStr Global × Expr (Unit {0}))) → length es ≡ 0 → es ≡ []
-none_there [] h = refl
-none_there (e ∷ es) h = cc
-
-pub empty_context : (t : Tree) (m : Map) → t ≡ record_tree (fields_in m) → length m.entries ≡ 0 → Some (WithEntries (keys (fields_in m)) (all_named (trees (map (λ f. f.1) (fields_in m))))) ≡ context_of t
-empty_context t m is none =
-    let empty = none_there m.entries none in
-    ap (λ es. Some (WithEntries (keys (bare_entries es)) (all_named (trees (map (λ f. f.1) (bare_entries es)))))) empty
-    ∙ sym (ap context_of (is ∙ ap (λ es. record_tree (bare_entries es)) empty))
-
-other_context : (es : List (RcStr Global × Expr (Unit {0}))) → (length es ≡ 0 → ⊥) → None ≡ context_of (record_tree (bare_entries es))
-other_context [] h = absurd (h refl)
-other_context (e ∷ es) h = refl
-
-pub no_context : (t : Tree) (m : Map) → t ≡ record_tree (fields_in m) → (length m.entries ≡ 0 → ⊥) → None ≡ context_of t
-no_context t m is some = other_context m.entries some ∙ sym (ap context_of is)
-
--- ---- entities
 
 some_inside : (o : Option (Option (List Uid))) (uids : List Uid) → Some uids ≡ option_map listed_or_none o → (us : Option (List Uid)) × (o ≡ Some us) × (listed_or_none us ≡ uids)
 some_inside None uids h = cc

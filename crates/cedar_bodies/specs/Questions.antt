@@ -1,20 +1,18 @@
 -- The body of a question, as the world has it.
-use Rattle.std.specs.Prelude.{option_map, map}
+use Rattle.std.specs.Prelude.{◌≡◌, ⊤, Option, Some, None, option_map, List, codes}
 use Rattle.std.specs.Option.{unwrap_or}
 use Rattle.std.specs.Borrow.{Bor}
-use Rattle.std.specs.declared.alloc.Global.{Global}
-use Rattle.std.specs.declared.rc.RcStr.{RcStr}
-use Rattle.std.specs.BTreeMap.{BTreeMap}
+use Rattle.cedar_language.specs.Tree.{MakeRecord, Tree, Apply, Trees}
+use Rattle.cedar_language.specs.Uid.{Text}
+use Rattle.cedar_trees.specs.Bare.{bare}
 use Rattle.cedar_trees.specs.declared.expr.Expr.{Expr}
-use Rattle.cedar_grammar.specs.Build.{keys, trees}
-use Rattle.cedar_world.specs.Asking.{Question, Entries, NoContext, WithEntries}
-use Rattle.cedar_world.specs.Bodies.{part_of, all_named}
-use Rattle.cedar_bodies.specs.Lent.{fields_in}
+use Rattle.cedar_world.specs.Asking.{Question, Entries, NoContext}
+use Rattle.cedar_world.specs.Bodies.{Fields, fields_of, found, part_of, entries_of}
 use Rattle.cedar_bodies.specs.declared.questions.AskBody.{AskBody}
 
--- a context of these entries; a call that names an unknown is that unknown
-abbrev pub given_context : Bor (BTreeMap (RcStr Global) (Expr (Unit {0}))) → Entries
-given_context m = WithEntries (keys (fields_in m.now)) (all_named (trees (map (λ f. f.1) (fields_in m.now))))
+-- the context that a record is; a call that names an unknown is that unknown
+abbrev pub given_context : Bor (Expr (Unit {0})) → Entries
+given_context e = unwrap_or (entries_of (bare e.now)) NoContext
 
 abbrev pub question_of : AskBody → Question
 question_of b = record {
@@ -23,3 +21,27 @@ question_of b = record {
   resource = part_of (option_map (λ uid. uid.now) b.resource);
   context = unwrap_or (option_map given_context b.context) NoContext;
 }
+
+-- c is t, which is a record
+pub record IsRecordOf (t c : Tree) : Type 0 where
+  pub same : c ≡ t
+  pub names : List Text
+  pub values : Trees
+  pub is : c ≡ Apply (MakeRecord names) values
+
+-- what is lent for the context is the record that stands there
+pub record StandsAt (fs : Fields) (c : Tree) : Type 0 where
+  pub stands : found (codes "context") fs ≡ Some c
+  pub names : List Text
+  pub values : Trees
+  pub is : c ≡ Apply (MakeRecord names) values
+
+abbrev pub LendsFrom : Fields → Option (Bor (Expr (Unit {0}))) → Type 0
+LendsFrom fs None = ⊤
+LendsFrom fs (Some e) = StandsAt fs (bare e.now)
+
+-- the same of the record that a body is
+pub record LendsContext (t : Tree) (lent : Option (Bor (Expr (Unit {0})))) : Type 0 where
+  pub entries : Fields
+  pub are : fields_of t ≡ Some entries
+  pub from : LendsFrom entries lent

@@ -19,3 +19,4 @@ pub use listing::listed_entities;
 pub use literals::{entity_of, entries_of, items_of, string_of};
 pub use making::set_of;
 pub use questions::{AskBody, ask_body};
+pub use values::refusal;

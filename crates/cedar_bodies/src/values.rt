@@ -28,11 +28,12 @@ fn lookup_refusal(error: &ExtensionFunctionLookupError) -> Refusal
     }
 }
 
-// What a failure of an evaluation is refused as.
-fn refusal(error: EvaluationError) -> Refusal
-    ensures { result ≡ refusal_by (failure_of error) }
+/// What a failure of an evaluation is refused as: `Depth` where it met the limit, `Memory`, and `Evaluation`
+/// for each error.
+pub fn refusal(error: &EvaluationError) -> Refusal
+    ensures { result ≡ refusal_by (failure_of error.now) }
 {
-    match &error {
+    match error {
         EvaluationError::RecursionLimit(_) => Refusal::Depth,
         EvaluationError::FailedExtensionFunctionLookup(error) => lookup_refusal(error),
         EvaluationError::Memory => Refusal::Memory,
@@ -54,6 +55,6 @@ pub fn evaluated(
     let tree = BorrowedRestrictedExpr::new_unchecked(expr);
     match interpret_restricted(alloc, tree, extensions, depth) {
         Ok(value) => Ok(value),
-        Err(error) => Err(refusal(error)),
+        Err(error) => Err(refusal(&error)),
     }
 }

@@ -1,14 +1,14 @@
 -- Sets that a session may hold stay so when they are edited.
-use Rattle.std.proofs.Common.{◌≡◌, ◌∙◌, ℕ, suc, Bool, true, false, ◌&&◌, cond, List, [], ◌∷◌, ◌++◌, map, filter, refl, sym, ap, true≢false, is_some, Option, None, Some}
-use Rattle.std.specs.Prelude.{is_none}
-use Rattle.std.specs.List.{AllByRecursion, IsDistinct}
+use Rattle.std.proofs.Common.{◌≡◌, ◌∙◌, ℕ, suc, Bool, true, false, ◌&&◌, cond, List, [], ◌∷◌, ◌++◌, map, filter, refl, sym, ap, true≢false, is_some, not, Option, None, Some}
+use Rattle.std.specs.List.{AllByRecursion, IsDistinct, list_all}
 use Rattle.std.specs.Map.{keys_of}
 use Rattle.std.specs.Cmp.Lexicographic.{nat_list_eq_equiv}
 use Rattle.std.proofs.lemmas.Map.{lookup-remove_entry}
 use Rattle.cedar_language.specs.Uid.{Text}
 use Rattle.cedar_language.specs.Order.{same_text}
-use Rattle.cedar_world.specs.SoFar.{are_policies_so_far}
-use Rattle.cedar_world.specs.Syntax.{PolicySyntax, Bindings, is_template}
+use Rattle.cedar_grammar.specs.Calls.{calls_only}
+use Rattle.cedar_world.specs.Functions.{is_the_unknown}
+use Rattle.cedar_world.specs.Syntax.{PolicySyntax, Bindings, is_template, condition}
 use Rattle.cedar_policy_set.specs.Entries.{Entry, static_policy, template, link, Entries, bound_at, without}
 use Rattle.cedar_policy_set.specs.Texts.{text_entries, syntax_in}
 use Rattle.cedar_policy_set.proofs.Finding.{same_id, some_apart, found_first, found_later}
@@ -17,27 +17,31 @@ use Rattle.cedar_merging.specs.Merged.{renamed_entry, is_more, joining, joined}
 use Rattle.cedar_merging.specs.Renaming.{NewIds, renamed}
 use Rattle.cedar_held.specs.HoldingPolicies.{IsHeld}
 
+-- the condition of a policy names no unknown
+abbrev names_none : PolicySyntax → Bool
+names_none s = calls_only (λ name. not (is_the_unknown name)) (condition s)
+
 -- an entry that a held set may have
 abbrev IsFine : Entry → Type 0
-IsFine (static_policy s) = s.body ≡ None
-IsFine (template s) = (is_template s ≡ true) × (s.body ≡ None)
-IsFine (link t s b) = s.body ≡ None
+IsFine (static_policy s) = names_none s ≡ true
+IsFine (template s) = (is_template s ≡ true) × (names_none s ≡ true)
+IsFine (link t s b) = names_none s ≡ true
 
-fine_from : (e : Entry) → ((s : PolicySyntax) → e ≡ template s → is_template s ≡ true) → (syntax_in e).body ≡ None → IsFine e
+fine_from : (e : Entry) → ((s : PolicySyntax) → e ≡ template s → is_template s ≡ true) → names_none (syntax_in e) ≡ true → IsFine e
 fine_from (static_policy s) slots none = none
 fine_from (template s) slots none = (slots s refl, none)
 fine_from (link t s b) slots none = none
 
-no_clauses : (e : Entry) → IsFine e → (syntax_in e).body ≡ None
-no_clauses (static_policy s) h = h
-no_clauses (template s) h = h.1
-no_clauses (link t s b) h = h
+no_names : (e : Entry) → IsFine e → names_none (syntax_in e) ≡ true
+no_names (static_policy s) h = h
+no_names (template s) h = h.1
+no_names (link t s b) h = h
 
 fine_at : (es : Entries) → IsHeld es → (id : Text) (e : Entry) → bound_at es id ≡ Some e → IsFine e
-fine_at es held id e h = fine_from e (λ s same. held.slots id s (h ∙ ap Some same)) (held.clauses id e h)
+fine_at es held id e h = fine_from e (λ s same. held.slots id s (h ∙ ap Some same)) (held.names id e h)
 
 held_from : (es : Entries) → ((id : Text) (e : Entry) → bound_at es id ≡ Some e → IsFine e) → IsHeld es
-held_from es fine = record { slots = λ id s h. (fine id (template s) h).0; clauses = λ id e h. no_clauses e (fine id e h) }
+held_from es fine = record { slots = λ id s h. (fine id (template s) h).0; names = λ id e h. no_names e (fine id e h) }
 
 -- ---- the empty set, and one to which more comes
 
@@ -51,9 +55,9 @@ held_append es more held fine = held_from (es ++ more) (λ id e h. by id e h (bo
     by id e h (Some x) f = fine_at es held id e (f ∙ sym (found_first es more id x f) ∙ h)
     by id e h None f = of_all IsFine more fine id e (sym (found_later es more id (ap is_some f)) ∙ h)
 
--- a link has the clauses of its template
+-- a link has the syntax of its template
 pub held_link : (es : Entries) → IsHeld es → (t id : Text) (s : PolicySyntax) (b : Bindings) → bound_at es t ≡ Some (template s) → IsHeld (es ++ (id, link t s b) ∷ [])
-held_link es held t id s b names = held_append es ((id, link t s b) ∷ []) held (held.clauses t (template s) names, tt)
+held_link es held t id s b names = held_append es ((id, link t s b) ∷ []) held (held.names t (template s) names, tt)
 
 -- ---- a set from which something goes
 
@@ -69,23 +73,19 @@ held_without es id distinct held = held_from (without id es) (λ k e h. fine_at 
 
 -- ---- a set with the policies of a text
 
-fine_text : (s : PolicySyntax) → s.body ≡ None → (c : Bool) → is_template s ≡ c → IsFine (cond c (template s) (static_policy s))
+fine_text : (s : PolicySyntax) → names_none s ≡ true → (c : Bool) → is_template s ≡ c → IsFine (cond c (template s) (static_policy s))
 fine_text s none true slots = (slots, none)
 fine_text s none false slots = none
-
-none_there : {A : Type 0} (o : Option A) → is_none o ≡ true → o ≡ None
-none_there None h = refl
-none_there (Some x) h = absurd (true≢false (sym h))
 
 both : (a b : Bool) → (a && b) ≡ true → (a ≡ true) × (b ≡ true)
 both true b h = (refl, h)
 both false b h = absurd (true≢false (sym h))
 
-fine_texts : (i : ℕ) (ss : List PolicySyntax) → are_policies_so_far ss ≡ true → AllByRecursion (λ e. IsFine e.1) (text_entries i ss)
+fine_texts : (i : ℕ) (ss : List PolicySyntax) → list_all names_none ss ≡ true → AllByRecursion (λ e. IsFine e.1) (text_entries i ss)
 fine_texts i [] h = tt
 fine_texts i (s ∷ ss) h =
-    let parts = both (is_none s.body) (are_policies_so_far ss) h in
-    (fine_text s (none_there s.body parts.0) (is_template s) refl, fine_texts (suc i) ss parts.1)
+    let parts = both (names_none s) (list_all names_none ss) h in
+    (fine_text s parts.0 (is_template s) refl, fine_texts (suc i) ss parts.1)
 
 fine_renamed : (r : NewIds) (e : Entry) → IsFine e → IsFine (renamed r e)
 fine_renamed r (static_policy s) h = h
@@ -100,5 +100,5 @@ fine_joining mine r (e ∷ es) h = by (is_more mine e) (fine_joining mine r es h
     by true rest = (fine_renamed r e.1 h.0, rest)
     by false rest = rest
 
-pub held_joined : (mine : Entries) (ss : List PolicySyntax) (r : NewIds) → IsHeld mine → are_policies_so_far ss ≡ true → IsHeld (joined mine (text_entries 0 ss) r)
+pub held_joined : (mine : Entries) (ss : List PolicySyntax) (r : NewIds) → IsHeld mine → list_all names_none ss ≡ true → IsHeld (joined mine (text_entries 0 ss) r)
 held_joined mine ss r held none = held_append mine (joining mine r (text_entries 0 ss)) held (fine_joining mine r (text_entries 0 ss) (fine_texts 0 ss none))

@@ -6,8 +6,3 @@ mod Loaded
 mod EditedStores
 mod EditedBodies
 mod BuiltEdits
-pub mod Answering
-pub mod Choosing
-pub mod InForce
-pub mod Within
-pub mod Written

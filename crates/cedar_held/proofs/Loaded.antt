@@ -34,4 +34,4 @@ module _ (mine theirs new : Entries) (r : NewIds) (ids : List Text) (is : IsRena
 
   pub loaded_held : IsHeld mine → IsText theirs → IsHeld new
   loaded_held held text =
-      subst IsHeld (sym (join ∙ ap (λ es. joined mine es r) text.are)) (held_joined mine text.policies r held text.clauses)
+      subst IsHeld (sym (join ∙ ap (λ es. joined mine es r) text.are)) (held_joined mine text.policies r held text.names)

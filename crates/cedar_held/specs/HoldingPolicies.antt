@@ -1,27 +1,29 @@
 -- Policy sets that a session may hold, and codes of what the world has of them.
-use Rattle.std.specs.Prelude.{◌≡◌, true, None, List, [], refl}
+use Rattle.std.specs.Prelude.{◌≡◌, true, not, None, List, [], refl}
 use Rattle.std.specs.Coded.{Coded, code_by}
 use Rattle.std.specs.FinMap as finite
+use Rattle.std.specs.List.{list_all}
 use Rattle.cedar_language.specs.OrderLaws.{text_code}
+use Rattle.cedar_grammar.specs.Calls.{calls_only}
 use Rattle.cedar_grammar.specs.Policy.{Permit, anything, any_action}
-use Rattle.cedar_world.specs.SoFar.{are_policies_so_far}
-use Rattle.cedar_world.specs.Syntax.{PolicySyntax}
+use Rattle.cedar_world.specs.Functions.{is_the_unknown}
+use Rattle.cedar_world.specs.Syntax.{PolicySyntax, condition}
 use Rattle.cedar_world.specs.World as world
 use Rattle.cedar_policy_set.specs.Entries.{Entry, static_policy, link, Entries}
 use Rattle.cedar_policy_set.specs.EntryNodes.{entry_code}
-use Rattle.cedar_policy_set.specs.Texts.{text_entries, HaveSlots, HaveNoClauses}
+use Rattle.cedar_policy_set.specs.Texts.{text_entries, HaveSlots, NameNoUnknown}
 use Rattle.cedar_policy_set.specs.Worlds.{world_bound}
 
--- each template has slots, and nothing has clauses
+-- each template has slots, and nothing names an unknown
 pub record IsHeld (es : Entries) : Type 0 where
   pub slots : HaveSlots es
-  pub clauses : HaveNoClauses es
+  pub names : NameNoUnknown es
 
--- these are the policies of a text under their own numbers, and none of them has clauses
+-- these are the policies of a text under their own numbers, and none of them names an unknown
 pub record IsText (es : Entries) : Type 0 where
   pub policies : List PolicySyntax
   pub are : es ≡ text_entries 0 policies
-  pub clauses : are_policies_so_far policies ≡ true
+  pub names : list_all (λ s. calls_only (λ name. not (is_the_unknown name)) (condition s)) policies ≡ true
 
 -- ---- the world's policies, told apart
 

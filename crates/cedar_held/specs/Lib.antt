@@ -5,10 +5,3 @@ pub mod HoldingEntities
 pub mod Refusals
 pub mod Stores
 pub mod EntityEdits
-pub mod Questions
-pub mod Within
-pub mod Inquiries
-pub mod Choices
-pub mod Written
-pub mod Judged
-pub mod Answers

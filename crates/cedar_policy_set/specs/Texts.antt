@@ -1,7 +1,10 @@
 -- The policies of a text as entries of a policy set, and what a set has of them. (Cedar language reference, "Policies".)
-use Rattle.std.specs.Prelude.{◌≡◌, ℕ, suc, true, List, [], ◌∷◌, None, Some, if◌then◌else◌}
+use Rattle.std.specs.Prelude.{◌≡◌, ℕ, suc, true, not, List, [], ◌∷◌, Some, if◌then◌else◌}
+use Rattle.cedar_language.specs.Tree.{Tree}
 use Rattle.cedar_language.specs.Uid.{Text}
-use Rattle.cedar_grammar.specs.Policy.{Policy}
+use Rattle.cedar_grammar.specs.Calls.{calls_only}
+use Rattle.cedar_grammar.specs.Policy.{Policy, condition}
+use Rattle.cedar_world.specs.Functions.{is_the_unknown}
 use Rattle.cedar_world.specs.Syntax.{is_template}
 use Rattle.cedar_world.specs.PolicyEdits.{numbered}
 use Rattle.cedar_policy_set.specs.Entries.{Entry, static_policy, template, link, Entries, bound_at}
@@ -24,6 +27,10 @@ syntax_in (static_policy s) = s
 syntax_in (template s) = s
 syntax_in (link t s b) = s
 
--- no policy, template or link has clauses
-abbrev pub HaveNoClauses : Entries → Type 0
-HaveNoClauses es = (id : Text) (e : Entry) → bound_at es id ≡ Some e → (syntax_in e).body ≡ None
+-- the condition of a policy or template; of a link, that of its template, whose slots stand there
+abbrev pub condition_in : Entry → Tree
+condition_in e = condition (syntax_in e)
+
+-- no unknown stands in a condition of the set, and none calls the function by which one is named
+abbrev pub NameNoUnknown : Entries → Type 0
+NameNoUnknown es = (id : Text) (e : Entry) → bound_at es id ≡ Some e → calls_only (λ name. not (is_the_unknown name)) (condition_in e) ≡ true

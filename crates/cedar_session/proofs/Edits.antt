@@ -23,7 +23,7 @@ use Rattle.cedar_replies.specs.Refusals.{refusal_of}
 use Rattle.cedar_held.specs.EntityEdits.{AreFine, PutsBody, AddsBody, RemovesBody}
 use Rattle.cedar_texts.specs.Reading.{ReadsBody}
 
-not_both : (b : Bool) → b ≡ false → b ≡ true → ⊥
+pub not_both : (b : Bool) → b ≡ false → b ≡ true → ⊥
 not_both b f t = true≢false (sym t ∙ f)
 
 module _ (by : Setting) (old : World) (text : uid.Text) (once : BodiesAreOne by) where

@@ -1,4 +1,4 @@
-pub mod Questions
+pub mod Asking
 pub mod Runs
 pub mod Statuses
 pub mod Texts

@@ -1,29 +1,22 @@
 -- Steps of a session, from what its texts are read as.
-use Rattle.std.proofs.Common.{◌≡◌, ◌≤◌, true, false, ◌∙◌, ℕ, List, Some, None, Err, refl, sym, ap, subst}
-use Rattle.std.specs.FinMap as finite
+use Rattle.std.proofs.Common.{◌≡◌, ◌≤◌, false, ◌∙◌, ℕ, List, None, Err, refl, sym, ap, subst}
 use Rattle.cedar_language.specs.Uid as uid
 use Rattle.cedar_language.specs.Tree.{Tree}
 use Rattle.cedar_language.specs.Height.{height}
-use Rattle.cedar_held.specs.declared.question.Question.{Question}
-use Rattle.cedar_held.specs.Questions.{question_of}
 use Rattle.cedar_world.specs.Syntax.{PolicySyntax}
 use Rattle.cedar_world.specs.World.{World, Policies}
 use Rattle.cedar_world.specs.PolicyEdits.{Loads}
-use Rattle.cedar_world.specs.Bodies.{is_restricted, holds_call, ask_body}
-use Rattle.cedar_world.specs.Setting.{Setting, ArePoliciesWithin, PoliciesAreOne, IsBodyWithin, BodiesAreOne}
+use Rattle.cedar_world.specs.Bodies.{holds_call}
+use Rattle.cedar_world.specs.Setting.{Setting, ArePoliciesWithin, PoliciesAreOne, IsBodyWithin}
 use Rattle.cedar_world.specs.Commands as commands
-use Rattle.cedar_world.specs.Commands.{Load, Ask, Named, Answered, Refused}
-use Rattle.cedar_world.specs.Step.{Step, IsFirstAnswer}
-use Rattle.cedar_world.proofs.LoadAndAsk.{load_lacks_memory, load_is_no_text, load_is_deep, load_stands, ask_lacks_memory, ask_is_no_text, ask_is_deep, ask_is_not_restricted, ask_is_misshapen, ask_stands}
-use Rattle.cedar_world.proofs.SoFar.{asks_plainly, plain_errs_not, plain_names_nothing}
-use Rattle.cedar_replies.specs.declared.answer.Answer.{Answer}
+use Rattle.cedar_world.specs.Commands.{Load, Named, Refused}
+use Rattle.cedar_world.specs.Step.{Step}
+use Rattle.cedar_world.proofs.LoadAndAsk.{load_lacks_memory, load_is_no_text, load_is_deep, load_stands}
 use Rattle.cedar_replies.specs.declared.refusal.Refusal.{Refusal}
-use Rattle.cedar_replies.specs.declared.refusal.Refusal.TheVariants.{Text, Depth, NotRestricted, Shape, Memory}
+use Rattle.cedar_replies.specs.declared.refusal.Refusal.TheVariants.{Text, Depth, Memory}
 use Rattle.cedar_replies.specs.Refusals.{refusal_of}
-use Rattle.cedar_replies.specs.Replies.{answer_of}
-use Rattle.cedar_session.specs.Reading.{Gives}
 use Rattle.cedar_texts.specs.PolicyReading.{ReadsPolicies}
-use Rattle.cedar_texts.specs.Reading.{IsLowBody, ReadsBody}
+use Rattle.cedar_texts.specs.Reading.{IsLowBody}
 use Rattle.cedar_texts.specs.Settings.{setting_with}
 use Rattle.cedar_language.specs.Facts.{Written}
 use Rattle.cedar_language.specs.Value.{Extension}
@@ -49,27 +42,6 @@ module _ (by : Setting) (old : World) (text : uid.Text) where
   pub loaded : PoliciesAreOne by → (ss : List PolicySyntax) (ids : List uid.Text) (new : Policies) → ArePoliciesWithin by by.depth text ss → Loads old.policies ss ids new
       → Step by old Load text (Named ids) (record old { policies = new; asked = None })
   loaded once ss ids new reads loads = load_stands by old text once ss ids (record old { policies = new; asked = None }) reads loads refl
-
-  pub unread_ask : BodiesAreOne by → (r : Refusal) → ReadsBody by text (Err r) → Step by old Ask text (Refused (refusal_of r)) old
-  unread_ask once Text h = ask_is_no_text by old text h
-  unread_ask once Depth h = ask_is_deep by old text h
-  unread_ask once NotRestricted h = ask_is_not_restricted by old text once h.0 h.1 h.2 h.3
-  unread_ask once Memory h = ask_lacks_memory by old text
-  unread_ask once r h = absurd h
-
-  module _ (once : BodiesAreOne by) (tree : Tree) (reads : IsBodyWithin by by.depth text tree) (low : height tree ≤ by.depth) (restricted : is_restricted tree ≡ true) where
-    pub misasked : (r : Refusal) → Gives question_of (ask_body tree) (Err r) → Step by old Ask text (Refused (refusal_of r)) old
-    misasked Shape g = ask_is_misshapen by old text once tree reads low restricted g
-    misasked Memory g = ask_lacks_memory by old text
-    misasked r g = absurd g
-
-    pub asked : (question : Question) (answer kept : Answer) → kept ≡ answer → ask_body tree ≡ Some (question_of question) → IsFirstAnswer by old (question_of question) (answer_of answer)
-        → Step by old Ask text (Answered (answer_of answer)) (record old { asked = Some (record { question = question_of question; told = finite.empty; last = answer_of kept }) })
-    asked question answer kept same asks first =
-        let plain = asks_plainly tree (question_of question) asks in
-        ask_stands by old text once tree reads low restricted (question_of question) (answer_of answer) _ asks
-        (plain_errs_not by (question_of question).context plain) (plain_names_nothing (question_of question).context plain) first
-        (ap (λ a. record old { asked = Some (record { question = question_of question; told = finite.empty; last = answer_of a }) }) same)
 
 -- what is said of the tree of a body is said of the expression's, and of the same one lent
 pub read_tree : (by : Setting) (text : uid.Text) (s t : Tree) → t ≡ s → IsLowBody by text (λ tree. tree ≡ s) → IsBodyWithin by by.depth text t × (height t ≤ by.depth)

@@ -1,5 +1,5 @@
--- What a question is read as, and what an id.
-use Rattle.std.specs.Prelude.{◌≡◌, true, Option, Some, None, Result, Ok, Err}
+-- What an id is read as.
+use Rattle.std.specs.Prelude.{◌≡◌, true, Some, None, Result, Ok, Err}
 use Rattle.std.specs.declared.alloc.Global.{Global}
 use Rattle.std.specs.declared.rc.RcStr.{RcStr}
 use Rattle.std.specs.Rc.{rc_str_bytes}
@@ -8,15 +8,8 @@ use Rattle.cedar_language.specs.Tree.{Tree}
 use Rattle.cedar_world.specs.Bodies.{is_restricted, string_of}
 use Rattle.cedar_world.specs.Setting.{Setting}
 use Rattle.cedar_replies.specs.declared.refusal.Refusal.{Refusal}
-use Rattle.cedar_replies.specs.declared.refusal.Refusal.TheVariants.{Shape, Memory}
+use Rattle.cedar_replies.specs.declared.refusal.Refusal.TheVariants.{Shape}
 use Rattle.cedar_texts.specs.Reading.{IsLowBody, ReadsBody}
-
--- what is read, or that it can't be
-abbrev pub Gives : {A B : Type 0} → (A → B) → Option B → Result A Refusal → Type 0
-Gives view read (Ok a) = read ≡ Some (view a)
-Gives view read (Err Shape) = read ≡ None
-Gives view read (Err Memory) = Unit {0}
-Gives view read (Err _) = ⊥
 
 -- the text is a body that may hold no more than values and calls, and that says this
 abbrev pub IsValueBody : Setting → uid.Text → (Tree → Type 0) → Type 0

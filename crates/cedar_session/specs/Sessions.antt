@@ -1,10 +1,13 @@
 -- What a session holds, as the world names it.
-use Rattle.std.specs.Prelude.{Result, Ok, Err, Vec}
+use Rattle.std.specs.Prelude.{None, Result, Ok, Err, Vec}
 use Rattle.std.specs.declared.alloc.Global.{Global}
 use Rattle.cedar_policy_parts.specs.declared.policy_id.PolicyID.{PolicyID}
-use Rattle.std.specs.Option.{option_map}
+use Rattle.std.specs.Option.{option_map, unwrap_or}
 use Rattle.std.specs.FinMap as finite
-use Rattle.cedar_held.specs.Questions.{question_of}
+use Rattle.cedar_language.specs.Tree.{Tree}
+use Rattle.cedar_restricted.specs.Views.{restricted_tree}
+use Rattle.cedar_world.specs.Asking.{Question, Missing, NoContext}
+use Rattle.cedar_world.specs.Bodies.{ask_body}
 use Rattle.cedar_world.specs.World as world
 use Rattle.cedar_world.specs.World.{World}
 use Rattle.cedar_texts.specs.Settings.{setting_with}
@@ -21,8 +24,16 @@ use Rattle.cedar_session.specs.declared.session.Session.{Session}
 abbrev pub setting_of : Session → Setting
 setting_of session = setting_with session.extensions.now session.depth
 
+-- a question of which nothing is given
+abbrev pub nothing_given : Question
+nothing_given = record { principal = Missing None; action = Missing None; resource = Missing None; context = NoContext }
+
+-- the question that a body states; each body that a session keeps states one
+abbrev pub question_in : Tree → Question
+question_in tree = unwrap_or (ask_body tree) nothing_given
+
 abbrev pub asked_of : Asked → world.Asked
-asked_of asked = record { question = question_of asked.question; told = finite.empty; last = answer_of asked.answer }
+asked_of asked = record { question = question_in (restricted_tree asked.body); told = finite.empty; last = answer_of asked.answer }
 
 -- the policies, templates and links, the entities held, and the open question
 abbrev pub world_of : Session → World

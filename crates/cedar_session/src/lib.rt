@@ -6,7 +6,6 @@
 //! answers are made of are handed on here, so that a caller names them without the crates below.
 #![tactic(auto)]
 
-mod asking;
 mod command;
 mod entry;
 mod finishing;

@@ -5,29 +5,27 @@ ghost use Rattle.cedar_world.specs.World.{new_world};
 ghost use Rattle.cedar_replies.specs.Replies.{reply_of};
 ghost use Rattle.cedar_session.specs.Commands.{command_verb, command_text};
 
-use crate::asking::question_in;
 use crate::command::Command;
 use crate::naming::read_id;
+use cedar_asking::{answer, request_of};
 use cedar_bodies::link_body;
 use cedar_extensions::extensions::Extensions;
-use cedar_held::{HeldEntities, HeldPolicies, Question, answer};
+use cedar_held::{HeldEntities, HeldPolicies};
 use cedar_policy_parts::PolicyID;
 use cedar_replies::{Answer, Refusal, Reply};
+use cedar_restricted::restricted::RestrictedExpr;
 use cedar_texts::{read_body, read_policies};
 use std::alloc::Global;
 
-/// A question that was asked, and the answer that was given last.
+/// A question that was asked, as its body states it, and the answer that was given last.
 struct Asked {
-    question: Question,
+    body: RestrictedExpr,
     answer: Answer,
 }
 
 impl Drop for Asked {
     fn drop(self) {
-        let Asked {
-            question: _,
-            answer: _,
-        } = self;
+        let Asked { body: _, answer: _ } = self;
     }
 }
 
@@ -116,8 +114,9 @@ impl<'e, 'f> Session<'e, 'f> {
     /// bound before stays as it was, and an open question is closed.
     /// (Cedar language reference, "Policies".)
     ///
-    /// It is refused `Text` where the text isn't policies and templates by the grammar, or one of them has a
-    /// clause, `Depth` where it nests deeper than the limit, and `Memory`; then nothing changes.
+    /// It is refused `Text` where the text isn't policies and templates by the grammar or calls a function
+    /// that the session doesn't know, `unknown` among them, `Depth` where it nests deeper than the limit, and
+    /// `Memory`; then nothing changes.
     pub fn load(&mut self, text: &str) -> Result<Vec<PolicyID>, Refusal>
         requires { length text.now ≤ body_limit }
         ensures step { Step (setting_of self.old) (world_of self.old) LoadVerb text.now (load_reply result) (world_of self.new) }
@@ -277,28 +276,37 @@ impl<'e, 'f> Session<'e, 'f> {
     /// entities stay. (Cedar language reference, "Authorization".)
     ///
     /// The body is a record: `principal`, `action` and `resource`, each where it stands, are entities, and
-    /// `context`, where it stands, is a record without entries. What is left out is unknown, and the answer
-    /// holds whatever it is: a decision stands there only where all that it may be leads to it, an id is
-    /// among `must` only where its policy is a reason in each case, and among `may` where it is one in some.
+    /// `context`, where it stands, is a record, in which `unknown("n")` names an unknown `n`. What is left
+    /// out or named so is unknown, and the answer holds whatever it is: a decision stands there only where
+    /// all that it may be leads to it, an id is among `must` only where its policy is a reason in each case,
+    /// and among `may` where it is one in some.
     ///
-    /// It is refused as any body, then `Shape` where it isn't such a record, and `Memory`; then nothing
-    /// changes.
+    /// It is refused as any body, then `Shape` where it isn't such a record, `Evaluation` where a part of the
+    /// context without unknowns errs, `BadUnknown` where `unknown` is called there on anything but a string
+    /// or names one of the four variables, `Depth` where the evaluation of some policy goes deeper than the
+    /// limit, of a question without unknowns only where the condition of a policy in force is higher than
+    /// that, and `Memory`; then nothing changes.
     pub fn ask(&mut self, text: &str) -> Result<Answer, Refusal>
         requires { length text.now ≤ body_limit }
         ensures step { Step (setting_of self.old) (world_of self.old) AskVerb text.now (ask_reply result) (world_of self.new) }
         ensures setting { setting_of self.new ≡ setting_of self.old }
     {
         cedar_world::texts_are_one();
+        self.extensions.names_are_defined();
         let body = read_body(self.allocator, text, self.extensions, self.depth)?;
-        let question = question_in(self.allocator, body.as_ref())?;
-        let entities = self.entities.store();
+        let request = request_of(self.allocator, &body, self.extensions, self.depth)?;
         let policies = self.policies.set();
-        let answer = answer(self.allocator, policies, &question, entities)?;
+        let entities = self.entities.store();
+        let answer = answer(
+            self.allocator,
+            request,
+            policies,
+            entities,
+            self.extensions,
+            self.depth,
+        )?;
         let kept = answer.clone()?;
-        self.asked = Some(Asked {
-            question,
-            answer: kept,
-        });
+        self.asked = Some(Asked { body, answer: kept });
         Ok(answer)
     }
 

@@ -1,4 +1,3 @@
 mod Bodies
 mod Callers
-mod Templates
 mod Readings

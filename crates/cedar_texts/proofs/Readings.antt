@@ -1,26 +1,24 @@
 -- Policies that a session loads.
-use Rattle.std.proofs.Common.{◌≡◌, ◌∙◌, sym, ap, subst, inl, inr, ℕ, chars, true, false, List, Result, Ok, Err, arith, true≢false}
+use Rattle.std.proofs.Common.{◌≡◌, inl, inr, ℕ, Bool, true, not, ◌&&◌, List, Result, Ok, Err, arith}
+use Rattle.std.specs.Prelude.{IfOk}
 use Rattle.std.specs.List.{list_all}
 use Rattle.cedar_language.specs.Uid.{Text}
-use Rattle.cedar_grammar.specs.Laws.{OneList, OnePolicies}
 use Rattle.cedar_grammar.specs.Names.{Names}
-use Rattle.cedar_grammar.specs.Policies.{Reads, ArePolicies}
-use Rattle.cedar_grammar.specs.Policy.{Policy}
+use Rattle.cedar_grammar.specs.Policies.{Reads}
 use Rattle.cedar_loose.specs.Errors as cause
 use Rattle.cedar_loose.specs.Errors.{Cause, cause_of}
 use Rattle.cedar_loose.specs.declared.errors.ParseErrors.{ParseErrors}
 use Rattle.cedar_parser.specs.Strict as strict
 use Rattle.cedar_parser.specs.Strict.{IsRefused}
-use Rattle.cedar_policy_set.specs.Entries.{Entries, templates_of}
+use Rattle.cedar_policy_set.specs.Entries.{Entries}
 use Rattle.cedar_replies.specs.declared.refusal.Refusal.{Refusal}
 use Rattle.cedar_replies.specs.declared.refusal.Refusal.TheVariants as refusal
-use Rattle.cedar_world.specs.Functions.{policy_names}
-use Rattle.cedar_world.specs.Setting as world
+use Rattle.cedar_world.specs.Functions.{is_the_unknown, policy_names}
+use Rattle.cedar_world.specs.NameLaws.{CallsAreFound, is_answered}
 use Rattle.cedar_world.specs.Setting.{Setting, PoliciesNestWithin}
-use Rattle.cedar_world.specs.SoFar.{are_policies_so_far}
-use Rattle.cedar_texts.specs.PolicyReading.{ReadsPolicies, ReadsSet}
+use Rattle.cedar_texts.specs.PolicyReading.{CallNoUnknown, ReadsPolicies, ReadsSet}
 use Rattle.cedar_texts.specs.Told.{refusal_for, text_refusal}
-use Rattle.cedar_texts.proofs.Templates.{lacks_clauses, texts_clauses}
+use Rattle.cedar_texts.proofs.Callers.{right_of, conditions_still}
 
 module _ (names : Names) (n : ℕ) (text : Text) where
   unread : (c : Cause) → IsRefused (λ m ss. Reads names m text ss) n text c → ReadsSet names n text (Err (refusal_for c))
@@ -35,26 +33,26 @@ module _ (names : Names) (n : ℕ) (text : Text) where
 
 module _ (by : Setting) (text : Text) where
   -- a text without a set is refused for the same
-  pub policies_refused : (f : Refusal) → ReadsSet (policy_names by.functions) by.depth text (Err f) → ReadsPolicies by text (Err f)
-  policies_refused refusal.Text none = λ ss are. none are.0 ss are.1.0
+  policies_refused : (f : Refusal) → ReadsSet (policy_names by.functions) by.depth text (Err f) → ReadsPolicies by text (Err f)
+  policies_refused refusal.Text none = λ ss are. none are.0 ss are.1
   policies_refused refusal.Depth deep = nests where
     nests : PoliciesNestWithin by by.depth text → ⊥
-    nests (inl are) = deep.0 are.0 are.1.0
+    nests (inl are) = deep.0 are.0 are.1
     nests (inr places) = omega (arith, deep.1, places.1)
   policies_refused refusal.Memory none = tt
   policies_refused other none = absurd none
 
-  module _ (es : Entries) (reads : ReadsSet (policy_names by.functions) by.depth text (Ok es)) where
-    so_far : list_all lacks_clauses (templates_of es) ≡ are_policies_so_far reads.0
-    so_far = ap (λ xs. list_all lacks_clauses (templates_of xs)) reads.2 ∙ texts_clauses 0 reads.0
+  -- the policies of a session are those of the text with the names that policies may call
+  pub policies_read : (result : Result Entries Refusal) → ReadsSet (policy_names by.functions) by.depth text result → ReadsPolicies by text result
+  policies_read (Ok es) reads = reads
+  policies_read (Err f) none = policies_refused f none
 
-    pub policies_kept : list_all lacks_clauses (templates_of es) ≡ true → ReadsPolicies by text (Ok es)
-    policies_kept lack = (reads.0, (reads.1, sym so_far ∙ lack), reads.2)
-
-    -- where one has clauses, the text is read as others in no way
-    pub clauses_stand : OneList → OnePolicies → list_all lacks_clauses (templates_of es) ≡ false → (ss : List Policy) → world.ArePolicies by text ss → ⊥
-    clauses_stand one_list one_policies have ss are =
-        let names = policy_names by.functions in
-        let tokens : are.1.0.0 ≡ reads.1.0 = one_list (chars text) are.1.0.0 reads.1.0 are.1.0.1 reads.1.1 in
-        let same : ss ≡ reads.0 = one_policies names are.0 by.depth reads.1.0 ss reads.0 (subst (λ ts. ArePolicies names are.0 ts ss) tokens are.1.0.2) reads.1.2 in
-        true≢false (sym are.1.1 ∙ ap are_policies_so_far same ∙ sym so_far ∙ have)
+  -- and they don't call `unknown`
+  pub names_read : CallsAreFound by → (result : Result Entries Refusal) → ReadsSet (policy_names by.functions) by.depth text result → IfOk result (λ es. CallNoUnknown es)
+  names_read found (Ok es) reads = (
+    reads.0,
+    reads.2,
+    conditions_still (λ name. is_answered by.functions name && not (is_the_unknown name)) (λ name. not (is_the_unknown name)) (λ name h. right_of (is_answered by.functions name) (not (is_the_unknown name)) h) reads.0
+        (found.policies text reads.0 (by.depth, reads.1)),
+  )
+  names_read found (Err f) none = tt

@@ -1,12 +1,15 @@
 -- What a text of policies is read as, or why it is refused.
-use Rattle.std.specs.Prelude.{◌≡◌, ◌<◌, ⊤, ℕ, List, Result, Ok, Err}
+use Rattle.std.specs.Prelude.{◌≡◌, ◌<◌, ⊤, ℕ, true, not, List, Result, Ok, Err}
+use Rattle.std.specs.List.{list_all}
 use Rattle.cedar_language.specs.Uid.{Text}
+use Rattle.cedar_grammar.specs.Calls.{calls_only}
 use Rattle.cedar_grammar.specs.Names.{Names}
 use Rattle.cedar_grammar.specs.Nesting.{loose_nesting}
 use Rattle.cedar_grammar.specs.Policies.{Reads}
 use Rattle.cedar_grammar.specs.Policy.{Policy}
+use Rattle.cedar_world.specs.Functions.{is_the_unknown}
 use Rattle.cedar_world.specs.Setting.{Setting, ArePoliciesWithin, ArePolicies, PoliciesNestWithin}
-use Rattle.cedar_world.specs.Syntax.{PolicySyntax}
+use Rattle.cedar_world.specs.Syntax.{PolicySyntax, condition}
 use Rattle.cedar_policy_set.specs.Entries.{Entries}
 use Rattle.cedar_policy_set.specs.Texts.{text_entries}
 use Rattle.cedar_replies.specs.declared.refusal.Refusal.{Refusal}
@@ -19,6 +22,10 @@ module _ (by : Setting) (text : Text) where
   ReadsPolicies (Err refusal.Depth) = PoliciesNestWithin by by.depth text → ⊥
   ReadsPolicies (Err refusal.Memory) = Unit {0}
   ReadsPolicies (Err _) = ⊥
+
+-- these are policies under their numbers, no unknown stands in a condition of theirs, and none calls the function by which one is named
+abbrev pub CallNoUnknown : Entries → Type 0
+CallNoUnknown es = (ss : List PolicySyntax) × (es ≡ text_entries 0 ss) × (list_all (λ s. calls_only (λ name. not (is_the_unknown name)) (condition s)) ss ≡ true)
 
 -- the policies of the text, under their numbers, or what a command is refused by
 abbrev pub ReadsSet : Names → ℕ → Text → Result Entries Refusal → Type 0

@@ -1,7 +1,6 @@
 //! Bodies of commands, and policies, read from their texts.
 #![tactic(auto)]
 
-mod clauses;
 mod policy_reading;
 mod reading;
 mod refusals;

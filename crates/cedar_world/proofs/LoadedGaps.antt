@@ -13,14 +13,14 @@ use Rattle.cedar_world.specs.LoadLaws.{GapsChangeNoLoad}
 
 module _ (by : Setting) (text spaced : uid.Text) (alike : AreReadAlike text spaced) where
   read_there : (ss : List PolicySyntax) → ArePolicies by text ss → ArePolicies by spaced ss
-  read_there ss (n, (reads, taken)) = (n, ((alike.1 (policy_names by.functions) n ss).0 reads, taken))
+  read_there ss (n, reads) = (n, (alike.1 (policy_names by.functions) n ss).0 reads)
 
   read_back : (ss : List PolicySyntax) → ArePolicies by spaced ss → ArePolicies by text ss
-  read_back ss (n, (reads, taken)) = (n, ((alike.1 (policy_names by.functions) n ss).1 reads, taken))
+  read_back ss (n, reads) = (n, (alike.1 (policy_names by.functions) n ss).1 reads)
 
   module _ (world : World) (ss : List PolicySyntax) (is : ArePolicies by text ss) where
     nests_there : PoliciesNestWithin by by.depth text → PoliciesNestWithin by by.depth spaced
-    nests_there (inl (rs, (reads, taken))) = inl (rs, ((alike.1 (policy_names by.functions) by.depth rs).0 reads, taken))
+    nests_there (inl (rs, reads)) = inl (rs, (alike.1 (policy_names by.functions) by.depth rs).0 reads)
     nests_there (inr none) = absurd (none.0 ss is)
 
     stands_back : (r : Refusal) → LoadStands by world spaced r → LoadStands by world text r
@@ -29,7 +29,7 @@ module _ (by : Setting) (text spaced : uid.Text) (alike : AreReadAlike text spac
     stands_back r h = h
 
     nests_back : PoliciesNestWithin by by.depth spaced → PoliciesNestWithin by by.depth text
-    nests_back (inl (rs, (reads, taken))) = inl (rs, ((alike.1 (policy_names by.functions) by.depth rs).1 reads, taken))
+    nests_back (inl (rs, reads)) = inl (rs, (alike.1 (policy_names by.functions) by.depth rs).1 reads)
     nests_back (inr none) = absurd (none.0 ss (read_there ss is))
 
     stands_there : (r : Refusal) → LoadStands by world text r → LoadStands by world spaced r

@@ -192,7 +192,7 @@ pub calls_are_found : ExprsCallTheTable → ConditionsCallTheTable → (by : Set
 calls_are_found exprs conditions by = record {
   policies = λ text ss reads.
       conditions_still (is_in_table (policy_names by.functions)) (λ name. is_answered by.functions name && not (is_the_unknown name)) (policy_call by.functions) ss
-      (conditions (policy_names by.functions) reads.0 reads.1.0.0 ss reads.1.0.2);
+      (conditions (policy_names by.functions) reads.0 reads.1.0 ss reads.1.2);
   bodies = λ text tree reads.
       calls_still (is_in_table (body_names by.functions)) (is_answered by.functions) (body_call by.functions) tree
       (exprs (body_names by.functions) reads.0 reads.1.0 tree reads.1.2);

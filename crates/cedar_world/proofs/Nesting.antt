@@ -28,16 +28,16 @@ module _ (one_list : OneList) (one_expr : OneExpr) (one_policies : OnePolicies) 
   module _ (tokens : List Token) (is : IsTokens text tokens) where
     policies_nest : (ss : List PolicySyntax) → ArePolicies by text ss → IsNestingOfPolicies (policy_names by.functions) tokens n → PoliciesNestWithin by limit text → n ≤ limit
     policies_nest ss reads least (inl h) =
-        least.1 limit (h.0, subst (λ ts. policies.ArePolicies (policy_names by.functions) limit ts h.0) (one_list (chars text) h.1.0.0 tokens h.1.0.1 is) h.1.0.2)
+        least.1 limit (h.0, subst (λ ts. policies.ArePolicies (policy_names by.functions) limit ts h.0) (one_list (chars text) h.1.0 tokens h.1.1 is) h.1.2)
     policies_nest ss reads least (inr h) = absurd (h.0 ss reads)
 
     policies_fit : (ss : List PolicySyntax) → ArePolicies by text ss → IsNestingOfPolicies (policy_names by.functions) tokens n → n ≤ limit → PoliciesNestWithin by limit text
     policies_fit ss reads least le =
         let names = policy_names by.functions in
-        let own : policies.ArePolicies names reads.0 tokens ss = subst (λ ts. policies.ArePolicies names reads.0 ts ss) (one_list (chars text) reads.1.0.0 tokens reads.1.0.1 is) reads.1.0.2 in
+        let own : policies.ArePolicies names reads.0 tokens ss = subst (λ ts. policies.ArePolicies names reads.0 ts ss) (one_list (chars text) reads.1.0 tokens reads.1.1 is) reads.1.2 in
         let same : least.0.0 ≡ ss = one_policies names n reads.0 tokens least.0.0 ss least.0.1 own in
         let within : policies.ArePolicies names limit tokens ss = policies_grow names n limit tokens ss le (subst (policies.ArePolicies names n tokens) same least.0.1) in
-        inl (ss, ((tokens, is, within), reads.1.1))
+        inl (ss, (tokens, is, within))
 
     body_nests : (tree : Tree) → IsBody by text tree → IsNestingOfExpr (body_names by.functions) tokens n → BodyNestsWithin by limit text → body_nesting n tree ≤ limit
     body_nests tree reads least (inl h) =

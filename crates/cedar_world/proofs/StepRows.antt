@@ -105,10 +105,10 @@ module _ (reads_tokens : ReadsTokens) (reads_exprs : ReadsExprs) (reads_policies
   brackets_within = (brackets, (reads_tokens (chars (codes "[]")) brackets).1 brackets_are, (reads_exprs (body_names functions) 256 brackets (Apply MakeSet no_trees)).1 (brackets_read (body_names functions)))
 
   permit_within : ArePoliciesWithin by 256 (codes "permit(principal, action, resource);") (for_all ∷ [])
-  permit_within = ((permit_for_all, (reads_tokens (chars (codes "permit(principal, action, resource);")) permit_for_all).1 permit_is, (reads_policies (policy_names functions) 256 permit_for_all (for_all ∷ [])).1 (permit_read (policy_names functions))), refl)
+  permit_within = (permit_for_all, (reads_tokens (chars (codes "permit(principal, action, resource);")) permit_for_all).1 permit_is, (reads_policies (policy_names functions) 256 permit_for_all (for_all ∷ [])).1 (permit_read (policy_names functions)))
 
   no_quote : (ss : List PolicySyntax) → ArePolicies by (codes "\"") ss → ⊥
-  no_quote ss reads = not_none reads.1.0.0 (sym quote_is_none ∙ (reads_tokens (chars (codes "\"")) reads.1.0.0).0 reads.1.0.1)
+  no_quote ss reads = not_none reads.1.0 (sym quote_is_none ∙ (reads_tokens (chars (codes "\"")) reads.1.0).0 reads.1.1)
 
   asked_first : Step by new_world Ask (codes "{}") (Answered denied) (opens new_world all_missing map.empty denied)
   asked_first = ask_stands by new_world (codes "{}") (reads_once one_list one_expr by) (Apply (MakeRecord []) no_trees) braces_within (omega arith) refl all_missing denied _ refl refl refl (nothing_denies by) refl

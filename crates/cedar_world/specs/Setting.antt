@@ -1,5 +1,5 @@
 -- How texts are read and what trees mean, for the world's definitions.
-use Rattle.std.specs.Prelude.{◌≡◌, ◌⊎◌, ℕ, ◌≤◌, true, false, None, List}
+use Rattle.std.specs.Prelude.{◌≡◌, ◌⊎◌, ℕ, ◌≤◌, false, None, List}
 use Rattle.cedar_language.specs.Uid.{Text}
 use Rattle.cedar_language.specs.Tree.{Tree}
 use Rattle.cedar_language.specs.Value.{Outcome, Gives, Fails}
@@ -16,7 +16,6 @@ use Rattle.cedar_grammar.specs.Nesting.{loose_nesting}
 use Rattle.cedar_world.specs.Syntax.{PolicySyntax}
 use Rattle.cedar_world.specs.Asking.{Question, Told}
 use Rattle.cedar_world.specs.Functions.{Functions, policy_names, body_names, function_of}
-use Rattle.cedar_world.specs.SoFar.{are_policies_so_far}
 
 -- the functions that texts may call, and the limit of depth
 pub record Setting : Type 0 where
@@ -28,7 +27,7 @@ module _ (by : Setting) where
 
   -- the text's policies, in its order, with a nesting of at most so much
   abbrev pub ArePoliciesWithin : ℕ → Text → List PolicySyntax → Type 0
-  ArePoliciesWithin n text ss = Reads (policy_names by.functions) n text ss × (are_policies_so_far ss ≡ true)
+  ArePoliciesWithin n text ss = Reads (policy_names by.functions) n text ss
 
   abbrev pub ArePolicies : Text → List PolicySyntax → Type 0
   ArePolicies text ss = (n : ℕ) × ArePoliciesWithin n text ss

@@ -8,7 +8,7 @@ pub returns-in_err-policies-clause-step : goal.returns-in_err-policies-clause-st
 returns-in_err-policies-clause-step c =
     let by = setting_of c.args.self.now in
     let p = err_from_is_err_and c.from_residual.result c.from_residual.ensures.1 in
-    rw (p.1, p.2) (unread_load by (world_of c.args.self.now) c.args.text.now c.in_err-policies.field-0.0 c.in_err-policies.ensures)
+    rw (p.1, p.2) (unread_load by (world_of c.args.self.now) c.args.text.now c.in_err-policies.field-0.0 c.in_err-policies.ensures.policies)
 
 pub returns-in_err-ids-clause-step : goal.returns-in_err-ids-clause-step
 returns-in_err-ids-clause-step c =
@@ -19,5 +19,5 @@ returns-in_err-ids-clause-step c =
 pub returns-clause-step : goal.returns-clause-step
 returns-clause-step c =
     let by = setting_of c.args.self.now in
-    let reads = c.in_ok-policies.ensures in
+    let reads = c.in_ok-policies.ensures.policies in
     rw (c.close.ensures) (loaded by (world_of c.args.self.now) c.args.text.now (c.texts_are_one.ensures.policies by) reads.0 c.in_ok-ids.ids.items _ reads.1 (c.in_ok-ids.ensures.loaded reads.0 reads.2))

@@ -1,0 +1,77 @@
+-- One more policy that is kept.
+use Rattle.std.proofs.Common.{◌≡◌, ℕ, Option, Some, None, List, [], ◌∷◌, ◌++◌, map, refl, sym, ◌∙◌, ap, subst}
+use Rattle.std.specs.List.{IsDistinct, filter_map, cons_option}
+use Rattle.std.specs.Map.{keys_of}
+use Rattle.std.proofs.lemmas.List.{append-nil}
+use Rattle.std.proofs.lemmas.List.Elements.{filter_map-append}
+use Rattle.std.proofs.lemmas.Map.Made.{keys_of-map_values}
+use Rattle.cedar_language.specs.Answering.{Permit, Forbid}
+use Rattle.cedar_language.specs.Order.{same_text}
+use Rattle.cedar_language.specs.Tree.{Tree}
+use Rattle.cedar_language.specs.Uid.{Text}
+use Rattle.cedar_entities.specs.declared.store.Entities.{Entities}
+use Rattle.cedar_extensions.specs.declared.extensions.Extensions.{Extensions}
+use Rattle.cedar_policy_set.specs.Entries.{Entry, Entries}
+use Rattle.cedar_requests.specs.Holding.{RequestParts}
+use Rattle.cedar_trees.specs.Bare.{bare}
+use Rattle.cedar_evaluator.specs.Evaluations.{Kept, IsKept, AreKept}
+use Rattle.cedar_evaluator.specs.Grouping.{held_in, and_then, with_kept, Keeps, AreApart}
+use Rattle.cedar_evaluator.specs.Holding.{has_erred}
+use Rattle.cedar_evaluator.specs.Responses.{Holding, if_effect, satisfied_id, false_id, open_id, error_id, satisfied_of, false_of, open_of, holding_of}
+use Rattle.cedar_evaluator.specs.declared.groups.Groups.{Groups}
+use Rattle.cedar_evaluator.proofs.Apart.{ids_of, satisfied_apart, false_apart, open_apart}
+
+one_pushed : {X : Type 0} (xs : List X) (o : Option X) → xs ++ cons_option o [] ≡ and_then xs o
+one_pushed xs None = append-nil xs
+one_pushed xs (Some x) = refl
+
+pushed : {X : Type 0} (part : Kept → Option X) (ks : List Kept) (k : Kept) → filter_map part (ks ++ k ∷ []) ≡ and_then (filter_map part ks) (part k)
+pushed part ks k = filter_map-append part ks (k ∷ []) ∙ one_pushed (filter_map part ks) (part k)
+
+pub holding_more : (ks : List Kept) (k : Kept) → holding_of (ks ++ k ∷ []) ≡ with_kept k (holding_of ks)
+holding_more ks k = λ i. record {
+  satisfied_permits = pushed (λ (j : Kept). if_effect Permit j.effect (satisfied_id j.id j.found)) ks k i;
+  false_permits = pushed (λ (j : Kept). if_effect Permit j.effect (false_id j.id j.found)) ks k i;
+  open_permits = pushed (λ (j : Kept). if_effect Permit j.effect (open_id j.id j.found)) ks k i;
+  satisfied_forbids = pushed (λ (j : Kept). if_effect Forbid j.effect (satisfied_id j.id j.found)) ks k i;
+  false_forbids = pushed (λ (j : Kept). if_effect Forbid j.effect (false_id j.id j.found)) ks k i;
+  open_forbids = pushed (λ (j : Kept). if_effect Forbid j.effect (open_id j.id j.found)) ks k i;
+  errors = pushed (λ (j : Kept). error_id j.id j.found) ks k i;
+}
+
+module _ (r : RequestParts) (store : Entities) (table : Extensions) (depth : ℕ) where
+  each_more : (es : Entries) (ks : List Kept) (e : Text × Entry) (k : Kept) → AreKept r store table depth es ks → IsKept r store table depth e k → AreKept r store table depth (es ++ e ∷ []) (ks ++ k ∷ [])
+  each_more [] [] e k each this = (this, tt)
+  each_more [] (j ∷ ks) e k each this = absurd each
+  each_more (d ∷ es) [] e k each this = absurd each
+  each_more (d ∷ es) (j ∷ ks) e k each this = (each.0, each_more es ks e k each.1 this)
+
+  ids_kept : (es : Entries) (ks : List Kept) → AreKept r store table depth es ks → ids_of ks ≡ keys_of es
+  ids_kept [] [] each = refl
+  ids_kept [] (k ∷ ks) each = absurd each
+  ids_kept (e ∷ es) [] each = absurd each
+  ids_kept (e ∷ es) (k ∷ ks) each = λ i. each.0.id i ∷ ids_kept es ks each.1 i
+
+  pub keeps_none : (g : Groups) → held_in g ≡ holding_of [] → Keeps r store table depth [] g
+  keeps_none g none = record { kept = []; each = tt; holds = none }
+
+  pub keeps_more : (es : Entries) (g h : Groups) (e : Text × Entry) (k : Kept) → Keeps r store table depth es g → held_in h ≡ with_kept k (held_in g) → IsKept r store table depth e k → Keeps r store table depth (es ++ e ∷ []) h
+  keeps_more es g h e k keeps more this = record {
+    kept = keeps.kept ++ k ∷ [];
+    each = each_more es keeps.kept e k keeps.each this;
+    holds = more ∙ ap (with_kept k) keeps.holds ∙ sym (holding_more keeps.kept k);
+  }
+
+  module _ (es : Entries) (g : Groups) (keeps : Keeps r store table depth es g) (apart : IsDistinct same_text (keys_of es)) where
+    ids_apart : IsDistinct same_text (ids_of keeps.kept)
+    ids_apart = subst (IsDistinct same_text) (sym (ids_kept es keeps.kept keeps.each)) apart
+
+    pub are_apart : AreApart g
+    are_apart = record {
+      satisfied_permits = subst (IsDistinct same_text) (sym (ap (λ (h : Holding). h.satisfied_permits) keeps.holds)) (satisfied_apart Permit keeps.kept ids_apart);
+      false_permits = subst (IsDistinct same_text) (sym (ap (λ (h : Holding). keys_of h.false_permits) keeps.holds) ∙ keys_of-map_values (λ v. has_erred v.0) g.false_permits.items) (false_apart Permit keeps.kept ids_apart);
+      residual_permits = subst (IsDistinct same_text) (sym (ap (λ (h : Holding). keys_of h.open_permits) keeps.holds) ∙ keys_of-map_values (λ v. bare v.0.value) g.residual_permits.items) (open_apart Permit keeps.kept ids_apart);
+      satisfied_forbids = subst (IsDistinct same_text) (sym (ap (λ (h : Holding). h.satisfied_forbids) keeps.holds)) (satisfied_apart Forbid keeps.kept ids_apart);
+      false_forbids = subst (IsDistinct same_text) (sym (ap (λ (h : Holding). keys_of h.false_forbids) keeps.holds) ∙ keys_of-map_values (λ v. has_erred v.0) g.false_forbids.items) (false_apart Forbid keeps.kept ids_apart);
+      residual_forbids = subst (IsDistinct same_text) (sym (ap (λ (h : Holding). keys_of h.open_forbids) keeps.holds) ∙ keys_of-map_values (λ v. bare v.0.value) g.residual_forbids.items) (open_apart Forbid keeps.kept ids_apart);
+    }

@@ -1,0 +1,70 @@
+-- What is kept of a policy that was evaluated for a request.
+use Rattle.std.proofs.Common.{◌≡◌, ℕ, ◌<◌, Bool, true, refl, sym, ◌∙◌, ap, subst}
+use Rattle.std.specs.Prelude.{Result}
+use Rattle.either.specs.declared.Either.{Either}
+use Rattle.cedar_language.specs.Facts.{Facts}
+use Rattle.cedar_language.specs.Height.{height}
+use Rattle.cedar_language.specs.Tree.{Variable, Tree}
+use Rattle.cedar_grammar.specs.Policy as grammar
+use Rattle.cedar_partial_evaluation.specs.Mentions.{mentions_only}
+use Rattle.cedar_partial_evaluation.specs.Partial.{LeafAnswers, partial_in}
+use Rattle.cedar_entities.specs.declared.store.Entities.{Entities}
+use Rattle.cedar_extensions.specs.declared.evaluation_error.EvaluationError.{EvaluationError}
+use Rattle.cedar_extensions.specs.declared.extensions.Extensions.{Extensions}
+use Rattle.cedar_interpreter.specs.Asking.{request_held, IsEvaluatorOf}
+use Rattle.cedar_interpreter.specs.Holding.{held_by, is_evaluated, is_held, Serves, Deep, depth_of}
+use Rattle.cedar_interpreter.specs.Meeting.{IsLimit}
+use Rattle.cedar_interpreter.specs.Operating.{NamesNothing}
+use Rattle.cedar_interpreter.specs.declared.evaluator.Evaluator.{Evaluator}
+use Rattle.cedar_policies.specs.Policies.{policy_template, policy_syntax, link_of, bindings_of}
+use Rattle.cedar_policies.specs.declared.policies.Policy.{Policy}
+use Rattle.cedar_policy_set.specs.Bounds.{policy_entry, policy_seen}
+use Rattle.cedar_policy_set.specs.Texts.{syntax_in}
+use Rattle.cedar_requests.specs.Holding.{RequestParts}
+use Rattle.cedar_templates.specs.Templates.{template_id}
+use Rattle.cedar_trees.specs.declared.expr.Expr.{Expr}
+use Rattle.cedar_evaluator.specs.Evaluating.{condition_of, JudgesAt}
+use Rattle.cedar_evaluator.specs.Evaluations.{Finds, bindings_in, condition_in, is_given, IsServed, policy_answer, IsKept}
+use Rattle.cedar_evaluator.specs.Grouping.{found_in, kept_of, IsKeepable}
+use Rattle.cedar_evaluator.proofs.Answered.{finds, limit_met}
+use Rattle.cedar_evaluator.proofs.Entered.{syntax_entered, bindings_entered}
+
+module _
+    (r : RequestParts) (store : Entities) (table : Extensions) (depth : ℕ) (ev : Evaluator) (is : IsEvaluatorOf r store table depth ev)
+    (p : Policy) (answer : Result (Either Bool (Expr (Unit {0}))) EvaluationError)
+    (found : (facts : Facts) → Serves ev facts (condition_of p) → JudgesAt facts (partial_in facts (held_by ev (bindings_of p)) (condition_of p)) answer)
+    (limit : IsLimit answer → Deep ev (depth_of ev) (condition_of p))
+    (keepable : IsKeepable answer) where
+  syntax_is : syntax_in (policy_entry p) ≡ policy_syntax p
+  syntax_is = syntax_entered (link_of p) (template_id (policy_template p)) (policy_syntax p) (bindings_of p)
+
+  bindings_are : bindings_in (policy_entry p) ≡ bindings_of p
+  bindings_are = bindings_entered (link_of p) (template_id (policy_template p)) (policy_syntax p) (bindings_of p) p.own p.fills
+
+  condition_is : condition_in (policy_entry p) ≡ condition_of p
+  condition_is = ap grammar.condition syntax_is
+
+  serves : (facts : Facts) → IsServed r store table depth facts (condition_in (policy_entry p)) → Serves ev facts (condition_of p)
+  serves facts served = is.serves facts (condition_of p) served.entities served.functions (subst (NamesNothing table) condition_is served.names_nothing)
+
+  held : held_by ev (bindings_of p) ≡ request_held r (bindings_in (policy_entry p))
+  held = is.holds (bindings_of p) ∙ ap (request_held r) (sym bindings_are)
+
+  answer_is : (facts : Facts) → partial_in facts (held_by ev (bindings_of p)) (condition_of p) ≡ policy_answer r store table depth facts (policy_entry p)
+  answer_is facts = ap (λ (holds : LeafAnswers). partial_in facts holds (condition_of p)) held ∙ ap (λ (t : Tree). partial_in facts (request_held r (bindings_in (policy_entry p))) t) (sym condition_is)
+
+  given_is : is_held ev ≡ is_given r
+  given_is = λ i v. is_evaluated ((is.holds (bindings_of p) i).variable v)
+
+  known : mentions_only (is_given r) true (condition_in (policy_entry p)) ≡ true → mentions_only (is_held ev) true (condition_of p) ≡ true
+  known h = ap (λ (f : Variable → Bool). mentions_only f true (condition_of p)) given_is ∙ ap (λ (t : Tree). mentions_only (is_given r) true t) (sym condition_is) ∙ h
+
+  pub is_kept : IsKept r store table depth (policy_seen p) (kept_of p answer)
+  is_kept = record {
+    id = refl;
+    effect = ap (λ (s : grammar.Policy). s.effect) (sym syntax_is);
+    found = λ facts served. subst (λ b. Finds facts b (found_in answer)) (answer_is facts) (finds facts _ answer (found facts (serves facts served)) keepable);
+    limit = λ met facts served mentions.
+        let deep : depth_of ev < height (condition_of p) = limit (limit_met answer met) facts (serves facts served) (known mentions) in
+        subst (λ (t : Tree). depth < height t) (sym condition_is) (subst (λ (d : ℕ). d < height (condition_of p)) is.limit deep);
+  }

@@ -1,0 +1,10 @@
+mod Answered
+mod Evaluated
+mod Apart
+mod Entered
+mod Gathered
+mod Keeping
+mod Kept
+mod Responding
+mod Deciding
+mod Reading

@@ -1,0 +1,58 @@
+-- What is decided by the groups of a response, and which ids are its reasons.
+use Rattle.std.proofs.Common.{◌≡◌, Bool, ◌||◌, cond, List, [], ◌∷◌, ◌++◌, map, refl, sym, ◌∙◌, ap}
+use Rattle.std.specs.Map.{keys_of}
+use Rattle.cedar_language.specs.Uid.{Text}
+use Rattle.cedar_language.specs.Answering.{decision, decision_by, in_must, in_may}
+use Rattle.cedar_trees.specs.Bare.{bare}
+use Rattle.cedar_world.specs.Answers.{ids_with}
+use Rattle.cedar_evaluator.specs.Deciding.{has_any}
+use Rattle.cedar_evaluator.specs.Holding.{holding_in}
+use Rattle.cedar_evaluator.specs.Responses.{judged_held}
+use Rattle.cedar_evaluator.specs.declared.partial_response.PartialResponse.{PartialResponse}
+use Rattle.cedar_evaluator.proofs.Deciding.{decided_held, must_held, may_held}
+
+-- a group that is seen with other values has the same policies
+any_seen : {X Y : Type 0} (g : X → Y) (xs : List X) → has_any (map g xs) ≡ has_any xs
+any_seen g [] = refl
+any_seen g (x ∷ xs) = refl
+
+keys_seen : {X Y : Type 0} (g : X → Y) (es : List (Text × X)) → map (λ (e : Text × Y). e.0) (map (λ (e : Text × X). (e.0, g e.1)) es) ≡ keys_of es
+keys_seen g [] = refl
+keys_seen g (e ∷ es) = ap (λ l. e.0 ∷ l) (keys_seen g es)
+
+module _ (r : PartialResponse) where
+  any_permit : has_any (holding_in r).satisfied_permits ≡ has_any r.satisfied_permits.entries
+  any_permit = any_seen (λ e. e.0) r.satisfied_permits.entries
+
+  any_forbid : has_any (holding_in r).satisfied_forbids ≡ has_any r.satisfied_forbids.entries
+  any_forbid = any_seen (λ e. e.0) r.satisfied_forbids.entries
+
+  any_open_permit : has_any (holding_in r).open_permits ≡ has_any r.residual_permits.entries
+  any_open_permit = any_seen (λ e. (e.0, bare e.1.0.value)) r.residual_permits.entries
+
+  any_open_forbid : has_any (holding_in r).open_forbids ≡ has_any r.residual_forbids.entries
+  any_open_forbid = any_seen (λ e. (e.0, bare e.1.0.value)) r.residual_forbids.entries
+
+  open_permit_ids : map (λ e. e.0) (holding_in r).open_permits ≡ keys_of r.residual_permits.entries
+  open_permit_ids = keys_seen (λ v. bare v.0.value) r.residual_permits.entries
+
+  open_forbid_ids : map (λ e. e.0) (holding_in r).open_forbids ≡ keys_of r.residual_forbids.entries
+  open_forbid_ids = keys_seen (λ v. bare v.0.value) r.residual_forbids.entries
+
+  pub decided_in : decision (judged_held (holding_in r))
+      ≡ decision_by (has_any r.satisfied_forbids.entries) (has_any r.satisfied_permits.entries) (has_any r.residual_permits.entries) (has_any r.residual_forbids.entries)
+  decided_in = decided_held (holding_in r) ∙ (λ i. decision_by (any_forbid i) (any_permit i) (any_open_permit i) (any_open_forbid i))
+
+  pub must_in : (b : Bool) → b ≡ (has_any r.satisfied_forbids.entries || has_any r.residual_forbids.entries)
+      → ids_with (in_must (judged_held (holding_in r))) (judged_held (holding_in r)) ≡ cond b (keys_of r.satisfied_forbids.entries) (keys_of r.satisfied_permits.entries)
+  must_in b is =
+      must_held (holding_in r)
+      ∙ (λ i. cond (any_forbid i || any_open_forbid i) (keys_of r.satisfied_forbids.entries) (keys_of r.satisfied_permits.entries))
+      ∙ ap (λ t. cond t (keys_of r.satisfied_forbids.entries) (keys_of r.satisfied_permits.entries)) (sym is)
+
+  pub may_in : (b : Bool) → b ≡ has_any r.satisfied_forbids.entries
+      → ids_with (in_may (judged_held (holding_in r))) (judged_held (holding_in r))
+      ≡ cond b (keys_of r.satisfied_forbids.entries ++ keys_of r.residual_forbids.entries) (keys_of r.satisfied_permits.entries ++ keys_of r.residual_permits.entries ++ keys_of r.residual_forbids.entries)
+  may_in b is =
+      may_held (holding_in r)
+      ∙ (λ i. cond ((any_forbid ∙ sym is) i) (keys_of r.satisfied_forbids.entries ++ open_forbid_ids i) (keys_of r.satisfied_permits.entries ++ open_permit_ids i ++ open_forbid_ids i))

@@ -1,0 +1,24 @@
+-- What is answered of the condition that is made, which is the policy's.
+use Rattle.cedar_policies.specs.Policies.{bindings_of}
+use Rattle.cedar_trees.specs.Bare.{bare}
+use Rattle.cedar_evaluator.specs.Evaluating.{condition_of}
+use Rattle.cedar_evaluator.proofs.Evaluated.{meant_so, found_so, limited_so}
+use Rattle.cedar_evaluator.proofs.evaluation.EvaluatorEvaluatePolicy.evaluate.Goals as goal
+
+pub returns-clause-means : goal.returns-clause-means
+returns-clause-means c =
+    let p = c.args.policy.now in
+    meant_so c.args.self.now (bare c.in_ok-condition.condition) (condition_of p) c.in_ok-condition.ensures c.env.result.now (bindings_of p) c.env.ensures.bindings
+    c.interpret-answer.result c.tested.result c.interpret-answer.ensures.means c.tested.ensures.means
+
+pub returns-clause-found : goal.returns-clause-found
+returns-clause-found c =
+    let p = c.args.policy.now in
+    found_so c.args.self.now (bare c.in_ok-condition.condition) (condition_of p) c.in_ok-condition.ensures c.env.result.now (bindings_of p) c.env.ensures.bindings
+    c.interpret-answer.result c.tested.result c.interpret-answer.ensures.found c.tested.ensures.found
+
+pub returns-clause-limit : goal.returns-clause-limit
+returns-clause-limit c =
+    let p = c.args.policy.now in
+    limited_so c.args.self.now (bare c.in_ok-condition.condition) (condition_of p) c.in_ok-condition.ensures c.env.result.now (bindings_of p) c.env.ensures.bindings
+    c.interpret-answer.result c.tested.result c.interpret-answer.ensures.limit c.tested.ensures.limit

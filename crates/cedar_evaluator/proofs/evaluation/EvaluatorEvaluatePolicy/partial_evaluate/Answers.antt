@@ -1,0 +1,18 @@
+-- What is answered of the condition that is made, which is the policy's.
+use Rattle.cedar_policies.specs.Policies.{bindings_of}
+use Rattle.cedar_trees.specs.Bare.{bare}
+use Rattle.cedar_evaluator.specs.Evaluating.{condition_of}
+use Rattle.cedar_evaluator.proofs.Evaluated.{judged_so, limited_so}
+use Rattle.cedar_evaluator.proofs.evaluation.EvaluatorEvaluatePolicy.partial_evaluate.Goals as goal
+
+pub returns-clause-found : goal.returns-clause-found
+returns-clause-found c =
+    let p = c.args.policy.now in
+    judged_so c.args.self.now (bare c.in_ok-condition.condition) (condition_of p) c.in_ok-condition.ensures c.env.result.now (bindings_of p) c.env.ensures.bindings
+    c.partial_interpret-answer.result c.judged.result c.partial_interpret-answer.ensures.found c.judged.ensures.found
+
+pub returns-clause-limit : goal.returns-clause-limit
+returns-clause-limit c =
+    let p = c.args.policy.now in
+    limited_so c.args.self.now (bare c.in_ok-condition.condition) (condition_of p) c.in_ok-condition.ensures c.env.result.now (bindings_of p) c.env.ensures.bindings
+    c.partial_interpret-answer.result c.judged.result c.partial_interpret-answer.ensures.limit c.judged.ensures.limit

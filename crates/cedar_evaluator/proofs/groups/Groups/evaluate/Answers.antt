@@ -1,0 +1,17 @@
+-- What is kept of one more policy.
+use Rattle.cedar_policy_set.specs.Bounds.{policy_seen}
+use Rattle.cedar_evaluator.specs.Grouping.{kept_of}
+use Rattle.cedar_evaluator.proofs.Keeping.{keeps_more}
+use Rattle.cedar_evaluator.proofs.Kept.{is_kept}
+use Rattle.cedar_evaluator.proofs.Responding.{on_ok}
+use Rattle.cedar_evaluator.proofs.groups.Groups.evaluate.Goals as goal
+
+pub returns : goal.returns
+returns c =
+    let p = c.args.policy.now in
+    let answer = c.partial_evaluate-answer.result in
+    on_ok c.keep.result
+    (λ held keepable r store table depth is es keeps.
+    keeps_more r store table depth es c.args.self.now c.keep.new.self (policy_seen p) (kept_of p answer) keeps held
+    (is_kept r store table depth c.args.evaluator.now is p answer c.partial_evaluate-answer.ensures.found c.partial_evaluate-answer.ensures.limit keepable))
+    c.keep.ensures.held c.keep.ensures.keepable

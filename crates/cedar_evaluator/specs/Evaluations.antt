@@ -1,0 +1,84 @@
+-- What an evaluation of a policy for a request finds.
+use Rattle.std.specs.Prelude.{◌≡◌, ◌<◌, ⊤, ℕ, Bool, true, false, List, [], ◌∷◌}
+use Rattle.cedar_language.specs.Uid.{Text}
+use Rattle.cedar_language.specs.Tree.{Boolean, Variable, Tree}
+use Rattle.cedar_language.specs.Value.{Plain}
+use Rattle.cedar_language.specs.Facts.{Facts}
+use Rattle.cedar_language.specs.Height.{height}
+use Rattle.cedar_language.specs.Answering.{Effect, Erring}
+use Rattle.cedar_partial_evaluation.specs.Alike.{Alike}
+use Rattle.cedar_partial_evaluation.specs.Early.{standing_of_answer}
+use Rattle.cedar_partial_evaluation.specs.Mentions.{mentions_only}
+use Rattle.cedar_partial_evaluation.specs.Partial.{Answer, Evaluated, ResidualTree, partial_in}
+use Rattle.cedar_constraints.specs.Bindings.{Bindings, unbound}
+use Rattle.cedar_extensions.specs.Failures.{Failure, OfKind, LimitMet, MemoryRanOut}
+use Rattle.cedar_extensions.specs.declared.extensions.Extensions.{Extensions}
+use Rattle.cedar_entities.specs.declared.store.Entities.{Entities}
+use Rattle.cedar_operators.specs.Store.{HasFacts}
+use Rattle.cedar_requests.specs.Holding.{RequestParts}
+use Rattle.cedar_interpreter.specs.Asking.{variable_asked, request_held}
+use Rattle.cedar_interpreter.specs.Holding.{is_evaluated}
+use Rattle.cedar_interpreter.specs.Operating.{HasFunctions, NamesNothing}
+use Rattle.cedar_policy_set.specs.Entries.{Entry, static_policy, template, link, Entries}
+pub use Rattle.cedar_policy_set.specs.Texts.{condition_in}
+use Rattle.cedar_policy_set.specs.Texts.{syntax_in}
+
+-- satisfied, not satisfied, an error, or the tree that is left of the condition
+pub data Found : Type 0 where
+  Satisfied : Found
+  Unsatisfied : Found
+  Erred : Failure → Found
+  Open : Tree → Found
+
+-- This was found where partial evaluation answers b; where the limit was met it says nothing of b, and want of memory is never kept.
+abbrev pub Finds : Facts → Answer → Found → Type 0
+Finds facts b Satisfied = b ≡ Evaluated (Plain (Boolean true))
+Finds facts b Unsatisfied = b ≡ Evaluated (Plain (Boolean false))
+Finds facts b (Erred (OfKind k)) = standing_of_answer b ≡ Erring k
+Finds facts b (Erred LimitMet) = ⊤
+Finds facts b (Erred MemoryRanOut) = ⊥
+Finds facts b (Open r) = (t : Tree) × (b ≡ ResidualTree t) × Alike facts r t
+
+-- the entities that the slots of a policy's template are bound to
+abbrev pub bindings_in : Entry → Bindings
+bindings_in (static_policy s) = unbound
+bindings_in (template s) = unbound
+bindings_in (link t s b) = b
+
+-- whether the request gives the variable a value
+abbrev pub is_given : RequestParts → Variable → Bool
+is_given r v = is_evaluated (variable_asked r v)
+
+-- what is kept of a policy: its id, its effect, and what was found
+pub record Kept : Type 0 where
+  pub id : Text
+  pub effect : Effect
+  pub found : Found
+
+module _ (r : RequestParts) (store : Entities) (table : Extensions) (depth : ℕ) where
+  -- these are the facts by which the request is answered, and no call in the tree names an unknown
+  pub record IsServed (facts : Facts) (t : Tree) : Type 0 where
+    pub entities : HasFacts store facts
+    pub functions : HasFunctions table facts
+    pub names_nothing : NamesNothing table t
+
+  -- what partial evaluation of the policy's condition answers
+  abbrev pub policy_answer : Facts → Entry → Answer
+  policy_answer facts e = partial_in facts (request_held r (bindings_in e)) (condition_in e)
+
+  -- a condition that mentions nothing unknown is higher than the limit
+  abbrev pub IsTooHigh : Entry → Type 0
+  IsTooHigh e = (facts : Facts) → IsServed facts (condition_in e) → mentions_only (is_given r) true (condition_in e) ≡ true → depth < height (condition_in e)
+
+  -- what is kept of the policy of this id
+  pub record IsKept (e : Text × Entry) (k : Kept) : Type 0 where
+    pub id : k.id ≡ e.0
+    pub effect : k.effect ≡ (syntax_in e.1).effect
+    pub found : (facts : Facts) → IsServed facts (condition_in e.1) → Finds facts (policy_answer facts e.1) k.found
+    pub limit : k.found ≡ Erred LimitMet → IsTooHigh e.1
+
+  -- what is kept of each policy, one after another
+  abbrev pub AreKept : Entries → List Kept → Type 0
+  AreKept [] [] = ⊤
+  AreKept (e ∷ es) (k ∷ ks) = IsKept e k × AreKept es ks
+  AreKept es ks = ⊥

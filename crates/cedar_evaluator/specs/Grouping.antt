@@ -1,0 +1,85 @@
+-- Policies in groups, by their effects and by what was found of them.
+use Rattle.std.specs.Prelude.{◌≡◌, ℕ, Bool, true, false, Option, Some, None, List, [], ◌∷◌, ◌++◌, map, Result, Ok, Err}
+use Rattle.std.specs.List.{IsDistinct}
+use Rattle.std.specs.Map.{keys_of}
+use Rattle.either.specs.declared.Either.{Either}
+use Rattle.cedar_language.specs.Answering.{Permit, Forbid}
+use Rattle.cedar_language.specs.Order.{same_text}
+use Rattle.cedar_entities.specs.declared.store.Entities.{Entities}
+use Rattle.cedar_extensions.specs.Failures.{Failure, OfKind, LimitMet, MemoryRanOut, failure_of}
+use Rattle.cedar_extensions.specs.declared.evaluation_error.EvaluationError.{EvaluationError}
+use Rattle.cedar_extensions.specs.declared.extensions.Extensions.{Extensions}
+use Rattle.cedar_policies.specs.Policies.{policy_id, policy_syntax}
+use Rattle.cedar_policies.specs.declared.policies.Policy.{Policy}
+use Rattle.cedar_policy_set.specs.Entries.{Entries}
+use Rattle.cedar_requests.specs.Holding.{RequestParts}
+use Rattle.cedar_trees.specs.Bare.{bare}
+use Rattle.cedar_trees.specs.declared.expr.Expr.{Expr}
+use Rattle.cedar_evaluator.specs.Evaluating.{found_by}
+use Rattle.cedar_evaluator.specs.Evaluations.{Found, Erred, Kept, AreKept}
+use Rattle.cedar_evaluator.specs.Holding.{has_erred, error_seen}
+use Rattle.cedar_evaluator.specs.Responses.{Holding, if_effect, satisfied_id, false_id, open_id, error_id, holding_of}
+use Rattle.cedar_evaluator.specs.declared.groups.Groups.{Groups}
+
+-- the policies of each group and the errors, in their order
+abbrev pub held_in : Groups → Holding
+held_in g = record {
+  satisfied_permits = keys_of g.satisfied_permits.items;
+  false_permits = map (λ e. (e.0, has_erred e.1.0)) g.false_permits.items;
+  open_permits = map (λ e. (e.0, bare e.1.0.value)) g.residual_permits.items;
+  satisfied_forbids = keys_of g.satisfied_forbids.items;
+  false_forbids = map (λ e. (e.0, has_erred e.1.0)) g.false_forbids.items;
+  open_forbids = map (λ e. (e.0, bare e.1.0.value)) g.residual_forbids.items;
+  errors = map error_seen g.errors.items;
+}
+
+-- one more at the end, where there is one
+abbrev pub and_then : {X : Type 0} → List X → Option X → List X
+and_then xs None = xs
+and_then xs (Some x) = xs ++ x ∷ []
+
+-- one more policy, in the group of what is kept of it
+abbrev pub with_kept : Kept → Holding → Holding
+with_kept k h = record {
+  satisfied_permits = and_then h.satisfied_permits (if_effect Permit k.effect (satisfied_id k.id k.found));
+  false_permits = and_then h.false_permits (if_effect Permit k.effect (false_id k.id k.found));
+  open_permits = and_then h.open_permits (if_effect Permit k.effect (open_id k.id k.found));
+  satisfied_forbids = and_then h.satisfied_forbids (if_effect Forbid k.effect (satisfied_id k.id k.found));
+  false_forbids = and_then h.false_forbids (if_effect Forbid k.effect (false_id k.id k.found));
+  open_forbids = and_then h.open_forbids (if_effect Forbid k.effect (open_id k.id k.found));
+  errors = and_then h.errors (error_id k.id k.found);
+}
+
+-- what an evaluation answered, as what was found
+abbrev pub found_in : Result (Either Bool (Expr (Unit {0}))) EvaluationError → Found
+found_in (Ok e) = found_by e
+found_in (Err e) = Erred (failure_of e)
+
+-- what is kept of a policy of which this was answered
+abbrev pub kept_of : Policy → Result (Either Bool (Expr (Unit {0}))) EvaluationError → Kept
+kept_of p answer = record { id = policy_id p; effect = (policy_syntax p).effect; found = found_in answer }
+
+-- want of memory
+abbrev pub is_want : Failure → Bool
+is_want (OfKind k) = false
+is_want LimitMet = false
+is_want MemoryRanOut = true
+
+-- the answer isn't want of memory
+abbrev pub IsKeepable : Result (Either Bool (Expr (Unit {0}))) EvaluationError → Type 0
+IsKeepable answer = found_in answer ≡ Erred MemoryRanOut → ⊥
+
+-- of each policy what was found of it is kept, and nothing else
+pub record Keeps (r : RequestParts) (store : Entities) (table : Extensions) (depth : ℕ) (es : Entries) (g : Groups) : Type 0 where
+  pub kept : List Kept
+  pub each : AreKept r store table depth es kept
+  pub holds : held_in g ≡ holding_of kept
+
+-- of no group an id stands twice
+pub record AreApart (g : Groups) : Type 0 where
+  pub satisfied_permits : IsDistinct same_text (keys_of g.satisfied_permits.items)
+  pub false_permits : IsDistinct same_text (keys_of g.false_permits.items)
+  pub residual_permits : IsDistinct same_text (keys_of g.residual_permits.items)
+  pub satisfied_forbids : IsDistinct same_text (keys_of g.satisfied_forbids.items)
+  pub false_forbids : IsDistinct same_text (keys_of g.false_forbids.items)
+  pub residual_forbids : IsDistinct same_text (keys_of g.residual_forbids.items)

@@ -1,0 +1,37 @@
+-- What a response holds.
+use Rattle.std.specs.Prelude.{Bool, true, false, List, map}
+use Rattle.std.specs.Map.{keys_of}
+use Rattle.std.specs.declared.alloc.Global.{Global}
+use Rattle.std.specs.declared.rc.Rc.{Rc}
+use Rattle.cedar_grammar.specs.Build.{Keyed}
+use Rattle.cedar_language.specs.Tree.{Tree}
+use Rattle.cedar_language.specs.Uid.{Text}
+use Rattle.cedar_extensions.specs.Failures.{Failure, failure_of}
+use Rattle.cedar_trees.specs.Bare.{bare}
+use Rattle.cedar_evaluator.specs.Responses.{Holding}
+use Rattle.cedar_evaluator.specs.declared.errors.AuthorizationError.{AuthorizationError}
+use Rattle.cedar_evaluator.specs.declared.errors.AuthorizationError.TheVariants.{PolicyEvaluationError}
+use Rattle.cedar_evaluator.specs.declared.partial_response.ErrorState.{ErrorState}
+use Rattle.cedar_evaluator.specs.declared.partial_response.ErrorState.TheVariants.{NoError, Error}
+use Rattle.cedar_evaluator.specs.declared.partial_response.PartialResponse.{PartialResponse}
+
+-- whether a policy that isn't satisfied erred
+abbrev pub has_erred : ErrorState → Bool
+has_erred NoError = false
+has_erred Error = true
+
+-- a policy's id, and why it erred
+abbrev pub error_seen : AuthorizationError → Text × Failure
+error_seen (PolicyEvaluationError id error) = (id, failure_of error)
+
+-- the policies of each group and the errors, in their order
+abbrev pub holding_in : PartialResponse → Holding
+holding_in r = record {
+  satisfied_permits = keys_of r.satisfied_permits.entries;
+  false_permits = map (λ e. (e.0, has_erred e.1.0)) r.false_permits.entries;
+  open_permits = map (λ e. (e.0, bare e.1.0.value)) r.residual_permits.entries;
+  satisfied_forbids = keys_of r.satisfied_forbids.entries;
+  false_forbids = map (λ e. (e.0, has_erred e.1.0)) r.false_forbids.entries;
+  open_forbids = map (λ e. (e.0, bare e.1.0.value)) r.residual_forbids.entries;
+  errors = map error_seen r.errors.items;
+}

@@ -1,0 +1,57 @@
+// The authorizer.
+ghost use Rattle.std.specs.Prelude.{◌≡◌, IfOk};
+ghost use Rattle.cedar_requests.specs.Holding.{request_parts};
+ghost use Rattle.cedar_evaluator.specs.Authorizing.{table_of, limit_of, Responds};
+
+use crate::groups::Groups;
+use crate::partial_response::PartialResponse;
+use cedar_entities::store::Entities;
+use cedar_extensions::extensions::Extensions;
+use cedar_interpreter::Evaluator;
+use cedar_policy_set::sets::PolicySet;
+use cedar_requests::Request;
+use std::alloc::{AllocError, Global};
+
+/// Answers requests by policies and entities; policies may call the functions of its extensions, and no
+/// evaluation nests deeper than its limit. Contracts see these by `table_of` and `limit_of`.
+pub struct Authorizer<'e, 'f> {
+    pub(crate) extensions: &'e Extensions<'f>,
+    pub(crate) depth: u32,
+}
+
+impl Drop for Authorizer<'_, '_> {
+    fn drop(self) {
+        let Authorizer {
+            extensions: _,
+            depth: _,
+        } = self;
+    }
+}
+
+impl<'e, 'f> Authorizer<'e, 'f> {
+    /// The authorizer with these functions and this limit of depth, the outermost expression being at 1.
+    pub fn new(extensions: &'e Extensions<'f>, depth: u32) -> Authorizer<'e, 'f>
+        ensures table { table_of result ≡ extensions.now }
+        ensures limit { limit_of result ≡ depth }
+    {
+        Authorizer { extensions, depth }
+    }
+
+    /// What each policy in force, a static policy or a link, comes to for this request. An error of one is
+    /// kept with it, and counts as not satisfied, `RecursionLimit` among them; refused for memory alone.
+    /// (Cedar language reference, "Authorization".)
+    pub fn is_authorized_core(
+        &self,
+        alloc: Global,
+        request: Request,
+        policies: &PolicySet,
+        entities: &Entities,
+    ) -> Result<PartialResponse, AllocError>
+        ensures { IfOk result (λ response. Responds (request_parts request) entities.now (table_of self.now) (limit_of self.now) policies.now response) }
+    {
+        let _count = policies.len();
+        let evaluator = Evaluator::new(alloc, &request, entities, self.extensions, self.depth)?;
+        let groups = Groups::of_policies(alloc, &evaluator, policies)?;
+        groups.into_response(alloc, request)
+    }
+}

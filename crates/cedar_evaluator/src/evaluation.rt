@@ -1,0 +1,118 @@
+// Policies evaluated for a request.
+ghost use Rattle.std.specs.Prelude.{◌≡◌, ◌<◌, ⊤, ℕ};
+ghost use Rattle.cedar_language.specs.Facts.{Facts};
+ghost use Rattle.cedar_language.specs.Value.{Outcome};
+ghost use Rattle.cedar_partial_evaluation.specs.Partial.{Answer, partial_in};
+ghost use Rattle.cedar_extensions.specs.Giving.{Gives};
+ghost use Rattle.cedar_policies.specs.Policies.{bindings_of};
+ghost use Rattle.cedar_interpreter.specs.Holding.{held_by, Serves, Deep, depth_of};
+ghost use Rattle.cedar_interpreter.specs.Meeting.{MeetsAt, ValueAt, IsLimit};
+ghost use Rattle.cedar_operators.specs.Operands.{boolean_in, IsOperand};
+ghost use Rattle.cedar_evaluator.specs.Evaluating.{condition_of, JudgesAt, MeansStanding, StandsAt, StandsBy};
+
+use cedar_extensions::evaluation_error::EvaluationError;
+use cedar_interpreter::Evaluator;
+use cedar_literals::literals::Literal;
+use cedar_literals::types::Type;
+use cedar_policies::policies::Policy;
+use cedar_restricted::partial_values::PartialValue;
+use cedar_trees::expr::Expr;
+use cedar_values::values::{Value, ValueKind};
+use either::Either;
+use std::alloc::Global;
+
+/// Evaluators of policies; their type stands below the policies.
+pub trait EvaluatePolicy {
+    /// Whether a policy is satisfied, or what is left of its condition where some of what it reads isn't
+    /// known.
+    ///
+    /// It errs with what the condition errs with, `TypeError` where the condition is no Boolean,
+    /// `RecursionLimit` where the evaluation nests deeper than the limit, and `Memory`.
+    /// (Cedar language reference, "Authorization".)
+    fn partial_evaluate(
+        &self,
+        alloc: Global,
+        policy: &Policy,
+    ) -> Result<Either<bool, Expr>, EvaluationError>;
+
+    /// Whether a policy is satisfied. It errs besides with `NonValue` where something is left of its
+    /// condition.
+    fn evaluate(&self, alloc: Global, policy: &Policy) -> Result<bool, EvaluationError>;
+}
+
+impl<'s, 'e, 'f> EvaluatePolicy for Evaluator<'s, 'e, 'f> {
+    fn partial_evaluate(
+        &self,
+        alloc: Global,
+        policy: &Policy,
+    ) -> Result<Either<bool, Expr>, EvaluationError>
+        ensures found { (facts : Facts) → Serves self.now facts (condition_of policy.now) → JudgesAt facts (partial_in facts (held_by self.now (bindings_of policy.now)) (condition_of policy.now)) result }
+        ensures limit { IsLimit result → Deep self.now (depth_of self.now) (condition_of policy.now) }
+    {
+        let condition = policy.condition(alloc)?;
+        let answer = self.partial_interpret(alloc, &condition, policy.env());
+        judged(alloc, answer)
+    }
+
+    fn evaluate(&self, alloc: Global, policy: &Policy) -> Result<bool, EvaluationError>
+        ensures means { (facts : Facts) → Serves self.now facts (condition_of policy.now) → MeansStanding facts (held_by self.now (bindings_of policy.now)) (depth_of self.now) (condition_of policy.now) result }
+        ensures found { (facts : Facts) → Serves self.now facts (condition_of policy.now) → StandsAt (partial_in facts (held_by self.now (bindings_of policy.now)) (condition_of policy.now)) result }
+        ensures limit { IsLimit result → Deep self.now (depth_of self.now) (condition_of policy.now) }
+    {
+        let condition = policy.condition(alloc)?;
+        let answer = self.interpret(alloc, &condition, policy.env());
+        tested(alloc, answer)
+    }
+}
+
+// Whether an answer is true, or what is left of it; `TypeError` where it is no Boolean.
+fn judged(
+    alloc: Global,
+    answer: Result<PartialValue, EvaluationError>,
+) -> Result<Either<bool, Expr>, EvaluationError>
+    ensures found { (facts : Facts) (b : Answer) → MeetsAt facts ⊤ b answer → JudgesAt facts b result }
+    ensures limit { IsLimit result → IsLimit answer }
+{
+    match answer {
+        Err(error) => Err(error),
+        Ok(PartialValue::Residual(rest)) => Ok(Either::Right(rest)),
+        Ok(PartialValue::Value(value)) => match boolean(alloc, &value) {
+            Ok(satisfied) => Ok(Either::Left(satisfied)),
+            Err(error) => Err(error),
+        },
+    }
+}
+
+// Whether an answer is true; `TypeError` where it is no Boolean.
+fn tested(alloc: Global, answer: Result<Value, EvaluationError>) -> Result<bool, EvaluationError>
+    ensures means { (depth high : ℕ) (meant : Outcome) → Gives (λ v. v) (depth < high) answer meant → StandsBy (depth < high) meant result }
+    ensures found { (b : Answer) → ValueAt ⊤ b answer → StandsAt b result }
+    ensures limit { IsLimit result → IsLimit answer }
+{
+    match answer {
+        Err(error) => Err(error),
+        Ok(value) => boolean(alloc, &value),
+    }
+}
+
+// The Boolean that a value has to be.
+fn boolean(alloc: Global, value: &Value) -> Result<bool, EvaluationError>
+    ensures { IsOperand (λ s. s) (boolean_in value.now) result }
+{
+    match as_bool(value) {
+        Some(s) => Ok(s),
+        None => Err(EvaluationError::type_error_single(alloc, Type::Bool, value)?),
+    }
+}
+
+fn as_bool(value: &Value) -> Option<bool>
+    ensures { boolean_in value.now ≡ result }
+{
+    match value.value_kind() {
+        ValueKind::Lit(literal) => match literal {
+            Literal::Bool(b) => Some(*b),
+            Literal::Long(_) | Literal::String(_) | Literal::EntityUID(_) => None,
+        },
+        ValueKind::Set(_) | ValueKind::Record(_) | ValueKind::ExtensionValue(_) => None,
+    }
+}

@@ -1,0 +1,270 @@
+// Policies in groups, by their effects and by what was found of them.
+ghost use Rattle.std.specs.Prelude.{◌≡◌, ℕ, [], ◌∷◌, ◌++◌, IfOk, OnOk};
+ghost use Rattle.cedar_entities.specs.declared.store.Entities.{Entities as Store};
+ghost use Rattle.cedar_extensions.specs.Failures.{failure_of};
+ghost use Rattle.cedar_extensions.specs.declared.extensions.Extensions.{Extensions};
+ghost use Rattle.cedar_interpreter.specs.Asking.{IsEvaluatorOf};
+ghost use Rattle.cedar_policy_parts.specs.Effects.{effect_of};
+ghost use Rattle.cedar_policy_set.specs.Bounds.{policy_seen};
+ghost use Rattle.cedar_policy_set.specs.Entries.{Entries, policies_of};
+ghost use Rattle.cedar_requests.specs.Holding.{RequestParts};
+ghost use Rattle.cedar_trees.specs.Bare.{bare};
+ghost use Rattle.cedar_evaluator.specs.Evaluations.{Satisfied, Unsatisfied, Erred, Open};
+ghost use Rattle.cedar_evaluator.specs.Grouping.{held_in, with_kept, kept_of, is_want, IsKeepable, Keeps, AreApart};
+ghost use Rattle.cedar_evaluator.specs.Holding.{holding_in};
+
+use crate::errors::AuthorizationError;
+use crate::evaluation::EvaluatePolicy;
+use crate::partial_response::{ErrorState, PartialResponse};
+use cedar_extensions::evaluation_error::EvaluationError;
+use cedar_extensions::lookups::ExtensionFunctionLookupError;
+use cedar_interpreter::Evaluator;
+use cedar_policies::policies::Policy;
+use cedar_policy_parts::annotations::Annotations;
+use cedar_policy_parts::{Effect, PolicyID};
+use cedar_policy_set::sets::PolicySet;
+use cedar_requests::Request;
+use cedar_trees::expr::Expr;
+use either::Either;
+use std::alloc::{AllocError, Global};
+use std::rc::Rc;
+
+// The policies so far, of each effect those that are satisfied, those that aren't, and those that are open,
+// and the errors.
+pub(crate) struct Groups {
+    satisfied_permits: Vec<(PolicyID, Rc<Annotations>)>,
+    false_permits: Vec<(PolicyID, (ErrorState, Rc<Annotations>))>,
+    residual_permits: Vec<(PolicyID, (Rc<Expr>, Rc<Annotations>))>,
+    satisfied_forbids: Vec<(PolicyID, Rc<Annotations>)>,
+    false_forbids: Vec<(PolicyID, (ErrorState, Rc<Annotations>))>,
+    residual_forbids: Vec<(PolicyID, (Rc<Expr>, Rc<Annotations>))>,
+    errors: Vec<AuthorizationError>,
+}
+
+// By hand, so that letting go of one is a call.
+impl Drop for Groups {
+    fn drop(self) {
+        let Groups {
+            satisfied_permits: _satisfied_permits,
+            false_permits: _false_permits,
+            residual_permits: _residual_permits,
+            satisfied_forbids: _satisfied_forbids,
+            false_forbids: _false_forbids,
+            residual_forbids: _residual_forbids,
+            errors: _errors,
+        } = self;
+    }
+}
+
+// Whether an error is want of memory.
+fn is_want_of_memory(error: &EvaluationError) -> bool
+    ensures { result ≡ is_want (failure_of error.now) }
+{
+    match error {
+        EvaluationError::Memory => true,
+        EvaluationError::FailedExtensionFunctionLookup(error) => match error {
+            ExtensionFunctionLookupError::Memory(_) => true,
+            ExtensionFunctionLookupError::FuncDoesNotExist(_) => false,
+        },
+        EvaluationError::EntityDoesNotExist(_) => false,
+        EvaluationError::EntityAttrDoesNotExist(_) => false,
+        EvaluationError::RecordAttrDoesNotExist(_) => false,
+        EvaluationError::TypeError(_) => false,
+        EvaluationError::WrongNumArguments(_) => false,
+        EvaluationError::IntegerOverflow(_) => false,
+        EvaluationError::UnlinkedSlot(_) => false,
+        EvaluationError::FailedExtensionFunctionExecution(_) => false,
+        EvaluationError::NonValue(_) => false,
+        EvaluationError::RecursionLimit(_) => false,
+    }
+}
+
+fn copied(id: &PolicyID) -> Result<PolicyID, AllocError>
+    ensures { IfOk result (λ copy. copy ≡ id.now) }
+{
+    Ok(id.clone()?)
+}
+
+impl Groups {
+    // No policies yet.
+    fn new(alloc: Global) -> Groups
+        ensures { held_in result ≡ record {
+          satisfied_permits = [];
+          false_permits = [];
+          open_permits = [];
+          satisfied_forbids = [];
+          false_forbids = [];
+          open_forbids = [];
+          errors = [];
+        } }
+    {
+        Groups {
+            satisfied_permits: Vec::new(alloc),
+            false_permits: Vec::new(alloc),
+            residual_permits: Vec::new(alloc),
+            satisfied_forbids: Vec::new(alloc),
+            false_forbids: Vec::new(alloc),
+            residual_forbids: Vec::new(alloc),
+            errors: Vec::new(alloc),
+        }
+    }
+
+    /// What each policy of a set, a static policy or a link, comes to, in their order; refused for memory
+    /// alone.
+    pub(crate) fn of_policies(
+        alloc: Global,
+        evaluator: &Evaluator<'_, '_, '_>,
+        policies: &PolicySet,
+    ) -> Result<Groups, AllocError>
+        ensures { IfOk result (λ groups. (r : RequestParts) (store : Store) (table : Extensions) (depth : ℕ) →
+            IsEvaluatorOf r store table depth evaluator.now → Keeps r store table depth (policies_of policies.now) groups) }
+    {
+        let mut groups = Groups::new(alloc);
+        for policy in policies.policies() {
+            groups.evaluate(alloc, evaluator, policy)?;
+        }
+        Ok(groups)
+    }
+
+    // Evaluates one more policy, and keeps what it comes to.
+    fn evaluate(
+        &mut self,
+        alloc: Global,
+        evaluator: &Evaluator<'_, '_, '_>,
+        policy: &Policy,
+    ) -> Result<(), AllocError>
+        ensures { OnOk result ((r : RequestParts) (store : Store) (table : Extensions) (depth : ℕ) →
+            IsEvaluatorOf r store table depth evaluator.now → (es : Entries) →
+            Keeps r store table depth es self.old → Keeps r store table depth (es ++ policy_seen policy.now ∷ []) self.new) }
+    {
+        let answer = evaluator.partial_evaluate(alloc, policy);
+        self.keep(alloc, policy, answer)
+    }
+
+    // Keeps what one more policy comes to; want of memory is handed on.
+    fn keep(
+        &mut self,
+        alloc: Global,
+        policy: &Policy,
+        answer: Result<Either<bool, Expr>, EvaluationError>,
+    ) -> Result<(), AllocError>
+        ensures held { OnOk result (held_in self.new ≡ with_kept (kept_of policy.now answer) (held_in self.old)) }
+        ensures keepable { OnOk result (IsKeepable answer) }
+    {
+        let effect = policy.effect();
+        let id = copied(policy.id())?;
+        let annotations = policy.annotations_arc().clone()?;
+        match answer {
+            Ok(Either::Left(satisfied)) => {
+                if satisfied {
+                    self.keep_satisfied(effect, id, annotations)
+                } else {
+                    self.keep_unsatisfied(effect, id, annotations)
+                }
+            }
+            Ok(Either::Right(rest)) => {
+                self.keep_open(effect, id, Rc::new(alloc, rest)?, annotations)
+            }
+            Err(error) => {
+                if is_want_of_memory(&error) {
+                    return Err(AllocError);
+                }
+                self.keep_erring(effect, id, error, annotations)
+            }
+        }
+    }
+
+    fn keep_satisfied(
+        &mut self,
+        effect: Effect,
+        id: PolicyID,
+        annotations: Rc<Annotations>,
+    ) -> Result<(), AllocError>
+        ensures { OnOk result (held_in self.new ≡ with_kept (record { id = id; effect = effect_of effect; found = Satisfied }) (held_in self.old)) }
+    {
+        match effect {
+            Effect::Permit => Ok(self.satisfied_permits.push((id, annotations))?),
+            Effect::Forbid => Ok(self.satisfied_forbids.push((id, annotations))?),
+        }
+    }
+
+    fn keep_unsatisfied(
+        &mut self,
+        effect: Effect,
+        id: PolicyID,
+        annotations: Rc<Annotations>,
+    ) -> Result<(), AllocError>
+        ensures { OnOk result (held_in self.new ≡ with_kept (record { id = id; effect = effect_of effect; found = Unsatisfied }) (held_in self.old)) }
+    {
+        let kept = (id, (ErrorState::NoError, annotations));
+        match effect {
+            Effect::Permit => Ok(self.false_permits.push(kept)?),
+            Effect::Forbid => Ok(self.false_forbids.push(kept)?),
+        }
+    }
+
+    fn keep_open(
+        &mut self,
+        effect: Effect,
+        id: PolicyID,
+        rest: Rc<Expr>,
+        annotations: Rc<Annotations>,
+    ) -> Result<(), AllocError>
+        ensures { OnOk result (held_in self.new ≡ with_kept (record { id = id; effect = effect_of effect; found = Open (bare rest.value) }) (held_in self.old)) }
+    {
+        let kept = (id, (rest, annotations));
+        match effect {
+            Effect::Permit => Ok(self.residual_permits.push(kept)?),
+            Effect::Forbid => Ok(self.residual_forbids.push(kept)?),
+        }
+    }
+
+    // An error counts as not satisfied.
+    fn keep_erring(
+        &mut self,
+        effect: Effect,
+        id: PolicyID,
+        error: EvaluationError,
+        annotations: Rc<Annotations>,
+    ) -> Result<(), AllocError>
+        ensures { OnOk result (held_in self.new ≡ with_kept (record { id = id; effect = effect_of effect; found = Erred (failure_of error) }) (held_in self.old)) }
+    {
+        let copy = copied(&id)?;
+        self.errors.push(AuthorizationError::PolicyEvaluationError { id: copy, error })?;
+        let kept = (id, (ErrorState::Error, annotations));
+        match effect {
+            Effect::Permit => Ok(self.false_permits.push(kept)?),
+            Effect::Forbid => Ok(self.false_forbids.push(kept)?),
+        }
+    }
+
+    /// The response to a request of which these are found; refused for memory alone.
+    pub(crate) fn into_response(
+        self,
+        alloc: Global,
+        request: Request,
+    ) -> Result<PartialResponse, AllocError>
+        ensures { IfOk result (λ response. AreApart self → holding_in response ≡ held_in self) }
+    {
+        let Groups {
+            satisfied_permits,
+            false_permits,
+            residual_permits,
+            satisfied_forbids,
+            false_forbids,
+            residual_forbids,
+            errors,
+        } = self;
+        PartialResponse::new(
+            alloc,
+            satisfied_permits,
+            false_permits,
+            residual_permits,
+            satisfied_forbids,
+            false_forbids,
+            residual_forbids,
+            errors,
+            Rc::new(alloc, request)?,
+        )
+    }
+}
