@@ -69,6 +69,32 @@ def unlinks(count):
     return links(count) + b''.join(frame('unlink', '"l%d"' % n) for n in range(count))
 
 
+def clauses(count):
+    """Policies whose clauses read attributes of the principal and of the context."""
+    return ''.join(
+        'permit(principal, action, resource) when { principal.level > %d && context.hour < 18 };\n' % n for n in range(count)
+    )
+
+
+def asks_with_clauses(count, policies_held):
+    user = '[{uid: User::"u7", attrs: {level: %d}}]' % (policies_held // 2)
+    ask = ASK.replace('{}', '{hour: 9}')
+    return frame('put', user) + frame('load', clauses(policies_held)) + frame('ask', ask) * count
+
+
+def asks_of_condition(count, operators):
+    """One policy, whose condition is a chain of this many sums and one comparison."""
+    text = 'permit(principal, action, resource) when { context.hour' + ' + 1' * (operators - 1) + ' < 1000 };'
+    return frame('load', text) + frame('ask', ASK.replace('{}', '{hour: 9}')) * count
+
+
+def asks_with_unknowns(count, keys, known):
+    """A hundred policies, each of which reads one of the keys of the context; all of these are known, or none is."""
+    text = ''.join('permit(principal, action, resource) when { context.k%d == %d };\n' % (n % keys, n) for n in range(100))
+    context = ', '.join('k%d: %s' % (n, n if known else 'unknown("k%d")' % n) for n in range(keys))
+    return frame('load', text) + frame('ask', ASK.replace('{}', '{%s}' % context)) * count
+
+
 def cases():
     yield '10,000 asks, 100 policies', asks(10_000, 100)
     yield '20,000 asks, 100 policies', asks(20_000, 100)
@@ -87,6 +113,13 @@ def cases():
     yield '4,000 links', links(4000)
     yield '4,000 links, and each unlinked', unlinks(4000)
     yield '10,000 asks, 100 links', links(100) + frame('ask', ASK) * 10_000
+    for held in (100, 1000):
+        yield '10,000 asks, %s policies with clauses' % format(held, ','), asks_with_clauses(10_000, held)
+    for operators in (5, 50, 250):
+        yield '100,000 asks, a condition of %d' % operators, asks_of_condition(100_000, operators)
+    for keys in (1, 5, 50):
+        yield '1,000 asks, %d keys known' % keys, asks_with_unknowns(1000, keys, True)
+        yield '1,000 asks, %d keys unknown' % keys, asks_with_unknowns(1000, keys, False)
 
 
 def seconds(program, data, repeat):

@@ -21,7 +21,7 @@ fn part(alloc: Global, id: &str, is_missing: bool) -> Result<EntityUIDEntry, All
 }
 
 /// The user `a` asks to do `b` to `c` in an empty context; one of the four may be missing.
-fn question(alloc: Global, missing: &str) -> Result<Request, AllocError> {
+pub(crate) fn question(alloc: Global, missing: &str) -> Result<Request, AllocError> {
     let principal = part(alloc, "a", missing == "principal")?;
     let action = part(alloc, "b", missing == "action")?;
     let resource = part(alloc, "c", missing == "resource")?;

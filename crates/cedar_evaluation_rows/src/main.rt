@@ -4,11 +4,13 @@
 #![tactic(auto)]
 
 mod evaluators;
+mod policies;
 
 use cedar_expressions::Extensions;
 use cedar_expressions::ast::{Expr, Value};
 use cedar_operator_rows::operators;
 use cedar_operator_rows::stores::{self, Stores};
+use cedar_policy_set::sets::PolicySet;
 use cedar_request_rows::requests::{self, Requests};
 use cedar_restricted_rows::{partial_values, substitution};
 use cedar_rows::{Answer, Step, no_case};
@@ -21,6 +23,7 @@ use std::rc::RcStr;
 /// What earlier steps left. The stacks, and what is told, are empty where a line begins.
 struct Held {
     stores: Stores,
+    policies: PolicySet,
     requests: Requests,
     exprs: Vec<Expr>,
     values: Vec<Value>,
@@ -32,6 +35,7 @@ impl Drop for Held {
     fn drop(self) {
         let Held {
             stores: _,
+            policies: _,
             requests: _,
             exprs: _,
             values: _,
@@ -44,6 +48,7 @@ impl Drop for Held {
 fn nothing(alloc: Global) -> Held {
     Held {
         stores: stores::none(alloc),
+        policies: PolicySet::new(alloc),
         requests: requests::none(alloc),
         exprs: Vec::new(alloc),
         values: Vec::new(alloc),
@@ -85,6 +90,10 @@ fn evaluated(alloc: Global, section: &str, step: &Step<'_>, held: &mut Held) -> 
             evaluators::answer_of(alloc, verb, one, exprs, requests, store, table)
         }
         "restricted" => evaluators::restricted(alloc, verb, one, exprs, &held.table),
+        "policies" => {
+            let (store, table) = (&held.stores.store, &held.table);
+            policies::answer(alloc, verb, one, other, &mut held.policies, store, table)
+        }
         _ => requested(alloc, section, step, held),
     }
 }

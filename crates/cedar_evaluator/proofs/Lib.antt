@@ -8,3 +8,6 @@ mod Kept
 mod Responding
 mod Deciding
 mod Reading
+mod Concrete
+mod Residuals
+mod Sought

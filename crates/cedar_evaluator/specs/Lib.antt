@@ -6,3 +6,5 @@ pub mod Authorizing
 pub mod Given
 pub mod Grouping
 pub mod Deciding
+pub mod Concrete
+pub mod Residuals

@@ -8,3 +8,5 @@ pub mod errors;
 pub mod evaluation;
 mod groups;
 pub mod partial_response;
+pub mod readers;
+pub mod response;

@@ -1,0 +1,187 @@
+// What policies come to for a question, and what the authorizer responds.
+use crate::evaluators::question;
+use cedar_entities::store::Entities;
+use cedar_evaluator::authorizer::Authorizer;
+use cedar_evaluator::evaluation::EvaluatePolicy;
+use cedar_evaluator::partial_response::PartialResponse;
+use cedar_evaluator::response::Response;
+use cedar_expressions::Extensions;
+use cedar_interpreter::Evaluator;
+use cedar_parser::ExtStyles;
+use cedar_parser::prelude::StylesOfExtensions;
+use cedar_parser::strict::parse_policyset_strict;
+use cedar_policies::policies::Policy;
+use cedar_policy_parts::PolicyID;
+use cedar_policy_set::sets::PolicySet;
+use cedar_request_rows::requests::word_depth;
+use cedar_rows::{Answer, explain, no_case, refused_for, said, separate, tell};
+use either::Either;
+use std::alloc::{AllocError, Global};
+
+/// Reads the text of policies in place of those that were read before, and answers how many there are.
+fn read(alloc: Global, text: &str, table: &Extensions<'_>, set: &mut PolicySet) -> Answer {
+    let styles = ExtStyles::for_policies(alloc, table)?;
+    match parse_policyset_strict(alloc, text, &styles, 64) {
+        Ok(policies) => {
+            *set = policies;
+            tell(alloc, set.len())
+        }
+        Err(errors) => refused_for(alloc, errors),
+    }
+}
+
+/// Whether a policy is satisfied, or what is left of its condition.
+fn left(alloc: Global, evaluator: &Evaluator<'_, '_, '_>, policy: &Policy) -> Answer {
+    match evaluator.partial_evaluate(alloc, policy) {
+        Ok(Either::Left(satisfied)) => said(alloc, satisfied),
+        Ok(Either::Right(rest)) => rest.to_string(alloc),
+        Err(error) => refused_for(alloc, error),
+    }
+}
+
+fn of(alloc: Global, verb: &str, evaluator: &Evaluator<'_, '_, '_>, policy: &Policy) -> Answer {
+    match verb {
+        "value" => explain(alloc, evaluator.evaluate(alloc, policy)),
+        _ => left(alloc, evaluator, policy),
+    }
+}
+
+/// That of each policy, in their order.
+fn of_each(
+    alloc: Global,
+    verb: &str,
+    evaluator: &Evaluator<'_, '_, '_>,
+    set: &PolicySet,
+) -> Answer {
+    let mut text = String::new(alloc);
+    for policy in set.policies() {
+        separate(&mut text)?;
+        text.push_str(of(alloc, verb, evaluator, policy)?.as_str())?;
+    }
+    Ok(text)
+}
+
+fn add_ids(alloc: Global, text: &mut String, ids: &[PolicyID]) -> Result<(), AllocError> {
+    for id in ids {
+        text.push(' ')?;
+        text.push_str(id.to_string(alloc)?.as_str())?;
+    }
+    Ok(())
+}
+
+/// What is decided, the policies that must and that may be reasons, and the errors.
+fn responded(alloc: Global, response: &PartialResponse) -> Answer {
+    let mut text = tell(alloc, response.decision())?;
+    text.push_str(" must")?;
+    let must = response.must_be_determining_ids(alloc)?;
+    add_ids(alloc, &mut text, must.as_slice())?;
+    text.push_str(" may")?;
+    let may = response.may_be_determining_ids(alloc)?;
+    add_ids(alloc, &mut text, may.as_slice())?;
+    for error in &response.errors {
+        text.push_str(", ")?;
+        text.push_str(error.to_string(alloc)?.as_str())?;
+    }
+    Ok(text)
+}
+
+/// Whether the request is allowed, the reasons, and the errors.
+fn answered(alloc: Global, response: &Response) -> Answer {
+    let mut text = tell(alloc, response.decision)?;
+    for id in &response.diagnostics.reason {
+        text.push(' ')?;
+        text.push_str(id.to_string(alloc)?.as_str())?;
+    }
+    for error in &response.diagnostics.errors {
+        text.push_str(", ")?;
+        text.push_str(error.to_string(alloc)?.as_str())?;
+    }
+    Ok(text)
+}
+
+/// What is left of policies, one after another.
+fn listed(alloc: Global, policies: &[Policy]) -> Answer {
+    let mut text = String::new(alloc);
+    for policy in policies {
+        separate(&mut text)?;
+        text.push_str(policy.id().to_string(alloc)?.as_str())?;
+        text.push(' ')?;
+        text.push_str(policy.condition(alloc)?.to_string(alloc)?.as_str())?;
+    }
+    Ok(text)
+}
+
+fn named(alloc: Global, ids: &[&PolicyID]) -> Answer {
+    let mut text = String::new(alloc);
+    for id in ids {
+        separate(&mut text)?;
+        text.push_str(id.to_string(alloc)?.as_str())?;
+    }
+    Ok(text)
+}
+
+/// What is left of the policy of an id.
+fn got(alloc: Global, response: &PartialResponse, id: &str) -> Answer {
+    match response.get(alloc, &PolicyID::from_string(alloc, id)?)? {
+        None => no_case(alloc),
+        Some(policy) => policy.condition(alloc)?.to_string(alloc),
+    }
+}
+
+/// What a reader of the response for a question without a principal gives.
+fn read_response(alloc: Global, reader: &str, response: &PartialResponse) -> Answer {
+    match reader {
+        "satisfied" => listed(alloc, response.definitely_satisfied(alloc)?.as_slice()),
+        "must" => listed(alloc, response.must_be_determining(alloc)?.as_slice()),
+        "may" => listed(alloc, response.may_be_determining(alloc)?.as_slice()),
+        "open" => listed(alloc, response.nontrivial_residuals(alloc)?.as_slice()),
+        "open-forbids" => listed(alloc, response.nontrivial_forbids(alloc)?.as_slice()),
+        "all" => listed(alloc, response.all_residuals(alloc)?.as_slice()),
+        "open-ids" => named(alloc, response.nontrivial_residual_ids(alloc)?.as_slice()),
+        "errored" => named(alloc, response.definitely_errored(alloc)?.as_slice()),
+        _ => got(alloc, response, reader),
+    }
+}
+
+/// What a step on policies answers, within the depth that a word gives, the variable of this name missing.
+pub(crate) fn answer(
+    alloc: Global,
+    verb: &str,
+    one: &str,
+    missing: &str,
+    set: &mut PolicySet,
+    entities: &Entities,
+    table: &Extensions<'_>,
+) -> Answer {
+    match verb {
+        "read" => read(alloc, one, table, set),
+        "respond" => {
+            let authorizer = Authorizer::new(table, word_depth(one));
+            let request = question(alloc, missing)?;
+            responded(
+                alloc,
+                &authorizer.is_authorized_core(alloc, request, set, entities)?,
+            )
+        }
+        "answer" => {
+            let authorizer = Authorizer::new(table, word_depth(one));
+            let request = question(alloc, missing)?;
+            answered(
+                alloc,
+                &authorizer.is_authorized(alloc, request, set, entities)?,
+            )
+        }
+        "residuals" => {
+            let authorizer = Authorizer::new(table, 9);
+            let request = question(alloc, "principal")?;
+            let response = authorizer.is_authorized_core(alloc, request, set, entities)?;
+            read_response(alloc, one, &response)
+        }
+        "value" | "left" => {
+            let request = question(alloc, missing)?;
+            let evaluator = Evaluator::new(alloc, &request, entities, table, word_depth(one))?;
+            of_each(alloc, verb, &evaluator, set)
+        }
+        _ => no_case(alloc),
+    }
+}

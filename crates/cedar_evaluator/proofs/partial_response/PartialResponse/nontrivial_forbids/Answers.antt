@@ -1,0 +1,11 @@
+-- One group.
+use Rattle.std.proofs.Common.{List, ◌++◌, map, sym, ◌∙◌, ap}
+use Rattle.cedar_policies.specs.declared.policies.Policy.{Policy}
+use Rattle.cedar_policy_set.specs.Bounds.{policy_seen}
+use Rattle.cedar_evaluator.proofs.Residuals.{left_when_open_forbid, open_forbids_left}
+use Rattle.cedar_evaluator.proofs.partial_response.PartialResponse.nontrivial_forbids.Goals as goal
+
+pub returns : goal.returns
+returns c =
+    let r = c.args.self.now in
+    c.in_ok-push_open.ensures ∙ ap (λ (l : List Policy). map policy_seen l ++ open_forbids_left r) c.new-policies.ensures.items ∙ sym (left_when_open_forbid r)
