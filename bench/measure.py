@@ -129,6 +129,7 @@ def seconds(program, data, repeat):
         done = subprocess.run([program], input=data, stdout=subprocess.PIPE, check=False)
         taken = time.perf_counter() - start
         assert done.returncode == 0 and done.stdout.endswith(b'end\n'), done.stdout[-200:]
+        assert b'refused' not in done.stdout, 'a command of the case is refused'
         best = taken if best is None else min(best, taken)
     return best
 
