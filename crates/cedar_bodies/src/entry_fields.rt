@@ -25,8 +25,12 @@ fn is_residual(value: &PartialValue) -> bool
     }
 }
 
-// What the trees are evaluated to, or none where some of them holds an unknown.
-fn all_evaluated(
+/// What the trees of a record's entries are evaluated to, by their keys, or none where some of them holds an
+/// unknown.
+///
+/// It is refused `Evaluation` where some part of a tree errs that holds no unknown, `Depth` where a tree is
+/// higher than `depth`, and `Memory`. The table of functions is the one that the body was read with.
+pub fn all_evaluated(
     alloc: Global,
     entries: &BTreeMap<RcStr, Expr>,
     extensions: &Extensions<'_>,

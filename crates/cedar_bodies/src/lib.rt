@@ -14,6 +14,7 @@ mod values;
 pub mod version_laws;
 
 pub use entities::{EntityBody, entity_bodies, uids_of};
+pub use entry_fields::all_evaluated;
 pub use links::{LinkBody, link_body};
 pub use listing::listed_entities;
 pub use literals::{entity_of, entries_of, items_of, string_of};

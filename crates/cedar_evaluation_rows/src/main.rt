@@ -5,6 +5,7 @@
 
 mod evaluators;
 mod policies;
+mod telling;
 
 use cedar_expressions::Extensions;
 use cedar_expressions::ast::{Expr, Value};
@@ -105,6 +106,11 @@ fn requested(alloc: Global, section: &str, step: &Step<'_>, held: &mut Held) -> 
     match section {
         "given" => partial_values::value(alloc, verb, one, &mut held.values),
         "tell" => substitution::tell_value(alloc, verb, &mut held.values, &mut held.told),
+        "told" => {
+            let (told, set) = (&held.told, &held.policies);
+            let (store, table) = (&held.stores.store, &held.table);
+            telling::answer(alloc, verb, told, set, store, table)
+        }
         "request" => {
             let (told, table, state) = (&held.told, &held.table, &mut held.requests);
             requests::answer(alloc, verb, one, other, exprs, told, table, state)

@@ -70,7 +70,7 @@ fn add_ids(alloc: Global, text: &mut String, ids: &[PolicyID]) -> Result<(), All
 }
 
 /// What is decided, the policies that must and that may be reasons, and the errors.
-fn responded(alloc: Global, response: &PartialResponse) -> Answer {
+pub(crate) fn responded(alloc: Global, response: &PartialResponse) -> Answer {
     let mut text = tell(alloc, response.decision())?;
     text.push_str(" must")?;
     let must = response.must_be_determining_ids(alloc)?;

@@ -1,5 +1,5 @@
 -- One more policy that is kept.
-use Rattle.std.proofs.Common.{◌≡◌, ℕ, Option, Some, None, List, [], ◌∷◌, ◌++◌, map, refl, sym, ◌∙◌, ap, subst}
+use Rattle.std.proofs.Common.{◌≡◌, ℕ, Option, Some, None, List, [], ◌∷◌, ◌++◌, refl, sym, ◌∙◌, ap, subst}
 use Rattle.std.specs.List.{IsDistinct, filter_map, cons_option}
 use Rattle.std.specs.Map.{keys_of}
 use Rattle.std.proofs.lemmas.List.{append-nil}
@@ -7,19 +7,22 @@ use Rattle.std.proofs.lemmas.List.Elements.{filter_map-append}
 use Rattle.std.proofs.lemmas.Map.Made.{keys_of-map_values}
 use Rattle.cedar_language.specs.Answering.{Permit, Forbid}
 use Rattle.cedar_language.specs.Order.{same_text}
-use Rattle.cedar_language.specs.Tree.{Tree}
 use Rattle.cedar_language.specs.Uid.{Text}
 use Rattle.cedar_entities.specs.declared.store.Entities.{Entities}
 use Rattle.cedar_extensions.specs.declared.extensions.Extensions.{Extensions}
-use Rattle.cedar_policy_set.specs.Entries.{Entry, Entries}
+use Rattle.cedar_interpreter.specs.Asking.{Inquiry}
+use Rattle.cedar_policy_set.specs.Entries.{Entry, Entries, policies_of}
 use Rattle.cedar_requests.specs.Holding.{RequestParts}
 use Rattle.cedar_trees.specs.Bare.{bare}
+use Rattle.cedar_evaluator.specs.Authorizing.{Responds}
 use Rattle.cedar_evaluator.specs.Evaluations.{Kept, IsKept, AreKept}
 use Rattle.cedar_evaluator.specs.Grouping.{held_in, and_then, with_kept, Keeps, AreApart}
-use Rattle.cedar_evaluator.specs.Holding.{has_erred}
-use Rattle.cedar_evaluator.specs.Responses.{Holding, if_effect, satisfied_id, false_id, open_id, error_id, satisfied_of, false_of, open_of, holding_of}
+use Rattle.cedar_evaluator.specs.Holding.{request_asked, has_erred, holding_in}
+use Rattle.cedar_evaluator.specs.Responses.{Holding, if_effect, satisfied_id, false_id, open_id, error_id, holding_of}
 use Rattle.cedar_evaluator.specs.declared.groups.Groups.{Groups}
+use Rattle.cedar_evaluator.specs.declared.partial_response.PartialResponse.{PartialResponse}
 use Rattle.cedar_evaluator.proofs.Apart.{ids_of, satisfied_apart, false_apart, open_apart}
+use Rattle.cedar_evaluator.proofs.HeldIds.{left_apart}
 
 one_pushed : {X : Type 0} (xs : List X) (o : Option X) → xs ++ cons_option o [] ≡ and_then xs o
 one_pushed xs None = append-nil xs
@@ -39,30 +42,30 @@ holding_more ks k = λ i. record {
   errors = pushed (λ (j : Kept). error_id j.id j.found) ks k i;
 }
 
-module _ (r : RequestParts) (store : Entities) (table : Extensions) (depth : ℕ) where
-  each_more : (es : Entries) (ks : List Kept) (e : Text × Entry) (k : Kept) → AreKept r store table depth es ks → IsKept r store table depth e k → AreKept r store table depth (es ++ e ∷ []) (ks ++ k ∷ [])
+module _ (i : Inquiry) (store : Entities) (table : Extensions) (depth : ℕ) where
+  each_more : (es : Entries) (ks : List Kept) (e : Text × Entry) (k : Kept) → AreKept i store table depth es ks → IsKept i store table depth e k → AreKept i store table depth (es ++ e ∷ []) (ks ++ k ∷ [])
   each_more [] [] e k each this = (this, tt)
   each_more [] (j ∷ ks) e k each this = absurd each
   each_more (d ∷ es) [] e k each this = absurd each
   each_more (d ∷ es) (j ∷ ks) e k each this = (each.0, each_more es ks e k each.1 this)
 
-  ids_kept : (es : Entries) (ks : List Kept) → AreKept r store table depth es ks → ids_of ks ≡ keys_of es
+  ids_kept : (es : Entries) (ks : List Kept) → AreKept i store table depth es ks → ids_of ks ≡ keys_of es
   ids_kept [] [] each = refl
   ids_kept [] (k ∷ ks) each = absurd each
   ids_kept (e ∷ es) [] each = absurd each
-  ids_kept (e ∷ es) (k ∷ ks) each = λ i. each.0.id i ∷ ids_kept es ks each.1 i
+  ids_kept (e ∷ es) (k ∷ ks) each = λ j. each.0.id j ∷ ids_kept es ks each.1 j
 
-  pub keeps_none : (g : Groups) → held_in g ≡ holding_of [] → Keeps r store table depth [] g
+  pub keeps_none : (g : Groups) → held_in g ≡ holding_of [] → Keeps i store table depth [] g
   keeps_none g none = record { kept = []; each = tt; holds = none }
 
-  pub keeps_more : (es : Entries) (g h : Groups) (e : Text × Entry) (k : Kept) → Keeps r store table depth es g → held_in h ≡ with_kept k (held_in g) → IsKept r store table depth e k → Keeps r store table depth (es ++ e ∷ []) h
+  pub keeps_more : (es : Entries) (g h : Groups) (e : Text × Entry) (k : Kept) → Keeps i store table depth es g → held_in h ≡ with_kept k (held_in g) → IsKept i store table depth e k → Keeps i store table depth (es ++ e ∷ []) h
   keeps_more es g h e k keeps more this = record {
     kept = keeps.kept ++ k ∷ [];
     each = each_more es keeps.kept e k keeps.each this;
     holds = more ∙ ap (with_kept k) keeps.holds ∙ sym (holding_more keeps.kept k);
   }
 
-  module _ (es : Entries) (g : Groups) (keeps : Keeps r store table depth es g) (apart : IsDistinct same_text (keys_of es)) where
+  module _ (es : Entries) (g : Groups) (keeps : Keeps i store table depth es g) (apart : IsDistinct same_text (keys_of es)) where
     ids_apart : IsDistinct same_text (ids_of keeps.kept)
     ids_apart = subst (IsDistinct same_text) (sym (ids_kept es keeps.kept keeps.each)) apart
 
@@ -75,3 +78,16 @@ module _ (r : RequestParts) (store : Entities) (table : Extensions) (depth : ℕ
       false_forbids = subst (IsDistinct same_text) (sym (ap (λ (h : Holding). keys_of h.false_forbids) keeps.holds) ∙ keys_of-map_values (λ v. has_erred v.0) g.false_forbids.items) (false_apart Forbid keeps.kept ids_apart);
       residual_forbids = subst (IsDistinct same_text) (sym (ap (λ (h : Holding). keys_of h.open_forbids) keeps.holds) ∙ keys_of-map_values (λ v. bare v.0.value) g.residual_forbids.items) (open_apart Forbid keeps.kept ids_apart);
     }
+
+  -- the response that is made of groups which keep the policies of a set
+  pub responds : (es : Entries) (g : Groups) (keeps : Keeps i store table depth (policies_of es) g) → IsDistinct same_text (keys_of (policies_of es))
+      → (response : PartialResponse) → (AreApart g → holding_in response ≡ held_in g) → {r : RequestParts} → request_asked response ≡ r → i.request ≡ r → Responds i store table depth es response
+  responds es g keeps apart response holds asked is =
+      let holds_kept = holds (are_apart (policies_of es) g keeps apart) ∙ keeps.holds in
+      record {
+        kept = keeps.kept;
+        each = keeps.each;
+        holds = holds_kept;
+        asked = asked ∙ sym is;
+        apart = left_apart response keeps.kept holds_kept (ids_apart (policies_of es) g keeps apart);
+      }

@@ -11,7 +11,7 @@ use Rattle.cedar_partial_evaluation.specs.Partial.{LeafAnswers, partial_in}
 use Rattle.cedar_entities.specs.declared.store.Entities.{Entities}
 use Rattle.cedar_extensions.specs.declared.evaluation_error.EvaluationError.{EvaluationError}
 use Rattle.cedar_extensions.specs.declared.extensions.Extensions.{Extensions}
-use Rattle.cedar_interpreter.specs.Asking.{request_held, IsEvaluatorOf}
+use Rattle.cedar_interpreter.specs.Asking.{Inquiry, request_held, IsEvaluatorOf}
 use Rattle.cedar_interpreter.specs.Holding.{held_by, is_evaluated, is_held, Serves, Deep, depth_of}
 use Rattle.cedar_interpreter.specs.Meeting.{IsLimit}
 use Rattle.cedar_interpreter.specs.Operating.{NamesNothing}
@@ -20,7 +20,6 @@ use Rattle.cedar_policies.specs.Policies.{policy_template, policy_syntax, link_o
 use Rattle.cedar_policies.specs.declared.policies.Policy.{Policy}
 use Rattle.cedar_policy_set.specs.Bounds.{policy_entry, policy_seen}
 use Rattle.cedar_policy_set.specs.Texts.{syntax_in}
-use Rattle.cedar_requests.specs.Holding.{RequestParts}
 use Rattle.cedar_templates.specs.Templates.{template_id}
 use Rattle.cedar_trees.specs.declared.expr.Expr.{Expr}
 use Rattle.cedar_evaluator.specs.Evaluating.{condition_of, JudgesAt}
@@ -30,7 +29,7 @@ use Rattle.cedar_evaluator.proofs.Answered.{finds, limit_met}
 use Rattle.cedar_evaluator.proofs.Entered.{syntax_entered, bindings_entered}
 
 module _
-    (r : RequestParts) (store : Entities) (table : Extensions) (depth : ℕ) (ev : Evaluator) (is : IsEvaluatorOf r store table depth ev)
+    (i : Inquiry) (store : Entities) (table : Extensions) (depth : ℕ) (ev : Evaluator) (is : IsEvaluatorOf i store table depth ev)
     (p : Policy) (answer : Result (Either Bool (Expr (Unit {0}))) EvaluationError)
     (found : (facts : Facts) → Serves ev facts (condition_of p) → JudgesAt facts (partial_in facts (held_by ev (bindings_of p)) (condition_of p)) answer)
     (limit : IsLimit answer → Deep ev (depth_of ev) (condition_of p))
@@ -44,22 +43,22 @@ module _
   condition_is : condition_in (policy_entry p) ≡ condition_of p
   condition_is = ap grammar.condition syntax_is
 
-  serves : (facts : Facts) → IsServed r store table depth facts (condition_in (policy_entry p)) → Serves ev facts (condition_of p)
+  serves : (facts : Facts) → IsServed i store table depth facts (condition_in (policy_entry p)) → Serves ev facts (condition_of p)
   serves facts served = is.serves facts (condition_of p) served.entities served.functions (subst (NamesNothing table) condition_is served.names_nothing)
 
-  held : held_by ev (bindings_of p) ≡ request_held r (bindings_in (policy_entry p))
-  held = is.holds (bindings_of p) ∙ ap (request_held r) (sym bindings_are)
+  held : held_by ev (bindings_of p) ≡ request_held i (bindings_in (policy_entry p))
+  held = is.holds (bindings_of p) ∙ ap (request_held i) (sym bindings_are)
 
-  answer_is : (facts : Facts) → partial_in facts (held_by ev (bindings_of p)) (condition_of p) ≡ policy_answer r store table depth facts (policy_entry p)
-  answer_is facts = ap (λ (holds : LeafAnswers). partial_in facts holds (condition_of p)) held ∙ ap (λ (t : Tree). partial_in facts (request_held r (bindings_in (policy_entry p))) t) (sym condition_is)
+  answer_is : (facts : Facts) → partial_in facts (held_by ev (bindings_of p)) (condition_of p) ≡ policy_answer i store table depth facts (policy_entry p)
+  answer_is facts = ap (λ (holds : LeafAnswers). partial_in facts holds (condition_of p)) held ∙ ap (λ (t : Tree). partial_in facts (request_held i (bindings_in (policy_entry p))) t) (sym condition_is)
 
-  given_is : is_held ev ≡ is_given r
-  given_is = λ i v. is_evaluated ((is.holds (bindings_of p) i).variable v)
+  given_is : is_held ev ≡ is_given i
+  given_is = λ j v. is_evaluated ((is.holds (bindings_of p) j).variable v)
 
-  known : mentions_only (is_given r) true (condition_in (policy_entry p)) ≡ true → mentions_only (is_held ev) true (condition_of p) ≡ true
-  known h = ap (λ (f : Variable → Bool). mentions_only f true (condition_of p)) given_is ∙ ap (λ (t : Tree). mentions_only (is_given r) true t) (sym condition_is) ∙ h
+  known : mentions_only (is_given i) true (condition_in (policy_entry p)) ≡ true → mentions_only (is_held ev) true (condition_of p) ≡ true
+  known h = ap (λ (f : Variable → Bool). mentions_only f true (condition_of p)) given_is ∙ ap (λ (t : Tree). mentions_only (is_given i) true t) (sym condition_is) ∙ h
 
-  pub is_kept : IsKept r store table depth (policy_seen p) (kept_of p answer)
+  pub is_kept : IsKept i store table depth (policy_seen p) (kept_of p answer)
   is_kept = record {
     id = refl;
     effect = ap (λ (s : grammar.Policy). s.effect) (sym syntax_is);

@@ -11,3 +11,7 @@ mod Reading
 mod Concrete
 mod Residuals
 mod Sought
+mod HeldIds
+mod Telling
+mod LeftSets
+mod Again

@@ -1,11 +1,17 @@
--- What a response to a request says of the policies of a set.
+-- What a response to an inquiry says of the policies of a set.
 use Rattle.std.specs.Prelude.{◌≡◌, ℕ, List}
+use Rattle.std.specs.List.{IsDistinct}
+use Rattle.std.specs.Map.{keys_of}
+use Rattle.cedar_language.specs.Order.{same_text}
 use Rattle.cedar_entities.specs.declared.store.Entities.{Entities}
 use Rattle.cedar_extensions.specs.declared.extensions.Extensions.{Extensions}
 use Rattle.cedar_policy_set.specs.Entries.{Entries, policies_of}
 use Rattle.cedar_requests.specs.Holding.{RequestParts}
+use Rattle.cedar_interpreter.specs.Asking.{Inquiry, IsEvaluatorOf}
+use Rattle.cedar_interpreter.specs.declared.evaluator.Evaluator.{Evaluator}
 use Rattle.cedar_evaluator.specs.Evaluations.{Kept, AreKept}
-use Rattle.cedar_evaluator.specs.Holding.{holding_in}
+use Rattle.cedar_evaluator.specs.Holding.{request_asked, holding_in}
+use Rattle.cedar_evaluator.specs.Residuals.{residuals_with, is_any}
 use Rattle.cedar_evaluator.specs.Responses.{holding_of}
 use Rattle.cedar_evaluator.specs.declared.authorizer.Authorizer.{Authorizer}
 use Rattle.cedar_evaluator.specs.declared.partial_response.PartialResponse.{PartialResponse}
@@ -19,8 +25,14 @@ abbrev pub limit_of : Authorizer → ℕ
 limit_of authorizer = authorizer.depth
 
 -- Of each static policy and link of the set, in its order, what was found of it is kept, and nothing else: of each group its policies, and
--- the errors.
-pub record Responds (r : RequestParts) (store : Entities) (table : Extensions) (depth : ℕ) (es : Entries) (response : PartialResponse) : Type 0 where
+-- the errors; no id stands in two groups.
+pub record Responds (i : Inquiry) (store : Entities) (table : Extensions) (depth : ℕ) (es : Entries) (response : PartialResponse) : Type 0 where
   pub kept : List Kept
-  pub each : AreKept r store table depth (policies_of es) kept
+  pub each : AreKept i store table depth (policies_of es) kept
   pub holds : holding_in response ≡ holding_of kept
+  pub asked : request_asked response ≡ i.request
+  pub apart : IsDistinct same_text (keys_of (residuals_with is_any response))
+
+-- by an evaluator, to each inquiry of this request that it answers for
+abbrev pub RespondsBy : Evaluator → RequestParts → Entries → PartialResponse → Type 0
+RespondsBy ev r es response = (i : Inquiry) (store : Entities) (table : Extensions) (depth : ℕ) → i.request ≡ r → IsEvaluatorOf i store table depth ev → Responds i store table depth es response

@@ -15,8 +15,7 @@ use Rattle.cedar_extensions.specs.Failures.{Failure, OfKind, LimitMet, MemoryRan
 use Rattle.cedar_extensions.specs.declared.extensions.Extensions.{Extensions}
 use Rattle.cedar_entities.specs.declared.store.Entities.{Entities}
 use Rattle.cedar_operators.specs.Store.{HasFacts}
-use Rattle.cedar_requests.specs.Holding.{RequestParts}
-use Rattle.cedar_interpreter.specs.Asking.{variable_asked, request_held}
+use Rattle.cedar_interpreter.specs.Asking.{Inquiry, variable_asked, request_held}
 use Rattle.cedar_interpreter.specs.Holding.{is_evaluated}
 use Rattle.cedar_interpreter.specs.Operating.{HasFunctions, NamesNothing}
 use Rattle.cedar_policy_set.specs.Entries.{Entry, static_policy, template, link, Entries}
@@ -46,8 +45,8 @@ bindings_in (template s) = unbound
 bindings_in (link t s b) = b
 
 -- whether the request gives the variable a value
-abbrev pub is_given : RequestParts → Variable → Bool
-is_given r v = is_evaluated (variable_asked r v)
+abbrev pub is_given : Inquiry → Variable → Bool
+is_given i v = is_evaluated (variable_asked i.request v)
 
 -- what is kept of a policy: its id, its effect, and what was found
 pub record Kept : Type 0 where
@@ -55,8 +54,8 @@ pub record Kept : Type 0 where
   pub effect : Effect
   pub found : Found
 
-module _ (r : RequestParts) (store : Entities) (table : Extensions) (depth : ℕ) where
-  -- these are the facts by which the request is answered, and no call in the tree names an unknown
+module _ (i : Inquiry) (store : Entities) (table : Extensions) (depth : ℕ) where
+  -- these are the facts by which the inquiry is answered, and no call in the tree names an unknown
   pub record IsServed (facts : Facts) (t : Tree) : Type 0 where
     pub entities : HasFacts store facts
     pub functions : HasFunctions table facts
@@ -64,11 +63,11 @@ module _ (r : RequestParts) (store : Entities) (table : Extensions) (depth : ℕ
 
   -- what partial evaluation of the policy's condition answers
   abbrev pub policy_answer : Facts → Entry → Answer
-  policy_answer facts e = partial_in facts (request_held r (bindings_in e)) (condition_in e)
+  policy_answer facts e = partial_in facts (request_held i (bindings_in e)) (condition_in e)
 
   -- a condition that mentions nothing unknown is higher than the limit
   abbrev pub IsTooHigh : Entry → Type 0
-  IsTooHigh e = (facts : Facts) → IsServed facts (condition_in e) → mentions_only (is_given r) true (condition_in e) ≡ true → depth < height (condition_in e)
+  IsTooHigh e = (facts : Facts) → IsServed facts (condition_in e) → mentions_only (is_given i) true (condition_in e) ≡ true → depth < height (condition_in e)
 
   -- what is kept of the policy of this id
   pub record IsKept (e : Text × Entry) (k : Kept) : Type 0 where

@@ -6,6 +6,7 @@ use Rattle.indexmap.specs.IndexMap.{insert_entry}
 use Rattle.cedar_grammar.specs.Build.{Keyed}
 use Rattle.cedar_language.specs.Order.{same_text}
 use Rattle.cedar_language.specs.Uid.{Text}
+use Rattle.cedar_requests.specs.declared.requests.Request.{Request}
 use Rattle.cedar_trees.specs.declared.expr.Expr.{Expr}
 use Rattle.cedar_evaluator.specs.declared.errors.AuthorizationError.{AuthorizationError}
 use Rattle.cedar_evaluator.specs.declared.partial_response.ErrorState.{ErrorState}
@@ -23,7 +24,7 @@ gathered es = put_in [] es
 abbrev pub Noted : Type 0
 Noted = Rc (List (Keyed Text)) Global
 
--- the policies of each group, and the errors
+-- the policies of each group, the errors, and the request
 pub record AreGiven
     (satisfied_permits : List (Text × Noted))
     (false_permits : List (Text × (ErrorState × Noted)))
@@ -32,6 +33,7 @@ pub record AreGiven
     (false_forbids : List (Text × (ErrorState × Noted)))
     (residual_forbids : List (Text × (Rc (Expr (Unit {0})) Global × Noted)))
     (errors : List AuthorizationError)
+    (request : Rc Request Global)
     (response : PartialResponse) : Type 0 where
   pub satisfied_permits_are : response.satisfied_permits.entries ≡ gathered satisfied_permits
   pub false_permits_are : response.false_permits.entries ≡ gathered false_permits
@@ -40,3 +42,4 @@ pub record AreGiven
   pub false_forbids_are : response.false_forbids.entries ≡ gathered false_forbids
   pub residual_forbids_are : response.residual_forbids.entries ≡ gathered residual_forbids
   pub errors_are : response.errors.items ≡ errors
+  pub request_is : response.request ≡ request

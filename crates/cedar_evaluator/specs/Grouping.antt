@@ -9,10 +9,10 @@ use Rattle.cedar_entities.specs.declared.store.Entities.{Entities}
 use Rattle.cedar_extensions.specs.Failures.{Failure, OfKind, LimitMet, MemoryRanOut, failure_of}
 use Rattle.cedar_extensions.specs.declared.evaluation_error.EvaluationError.{EvaluationError}
 use Rattle.cedar_extensions.specs.declared.extensions.Extensions.{Extensions}
+use Rattle.cedar_interpreter.specs.Asking.{Inquiry}
 use Rattle.cedar_policies.specs.Policies.{policy_id, policy_syntax}
 use Rattle.cedar_policies.specs.declared.policies.Policy.{Policy}
 use Rattle.cedar_policy_set.specs.Entries.{Entries}
-use Rattle.cedar_requests.specs.Holding.{RequestParts}
 use Rattle.cedar_trees.specs.Bare.{bare}
 use Rattle.cedar_trees.specs.declared.expr.Expr.{Expr}
 use Rattle.cedar_evaluator.specs.Evaluating.{found_by}
@@ -70,9 +70,9 @@ abbrev pub IsKeepable : Result (Either Bool (Expr (Unit {0}))) EvaluationError �
 IsKeepable answer = found_in answer ≡ Erred MemoryRanOut → ⊥
 
 -- of each policy what was found of it is kept, and nothing else
-pub record Keeps (r : RequestParts) (store : Entities) (table : Extensions) (depth : ℕ) (es : Entries) (g : Groups) : Type 0 where
+pub record Keeps (i : Inquiry) (store : Entities) (table : Extensions) (depth : ℕ) (es : Entries) (g : Groups) : Type 0 where
   pub kept : List Kept
-  pub each : AreKept r store table depth es kept
+  pub each : AreKept i store table depth es kept
   pub holds : held_in g ≡ holding_of kept
 
 -- of no group an id stands twice

@@ -1,12 +1,9 @@
 -- What a response holds.
-use Rattle.std.specs.Prelude.{Bool, true, false, List, map}
+use Rattle.std.specs.Prelude.{Bool, true, false, map}
 use Rattle.std.specs.Map.{keys_of}
-use Rattle.std.specs.declared.alloc.Global.{Global}
-use Rattle.std.specs.declared.rc.Rc.{Rc}
-use Rattle.cedar_grammar.specs.Build.{Keyed}
-use Rattle.cedar_language.specs.Tree.{Tree}
 use Rattle.cedar_language.specs.Uid.{Text}
 use Rattle.cedar_extensions.specs.Failures.{Failure, failure_of}
+use Rattle.cedar_requests.specs.Holding.{RequestParts, request_parts}
 use Rattle.cedar_trees.specs.Bare.{bare}
 use Rattle.cedar_evaluator.specs.Responses.{Holding}
 use Rattle.cedar_evaluator.specs.declared.errors.AuthorizationError.{AuthorizationError}
@@ -14,6 +11,10 @@ use Rattle.cedar_evaluator.specs.declared.errors.AuthorizationError.TheVariants.
 use Rattle.cedar_evaluator.specs.declared.partial_response.ErrorState.{ErrorState}
 use Rattle.cedar_evaluator.specs.declared.partial_response.ErrorState.TheVariants.{NoError, Error}
 use Rattle.cedar_evaluator.specs.declared.partial_response.PartialResponse.{PartialResponse}
+
+-- what was asked
+abbrev pub request_asked : PartialResponse → RequestParts
+request_asked r = request_parts r.request.value
 
 -- whether a policy that isn't satisfied erred
 abbrev pub has_erred : ErrorState → Bool

@@ -8,3 +8,6 @@ pub mod Grouping
 pub mod Deciding
 pub mod Concrete
 pub mod Residuals
+pub mod Refusals
+pub mod Concretizing
+pub mod Reauthorizing

@@ -1,7 +1,9 @@
 // The authorizer.
 ghost use Rattle.std.specs.Prelude.{◌≡◌, IfOk};
+ghost use Rattle.cedar_interpreter.specs.Asking.{untold};
 ghost use Rattle.cedar_requests.specs.Holding.{request_parts};
-ghost use Rattle.cedar_evaluator.specs.Authorizing.{table_of, limit_of, Responds};
+ghost use Rattle.cedar_substitution.specs.Told.{told_for};
+ghost use Rattle.cedar_evaluator.specs.Authorizing.{table_of, limit_of, Responds, RespondsBy};
 
 use crate::groups::Groups;
 use crate::partial_response::PartialResponse;
@@ -10,7 +12,10 @@ use cedar_extensions::extensions::Extensions;
 use cedar_interpreter::Evaluator;
 use cedar_policy_set::sets::PolicySet;
 use cedar_requests::Request;
+use cedar_values::values::Value;
 use std::alloc::{AllocError, Global};
+use std::collections::HashMap;
+use std::rc::RcStr;
 
 /// Answers requests by policies and entities; policies may call the functions of its extensions, and no
 /// evaluation nests deeper than its limit. Contracts see these by `table_of` and `limit_of`.
@@ -47,11 +52,39 @@ impl<'e, 'f> Authorizer<'e, 'f> {
         policies: &PolicySet,
         entities: &Entities,
     ) -> Result<PartialResponse, AllocError>
-        ensures { IfOk result (λ response. Responds (request_parts request) entities.now (table_of self.now) (limit_of self.now) policies.now response) }
+        ensures { IfOk result (λ response. Responds (untold (request_parts request)) entities.now (table_of self.now) (limit_of self.now) policies.now response) }
     {
-        let _count = policies.len();
         let evaluator = Evaluator::new(alloc, &request, entities, self.extensions, self.depth)?;
-        let groups = Groups::of_policies(alloc, &evaluator, policies)?;
-        groups.into_response(alloc, request)
+        responded(alloc, &evaluator, request, policies)
     }
+
+    /// The same where these values are told for unknowns.
+    pub(crate) fn answer_told(
+        &self,
+        alloc: Global,
+        request: Request,
+        told: &HashMap<RcStr, Value>,
+        policies: &PolicySet,
+        entities: &Entities,
+    ) -> Result<PartialResponse, AllocError>
+        ensures { IfOk result (λ response. Responds (record { request = request_parts request; told = told_for told.now.entries }) entities.now (table_of self.now) (limit_of self.now) policies.now response) }
+    {
+        let evaluator = Evaluator::new(alloc, &request, entities, self.extensions, self.depth)?;
+        let evaluator = evaluator.with_told(told);
+        responded(alloc, &evaluator, request, policies)
+    }
+}
+
+// What the policies of a set come to for a request, by its evaluator; refused for memory alone.
+fn responded(
+    alloc: Global,
+    evaluator: &Evaluator<'_, '_, '_>,
+    request: Request,
+    policies: &PolicySet,
+) -> Result<PartialResponse, AllocError>
+    ensures { IfOk result (RespondsBy evaluator.now (request_parts request) policies.now) }
+{
+    let _count = policies.len();
+    let groups = Groups::of_policies(alloc, evaluator, policies)?;
+    groups.into_response(alloc, request)
 }

@@ -3,15 +3,15 @@ ghost use Rattle.std.specs.Prelude.{◌≡◌, ℕ, [], ◌∷◌, ◌++◌, IfO
 ghost use Rattle.cedar_entities.specs.declared.store.Entities.{Entities as Store};
 ghost use Rattle.cedar_extensions.specs.Failures.{failure_of};
 ghost use Rattle.cedar_extensions.specs.declared.extensions.Extensions.{Extensions};
-ghost use Rattle.cedar_interpreter.specs.Asking.{IsEvaluatorOf};
+ghost use Rattle.cedar_interpreter.specs.Asking.{Inquiry, IsEvaluatorOf};
 ghost use Rattle.cedar_policy_parts.specs.Effects.{effect_of};
 ghost use Rattle.cedar_policy_set.specs.Bounds.{policy_seen};
 ghost use Rattle.cedar_policy_set.specs.Entries.{Entries, policies_of};
-ghost use Rattle.cedar_requests.specs.Holding.{RequestParts};
+ghost use Rattle.cedar_requests.specs.Holding.{request_parts};
 ghost use Rattle.cedar_trees.specs.Bare.{bare};
 ghost use Rattle.cedar_evaluator.specs.Evaluations.{Satisfied, Unsatisfied, Erred, Open};
 ghost use Rattle.cedar_evaluator.specs.Grouping.{held_in, with_kept, kept_of, is_want, IsKeepable, Keeps, AreApart};
-ghost use Rattle.cedar_evaluator.specs.Holding.{holding_in};
+ghost use Rattle.cedar_evaluator.specs.Holding.{holding_in, request_asked};
 
 use crate::errors::AuthorizationError;
 use crate::evaluation::EvaluatePolicy;
@@ -116,8 +116,8 @@ impl Groups {
         evaluator: &Evaluator<'_, '_, '_>,
         policies: &PolicySet,
     ) -> Result<Groups, AllocError>
-        ensures { IfOk result (λ groups. (r : RequestParts) (store : Store) (table : Extensions) (depth : ℕ) →
-            IsEvaluatorOf r store table depth evaluator.now → Keeps r store table depth (policies_of policies.now) groups) }
+        ensures { IfOk result (λ groups. (i : Inquiry) (store : Store) (table : Extensions) (depth : ℕ) →
+            IsEvaluatorOf i store table depth evaluator.now → Keeps i store table depth (policies_of policies.now) groups) }
     {
         let mut groups = Groups::new(alloc);
         for policy in policies.policies() {
@@ -133,9 +133,9 @@ impl Groups {
         evaluator: &Evaluator<'_, '_, '_>,
         policy: &Policy,
     ) -> Result<(), AllocError>
-        ensures { OnOk result ((r : RequestParts) (store : Store) (table : Extensions) (depth : ℕ) →
-            IsEvaluatorOf r store table depth evaluator.now → (es : Entries) →
-            Keeps r store table depth es self.old → Keeps r store table depth (es ++ policy_seen policy.now ∷ []) self.new) }
+        ensures { OnOk result ((i : Inquiry) (store : Store) (table : Extensions) (depth : ℕ) →
+            IsEvaluatorOf i store table depth evaluator.now → (es : Entries) →
+            Keeps i store table depth es self.old → Keeps i store table depth (es ++ policy_seen policy.now ∷ []) self.new) }
     {
         let answer = evaluator.partial_evaluate(alloc, policy);
         self.keep(alloc, policy, answer)
@@ -244,8 +244,10 @@ impl Groups {
         alloc: Global,
         request: Request,
     ) -> Result<PartialResponse, AllocError>
-        ensures { IfOk result (λ response. AreApart self → holding_in response ≡ held_in self) }
+        ensures holds { IfOk result (λ response. AreApart self → holding_in response ≡ held_in self) }
+        ensures asked { IfOk result (λ response. request_asked response ≡ request_parts request) }
     {
+        let request = Rc::new(alloc, request)?;
         let Groups {
             satisfied_permits,
             false_permits,
@@ -264,7 +266,7 @@ impl Groups {
             false_forbids,
             residual_forbids,
             errors,
-            Rc::new(alloc, request)?,
+            request,
         )
     }
 }

@@ -129,7 +129,7 @@ impl PartialResponse {
         errors: Vec<AuthorizationError>,
         request: Rc<Request>,
     ) -> Result<PartialResponse, AllocError>
-        ensures { IfOk result (λ response. AreGiven satisfied_permits.items false_permits.items residual_permits.items satisfied_forbids.items false_forbids.items residual_forbids.items errors.items response) }
+        ensures { IfOk result (λ response. AreGiven satisfied_permits.items false_permits.items residual_permits.items satisfied_forbids.items false_forbids.items residual_forbids.items errors.items request response) }
     {
         Ok(PartialResponse {
             satisfied_permits: mapped(alloc, satisfied_permits)?,

@@ -3,6 +3,7 @@ ghost use Rattle.std.specs.Prelude.{◌≡◌, ◌++◌, map, IfOk, OnOk};
 ghost use Rattle.std.specs.Map.{keys_of};
 ghost use Rattle.cedar_language.specs.Answering.{known_decision, in_must};
 ghost use Rattle.cedar_policy_parts.specs.Decisions.{decision_of};
+ghost use Rattle.cedar_interpreter.specs.Asking.{untold};
 ghost use Rattle.cedar_requests.specs.Holding.{request_parts};
 ghost use Rattle.cedar_trees.specs.Bare.{bare};
 ghost use Rattle.cedar_world.specs.Answers.{ids_with};
@@ -197,7 +198,7 @@ impl<'e, 'f> Authorizer<'e, 'f> {
         policies: &PolicySet,
         entities: &Entities,
     ) -> Result<Response, AllocError>
-        ensures { IfOk result (λ whole. Answers (request_parts request) entities.now (table_of self.now) (limit_of self.now) policies.now whole) }
+        ensures { IfOk result (λ whole. Answers (untold (request_parts request)) entities.now (table_of self.now) (limit_of self.now) policies.now whole) }
     {
         let partial = self.is_authorized_core(alloc, request, policies, entities)?;
         partial.concretize(alloc)

@@ -1,5 +1,5 @@
 -- What stands round the first space, and what digits spell.
-use Rattle.std.proofs.Common.{◌≡◌, ℕ, List, [], ◌∷◌, ◌++◌, length, ◌<◌, ◌≤◌, ◌+◌, ◌-◌, ◌*◌, ◌^◌, ◌==◌, ◌&&◌, take, drop, get_or, zero, suc, add-one, pow-suc, append_assoc, refl, sym, ap, ◌∙◌, subst, Bool, true, false, not, ◌||◌, nat_le, slice_index, arith, if◌then◌else◌}
+use Rattle.std.proofs.Common.{◌≡◌, ℕ, List, [], ◌∷◌, ◌++◌, length, ◌<◌, ◌≤◌, ◌+◌, ◌-◌, ◌*◌, ◌^◌, ◌==◌, ◌&&◌, take, drop, get_or, zero, suc, add-one, pow-suc, append_assoc, refl, sym, ap, ◌∙◌, Bool, true, false, not, ◌||◌, nat_le, slice_index, arith, if◌then◌else◌}
 use Rattle.std.proofs.lemmas.List.{take_more, take-append-drop}
 use Rattle.std.proofs.lemmas.Grind.{common_steps}
 use Rattle.std.proofs.Math.Nat.{pow-le-pow_right}

@@ -6,7 +6,6 @@ use Rattle.std.proofs.lemmas.Grind.{common_steps}
 use Rattle.std.specs.Str.{all_ascii_digits}
 use Rattle.cedar_frames.specs.declared.verb.Verb.{Verb}
 use Rattle.cedar_frames.specs.declared.verb.Verb.TheVariants.{Load, Link, Unlink, RemoveStatic, RemoveTemplate, Add, Put, Remove, Ask, Tell}
-use Rattle.cedar_frames.specs.SoFar.{is_offered}
 use Rattle.cedar_frames.specs.Heads.{verb_name, IsHead, head_limit, body_limit, is_numeral, number_after, number_of}
 use Rattle.cedar_frames.specs.Frames.{IsFrame}
 use Rattle.cedar_frames.specs.Laws.{CommandsHaveAFrame}
@@ -67,20 +66,20 @@ line_is_short verb len fits =
     let all : length (verb_name verb ++ 32 ∷ decimal len) ≡ length (verb_name verb) + length (32 ∷ decimal len) = length-append (verb_name verb) (32 ∷ decimal len) in
     omega arith
 
-spelled_head : (verb : Verb) (len : ℕ) → is_offered verb ≡ true → len ≤ body_limit → IsHead (spelled_line verb len) verb len
+spelled_head : (verb : Verb) (len : ℕ) → len ≤ body_limit → IsHead (spelled_line verb len) verb len
 unfolding spelled_line
-spelled_head verb len offered fits =
+spelled_head verb len fits =
     let small : len < 2 ^ 64 = omega arith in
-    (decimal len, refl, decimal_is_numeral len small, digits_value-decimal numerals len small, offered)
+    (decimal len, refl, decimal_is_numeral len small, digits_value-decimal numerals len small)
 
 spelled : Verb → List ℕ → List ℕ
 spelled verb body = ((spelled_line verb (length body) ++ 10 ∷ []) ++ body) ++ 10 ∷ []
 
-spelled_frame : (verb : Verb) (body : List ℕ) → is_offered verb ≡ true → length body ≤ body_limit → IsFrame (spelled verb body) verb body
+spelled_frame : (verb : Verb) (body : List ℕ) → length body ≤ body_limit → IsFrame (spelled verb body) verb body
 unfolding spelled
-spelled_frame verb body offered fits = record {
+spelled_frame verb body fits = record {
   head = spelled_line verb (length body) ++ 10 ∷ [];
-  opens = record { line = spelled_line verb (length body); is = refl; short = line_is_short verb (length body) fits; head = spelled_head verb (length body) offered fits };
+  opens = record { line = spelled_line verb (length body); is = refl; short = line_is_short verb (length body) fits; head = spelled_head verb (length body) fits };
   fits = fits;
   is = refl;
 }
@@ -94,4 +93,4 @@ frame_is_spelled frame verb body f =
     f.is ∙ ap (λ l. (l ++ body) ++ 10 ∷ []) (f.opens.is ∙ ap (λ l. l ++ 10 ∷ []) (h.1 ∙ ap (λ l. verb_name verb ++ 32 ∷ l) digits))
 
 pub commands_have_a_frame : CommandsHaveAFrame
-commands_have_a_frame verb body offered fits = (spelled verb body, spelled_frame verb body offered fits, λ other f. frame_is_spelled other verb body f)
+commands_have_a_frame verb body fits = (spelled verb body, spelled_frame verb body fits, λ other f. frame_is_spelled other verb body f)

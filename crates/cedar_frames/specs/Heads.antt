@@ -3,7 +3,6 @@ use Rattle.std.specs.Prelude.{◌≡◌, ℕ, ◌+◌, ◌-◌, ◌*◌, List, [
 use Rattle.std.specs.Str.{all_ascii_digits}
 use Rattle.cedar_frames.specs.declared.verb.Verb.{Verb}
 use Rattle.cedar_frames.specs.declared.verb.Verb.TheVariants.{Load, Link, Unlink, RemoveStatic, RemoveTemplate, Add, Put, Remove, Ask, Tell}
-use Rattle.cedar_frames.specs.SoFar.{is_offered}
 
 -- how a verb is spelled
 abbrev pub verb_name : Verb → List ℕ
@@ -33,7 +32,7 @@ number_of digits = number_after 0 digits
 -- the line, without its line feed, is a head with this verb and this length
 abbrev pub IsHead : List ℕ → Verb → ℕ → Type 0
 IsHead line verb len =
-    (digits : List ℕ) × (line ≡ verb_name verb ++ 32 ∷ digits) × (is_numeral digits ≡ true) × (number_of digits ≡ len) × (is_offered verb ≡ true)
+    (digits : List ℕ) × (line ≡ verb_name verb ++ 32 ∷ digits) × (is_numeral digits ≡ true) × (number_of digits ≡ len)
 
 -- no byte is this one
 abbrev pub lacks : ℕ → List ℕ → Bool

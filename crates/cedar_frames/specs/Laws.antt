@@ -1,16 +1,15 @@
 -- What holds of frames, whatever is read.
-use Rattle.std.specs.Prelude.{◌≡◌, ◌≢◌, ℕ, ◌≤◌, List, [], ◌++◌, length, true}
+use Rattle.std.specs.Prelude.{◌≡◌, ◌≢◌, ℕ, ◌≤◌, List, [], ◌++◌, length}
 use Rattle.cedar_frames.specs.declared.verb.Verb.{Verb}
 use Rattle.cedar_frames.specs.declared.fault.Fault.{Fault}
 use Rattle.cedar_frames.specs.declared.fault.Fault.TheVariants.{Truncated, TooMany}
-use Rattle.cedar_frames.specs.SoFar.{is_offered}
 use Rattle.cedar_frames.specs.Heads.{body_limit}
 use Rattle.cedar_frames.specs.Frames.{IsFrame, AreFrames, IsFault}
 
--- Each command whose verb is offered and whose body is within the limit has one frame.
+-- Each command whose body is within the limit has one frame.
 abbrev pub CommandsHaveAFrame : Type 0
 CommandsHaveAFrame =
-    (verb : Verb) (body : List ℕ) → is_offered verb ≡ true → length body ≤ body_limit
+    (verb : Verb) (body : List ℕ) → length body ≤ body_limit
     → (frame : List ℕ) × IsFrame frame verb body × ((other : List ℕ) → IsFrame other verb body → other ≡ frame)
 
 -- A frame that stands at the front of some bytes is the only one that does, and says one thing.

@@ -4,6 +4,5 @@ pub mod Laws
 pub mod Parts
 pub mod Quoting
 pub mod Reading
-pub mod SoFar
 pub mod Watching
 pub mod Writing

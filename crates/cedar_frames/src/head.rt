@@ -67,9 +67,6 @@ pub(crate) fn head_of(line: &[u8]) -> HeadLine
     let Some(verb) = Verb::named(name) else {
         return HeadLine::Bad;
     };
-    if !verb.is_offered() {
-        return HeadLine::Bad;
-    }
     let Some(value) = numeral(digits) else {
         return HeadLine::Bad;
     };

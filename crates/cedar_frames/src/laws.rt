@@ -1,7 +1,7 @@
 // What holds of frames, as contracts of functions that do nothing.
 ghost use Rattle.cedar_frames.specs.Laws.{CommandsHaveAFrame, AFrameIsOne, FramesBegin, FramesAreOne, FaultsHoldNoFrame, FaultsStay, FaultsAreOne};
 
-/// Each command whose verb is offered and whose body is within the limit has one frame.
+/// Each command whose body is within the limit has one frame.
 pub fn commands_have_a_frame()
     ensures { CommandsHaveAFrame }
 {}

@@ -1,7 +1,6 @@
 // What a command does, as its frame says.
 ghost use Rattle.std.specs.Prelude.{◌≡◌, IfSome, IfNone};
 ghost use Rattle.cedar_frames.specs.Heads.{verb_name};
-ghost use Rattle.cedar_frames.specs.SoFar.{is_offered};
 
 /// What a command does.
 #[derive(Clone, Copy, Debug, PartialEq, Eq)]
@@ -75,12 +74,5 @@ impl Verb {
             Verb::Ask => "ask",
             Verb::Tell => "tell",
         }
-    }
-
-    /// Whether a frame may have it. A head with another verb is no head.
-    pub fn is_offered(self) -> bool
-        ensures { result ≡ is_offered self }
-    {
-        !matches!(self, Verb::Tell)
     }
 }

@@ -1,41 +1,64 @@
--- An evaluator of a request holds what the request holds.
-use Rattle.std.proofs.Common.{◌≡◌, ℕ, ap, sym, subst}
-use Rattle.cedar_language.specs.Tree.{Variable, Principal, Action, Resource, Context, Unknown}
+-- An evaluator holds what its inquiry holds.
+use Rattle.std.proofs.Common.{◌≡◌, ◌∙◌, ℕ, ap, sym, subst, Bor, Global, BuildHasherDefault, FoldHasher}
+use Rattle.std.specs.Prelude.{Option, Some, None}
+use Rattle.std.specs.HashMap.{HashMap}
+use Rattle.std.specs.declared.rc.RcStr.{RcStr}
+use Rattle.cedar_language.specs.Uid.{Text}
+use Rattle.cedar_language.specs.Tree.{Variable, Principal, Action, Resource, Context}
+use Rattle.cedar_language.specs.Value.{Value}
 use Rattle.cedar_language.specs.Meaning.{slot_outcome}
-use Rattle.cedar_partial_evaluation.specs.Partial.{Answer, ResidualTree, answer_of, LeafAnswers}
+use Rattle.cedar_partial_evaluation.specs.Partial.{Answer, answer_of, LeafAnswers}
+use Rattle.cedar_partial_evaluation.specs.Question.{name_held}
 use Rattle.cedar_constraints.specs.Bindings.{Bindings, binding_of}
 use Rattle.cedar_entities.specs.declared.store.Entities.{Entities}
 use Rattle.cedar_extensions.specs.declared.extensions.Extensions.{Extensions}
 use Rattle.cedar_operators.specs.Store.{HasFacts}
 use Rattle.cedar_requests.specs.Holding.{RequestParts}
-use Rattle.cedar_interpreter.specs.Asking.{variable_asked, request_held, StandFor, IsEvaluatorOf}
-use Rattle.cedar_interpreter.specs.Holding.{variable_held, held_by, depth_of}
+use Rattle.cedar_substitution.specs.Told.{told_for}
+use Rattle.cedar_interpreter.specs.Asking.{untold, variable_asked, request_held, StandFor, IsEvaluatorOf}
+use Rattle.cedar_interpreter.specs.Holding.{variable_held, value_told, held_by, depth_of}
 use Rattle.cedar_interpreter.specs.Operating.{HasFunctions, NamesNothing}
 use Rattle.cedar_interpreter.specs.declared.evaluator.Evaluator.{Evaluator}
 
-module _ (r : RequestParts) (ev : Evaluator) (stand : StandFor r ev.variables) where
+-- what is held, by what stands for variables and what is told for unknowns
+abbrev holding : Bindings → (Variable → Answer) → (Text → Option Value) → LeafAnswers
+holding slots f told = record { variable = f; unknown = λ n ty. name_held (told n) n ty; slot = λ s. answer_of (slot_outcome (binding_of slots s)) }
+
+module _ (r : RequestParts) (ev : Evaluator) (stand : StandFor r ev.variables) (nothing : ev.told ≡ None) where
   of_variable : (v : Variable) → variable_held ev v ≡ variable_asked r v
   of_variable Principal = stand.principal
   of_variable Action = stand.action
   of_variable Resource = stand.resource
   of_variable Context = stand.context
 
-  abbrev holding : Bindings → (Variable → Answer) → LeafAnswers
-  holding slots f = record { variable = f; unknown = λ n ty. ResidualTree (Unknown n ty); slot = λ s. answer_of (slot_outcome (binding_of slots s)) }
-
-  pub holds_asked : (slots : Bindings) → held_by ev slots ≡ request_held r slots
+  pub holds_asked : (slots : Bindings) → held_by ev slots ≡ request_held (untold r) slots
   holds_asked slots =
       let same : variable_held ev ≡ variable_asked r = λ i v. of_variable v i in
-      ap (holding slots) same
+      ap (λ (f : Variable → Answer). holding slots f (value_told ev.told)) same
+      ∙ ap (λ told. holding slots (variable_asked r) (value_told told)) nothing
 
 pub is_evaluator : (r : RequestParts) (entities : Entities) (table : Extensions) (depth : ℕ) (ev : Evaluator) →
-    StandFor r ev.variables → ev.entities.now ≡ entities → ev.extensions.now ≡ table → depth_of ev ≡ depth → IsEvaluatorOf r entities table depth ev
-is_evaluator r entities table depth ev stand es ts ds = record {
-  holds = holds_asked r ev stand;
-  serves = λ facts t has functions nothing. record {
+    StandFor r ev.variables → ev.told ≡ None → ev.entities.now ≡ entities → ev.extensions.now ≡ table → depth_of ev ≡ depth → IsEvaluatorOf (untold r) entities table depth ev
+is_evaluator r entities table depth ev stand nothing es ts ds = record {
+  holds = holds_asked r ev stand nothing;
+  serves = λ facts t has functions names. record {
     entities = subst (λ e. HasFacts e facts) (sym es) has;
     functions = subst (λ x. HasFunctions x facts) (sym ts) functions;
-    names_nothing = subst (λ x. NamesNothing x t) (sym ts) nothing;
+    names_nothing = subst (λ x. NamesNothing x t) (sym ts) names;
   };
   limit = ds;
+}
+
+-- the same evaluator, that is told values
+abbrev pub telling : Evaluator → Bor (HashMap (RcStr Global) Value (BuildHasherDefault FoldHasher)) → Evaluator
+telling ev told = record { variables = ev.variables; entities = ev.entities; extensions = ev.extensions; depth = ev.depth; told = Some told }
+
+pub is_told : (r : RequestParts) (entities : Entities) (table : Extensions) (depth : ℕ) (ev : Evaluator) (told : Bor (HashMap (RcStr Global) Value (BuildHasherDefault FoldHasher))) →
+    IsEvaluatorOf (untold r) entities table depth ev → IsEvaluatorOf (record { request = r; told = told_for told.now.entries }) entities table depth (telling ev told)
+is_told r entities table depth ev told is = record {
+  holds = λ slots. ap (λ (h : LeafAnswers). holding slots h.variable (told_for told.now.entries)) (is.holds slots);
+  serves = λ facts t has functions names.
+      let s = is.serves facts t has functions names in
+      record { entities = s.entities; functions = s.functions; names_nothing = s.names_nothing };
+  limit = is.limit;
 }

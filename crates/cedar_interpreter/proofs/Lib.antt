@@ -5,6 +5,7 @@ pub mod Left
 pub mod Operated
 pub mod Projected
 pub mod Applied
+pub mod Told
 pub mod Serving
 pub mod Meant
 pub mod Asked

@@ -3,13 +3,14 @@
 use Rattle.std.specs.Prelude.{◌≡◌, ◌<◌, ℕ, Bool, true, Option, Some, None, codes, Result}
 use Rattle.either.specs.declared.Either.{Either}
 use Rattle.cedar_language.specs.Tree.{Variable, Principal, Action, Resource, Context, SlotId, Tree, Unknown}
+use Rattle.cedar_language.specs.Uid.{Text}
 use Rattle.cedar_language.specs.Value.{Value}
 use Rattle.cedar_language.specs.Facts.{Facts}
 use Rattle.cedar_language.specs.Height.{height}
 use Rattle.cedar_language.specs.Meaning.{Request, slot_outcome, meaning}
 use Rattle.cedar_partial_evaluation.specs.Mentions.{mentions_only}
 use Rattle.cedar_partial_evaluation.specs.Partial.{Answer, Evaluated, ResidualTree, answer_of, LeafAnswers}
-use Rattle.cedar_partial_evaluation.specs.Question.{part_held}
+use Rattle.cedar_partial_evaluation.specs.Question.{part_held, name_held}
 use Rattle.cedar_constraints.specs.Bindings.{Bindings, binding_of}
 use Rattle.cedar_entities.specs.declared.store.Entities.{Entities}
 use Rattle.cedar_extensions.specs.Giving.{Gives}
@@ -26,6 +27,15 @@ use Rattle.cedar_interpreter.specs.declared.evaluator.Evaluator.{Evaluator}
 
 -- ---- an evaluator of a request
 
+-- a request, and the values that are told for unknowns
+pub record Inquiry : Type 0 where
+  pub request : RequestParts
+  pub told : Text → Option Value
+
+-- of no unknown a value is told
+abbrev pub untold : RequestParts → Inquiry
+untold r = record { request = r; told = λ n. None }
+
 -- the context's record, or what is left of it; where none is given, the unknown that is named `context`
 abbrev pub context_asked : Option (Either Value Tree) → Answer
 context_asked (Some part) = part_answer part
@@ -38,11 +48,12 @@ variable_asked r Action = part_held r.action None (codes "action")
 variable_asked r Resource = part_held r.resource None (codes "resource")
 variable_asked r Context = context_asked r.context
 
--- what is held of a request's variables, of unknowns and of slots; of no unknown a value is told
-abbrev pub request_held : RequestParts → Bindings → LeafAnswers
-request_held r slots = record {
-  variable = variable_asked r;
-  unknown = λ n ty. ResidualTree (Unknown n ty);
+-- what is held of a request's variables, of unknowns and of slots; a told value of another type than the one that an unknown
+-- states is a TypeError
+abbrev pub request_held : Inquiry → Bindings → LeafAnswers
+request_held i slots = record {
+  variable = variable_asked i.request;
+  unknown = λ n ty. name_held (i.told n) n ty;
   slot = λ s. answer_of (slot_outcome (binding_of slots s));
 }
 
@@ -53,9 +64,9 @@ pub record StandFor (r : RequestParts) (vs : Variables) : Type 0 where
   pub resource : part_answer (partial_of vs.resource) ≡ variable_asked r Resource
   pub context : part_answer (partial_of vs.context) ≡ variable_asked r Context
 
--- it answers for this request, over these entities and functions, to this depth
-pub record IsEvaluatorOf (r : RequestParts) (entities : Entities) (table : Extensions) (depth : ℕ) (ev : Evaluator) : Type 0 where
-  pub holds : (slots : Bindings) → held_by ev slots ≡ request_held r slots
+-- it answers for this inquiry, over these entities and functions, to this depth
+pub record IsEvaluatorOf (i : Inquiry) (entities : Entities) (table : Extensions) (depth : ℕ) (ev : Evaluator) : Type 0 where
+  pub holds : (slots : Bindings) → held_by ev slots ≡ request_held i slots
   pub serves : (facts : Facts) (t : Tree) → HasFacts entities facts → HasFunctions table facts → NamesNothing table t → Serves ev facts t
   pub limit : depth_of ev ≡ depth
 

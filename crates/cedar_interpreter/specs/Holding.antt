@@ -1,17 +1,25 @@
 -- What an evaluator holds: of the request, and of the entities and functions besides.
-use Rattle.std.specs.Prelude.{◌≡◌, ◌<◌, ⊤, ℕ, Bool, true, false, List, [], ◌∷◌}
-use Rattle.cedar_language.specs.Tree.{Variable, Principal, Action, Resource, Context, Tree, Unknown}
+use Rattle.std.specs.Prelude.{◌≡◌, ◌<◌, ⊤, ℕ, Bool, true, false, Option, Some, None, List, [], ◌∷◌}
+use Rattle.std.specs.Borrow.{Bor}
+use Rattle.std.specs.HashMap.{HashMap}
+use Rattle.std.specs.declared.alloc.Global.{Global}
+use Rattle.std.specs.declared.rc.RcStr.{RcStr}
+use Rattle.cedar_language.specs.Uid.{Text}
+use Rattle.cedar_language.specs.Tree.{Variable, Principal, Action, Resource, Context, Tree}
+use Rattle.cedar_language.specs.Value.{Value}
 use Rattle.cedar_language.specs.Facts.{Facts}
 use Rattle.cedar_language.specs.Height.{height, heights}
 use Rattle.cedar_language.specs.Meaning.{slot_outcome}
 use Rattle.cedar_partial_evaluation.specs.Mentions.{mentions_only, all_mention_only}
-use Rattle.cedar_partial_evaluation.specs.Partial.{Answer, Evaluated, ResidualTree, answer_of, LeafAnswers}
+use Rattle.cedar_partial_evaluation.specs.Partial.{Answer, Evaluated, answer_of, LeafAnswers}
+use Rattle.cedar_partial_evaluation.specs.Question.{name_held}
 use Rattle.cedar_grammar.specs.Build.{trees}
 use Rattle.cedar_constraints.specs.Bindings.{Bindings, binding_of}
 use Rattle.cedar_operators.specs.Store.{HasFacts}
 use Rattle.cedar_restricted.specs.PartialValues.{partial_of}
 use Rattle.cedar_restricted.specs.declared.partial_values.PartialValue.{PartialValue}
 use Rattle.cedar_requests.specs.Answers.{part_answer}
+use Rattle.cedar_substitution.specs.Told.{told_for}
 use Rattle.cedar_interpreter.specs.Operating.{HasFunctions, NamesNothing}
 use Rattle.cedar_interpreter.specs.declared.evaluator.Variables.{Variables}
 use Rattle.cedar_interpreter.specs.declared.evaluator.Evaluator.{Evaluator}
@@ -29,11 +37,16 @@ variable_held ev v = part_answer (partial_of (variable_in ev.variables v))
 abbrev pub depth_of : Evaluator → ℕ
 depth_of ev = ev.depth
 
--- what stands for variables, unknowns and slots; of an unknown no value is told
+-- the value that is told for an unknown of this name
+abbrev pub value_told : {S : Type 0} → Option (Bor (HashMap (RcStr Global) Value S)) → Text → Option Value
+value_told None n = None
+value_told (Some told) n = told_for told.now.entries n
+
+-- what stands for variables, unknowns and slots; a told value of another type than the one that an unknown states is a TypeError
 abbrev pub held_by : Evaluator → Bindings → LeafAnswers
 held_by ev slots = record {
   variable = variable_held ev;
-  unknown = λ n ty. ResidualTree (Unknown n ty);
+  unknown = λ n ty. name_held (value_told ev.told n) n ty;
   slot = λ s. answer_of (slot_outcome (binding_of slots s));
 }
 

@@ -1,13 +1,16 @@
 // An evaluator made, and asked.
-ghost use Rattle.std.specs.Prelude.{◌≡◌, ⊤, option_map, IfOk};
+ghost use Rattle.std.specs.Prelude.{◌≡◌, ⊤, ℕ, option_map, IfOk};
 ghost use Rattle.cedar_language.specs.Facts.{Facts};
 ghost use Rattle.cedar_partial_evaluation.specs.Partial.{Answer, partial_in};
+ghost use Rattle.cedar_entities.specs.declared.store.Entities.{Entities as Store};
+ghost use Rattle.cedar_extensions.specs.declared.extensions.Extensions.{Extensions as Functions};
 ghost use Rattle.cedar_trees.specs.Bare.{bare};
 ghost use Rattle.cedar_restricted.specs.PartialValues.{partial_of};
 ghost use Rattle.cedar_requests.specs.Answers.{part_answer};
 ghost use Rattle.cedar_requests.specs.Contexts.{context_part};
-ghost use Rattle.cedar_requests.specs.Holding.{request_parts};
-ghost use Rattle.cedar_interpreter.specs.Asking.{context_asked, StandFor, IsEvaluatorOf, MeansTree};
+ghost use Rattle.cedar_requests.specs.Holding.{RequestParts, request_parts};
+ghost use Rattle.cedar_substitution.specs.Told.{told_for};
+ghost use Rattle.cedar_interpreter.specs.Asking.{context_asked, untold, StandFor, IsEvaluatorOf, MeansTree};
 ghost use Rattle.cedar_interpreter.specs.Holding.{held_by, Serves, Deep, depth_of};
 ghost use Rattle.cedar_interpreter.specs.Meeting.{MeetsAt, ValueAt, IsLimit};
 
@@ -24,6 +27,7 @@ use cedar_trees::expr::Expr;
 use cedar_trees::unknowns::Unknown;
 use cedar_values::values::Value;
 use std::alloc::{AllocError, Global};
+use std::collections::HashMap;
 use std::rc::RcStr;
 
 impl<'s, 'e, 'f> Evaluator<'s, 'e, 'f> {
@@ -37,14 +41,31 @@ impl<'s, 'e, 'f> Evaluator<'s, 'e, 'f> {
         extensions: &'e Extensions<'f>,
         depth: u32,
     ) -> Result<Evaluator<'s, 'e, 'f>, AllocError>
-        ensures { IfOk result (λ ev. IsEvaluatorOf (request_parts request.now) entities.now extensions.now depth ev) }
+        ensures { IfOk result (λ ev. IsEvaluatorOf (untold (request_parts request.now)) entities.now extensions.now depth ev) }
     {
         Ok(Evaluator {
             variables: variables_of(alloc, request)?,
             entities,
             extensions,
             depth,
+            told: None,
         })
+    }
+
+    /// The evaluator for which unknowns of these names have these values: an unknown with another type
+    /// than its value's errs with `TypeError`.
+    pub fn with_told(self, told: &'s HashMap<RcStr, Value>) -> Evaluator<'s, 'e, 'f>
+        ensures { (r : RequestParts) (entities : Store) (table : Functions) (depth : ℕ) →
+            IsEvaluatorOf (untold r) entities table depth self.entry →
+            IsEvaluatorOf (record { request = r; told = told_for told.now.entries }) entities table depth result }
+    {
+        Evaluator {
+            variables: self.variables,
+            entities: self.entities,
+            extensions: self.extensions,
+            depth: self.depth,
+            told: Some(told),
+        }
     }
 
     /// The value of an expression, or what is left of it where some of what it reads isn't known.

@@ -2,6 +2,9 @@
 use cedar_entities::store::Entities;
 use cedar_extensions::extensions::Extensions;
 use cedar_restricted::partial_values::PartialValue;
+use cedar_values::values::Value;
+use std::collections::HashMap;
+use std::rc::RcStr;
 
 // What stands for the variables of a request: an entity or an unknown for the first three, and for the
 // context a record, what is left of one, or an unknown.
@@ -13,14 +16,15 @@ pub(crate) struct Variables {
     pub(crate) context: PartialValue,
 }
 
-/// A request and what is held besides it, by which expressions are evaluated: the entities of a store
-/// and the functions of extensions. No evaluation nests deeper than a limit. Contracts see it by
-/// `held_by`, what is held of the leaves of trees, by `Serves`, the facts and trees that it serves, and by
-/// `depth_of`, its limit.
+/// A request and what is held besides it, by which expressions are evaluated: the entities of a store,
+/// the functions of extensions, and the values that are told for unknowns. No evaluation nests deeper
+/// than a limit. Contracts see it by `held_by`, what is held of the leaves of trees, by `Serves`, the
+/// facts and trees that it serves, and by `depth_of`, its limit.
 #[derive(Drop)]
 pub struct Evaluator<'s, 'e, 'f> {
     pub(crate) variables: Variables,
     pub(crate) entities: &'s Entities,
     pub(crate) extensions: &'e Extensions<'f>,
     pub(crate) depth: u32,
+    pub(crate) told: Option<&'s HashMap<RcStr, Value>>,
 }

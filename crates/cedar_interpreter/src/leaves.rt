@@ -1,14 +1,18 @@
 // Expressions without parts.
 ghost use Rattle.std.specs.Prelude.{◌≡◌, true, IfOk};
+ghost use Rattle.std.specs.Option.{option_copied};
 ghost use Rattle.cedar_language.specs.Facts.{Facts};
 ghost use Rattle.cedar_language.specs.Meaning.{slot_outcome};
 ghost use Rattle.cedar_literals.specs.Variables.{variable_of};
 ghost use Rattle.cedar_partial_evaluation.specs.Partial.{answer_of, partial_in};
+ghost use Rattle.cedar_partial_evaluation.specs.Question.{name_held, value_held};
+ghost use Rattle.cedar_partial_evaluation.specs.Unknowns.{fits};
 ghost use Rattle.cedar_constraints.specs.Bindings.{binding_of};
 ghost use Rattle.cedar_trees.specs.Bare.{bare};
+ghost use Rattle.cedar_trees.specs.Unknowns.{unknown_name, unknown_type};
 ghost use Rattle.cedar_restricted.specs.PartialValues.{partial_of};
 ghost use Rattle.cedar_interpreter.specs.Forms.{is_leaf};
-ghost use Rattle.cedar_interpreter.specs.Holding.{held_by, variable_in};
+ghost use Rattle.cedar_interpreter.specs.Holding.{held_by, value_told, variable_in};
 ghost use Rattle.cedar_interpreter.specs.Meeting.{MeetsAt};
 
 use crate::evaluator::{Evaluator, Variables};
@@ -16,12 +20,15 @@ use cedar_constraints::bindings::SlotEnv;
 use cedar_extensions::evaluation_error::EvaluationError;
 use cedar_literals::literals::Literal;
 use cedar_literals::slots::SlotId;
+use cedar_literals::types::StaticallyTyped;
 use cedar_literals::variables::Var;
 use cedar_restricted::partial_values::PartialValue;
 use cedar_trees::expr::{Expr, ExprKind};
+use cedar_trees::unknowns::Unknown;
 use cedar_values::values::Value;
 use std::alloc::{AllocError, Global};
-use std::rc::Rc;
+use std::collections::HashMap;
+use std::rc::{Rc, RcStr};
 
 impl<'s, 'e, 'f> Evaluator<'s, 'e, 'f> {
     /// The answer of an expression without parts.
@@ -38,7 +45,7 @@ impl<'s, 'e, 'f> Evaluator<'s, 'e, 'f> {
             ExprKind::Lit(literal) => Ok(PartialValue::from(Value::from(literal.clone()?))),
             ExprKind::Var(var) => Ok(variable(alloc, &self.variables, *var)?),
             ExprKind::Slot(slot) => bound(alloc, slots, slot),
-            ExprKind::Unknown(unknown) => Ok(PartialValue::unknown(unknown.clone()?)),
+            ExprKind::Unknown(name) => unknown(alloc, self.told, name),
             ExprKind::If { .. } => unreachable!(),
             ExprKind::And { .. } => unreachable!(),
             ExprKind::Or { .. } => unreachable!(),
@@ -74,6 +81,47 @@ fn copied(alloc: Global, partial: &PartialValue) -> Result<PartialValue, AllocEr
     match partial {
         PartialValue::Value(value) => Ok(PartialValue::Value(value.clone(alloc)?)),
         PartialValue::Residual(rest) => Ok(PartialValue::Residual(rest.clone(alloc)?)),
+    }
+}
+
+// The value that is told for an unknown, or else the unknown itself. It errs with `TypeError` where the
+// value is of another type than the one that the unknown states.
+fn unknown(
+    alloc: Global,
+    told: Option<&HashMap<RcStr, Value>>,
+    unknown: &Unknown,
+) -> Result<PartialValue, EvaluationError>
+    ensures { (facts : Facts) → MeetsAt facts ⊥ (name_held (value_told told.entry (unknown_name unknown.now)) (unknown_name unknown.now) (unknown_type unknown.now)) result }
+{
+    match value_for(told, unknown) {
+        Some(value) => typed(alloc, value, unknown),
+        None => Ok(PartialValue::unknown(unknown.clone()?)),
+    }
+}
+
+// The value that is told for an unknown.
+fn value_for<'s>(told: Option<&'s HashMap<RcStr, Value>>, unknown: &Unknown) -> Option<&'s Value>
+    ensures { option_copied result ≡ value_told told.entry (unknown_name unknown.now) }
+{
+    match told {
+        Some(told) => told.get(unknown.name.as_str()),
+        None => None,
+    }
+}
+
+// A value for an unknown. It errs with `TypeError` where the unknown states another type.
+fn typed(alloc: Global, value: &Value, unknown: &Unknown) -> Result<PartialValue, EvaluationError>
+    ensures { (facts : Facts) → MeetsAt facts ⊥ (value_held (fits (unknown_type unknown.now) value.now) value.now) result }
+{
+    match &unknown.type_annotation {
+        Some(expected) => {
+            if *expected == value.type_of(alloc)? {
+                return Ok(PartialValue::from(value.clone(alloc)?));
+            }
+            let expected = expected.clone()?;
+            Err(EvaluationError::type_error_single(alloc, expected, value)?)
+        }
+        None => Ok(PartialValue::from(value.clone(alloc)?)),
     }
 }
 

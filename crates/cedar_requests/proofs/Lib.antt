@@ -3,4 +3,7 @@ mod Mistyping
 mod PutIn
 mod RecordsStay
 mod Refusing
+mod ToldAnswers
 mod ToldRecords
+mod Unextended
+mod Untyped

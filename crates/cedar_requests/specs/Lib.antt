@@ -7,3 +7,4 @@ pub mod Parts
 pub mod Refusals
 pub mod Residuals
 pub mod Telling
+pub mod ToldContexts

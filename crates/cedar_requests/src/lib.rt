@@ -10,6 +10,7 @@ pub mod errors;
 mod evaluating;
 mod from_uids;
 pub mod infallible;
+pub mod laws;
 pub mod requests;
 pub mod residuals;
 pub mod schemas;

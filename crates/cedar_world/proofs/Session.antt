@@ -109,6 +109,16 @@ from_reached by commands replies world reached = record {
     kinds = step.1.4.0.kinds;
     in_force = step.1.4.0.in_force;
   };
+  tell = λ text answer new step. record {
+    asked = step.1.4.0;
+    fields = step.1.1;
+    portion = step.1.4.1;
+    was_open = step.1.4.2;
+    says = (step.1.0, step.1.2, step.1.3);
+    tells = step.1.4.3;
+    later = step.1.4.4;
+    stays_open = step.1.4.5;
+  };
   refused = λ verb text r new step. step.1;
 }
 

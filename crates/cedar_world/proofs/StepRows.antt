@@ -81,7 +81,7 @@ load_frame : IsFrame (codes "load 36\npermit(principal, action, resource);\n") L
 load_frame = byte_rows.frame
 
 ask_head : IsHeadLine (codes "ask 2\n") Ask 2
-ask_head = record { line = codes "ask 2"; is = refl; short = omega arith; head = (codes "2", refl, refl, refl, refl) }
+ask_head = record { line = codes "ask 2"; is = refl; short = omega arith; head = (codes "2", refl, refl, refl) }
 
 ask_frame : IsFrame (codes "ask 2\n{}\n") Ask (codes "{}")
 ask_frame = record { head = codes "ask 2\n"; opens = ask_head; fits = omega arith; is = refl }

@@ -7,18 +7,18 @@ use Rattle.cedar_language.specs.Tree.{Tree}
 use Rattle.cedar_language.specs.Authorization.{Known}
 use Rattle.cedar_world.specs.Syntax.{PolicySyntax}
 use Rattle.cedar_world.specs.Answer.{Answer}
-use Rattle.cedar_world.specs.World.{World, Policies, Entities, IsCyclic, new_world}
+use Rattle.cedar_world.specs.World.{World, Asked, Policies, Entities, IsCyclic, new_world}
 use Rattle.cedar_world.specs.EntityEdits.{Version, Puts, Adds, Removes}
 use Rattle.cedar_world.specs.PolicyEdits.{Loads, Links, TakesAway}
 use Rattle.cedar_world.specs.Asking.{Question}
-use Rattle.cedar_world.specs.Question.{IsKnown}
-use Rattle.cedar_world.specs.Bodies.{LinkBody, EntityBody, string_of, uids_of, link_body, entity_bodies, ask_body}
+use Rattle.cedar_world.specs.Question.{IsKnown, Portion, told_with}
+use Rattle.cedar_world.specs.Bodies.{LinkBody, EntityBody, Fields, string_of, uids_of, link_body, entity_bodies, ask_body, tell_body}
 use Rattle.cedar_world.specs.Setting.{Setting, ArePolicies, IsBody}
 use Rattle.cedar_world.specs.Fillings.{IsFilling}
 use Rattle.cedar_world.specs.Answers.{IsKnownAnswer, IsFair, NamesNoGhosts, IsPromptButKinds, NamesKinds}
-use Rattle.cedar_world.specs.Values.{versions}
-use Rattle.cedar_world.specs.Commands.{Verb, Load, Link, Unlink, RemoveStatic, RemoveTemplate, Add, Put, Remove, Ask, Refusal, Reply, Done, Named, Answered, Refused}
-use Rattle.cedar_world.specs.Step.{Step}
+use Rattle.cedar_world.specs.Values.{values, versions}
+use Rattle.cedar_world.specs.Commands.{Verb, Load, Link, Unlink, RemoveStatic, RemoveTemplate, Add, Put, Remove, Ask, Tell, Refusal, Reply, Done, Named, Answered, Refused}
+use Rattle.cedar_world.specs.Step.{Step, IsLaterAnswer, opens}
 use Rattle.cedar_world.specs.LinkLaws.{LinksAreWhole}
 
 -- a verb and a text
@@ -86,9 +86,22 @@ module _ (by : Setting) where
     pub kinds : NamesKinds by world question map.empty answer
     pub in_force : NamesNoGhosts by world answer
 
+  -- An answer once more is told keeps what was said before, holds under all values of what is still unknown, is as sharp as
+  -- settling, and says all that Cedar's rules say once nothing is unknown, kinds of errors aside. The question stays open.
+  pub record IsToldByTheRules (world : World) (text : Text) (answer : Answer) (new : World) : Type 0 where
+    pub asked : Asked
+    pub fields : Fields
+    pub portion : Portion
+    pub was_open : world.asked ≡ Some asked
+    pub says : Says tell_body text fields
+    pub tells : values by fields ≡ Some portion
+    pub later : IsLaterAnswer by world asked (told_with asked.told portion) answer
+    pub stays_open : new ≡ opens world asked.question (told_with asked.told portion) answer
+
   pub record AreAnsweredByTheRules (commands : List Command) (replies : List Reply) (world : World) : Type 0 where
     pub reached : IsReached commands replies world
     pub ask : (text : Text) (answer : Answer) (new : World) → Step by world Ask text (Answered answer) new → IsAnsweredByTheRules world text answer
+    pub tell : (text : Text) (answer : Answer) (new : World) → Step by world Tell text (Answered answer) new → IsToldByTheRules world text answer new
     pub refused : (verb : Verb) (text : Text) (r : Refusal) (new : World) → Step by world verb text (Refused r) new → new ≡ world
 
 abbrev pub CommandsAreAnsweredByTheRules : Type 0

@@ -11,7 +11,7 @@ returns c =
     let p = c.args.policy.now in
     let answer = c.partial_evaluate-answer.result in
     on_ok c.keep.result
-    (λ held keepable r store table depth is es keeps.
-    keeps_more r store table depth es c.args.self.now c.keep.new.self (policy_seen p) (kept_of p answer) keeps held
-    (is_kept r store table depth c.args.evaluator.now is p answer c.partial_evaluate-answer.ensures.found c.partial_evaluate-answer.ensures.limit keepable))
+    (λ held keepable i store table depth is es keeps.
+    keeps_more i store table depth es c.args.self.now c.keep.new.self (policy_seen p) (kept_of p answer) keeps held
+    (is_kept i store table depth c.args.evaluator.now is p answer c.partial_evaluate-answer.ensures.found c.partial_evaluate-answer.ensures.limit keepable))
     c.keep.ensures.held c.keep.ensures.keepable

@@ -1,13 +1,12 @@
 use Rattle.std.proofs.Common.{ℕ, map}
 use Rattle.cedar_entities.specs.declared.store.Entities.{Entities}
 use Rattle.cedar_extensions.specs.declared.extensions.Extensions.{Extensions}
-use Rattle.cedar_interpreter.specs.Asking.{IsEvaluatorOf}
+use Rattle.cedar_interpreter.specs.Asking.{Inquiry, IsEvaluatorOf}
 use Rattle.cedar_policy_set.specs.Bounds.{policy_seen}
-use Rattle.cedar_requests.specs.Holding.{RequestParts}
 use Rattle.cedar_evaluator.specs.Grouping.{Keeps}
 use Rattle.cedar_evaluator.proofs.groups.Groups.of_policies.Given as goal
 
 -- the policies so far are kept
 abbrev pub invariant-loop-policy : goal.invariant-loop-policy
 invariant-loop-policy l =
-    (r : RequestParts) (store : Entities) (table : Extensions) (depth : ℕ) → IsEvaluatorOf r store table depth l.evaluator → Keeps r store table depth (map (λ p. policy_seen p.now) l.yielded) l.groups
+    (i : Inquiry) (store : Entities) (table : Extensions) (depth : ℕ) → IsEvaluatorOf i store table depth l.evaluator → Keeps i store table depth (map (λ p. policy_seen p.now) l.yielded) l.groups

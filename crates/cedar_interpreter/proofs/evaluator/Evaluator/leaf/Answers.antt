@@ -1,6 +1,5 @@
 -- Each leaf by what is held for it.
-use Rattle.std.proofs.Common.{◌≡◌, ◌∙◌, ap, Ok}
-use Rattle.either.specs.declared.Either.TheVariants.{Right}
+use Rattle.std.proofs.Common.{◌∙◌, ap, Ok}
 use Rattle.cedar_language.specs.Tree.{Var, Slot, Unknown}
 use Rattle.cedar_literals.specs.Variables.{variable_of}
 use Rattle.cedar_trees.specs.Bare.{bare, bare_kind}
@@ -20,8 +19,6 @@ pub returns-in-Slot : goal.returns-in-Slot
 returns-in-Slot c =
     λ facts. leaf_as facts (held_by c.args.self.now c.args.slots.now) (bare c.args.expr.now) (Slot c.in-Slot.slot) c.bound.result (bare_is (Unit {0}) c.args.expr.now ∙ ap bare_kind c.in-Slot.is ∙ bare-Slot (Unit {0}) c.in-Slot.slot) (c.bound.ensures facts)
 
-pub returns-in_ok-clone-in-Unknown : goal.returns-in_ok-clone-in-Unknown
-returns-in_ok-clone-in-Unknown c =
-    λ facts. leaf_as facts (held_by c.args.self.now c.args.slots.now) (bare c.args.expr.now) (Unknown (unknown_name c.in-Unknown.unknown) (unknown_type c.in-Unknown.unknown)) (Ok c.unknown.result) (bare_is (Unit {0}) c.args.expr.now ∙ ap bare_kind c.in-Unknown.is ∙ bare-Unknown (Unit {0}) c.in-Unknown.unknown)
-    (same_part facts (partial_of c.unknown.result) (Right (Unknown (unknown_name c.in-Unknown.unknown) (unknown_type c.in-Unknown.unknown)))
-    (c.unknown.ensures ∙ ap (λ n. Right (Unknown n (unknown_type c.in_ok-clone-in-Unknown.field-0))) c.in_ok-clone-in-Unknown.ensures.cases.0 ∙ ap (λ ty. Right (Unknown (unknown_name c.in-Unknown.unknown) ty)) c.in_ok-clone-in-Unknown.ensures.cases.1))
+pub returns-in-Unknown : goal.returns-in-Unknown
+returns-in-Unknown c =
+    λ facts. leaf_as facts (held_by c.args.self.now c.args.slots.now) (bare c.args.expr.now) (Unknown (unknown_name c.in-Unknown.name) (unknown_type c.in-Unknown.name)) c.unknown.result (bare_is (Unit {0}) c.args.expr.now ∙ ap bare_kind c.in-Unknown.is ∙ bare-Unknown (Unit {0}) c.in-Unknown.name) (c.unknown.ensures facts)

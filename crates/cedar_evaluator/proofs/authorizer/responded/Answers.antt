@@ -1,0 +1,16 @@
+-- The response holds what was found of each policy of the set.
+use Rattle.std.proofs.lemmas.Map.Made.{IsDistinct-keys_filter}
+use Rattle.cedar_language.specs.Order.{same_text}
+use Rattle.cedar_policy_set.specs.Entries.{is_policy}
+use Rattle.cedar_evaluator.proofs.Keeping.{responds}
+use Rattle.cedar_evaluator.proofs.Responding.{if_ok_both}
+use Rattle.cedar_evaluator.proofs.authorizer.responded.Goals as goal
+
+pub returns : goal.returns
+returns c =
+    let es = c.args.policies.now in
+    if_ok_both c.into_response.result
+    (λ response holds asked i store table depth is by.
+    responds i store table depth es c.in_ok-groups.groups (c.in_ok-groups.ensures i store table depth by)
+    (IsDistinct-keys_filter same_text (λ e. is_policy e.1) es c.len-count.ensures.whole.distinct) response holds asked is)
+    c.into_response.ensures.holds c.into_response.ensures.asked

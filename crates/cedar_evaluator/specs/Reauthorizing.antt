@@ -1,0 +1,46 @@
+-- What a response comes to once values are told: what is then found of the policies that are left.
+use Rattle.std.specs.Prelude.{◌≡◌, ⊤, ℕ, List, Result, Ok, Err}
+use Rattle.std.specs.List.{IsDistinct}
+use Rattle.std.specs.Map.{keys_of}
+use Rattle.std.specs.declared.alloc.Global.{Global}
+use Rattle.std.specs.declared.rc.RcStr.{RcStr}
+use Rattle.cedar_language.specs.Order.{same_text}
+use Rattle.cedar_language.specs.Value.{Value}
+use Rattle.cedar_substitution.specs.Told.{told_for}
+use Rattle.cedar_extensions.specs.declared.extensions.Extensions.{Extensions}
+use Rattle.cedar_entities.specs.declared.store.Entities.{Entities as Store}
+use Rattle.cedar_policy_set.specs.Entries.{Entries}
+use Rattle.cedar_policy_set.specs.declared.errors.PolicySetError.{PolicySetError}
+use Rattle.cedar_policy_set.specs.declared.errors.PolicySetError.TheVariants.{Occupied, Memory as WantOfMemory}
+use Rattle.cedar_requests.specs.Holding.{RequestParts}
+use Rattle.cedar_evaluator.specs.Concretizing.{IsConcreteRequest, IsRefused}
+use Rattle.cedar_evaluator.specs.Evaluations.{Kept, AreKept}
+use Rattle.cedar_evaluator.specs.Holding.{request_asked, holding_in}
+use Rattle.cedar_evaluator.specs.Residuals.{residuals_with, is_any}
+use Rattle.cedar_evaluator.specs.Responses.{holding_of}
+use Rattle.cedar_evaluator.specs.declared.errors.ReauthorizationError.{ReauthorizationError}
+use Rattle.cedar_evaluator.specs.declared.errors.ReauthorizationError.TheVariants as answering
+use Rattle.cedar_evaluator.specs.declared.partial_response.PartialResponse.{PartialResponse}
+
+-- an id stands twice among these policies; want of memory says nothing
+abbrev pub IsNoSet : Entries → PolicySetError → Type 0
+IsNoSet es (Occupied id) = IsDistinct same_text (keys_of es) → ⊥
+IsNoSet es (WantOfMemory e) = ⊤
+
+-- Of each policy that is left, in the order of the response, what is found of it for the request with what is told is kept, and nothing
+-- else: of each group its policies, and the errors; no id stands in two groups.
+pub record IsReauthorized (store : Store) (table : Extensions) (depth : ℕ) (entries : List (RcStr Global × Value)) (response again : PartialResponse) : Type 0 where
+  pub request : RequestParts
+  pub concrete : IsConcreteRequest table depth entries (request_asked response) request
+  pub kept : List Kept
+  pub each : AreKept (record { request = request; told = told_for entries }) store table depth (residuals_with is_any response) kept
+  pub holds : holding_in again ≡ holding_of kept
+  pub asked : request_asked again ≡ request
+  pub apart : IsDistinct same_text (keys_of (residuals_with is_any again))
+
+-- the response made anew, or why there is none: an id stands twice among the policies that are left, or the values aren't taken
+abbrev pub Reauthorizes : Store → Extensions → ℕ → List (RcStr Global × Value) → PartialResponse → Result PartialResponse ReauthorizationError → Type 0
+Reauthorizes store table depth entries response (Ok again) = IsReauthorized store table depth entries response again
+Reauthorizes store table depth entries response (Err (answering.PolicySetError e)) = IsDistinct same_text (keys_of (residuals_with is_any response)) → ⊥
+Reauthorizes store table depth entries response (Err (answering.ConcretizationError e)) = IsRefused table depth entries (request_asked response) e
+Reauthorizes store table depth entries response (Err (answering.Memory e)) = ⊤

@@ -1,0 +1,112 @@
+-- Members of lists, and tests that some member passes.
+use Rattle.std.proofs.Common.{◌≡◌, Option, Some, None, is_some, ◌⊎◌, inl, inr, ℕ, zero, suc, ◌<◌, arith, Bool, true, false, ◌||◌, List, [], ◌∷◌, map, length, get_or, Contains, refl, sym, ◌∙◌, ap, true≢false}
+use Rattle.std.specs.Cmp.{both_ways}
+use Rattle.cedar_language.specs.Uid.{Text}
+use Rattle.cedar_language.specs.Value.{Kind}
+use Rattle.cedar_language.specs.Answering.{Erring, Judged, some, HasId, HasErred}
+
+pub or_cases : (a b : Bool) → (a || b) ≡ true → (a ≡ true) ⊎ (b ≡ true)
+or_cases true b h = inl refl
+or_cases false b h = inr h
+
+pub or_left : (a b : Bool) → a ≡ true → (a || b) ≡ true
+or_left a b h = rw h refl
+
+pub or_right : (a b : Bool) → b ≡ true → (a || b) ≡ true
+or_right true b h = refl
+or_right false b h = h
+
+pub or_false : (b : Bool) → (b || false) ≡ b
+or_false true = refl
+or_false false = refl
+
+pub the_value : {A : Type 0} (o : Option A) → is_some o ≡ true → (x : A) × (o ≡ Some x)
+the_value (Some x) h = (x, refl)
+the_value None h = cc
+
+-- ---- members
+
+-- x is one of the list
+abbrev pub IsAmong : {X : Type 0} → X → List X → Type 0
+IsAmong x [] = ⊥
+IsAmong x (y ∷ ys) = (y ≡ x) ⊎ IsAmong x ys
+
+among_at : {X : Type 0} (xs : List X) (x : X) (k : ℕ) → k < length xs → get_or xs k x ≡ x → IsAmong x xs
+among_at [] x k l e = absurd (omega arith)
+among_at (y ∷ ys) x zero l e = inl e
+among_at (y ∷ ys) x (suc k) l e = inr (among_at ys x k (omega arith) e)
+
+pub contained : {X : Type 0} (xs : List X) (x : X) → Contains xs x → IsAmong x xs
+contained xs x c = among_at xs x c.0 c.1 c.2
+
+pub contains : {X : Type 0} (xs : List X) (x : X) → IsAmong x xs → Contains xs x
+contains [] x a = absurd a
+contains (y ∷ ys) x (inl e) = (0, omega arith, e)
+contains (y ∷ ys) x (inr a) = let c = contains ys x a in let l = c.1 in (suc c.0, omega arith, c.2)
+
+pub mapped : {X Y : Type 0} (f : X → Y) (xs : List X) (x : X) → IsAmong x xs → IsAmong (f x) (map f xs)
+mapped f [] x a = a
+mapped f (y ∷ ys) x (inl e) = inl (ap f e)
+mapped f (y ∷ ys) x (inr a) = inr (mapped f ys x a)
+
+pub unmapped : {X Y : Type 0} (f : X → Y) (xs : List X) (y : Y) → IsAmong y (map f xs) → (x : X) × IsAmong x xs × (f x ≡ y)
+unmapped f [] y a = absurd a
+unmapped f (x ∷ xs) y (inl e) = (x, inl refl, e)
+unmapped f (x ∷ xs) y (inr a) = let u = unmapped f xs y a in (u.0, inr u.1, u.2)
+
+-- ---- tests on some member
+
+pub some_of : (f : Judged → Bool) (js : List Judged) (j : Judged) → IsAmong j js → f j ≡ true → some f js ≡ true
+some_of f [] j a h = absurd a
+some_of f (k ∷ ks) j (inl e) h = or_left (f k) (some f ks) (ap f e ∙ h)
+some_of f (k ∷ ks) j (inr a) h = or_right (f k) (some f ks) (some_of f ks j a h)
+
+of_some : (f : Judged → Bool) (js : List Judged) → some f js ≡ true → (j : Judged) × IsAmong j js × (f j ≡ true)
+of_some f [] h = absurd (true≢false (sym h))
+of_some f (k ∷ ks) h =
+    elim (or_cases (f k) (some f ks) h) [
+      | inl e ↦ (k, inl refl, e)
+      | inr e ↦ let u = of_some f ks e in (u.0, inr u.1, u.2)
+    ]
+
+-- both lists have the same members
+pub record AreAlike (js ks : List Judged) : Type 0 where
+  pub there : (j : Judged) → IsAmong j js → IsAmong j ks
+  pub back : (j : Judged) → IsAmong j ks → IsAmong j js
+
+pub some_alike : (js ks : List Judged) → AreAlike js ks → (f : Judged → Bool) → some f js ≡ some f ks
+some_alike js ks alike f =
+    both_ways (some f js) (some f ks)
+    (λ h. let u = of_some f js h in some_of f ks u.0 (alike.there u.0 u.1) u.2)
+    (λ h. let u = of_some f ks h in some_of f js u.0 (alike.back u.0 u.1) u.2)
+
+pub not_some : (f : Judged → Bool) (js : List Judged) → ((j : Judged) → IsAmong j js → f j ≡ false) → some f js ≡ false
+not_some f [] h = refl
+not_some f (j ∷ js) h = let e = h j (inl refl) in rw e (not_some f js (λ k a. h k (inr a)))
+
+-- ---- policies by their ids
+
+-- a policy of the list has the id and passes the test
+pub record HasPassed (js : List Judged) (f : Judged → Bool) (id : Text) : Type 0 where
+  pub policy : Judged
+  pub among : IsAmong policy js
+  pub id_is : policy.id ≡ id
+  pub passes : f policy ≡ true
+
+pub passed : (js : List Judged) (f : Judged → Bool) (id : Text) → HasId js f id → HasPassed js f id
+passed js f id h = record { policy = h.0; among = contained js h.0 h.1; id_is = h.2; passes = h.3 }
+
+pub has_passed : (js : List Judged) (f : Judged → Bool) (id : Text) → HasPassed js f id → HasId js f id
+has_passed js f id h = (h.policy, contains js h.policy h.among, h.id_is, h.passes)
+
+pub record HasFailed (js : List Judged) (id : Text) (k : Kind) : Type 0 where
+  pub policy : Judged
+  pub among : IsAmong policy js
+  pub id_is : policy.id ≡ id
+  pub errs : policy.standing ≡ Erring k
+
+pub failed : (js : List Judged) (id : Text) (k : Kind) → HasErred js id k → HasFailed js id k
+failed js id k h = record { policy = h.0; among = contained js h.0 h.1; id_is = h.2; errs = h.3 }
+
+pub has_failed : (js : List Judged) (id : Text) (k : Kind) → HasFailed js id k → HasErred js id k
+has_failed js id k h = (h.policy, contains js h.policy h.among, h.id_is, h.errs)

@@ -1,0 +1,80 @@
+//! What an answer is once more is told: laws of policies that are taken up again, and of answers that are joined along tells.
+#![tactic(auto)]
+
+ghost use Rattle.cedar_telling.specs.Again.{AgainIsSound, EarlyStaysSound};
+ghost use Rattle.cedar_telling.specs.ContextErrors.{ContextsErrInParts};
+ghost use Rattle.cedar_telling.specs.Joined.{FirstAnswersAreSteady, LaterAnswersStand};
+ghost use Rattle.cedar_telling.specs.Plain.{PlainAnswers};
+
+// ---- evaluations
+
+/// Where no extension value is held, an answer has none, and what is left of a tree doesn't depend on how such values are written.
+pub fn plain_answers()
+    ensures { PlainAnswers }
+{}
+
+/// A context is refused once values are told where some part of it errs, all of whose names are told.
+pub fn contexts_err_in_parts()
+    ensures { ContextsErrInParts }
+{
+    cedar_partial_evaluation::data_errs_in_parts();
+}
+
+// ---- policies
+
+/// How policies stand when a question is asked stays true, whatever is told later.
+pub fn early_stays_sound()
+    ensures { EarlyStaysSound }
+{
+    cedar_partial_evaluation::question_answers_are_fair();
+    cedar_partial_evaluation::filled_is_meant();
+    cedar_partial_evaluation::question_answers_are_prompt();
+    cedar_partial_evaluation::telling_carries();
+    cedar_partial_evaluation::residuals_settle();
+    cedar_partial_evaluation::settling_is_one();
+    cedar_partial_evaluation::names_dont_matter();
+    cedar_partial_evaluation::without_unknowns();
+    cedar_partial_evaluation::all_told_is_known();
+}
+
+/// What was left of policies when a question was asked, evaluated again once more is told, has them stand as their conditions do.
+pub fn again_is_sound()
+    ensures { AgainIsSound }
+{
+    cedar_partial_evaluation::question_answers_are_fair();
+    cedar_partial_evaluation::filled_is_meant();
+    cedar_partial_evaluation::unbound_answers_are_fair();
+    cedar_partial_evaluation::telling_carries();
+    cedar_partial_evaluation::residuals_settle();
+    cedar_partial_evaluation::unbound_residuals_settle();
+    cedar_partial_evaluation::linking_is_writing();
+    cedar_partial_evaluation::linking_is_writing_early();
+    cedar_partial_evaluation::settling_is_one();
+    cedar_partial_evaluation::names_dont_matter();
+    cedar_partial_evaluation::without_unknowns();
+    cedar_partial_evaluation::reauthorizing_is_sharp();
+    cedar_partial_evaluation::errors_are_named();
+    cedar_partial_evaluation::reauthorizing_is_exact();
+}
+
+// ---- answers
+
+/// A first answer stays true, whatever is told later.
+pub fn first_answers_are_steady()
+    ensures { FirstAnswersAreSteady }
+{
+    cedar_world::worlds_have_facts();
+    cedar_world::answers_read_what_is_in_force();
+    cedar_world::answers_are_made();
+    cedar_language::rules_are_fair();
+}
+
+/// What the rules say of policies that are taken up again, joined with the last answer, is the answer once more is told.
+pub fn later_answers_stand()
+    ensures { LaterAnswersStand }
+{
+    cedar_world::worlds_have_facts();
+    cedar_world::answers_read_what_is_in_force();
+    cedar_world::answers_are_made();
+    cedar_language::rules_are_fair();
+}
