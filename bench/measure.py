@@ -95,6 +95,14 @@ def asks_with_unknowns(count, keys, known):
     return frame('load', text) + frame('ask', ASK.replace('{}', '{%s}' % context)) * count
 
 
+def tells(count):
+    """A hundred policies, each of which reads one of five unknown keys of the context, which are told one by one."""
+    text = ''.join('permit(principal, action, resource) when { context.k%d == %d };\n' % (n % 5, n) for n in range(100))
+    context = ', '.join('k%d: unknown("k%d")' % (n, n) for n in range(5))
+    told = b''.join(frame('tell', '{k%d: %d}' % (n, n)) for n in range(5))
+    return frame('load', text) + (frame('ask', ASK.replace('{}', '{%s}' % context)) + told) * count
+
+
 def cases():
     yield '10,000 asks, 100 policies', asks(10_000, 100)
     yield '20,000 asks, 100 policies', asks(20_000, 100)
@@ -120,6 +128,7 @@ def cases():
     for keys in (1, 5, 50):
         yield '1,000 asks, %d keys known' % keys, asks_with_unknowns(1000, keys, True)
         yield '1,000 asks, %d keys unknown' % keys, asks_with_unknowns(1000, keys, False)
+    yield '1,000 asks, 5 keys told one by one', tells(1000)
 
 
 def seconds(program, data, repeat):

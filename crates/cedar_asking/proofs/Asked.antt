@@ -1,5 +1,5 @@
 -- Contexts that are evaluated: what is held of a question's context is what the context answers.
-use Rattle.std.proofs.Common.{◌≡◌, ◌∙◌, ◌≢◌, refl, ap, sym, subst, suc, true≢false, arith}
+use Rattle.std.proofs.Common.{◌≡◌, ◌∙◌, refl, ap, sym, suc, arith}
 use Rattle.std.proofs.lemmas.Bool.{ne_eqb}
 use Rattle.std.specs.FinMap as map
 use Rattle.std.specs.Prelude.{Bool, true, false, cond, nat_eq, ◌&&◌, ◌||◌, Option, Some, None, option_map, List}
@@ -13,13 +13,11 @@ use Rattle.cedar_language.specs.Operators.{called, count, or_fails}
 use Rattle.cedar_language.specs.Restricted.{is_restricted, are_restricted}
 use Rattle.cedar_partial_evaluation.specs.Like.{Writes, IsLike, itself, writes_too, if_like, and_like, or_like, apply_like, AreLike, none_like, more_like}
 use Rattle.cedar_partial_evaluation.specs.Settling.{Is, Settlings, SomeOpen, SomeErrs, AllAre, kindless, apply_settled, all_settled_in}
-use Rattle.cedar_partial_evaluation.specs.Partial.{Answer, Evaluated, ResidualTree, Failed, partial_in}
+use Rattle.cedar_partial_evaluation.specs.Partial.{Answer, ResidualTree, Failed, partial_in}
 use Rattle.cedar_partial_evaluation.specs.Question.{IsAccepted, context_held, settled_names}
 use Rattle.cedar_world.specs.Asking.{WithEntries}
-use Rattle.cedar_world.specs.Bodies.{unknown_or, named_call, named, all_named, some_name_of, holds_call, hold_call, is_one_of}
+use Rattle.cedar_world.specs.Bodies.{unknown_or, named_call, named, all_named, holds_call, hold_call}
 use Rattle.cedar_world.specs.Functions.{is_the_unknown, one_string, unknown_function}
-use Rattle.cedar_world.specs.Setting.{Setting, functions_alone}
-use Rattle.cedar_world.specs.Values.{holds_unknown, errs_alone, context_errs, variable_names}
 use Rattle.cedar_extensions.specs.Functions.{meaning_in, meaning_of}
 use Rattle.cedar_extensions.specs.Holding.{found_in}
 use Rattle.cedar_extensions.specs.Tables as tables

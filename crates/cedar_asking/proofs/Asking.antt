@@ -1,5 +1,5 @@
 -- A question is asked by the request that has its parts, and what its context was evaluated to.
-use Rattle.std.proofs.Common.{◌≡◌, ◌∙◌, ap, sym, Option, Some, None, ℕ, List, codes}
+use Rattle.std.proofs.Common.{◌≡◌, ◌∙◌, ap, sym, Option, None, ℕ, List, codes}
 use Rattle.std.specs.FinMap as map
 use Rattle.std.specs.FinMap.{get-empty}
 use Rattle.either.specs.declared.Either.{Either}
@@ -7,17 +7,15 @@ use Rattle.cedar_language.specs.Facts.{Facts}
 use Rattle.cedar_language.specs.Order.{text_cmp}
 use Rattle.cedar_language.specs.Tree.{Variable, Principal, Action, Resource, Context, Tree, Unknown}
 use Rattle.cedar_language.specs.Value.{Value, Kind}
-use Rattle.cedar_partial_evaluation.specs.Partial.{Answer, ResidualTree, Failed}
+use Rattle.cedar_partial_evaluation.specs.Partial.{ResidualTree, Failed}
 use Rattle.cedar_partial_evaluation.specs.Question.{Part, IsAccepted, name_held, part_held, context_held, variable_held}
-use Rattle.cedar_world.specs.Asking.{Entries, NoContext, WithEntries, Question}
+use Rattle.cedar_world.specs.Asking.{Entries, NoContext, Question}
 use Rattle.cedar_world.specs.First.{IsData}
-use Rattle.cedar_world.specs.Setting.{Setting}
 use Rattle.cedar_extensions.specs.declared.extensions.Extensions.{Extensions}
 use Rattle.cedar_interpreter.specs.Asking.{context_asked, variable_asked}
 use Rattle.cedar_requests.specs.Holding.{RequestParts}
 use Rattle.cedar_restricted_evaluation.specs.Evaluations.{HasFunctions}
-use Rattle.cedar_asking.specs.Contexts.{HasContext, neither_given, both_given, MeansRecord, QuestionsAreAsked}
-use Rattle.cedar_asking.specs.Requests.{IsRequestOf}
+use Rattle.cedar_asking.specs.Contexts.{HasContext, neither_given, both_given, QuestionsAreAsked}
 use Rattle.cedar_asking.proofs.Asked.{context_is, context_accepted}
 use Rattle.cedar_asking.proofs.Data.{accepts, all_named_are_data}
 use Rattle.cedar_asking.proofs.Filled.{has_request}

@@ -1,24 +1,22 @@
 -- Data of which nothing is told: what is settled of it is what is answered, and its calls that name unknowns are data too.
-use Rattle.std.proofs.Common.{◌≡◌, ◌∙◌, ◌≢◌, refl, ap, sym, subst, Bool, true, false, not, is_some, ◌&&◌, ◌||◌, Option, Some, None, codes, true≢false}
+use Rattle.std.proofs.Common.{◌≡◌, ◌∙◌, ◌≢◌, refl, ap, sym, Bool, true, false, ◌&&◌, Option, None, codes}
 use Rattle.std.specs.FinMap as map
 use Rattle.std.specs.FinMap.{get-empty}
 use Rattle.cedar_language.specs.Uid.{Text, Name}
 use Rattle.cedar_language.specs.Order.{text_cmp}
 use Rattle.cedar_language.specs.Tree.{String, Operator, MakeSet, MakeRecord, Call, Tree, Lit, Unknown, Apply, Trees, no_trees, a_tree, ValueType}
-use Rattle.cedar_language.specs.Value.{Value, Values, Kind, Outcome, Gives, Fails}
+use Rattle.cedar_language.specs.Value.{Kind, Outcome, Gives, Fails}
 use Rattle.cedar_language.specs.Facts.{Facts}
 use Rattle.cedar_language.specs.Operators.{applied}
 use Rattle.cedar_language.specs.Restricted.{is_restricted, are_restricted}
-use Rattle.cedar_partial_evaluation.specs.Settling.{Settling, Open, Errs, Is, Settlings, SomeOpen, SomeErrs, AllAre, kindless, and_more, apply_settled, LeafSettlings, settled_in, all_settled_in}
+use Rattle.cedar_partial_evaluation.specs.Settling.{Errs, Settlings, SomeOpen, SomeErrs, AllAre, kindless, and_more, apply_settled, LeafSettlings, settled_in, all_settled_in}
 use Rattle.cedar_partial_evaluation.specs.Partial.{Answer, Evaluated, ResidualTree, Failed, Answers, AllEvaluated, SomeResiduals, SomeFailed, answer_of, LeafAnswers, and_next, residual_answer, apply_answer, partial_in, all_partial_in}
 use Rattle.cedar_partial_evaluation.specs.Prompt.{without_kind}
 use Rattle.cedar_partial_evaluation.specs.Question.{name_settled, name_held, settled_names, held_names, IsAccepted, context_settled, context_held}
 use Rattle.cedar_world.specs.Asking.{Entries, NoContext, WithEntries}
-use Rattle.cedar_world.specs.Bodies.{unknown_or, named_call, named, all_named, some_part}
+use Rattle.cedar_world.specs.Bodies.{unknown_or, named_call, named, all_named}
 use Rattle.cedar_world.specs.First.{IsData}
 use Rattle.cedar_world.specs.Functions.{is_the_unknown}
-use Rattle.cedar_world.specs.Setting.{Setting, value_of}
-use Rattle.cedar_world.specs.Values.{fails, holds_open, errs, errs_alone}
 
 and_left : (a b : Bool) → (a && b) ≡ true → a ≡ true
 and_left true b h = refl

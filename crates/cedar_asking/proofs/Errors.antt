@@ -1,19 +1,19 @@
 -- The errors that are listed are those of the policies that are kept.
-use Rattle.std.proofs.Common.{◌≡◌, inl, inr, Bool, true, false, ◌&&◌, Option, Some, None, is_some, List, [], ◌∷◌, map, Contains, refl, sym, ◌∙◌, ap, subst}
+use Rattle.std.proofs.Common.{◌≡◌, inl, inr, Bool, true, ◌&&◌, Some, is_some, List, [], ◌∷◌, map, Contains, refl, sym, ◌∙◌, ap}
 use Rattle.std.specs.List.{cons_option, list_all}
 use Rattle.cedar_language.specs.Uid.{Text}
 use Rattle.cedar_language.specs.Value.{Kind}
 use Rattle.cedar_world.specs.Answers as world
 use Rattle.cedar_world.specs.Answers.{erring_as}
 use Rattle.cedar_extensions.specs.Failures.{Failure, OfKind, LimitMet, MemoryRanOut, kind_in}
-use Rattle.cedar_replies.specs.Erring.{has_kind, have_kinds, and_kind, with_kinds}
+use Rattle.cedar_replies.specs.Erring.{have_kinds, and_kind, with_kinds}
 use Rattle.cedar_replies.specs.Kinds.{kind_of}
 use Rattle.cedar_replies.specs.declared.error_kind.ErrorKind.{ErrorKind}
 use Rattle.cedar_replies.specs.declared.error_kind.ErrorKind.TheVariants.{EntityDoesNotExist, EntityAttrDoesNotExist, RecordAttrDoesNotExist, FailedExtensionFunctionLookup, TypeError, WrongNumArguments, IntegerOverflow, UnlinkedSlot, FailedExtensionFunctionExecution, NonValue, RecursionLimit, Memory}
 use Rattle.cedar_evaluator.specs.Evaluations.{Found, Satisfied, Unsatisfied, Erred, Open, Kept}
 use Rattle.cedar_evaluator.specs.Responses.{error_id, errors_of}
 use Rattle.cedar_asking.specs.Erring.{failure_named, with_failure}
-use Rattle.cedar_asking.proofs.Lists.{IsAmong, and_left, and_right, contained}
+use Rattle.cedar_asking.proofs.Lists.{IsAmong, contained}
 use Rattle.cedar_asking.proofs.Members.{ungathered}
 use Rattle.cedar_asking.proofs.Standings.{standing_found, judged, is_settled}
 

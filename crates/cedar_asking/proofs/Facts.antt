@@ -1,7 +1,7 @@
 -- The facts of a world, over the store that shows its entities and the table that has its functions.
 use Rattle.std.proofs.Common.{◌≡◌, ◌∙◌, refl, ap, sym, subst, false, Option, Some, None, option_map}
 use Rattle.std.specs.FinMap as finite
-use Rattle.cedar_language.specs.Uid.{Text, Uid, Name}
+use Rattle.cedar_language.specs.Uid.{Text}
 use Rattle.cedar_language.specs.Tree.{String}
 use Rattle.cedar_language.specs.Value.{Value, Plain, SetOf, RecordOf, ExtensionOf, Values, no_values, a_value}
 use Rattle.cedar_language.specs.Facts as language
@@ -17,7 +17,7 @@ use Rattle.cedar_entities.specs.declared.store.Entities.{Entities}
 use Rattle.cedar_entities.proofs.Shown.{attribute_at, to_world, to_store}
 use Rattle.cedar_extensions.specs.Functions.{meaning_in, meaning_of}
 use Rattle.cedar_extensions.specs.Holding.{found_in}
-use Rattle.cedar_extensions.specs.Tables.{functions_in, function_called}
+use Rattle.cedar_extensions.specs.Tables.{functions_in}
 use Rattle.cedar_extensions.specs.declared.extensions.Extensions.{Extensions}
 use Rattle.cedar_extensions.specs.declared.functions.Function as code
 use Rattle.cedar_extensions.specs.declared.functions.Function.TheVariants as function
@@ -64,14 +64,14 @@ module _ (facts : Facts) where
     built_are_made no_values h = tt
     built_are_made (a_value v vs) h = (built_is_made v h.0, built_are_made vs h.1)
 
-  means_unknown : (g : code.Function) → meaning_in g ≡ unknown_function
+  pub means_unknown : (g : code.Function) → meaning_in g ≡ unknown_function
   means_unknown function.Unknown = refl
 
   not_two : (w x : Value) (xs : Values) (v : Value) → one_string (a_value w (a_value x xs)) ≡ Some v → ⊥
   not_two (Plain (String s)) x xs v h = cc
   not_two w x xs v h = cc
 
-  text_in : (vs : Values) (v : Value) → one_string vs ≡ Some v → (s : Text) × (vs ≡ a_value (Plain (String s)) no_values)
+  pub text_in : (vs : Values) (v : Value) → one_string vs ≡ Some v → (s : Text) × (vs ≡ a_value (Plain (String s)) no_values)
   text_in no_values v h = cc
   text_in (a_value (Plain (String s)) no_values) v h = (s, refl)
   text_in (a_value w no_values) v h = cc
@@ -84,14 +84,14 @@ module _ (facts : Facts) where
       let same : Plain (String s) ≡ v = cc in
       subst (IsMadeAgain facts) same tt
 
-  answer_made : (o : Option ExtensionFunction) (f : Function) (vs : Values) (v : Value) → option_map meaning_of o ≡ Some f → f.answer vs ≡ Some v → IsMadeAgain facts v
+  pub answer_made : (o : Option ExtensionFunction) (f : Function) (vs : Values) (v : Value) → option_map meaning_of o ≡ Some f → f.answer vs ≡ Some v → IsMadeAgain facts v
   answer_made None f vs v is h = cc
   answer_made (Some g) f vs v is h =
       let there : meaning_of g ≡ f = cc in
       let same : f ≡ unknown_function = sym there ∙ means_unknown g.function in
       text_made vs v (sym (ap (λ (x : Function). x.answer vs) same) ∙ h)
 
-  of_seen : (o : Option EntityData) (h : language.Held) → seen o ≡ Some h → (d : EntityData) × (o ≡ Some d) × (h ≡ record { attribute = finite.get d.attributes; tag = finite.get d.tags })
+  pub of_seen : (o : Option EntityData) (h : language.Held) → seen o ≡ Some h → (d : EntityData) × (o ≡ Some d) × (h ≡ record { attribute = finite.get d.attributes; tag = finite.get d.tags })
   of_seen None h e = cc
   of_seen (Some d) h e = (d, refl, cc)
 

@@ -1,22 +1,19 @@
 -- Questions in which nothing is unknown: each has its request.
-use Rattle.std.proofs.Common.{◌≡◌, ◌∙◌, refl, ap, sym, subst, Bool, true, false, ◌&&◌, ◌||◌, Option, Some, None, is_some, List, codes, true≢false}
+use Rattle.std.proofs.Common.{◌≡◌, ◌∙◌, refl, ap, sym, subst, Bool, true, false, ◌&&◌, ◌||◌, Option, Some, None, is_some, codes, true≢false}
 use Rattle.std.specs.FinMap as map
 use Rattle.std.specs.FinMap.{get-empty}
 use Rattle.cedar_language.specs.Uid.{Text, Uid}
 use Rattle.cedar_language.specs.Order.{text_cmp}
-use Rattle.cedar_language.specs.Tree.{Operator, MakeRecord, Tree, Lit, Var, Slot, Unknown, If, And, Or, Apply, Trees, no_trees, a_tree, ValueType}
-use Rattle.cedar_language.specs.Value.{Value, Gives}
-use Rattle.cedar_language.specs.Restricted.{are_restricted}
-use Rattle.cedar_language.specs.Authorization.{Known}
+use Rattle.cedar_language.specs.Tree.{Tree, Lit, Var, Slot, Unknown, If, And, Or, Apply, Trees, no_trees, a_tree, ValueType}
+use Rattle.cedar_language.specs.Value.{Value}
 use Rattle.cedar_partial_evaluation.specs.Filling as early
 use Rattle.cedar_partial_evaluation.specs.Unknowns.{EachUnknown, EachUnknownOf}
-use Rattle.cedar_world.specs.Asking.{Part, Given, Missing, Entries, NoContext, WithEntries, Question, Told}
+use Rattle.cedar_world.specs.Asking.{Part, Given, Missing, Entries, NoContext, WithEntries, Question}
 use Rattle.cedar_world.specs.Bodies.{some_name, some_name_of}
-use Rattle.cedar_world.specs.Fillings.{IsFilling}
 use Rattle.cedar_world.specs.First.{IsData, HasRequest}
 use Rattle.cedar_world.specs.Orders.{text_eq}
-use Rattle.cedar_world.specs.Question.{is_missing, has_name, is_unknown, IsKnown}
-use Rattle.cedar_world.specs.Setting.{Setting, functions_alone, value_of}
+use Rattle.cedar_world.specs.Question.{is_missing, has_name}
+use Rattle.cedar_world.specs.Setting.{Setting, functions_alone}
 use Rattle.std.specs.Cmp.{tied_itself}
 use Rattle.std.specs.Ordering.{is_eq}
 use Rattle.cedar_world.proofs.Maps.{text_total}

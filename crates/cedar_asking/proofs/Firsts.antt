@@ -1,5 +1,5 @@
 -- A response says a first answer to the question, and meets the limit at a known one only where a condition is higher.
-use Rattle.std.proofs.Common.{◌≡◌, ◌<◌, ℕ, Bool, true, false, ◌&&◌, not, inl, inr, Option, Some, None, is_some, IsSome, List, [], ◌∷◌, map, All, Contains, refl, sym, ◌∙◌, ap, subst}
+use Rattle.std.proofs.Common.{◌≡◌, ◌<◌, ℕ, Bool, true, false, ◌&&◌, inl, inr, Option, Some, None, is_some, IsSome, List, [], ◌∷◌, map, All, Contains, refl, sym, ◌∙◌, ap, subst}
 use Rattle.std.specs.FinMap as finite
 use Rattle.std.proofs.lemmas.List.Elements.{All-nil, All-cons}
 use Rattle.cedar_language.specs.Uid.{Text}
@@ -29,18 +29,18 @@ use Rattle.cedar_world.specs.Syntax.{PolicySyntax, condition}
 use Rattle.cedar_world.specs.World.{World, in_force_at}
 use Rattle.cedar_world.specs.WorldFacts.{AreFactsOf}
 use Rattle.cedar_entities.specs.declared.store.Entities.{Entities}
-use Rattle.cedar_extensions.specs.Failures.{LimitMet}
 use Rattle.cedar_extensions.specs.Tables.{holds_unknown}
 use Rattle.cedar_extensions.specs.declared.extensions.Extensions.{Extensions}
 use Rattle.cedar_operators.specs.Store.{HasFacts}
 use Rattle.cedar_requests.specs.Holding.{RequestParts}
+use Rattle.cedar_interpreter.specs.Asking.{Inquiry, untold}
 use Rattle.cedar_interpreter.specs.Operating.{HasFunctions, NamesNothing}
 use Rattle.cedar_policy_set.specs.Entries.{Entry, static_policy, template, link, Entries, bound_at, IsWhole, policies_of}
 use Rattle.cedar_policy_set.specs.Texts.{HaveSlots, syntax_in}
 use Rattle.cedar_policy_set.specs.Worlds.{policies_in, FindsAsWorlds}
 use Rattle.cedar_replies.specs.Erring.{have_kinds, with_kinds}
 use Rattle.cedar_replies.specs.declared.error_kind.ErrorKind.{ErrorKind}
-use Rattle.cedar_evaluator.specs.Evaluations.{Erred, Kept, IsKept, AreKept, IsServed, condition_in}
+use Rattle.cedar_evaluator.specs.Evaluations.{Kept, IsKept, AreKept, IsServed, condition_in}
 use Rattle.cedar_evaluator.specs.Responses.{errors_of, holding_of, judged_held}
 use Rattle.cedar_asking.specs.Answers.{IsSettingOf, SomeTooHigh}
 use Rattle.cedar_asking.specs.Erring.{with_failure, SomeAtLimit}
@@ -53,21 +53,21 @@ use Rattle.cedar_asking.proofs.Sayings.{says_rules}
 use Rattle.cedar_asking.proofs.Standings.{judged, is_settled, stands_as_found, stands_as_written, all_given, height_as_written, names_as_written}
 
 -- each of the list, by its members
-all_among : {X : Type 0} (P : X → Type 0) (xs : List X) → ((x : X) → IsAmong x xs → P x) → All P xs
+pub all_among : {X : Type 0} (P : X → Type 0) (xs : List X) → ((x : X) → IsAmong x xs → P x) → All P xs
 all_among P [] h = All-nil P
 all_among P (x ∷ xs) h = All-cons P x xs (h x (inl refl)) (all_among P xs (λ y a. h y (inr a)))
 
-some_value : {A : Type 0} (o : Option A) → is_some o ≡ true → (x : A) × (o ≡ Some x)
+pub some_value : {A : Type 0} (o : Option A) → is_some o ≡ true → (x : A) × (o ≡ Some x)
 some_value (Some x) h = (x, refl)
 some_value None h = cc
 
-same_value : {A : Type 0} (x y : A) → Some x ≡ Some y → x ≡ y
+pub same_value : {A : Type 0} (x y : A) → Some x ≡ Some y → x ≡ y
 same_value x y e = cc
 
-same_kind : (k l : Kind) → answering.Erring k ≡ answering.Erring l → k ≡ l
+pub same_kind : (k l : Kind) → answering.Erring k ≡ answering.Erring l → k ≡ l
 same_kind k l e = cc
 
-effect_as_written : (e : Entry) → (written_entry e).effect ≡ (syntax_in e).effect
+pub effect_as_written : (e : Entry) → (written_entry e).effect ≡ (syntax_in e).effect
 effect_as_written (static_policy s) = refl
 effect_as_written (template s) = refl
 effect_as_written (link t s b) = refl
@@ -77,23 +77,24 @@ abbrev NamesNone : Entries → Type 0
 NamesNone es = (id : Text) (e : Entry) → bound_at es id ≡ Some e → calls_only is_other (condition_in e) ≡ true
 
 -- what is kept of a set's policies, whose store and table have the facts
-module _ (r : RequestParts) (store : Entities) (table : Extensions) (depth : ℕ) where
-  kept_of : (es : Entries) (ks : List Kept) → AreKept r store table depth es ks → (k : Kept) → IsAmong k ks → (e : Text × Entry) × IsAmong e es × IsKept r store table depth e k
+module _ (i : Inquiry) (store : Entities) (table : Extensions) (depth : ℕ) where
+  pub kept_of : (es : Entries) (ks : List Kept) → AreKept i store table depth es ks → (k : Kept) → IsAmong k ks → (e : Text × Entry) × IsAmong e es × IsKept i store table depth e k
   kept_of [] [] h k a = absurd a
   kept_of [] (l ∷ ks) h k a = absurd h
   kept_of (e ∷ es) [] h k a = absurd h
-  kept_of (e ∷ es) (l ∷ ks) (first, rest) k (inl is) = (e, inl refl, subst (IsKept r store table depth e) is first)
+  kept_of (e ∷ es) (l ∷ ks) (first, rest) k (inl is) = (e, inl refl, subst (IsKept i store table depth e) is first)
   kept_of (e ∷ es) (l ∷ ks) (first, rest) k (inr a) = let (f, among, kept) = kept_of es ks rest k a in (f, inr among, kept)
 
-  of_kept : (es : Entries) (ks : List Kept) → AreKept r store table depth es ks → (e : Text × Entry) → IsAmong e es → (k : Kept) × IsAmong k ks × (k.id ≡ e.0)
+  pub of_kept : (es : Entries) (ks : List Kept) → AreKept i store table depth es ks → (e : Text × Entry) → IsAmong e es → (k : Kept) × IsAmong k ks × (k.id ≡ e.0)
   of_kept [] [] h e a = absurd a
   of_kept [] (l ∷ ks) h e a = absurd h
   of_kept (f ∷ es) [] h e a = absurd h
   of_kept (f ∷ es) (l ∷ ks) (first, rest) e (inl is) = (l, inl refl, first.id ∙ ap (λ (x : Text × Entry). x.0) is)
   of_kept (f ∷ es) (l ∷ ks) (first, rest) e (inr a) = let (k, among, is) = of_kept es ks rest e a in (k, inr among, is)
 
+module _ (r : RequestParts) (store : Entities) (table : Extensions) (depth : ℕ) where
   module _ (early : LinkingIsWritingEarly) (conditions : LinkConditions) (es : Entries) (whole : IsWhole es) (slots : HaveSlots es) (names : NamesNone es) (finds : FindsAsWorlds)
-      (ks : List Kept) (kept : AreKept r store table depth (policies_of es) ks)
+      (ks : List Kept) (kept : AreKept (untold r) store table depth (policies_of es) ks)
       (by : Setting) (world : World) (held : world.policies ≡ policies_in es) (facts : Facts) (has : HasFacts store facts) (served : HasFunctions table facts) (q : Question) (asked : IsRequestOf by table q r) where
     names_nothing : (e : Entry) → calls_only is_other (condition_in e) ≡ true → NamesNothing table (condition_in e)
     names_nothing e h = by_table (holds_unknown table) _ (no_call (condition_in e) h)
@@ -102,7 +103,7 @@ module _ (r : RequestParts) (store : Entities) (table : Extensions) (depth : ℕ
         by_table true b n = n
         by_table false b n = refl
 
-    serves : (e : Entry) → calls_only is_other (condition_in e) ≡ true → IsServed r store table depth facts (condition_in e)
+    serves : (e : Entry) → calls_only is_other (condition_in e) ≡ true → IsServed (untold r) store table depth facts (condition_in e)
     serves e h = record { entities = has; functions = served; names_nothing = names_nothing e h }
 
     pub names_none : NamesNoUnknown world
@@ -114,7 +115,7 @@ module _ (r : RequestParts) (store : Entities) (table : Extensions) (depth : ℕ
       each_judged : (j : Judged) → IsAmong j (map judged ks) → IsJudged world (StandsEarly facts q finite.empty) j
       each_judged j a =
           let (k, among, is) = unmapped judged ks j a in
-          let (e, in_set, of) = kept_of (policies_of es) ks kept k among in
+          let (e, in_set, of) = kept_of (untold r) store table depth (policies_of es) ks kept k among in
           let (at, policy) = is_bound es whole e in_set in
           subst (IsJudged world (StandsEarly facts q finite.empty)) is (record {
             syntax = written_entry e.1;
@@ -127,14 +128,14 @@ module _ (r : RequestParts) (store : Entities) (table : Extensions) (depth : ℕ
       every_judged id some =
           let (s, force) = some_value (in_force_at world.policies id) some in
           let (e, at, is, policy) = written_by es whole slots finds world held id s force in
-          let (k, among, named) = of_kept (policies_of es) ks kept (id, e) (is_there es whole id e at policy) in
+          let (k, among, named) = of_kept (untold r) store table depth (policies_of es) ks kept (id, e) (is_there es whole id e at policy) in
           (judged k, contains (map judged ks) (judged k) (mapped judged ks k among), named)
 
-      judges : Judges world (StandsEarly facts q finite.empty) (map judged ks)
+      pub judges : Judges world (StandsEarly facts q finite.empty) (map judged ks)
       judges = record { each = all_among _ (map judged ks) each_judged; every = every_judged }
 
       -- under one id one policy is in force, and it stands in one way
-      once : ErrOnce (map judged ks)
+      pub once : ErrOnce (map judged ks)
       once id k l (a, in_a, id_a, errs_a) (b, in_b, id_b, errs_b) =
           let x = each_judged a (contained (map judged ks) a in_a) in
           let y = each_judged b (contained (map judged ks) b in_b) in
@@ -158,7 +159,7 @@ module _ (r : RequestParts) (store : Entities) (table : Extensions) (depth : ℕ
     pub meets_limit : MentionedIsMeant → LinkingKeepsHeight → IsSettingOf table depth by → SomeAtLimit (errors_of ks) → IsKnown q → SomeTooHigh by world
     meets_limit meant keeps setting (id, c) known =
         let (k, among, found) = limit_kept ks id c in
-        let (e, in_set, of) = kept_of (policies_of es) ks kept k among in
+        let (e, in_set, of) = kept_of (untold r) store table depth (policies_of es) ks kept k among in
         let (at, policy) = is_bound es whole e in_set in
         let calls = names e.0 e.1 at in
         let high = of.limit found facts (serves e.1 calls) (all_given meant by table q r asked setting.functions known (condition_in e.1) (no_unknown is_other (condition_in e.1) calls)) in (

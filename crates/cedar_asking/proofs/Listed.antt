@@ -3,7 +3,7 @@ use Rattle.std.proofs.Common.{◌≡◌, ◌<◌, ℕ, sym, subst, List, map, le
 use Rattle.std.specs.List.{Contains}
 use Rattle.std.proofs.lemmas.List.Elements.{Contains-get_or}
 use Rattle.cedar_language.specs.Uid.{Text}
-use Rattle.cedar_extensions.specs.Failures.{Failure, LimitMet}
+use Rattle.cedar_extensions.specs.Failures.{Failure}
 use Rattle.cedar_replies.specs.declared.refusal.Refusal.{Refusal}
 use Rattle.cedar_replies.specs.declared.refusal.Refusal.TheVariants as refusal
 use Rattle.cedar_asking.specs.Erring.{ListsError, ListsErrors}

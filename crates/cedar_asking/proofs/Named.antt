@@ -1,10 +1,10 @@
 -- Unknowns that have no name of their own, in a context as it is written and with its calls named.
-use Rattle.std.proofs.Common.{◌≡◌, ◌∙◌, refl, ap, sym, Bool, true, false, cond, ◌&&◌, ◌||◌, Option, Some, None, List, [], ◌∷◌, map, Global, length, get_or, arith}
+use Rattle.std.proofs.Common.{◌≡◌, ◌∙◌, refl, ap, sym, Bool, true, false, cond, ◌&&◌, ◌||◌, None, List, [], ◌∷◌, map, Global, length, get_or, arith}
 use Rattle.std.specs.declared.rc.Rc.{Rc}
 use Rattle.std.specs.declared.rc.RcStr.{RcStr}
 use Rattle.std.specs.BTreeMap.{BTreeMap}
 use Rattle.cedar_language.specs.Uid.{Text, Name}
-use Rattle.cedar_language.specs.Tree.{String, Operator, MakeSet, MakeRecord, Call, Tree, Lit, Var, Slot, Unknown, If, And, Or, Apply, Trees, no_trees, a_tree}
+use Rattle.cedar_language.specs.Tree.{String, Operator, MakeSet, MakeRecord, Call, Tree, Lit, Unknown, Apply, Trees, no_trees, a_tree}
 use Rattle.cedar_language.specs.Restricted.{is_restricted, are_restricted}
 use Rattle.cedar_grammar.specs.Build.{trees}
 use Rattle.cedar_literals.specs.Operators.{unary_operator_of, binary_operator_of}
@@ -93,7 +93,7 @@ and_right true b h = h
 and_right false b h = cc
 
 -- a call of another function stays one
-other_stays : (f : Name) (ts : Trees) → is_the_unknown f ≡ false → named_call (Call f) ts ≡ Apply (Call f) ts
+pub other_stays : (f : Name) (ts : Trees) → is_the_unknown f ≡ false → named_call (Call f) ts ≡ Apply (Call f) ts
 other_stays f no_trees h = refl
 other_stays f (a_tree t ts) h = ap (λ b. unknown_or b f t ts) h
 
@@ -109,7 +109,7 @@ no_text true f (Lit (String m)) no_trees n h = cc
 no_text false f t ts n h = cc
 no_text true f t ts n h = cc
 
-named_no_text : (op : Operator) (ts : Trees) (n : Text) → named_call op ts ≡ Lit (String n) → ⊥
+pub named_no_text : (op : Operator) (ts : Trees) (n : Text) → named_call op ts ≡ Lit (String n) → ⊥
 named_no_text (Call f) no_trees n h = cc
 named_no_text (Call f) (a_tree t ts) n h = no_text (is_the_unknown f) f t ts n h
 named_no_text op ts n h = cc

@@ -1,7 +1,7 @@
 -- Trees that call no unknown name none, and still don't with the entities of a link in the places of their slots.
-use Rattle.std.proofs.Common.{◌≡◌, Bool, true, false, ◌&&◌, ◌||◌, not, Option, Some, None, refl, sym, ◌∙◌, ap}
+use Rattle.std.proofs.Common.{◌≡◌, Bool, true, false, ◌&&◌, ◌||◌, not, Option, Some, None, refl}
 use Rattle.cedar_language.specs.Uid.{Name, Uid}
-use Rattle.cedar_language.specs.Tree.{SlotId, Variable, Equal, Operator, Call, Tree, Lit, Var, Slot, Unknown, If, And, Or, Apply, Trees, no_trees, a_tree}
+use Rattle.cedar_language.specs.Tree.{SlotId, Variable, Operator, Call, Tree, Lit, Var, Slot, Unknown, If, And, Or, Apply, Trees, no_trees, a_tree}
 use Rattle.cedar_language.specs.Slots.{Slots, bound_slot, bound_tree, bound_trees}
 use Rattle.cedar_partial_evaluation.specs.Mentions.{mentions_only, all_mention_only}
 use Rattle.cedar_partial_evaluation.specs.ReadUnknowns.{is_unknown_call, calls_unknown, some_calls_unknown}

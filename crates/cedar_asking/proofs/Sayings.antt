@@ -1,9 +1,8 @@
 -- What a response says of the policies that it keeps is what the rules say of them.
-use Rattle.std.proofs.Common.{◌≡◌, Bool, true, false, ◌&&◌, ◌||◌, not, cond, ◌⊎◌, inl, inr, Option, Some, None, List, [], ◌∷◌, ◌++◌, map, Contains, refl, sym, ◌∙◌, ap, subst, true≢false}
+use Rattle.std.proofs.Common.{◌≡◌, Bool, true, false, ◌&&◌, ◌||◌, not, cond, inl, inr, Option, Some, List, ◌++◌, map, refl, sym, ◌∙◌, ap, subst, true≢false}
 use Rattle.std.specs.Cmp.{both_ways}
 use Rattle.std.specs.FinMap as finite
 use Rattle.cedar_language.specs.Uid.{Text}
-use Rattle.cedar_language.specs.Value.{Kind}
 use Rattle.cedar_language.specs.Tree.{Tree}
 use Rattle.cedar_language.specs.Answering as answering
 use Rattle.cedar_language.specs.Answering.{Effect, Permit, Forbid, Standing, Judged, is_permit, is_satisfied, is_residual, HasId, HasErred, some, satisfied_permit, satisfied_forbid, residual_permit, residual_forbid, decision_by, decision, in_must, in_may}
@@ -12,9 +11,9 @@ use Rattle.cedar_world.specs.Answers as world
 use Rattle.cedar_world.specs.Answers.{ids_with}
 use Rattle.cedar_asking.proofs.Lists.{IsAmong, contained, contains, mapped, unmapped, some_of, of_some, and_right, or_left, or_right, or_cases}
 use Rattle.cedar_world.specs.Standing.{Says, ErrOnce, AnswersAreMade}
-use Rattle.cedar_extensions.specs.Failures.{Failure, OfKind, LimitMet, MemoryRanOut}
+use Rattle.cedar_extensions.specs.Failures.{OfKind, LimitMet, MemoryRanOut}
 use Rattle.cedar_evaluator.specs.Evaluations.{Found, Satisfied, Unsatisfied, Erred, Open, Kept}
-use Rattle.cedar_evaluator.specs.Responses.{if_effect, satisfied_id, false_id, open_id, satisfied_of, false_of, open_of, holding_of, stands, judged_held}
+use Rattle.cedar_evaluator.specs.Responses.{if_effect, satisfied_id, open_id, satisfied_of, false_of, open_of, holding_of, stands, judged_held}
 use Rattle.cedar_asking.proofs.Members.{among_left, among_right, among_either, gathered, ungathered}
 use Rattle.cedar_asking.proofs.Standings.{standing_found, judged}
 
@@ -27,34 +26,34 @@ Counted f = (j : Judged) → f j ≡ true → counts j ≡ true
 
 -- ---- the groups of a response
 
-itself : {X : Type 0} (e : Effect) (o : Option X) → if_effect e e o ≡ o
+pub itself : {X : Type 0} (e : Effect) (o : Option X) → if_effect e e o ≡ o
 itself Permit o = refl
 itself Forbid o = refl
 
-of_effect : {X : Type 0} (e d : Effect) (o : Option X) (x : X) → if_effect e d o ≡ Some x → (d ≡ e) × (o ≡ Some x)
+pub of_effect : {X : Type 0} (e d : Effect) (o : Option X) (x : X) → if_effect e d o ≡ Some x → (d ≡ e) × (o ≡ Some x)
 of_effect Permit Permit o x h = (refl, h)
 of_effect Forbid Forbid o x h = (refl, h)
 of_effect Permit Forbid o x h = cc
 of_effect Forbid Permit o x h = cc
 
-is_satisfied_id : (id x : Text) (f : Found) → satisfied_id id f ≡ Some x → (f ≡ Satisfied) × (id ≡ x)
+pub is_satisfied_id : (id x : Text) (f : Found) → satisfied_id id f ≡ Some x → (f ≡ Satisfied) × (id ≡ x)
 is_satisfied_id id x Satisfied h = (refl, cc)
 is_satisfied_id id x Unsatisfied h = cc
 is_satisfied_id id x (Erred e) h = cc
 is_satisfied_id id x (Open t) h = cc
 
-is_open_id : (id : Text) (x : Text × Tree) (f : Found) → open_id id f ≡ Some x → (f ≡ Open x.1) × (id ≡ x.0)
+pub is_open_id : (id : Text) (x : Text × Tree) (f : Found) → open_id id f ≡ Some x → (f ≡ Open x.1) × (id ≡ x.0)
 is_open_id id x Satisfied h = cc
 is_open_id id x Unsatisfied h = cc
 is_open_id id x (Erred e) h = cc
 is_open_id id x (Open t) h = let same : (id, t) ≡ x = cc in (ap (λ (y : Text × Tree). Open y.1) same, ap (λ (y : Text × Tree). y.0) same)
 
 module _ (ks : List Kept) (e : Effect) where
-  satisfied_there : (k : Kept) → IsAmong k ks → k.effect ≡ e → k.found ≡ Satisfied → IsAmong k.id (satisfied_of e ks)
+  pub satisfied_there : (k : Kept) → IsAmong k ks → k.effect ≡ e → k.found ≡ Satisfied → IsAmong k.id (satisfied_of e ks)
   satisfied_there k a effect found =
       gathered (λ (k : Kept). if_effect e k.effect (satisfied_id k.id k.found)) k k.id ks a ((λ i. if_effect e (effect i) (satisfied_id k.id (found i))) ∙ itself e (Some k.id))
 
-  open_there : (k : Kept) (t : Tree) → IsAmong k ks → k.effect ≡ e → k.found ≡ Open t → IsAmong (k.id, t) (open_of e ks)
+  pub open_there : (k : Kept) (t : Tree) → IsAmong k ks → k.effect ≡ e → k.found ≡ Open t → IsAmong (k.id, t) (open_of e ks)
   open_there k t a effect found =
       gathered (λ (k : Kept). if_effect e k.effect (open_id k.id k.found)) k (k.id, t) ks a ((λ i. if_effect e (effect i) (open_id k.id (found i))) ∙ itself e (Some (k.id, t)))
 

@@ -1,5 +1,5 @@
 -- How policies stand by what was found of them, and that the code's answers are those to the question.
-use Rattle.std.proofs.Common.{◌≡◌, ◌<◌, ℕ, Bool, true, false, ◌&&◌, Option, Some, None, refl, sym, ◌∙◌, ap, subst}
+use Rattle.std.proofs.Common.{◌≡◌, Bool, true, false, None, refl, sym, ◌∙◌, ap}
 use Rattle.std.specs.FinMap as finite
 use Rattle.cedar_language.specs.Uid.{Text}
 use Rattle.cedar_language.specs.Tree.{Variable, SlotId, PrincipalSlot, ResourceSlot, Tree, Var, Unknown}
@@ -9,30 +9,27 @@ use Rattle.cedar_language.specs.Meaning.{Slots, slot_outcome}
 use Rattle.cedar_language.specs.Order.{text_cmp}
 use Rattle.cedar_language.specs.Answering as answering
 use Rattle.cedar_language.specs.Answering.{Standing, Judged}
-use Rattle.cedar_language.specs.Slots.{bound_tree}
 use Rattle.cedar_partial_evaluation.specs.Early.{standing_of_answer}
 use Rattle.cedar_partial_evaluation.specs.Leaves.{MentionedIsMeant}
 use Rattle.cedar_partial_evaluation.specs.LinkingEarly.{StandAlike, LinkingIsWritingEarly}
 use Rattle.cedar_partial_evaluation.specs.Mentions.{mentions_only}
-use Rattle.cedar_partial_evaluation.specs.Partial.{Answer, Evaluated, ResidualTree, Failed, LeafAnswers, answer_of, partial_in}
-use Rattle.cedar_partial_evaluation.specs.Question.{name_held, variable_held, held_of}
+use Rattle.cedar_partial_evaluation.specs.Partial.{Answer, Evaluated, ResidualTree, Failed, answer_of, partial_in}
+use Rattle.cedar_partial_evaluation.specs.Question.{name_held, held_of}
 use Rattle.cedar_grammar.specs.Laws.{LinkConditions}
 use Rattle.cedar_grammar.specs.Calls.{calls_only}
 use Rattle.cedar_world.specs.Asking.{Question}
-use Rattle.cedar_world.specs.First.{IsData, HasRequest}
 use Rattle.cedar_world.specs.Question.{IsKnown}
 use Rattle.cedar_world.specs.Setting.{Setting, functions_alone}
-use Rattle.cedar_world.specs.Syntax.{PolicySyntax, condition}
+use Rattle.cedar_world.specs.Syntax.{condition}
 use Rattle.cedar_asking.proofs.Known.{all_known}
 use Rattle.cedar_constraints.specs.Bindings.{Bindings, binding_of, unbound}
-use Rattle.cedar_extensions.specs.Failures.{Failure, OfKind, LimitMet, MemoryRanOut}
+use Rattle.cedar_extensions.specs.Failures.{OfKind, LimitMet, MemoryRanOut}
 use Rattle.cedar_extensions.specs.declared.extensions.Extensions.{Extensions}
 use Rattle.cedar_requests.specs.Holding.{RequestParts}
-use Rattle.cedar_interpreter.specs.Asking.{variable_asked, request_held}
+use Rattle.cedar_interpreter.specs.Asking.{untold, request_held}
 use Rattle.cedar_interpreter.specs.Holding.{is_evaluated}
 use Rattle.cedar_interpreter.specs.Operating.{HasFunctions}
 use Rattle.cedar_policy_set.specs.Entries.{Entry, static_policy, template, link}
-use Rattle.cedar_policy_set.specs.Texts.{syntax_in}
 use Rattle.cedar_evaluator.specs.Evaluations.{Found, Satisfied, Unsatisfied, Erred, Open, Finds, bindings_in, condition_in, is_given, Kept}
 use Rattle.cedar_asking.specs.Requests.{HoldsQuestion, IsRequestOf}
 use Rattle.cedar_asking.proofs.InForce.{written_entry}
@@ -68,7 +65,7 @@ stands_as_found facts b (Open r) s (t, e, alike) = sym (ap standing_of_answer e)
 
 -- ---- what is held of the request is what is held of the question
 
-nothing_bound : (s : SlotId) → binding_of unbound s ≡ None
+pub nothing_bound : (s : SlotId) → binding_of unbound s ≡ None
 nothing_bound PrincipalSlot = refl
 nothing_bound ResourceSlot = refl
 
@@ -77,26 +74,26 @@ stand_alike (Evaluated v) b h = sym (ap standing_of_answer h)
 stand_alike (ResidualTree r) b (s, e) = sym (ap standing_of_answer e)
 stand_alike (Failed k) b h = sym (ap standing_of_answer h)
 
-abbrev no_slots : Slots
+abbrev pub no_slots : Slots
 no_slots s = None
 
 module _ (table : Extensions) (q : Question) (r : RequestParts) (holds : HoldsQuestion table q r) (facts : Facts) (served : HasFunctions table facts) where
   nothing_told : (n : Text) (ty : _) → ResidualTree (Unknown n ty) ≡ name_held (finite.get {R = text_cmp} finite.empty n) n ty
   nothing_told n ty = ap (λ o. name_held o n ty) (sym (finite.get-empty text_cmp n))
 
-  held_so : (slots : Bindings) → request_held r slots ≡ held_of facts q (binding_of slots) finite.empty
+  pub held_so : (slots : Bindings) → request_held (untold r) slots ≡ held_of facts q (binding_of slots) finite.empty
   held_so slots = λ i. record {
     variable = λ v. holds facts served v i;
     unknown = λ n ty. nothing_told n ty i;
     slot = λ s. answer_of (slot_outcome (binding_of slots s));
   }
 
-  unbound_held : request_held r unbound ≡ held_of facts q no_slots finite.empty
+  unbound_held : request_held (untold r) unbound ≡ held_of facts q no_slots finite.empty
   unbound_held = held_so unbound ∙ (λ i. held_of facts q (λ s. nothing_bound s i) finite.empty)
 
   -- a policy is answered as it is written
   pub stands_as_written : LinkingIsWritingEarly → LinkConditions → (e : Entry) →
-      standing_of_answer (partial_in facts (request_held r (bindings_in e)) (condition_in e)) ≡ standing_of_answer (partial_in facts (held_of facts q no_slots finite.empty) (condition (written_entry e)))
+      standing_of_answer (partial_in facts (request_held (untold r) (bindings_in e)) (condition_in e)) ≡ standing_of_answer (partial_in facts (held_of facts q no_slots finite.empty) (condition (written_entry e)))
   stands_as_written early conditions (static_policy s) = ap (λ h. standing_of_answer (partial_in facts h (condition s))) unbound_held
   stands_as_written early conditions (template s) = ap (λ h. standing_of_answer (partial_in facts h (condition s))) unbound_held
   stands_as_written early conditions (link t s b) =
@@ -107,14 +104,14 @@ module _ (table : Extensions) (q : Question) (r : RequestParts) (holds : HoldsQu
 -- ---- a known question
 
 module _ (meant : MentionedIsMeant) (by : Setting) (table : Extensions) (q : Question) (r : RequestParts) (asked : IsRequestOf by table q r) (served : HasFunctions table (functions_alone by.functions)) (known : IsKnown q) where
-  given : (v : Variable) → is_given r v ≡ true
+  given : (v : Variable) → is_given (untold r) v ≡ true
   given v =
       let (request, fills) = asked.request known in
       ap is_evaluated (asked.holds (functions_alone by.functions) served v
       ∙ meant.answers (functions_alone by.functions) q no_slots finite.empty request (meant.fillings (functions_alone by.functions) q finite.empty request fills.fills) (Var v) (all_known q asked.is_data known v))
 
-  pub all_given : (t : Tree) → mentions_only (λ v. true) true t ≡ true → mentions_only (is_given r) true t ≡ true
-  all_given t h = let same : is_given r ≡ (λ v. true) = λ i v. given v i in ap (λ f. mentions_only f true t) same ∙ h
+  pub all_given : (t : Tree) → mentions_only (λ v. true) true t ≡ true → mentions_only (is_given (untold r)) true t ≡ true
+  all_given t h = let same : is_given (untold r) ≡ (λ v. true) = λ i v. given v i in ap (λ f. mentions_only f true t) same ∙ h
 
 -- ---- policies as they are written
 

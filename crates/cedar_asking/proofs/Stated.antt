@@ -13,8 +13,8 @@ use Rattle.cedar_language.specs.Restricted.{is_restricted, are_restricted}
 use Rattle.cedar_language.specs.Tree.{MakeRecord, Tree, Apply, Trees, no_trees, a_tree}
 use Rattle.cedar_language.specs.Uid.{Text}
 use Rattle.cedar_language.specs.Value.{Value}
-use Rattle.cedar_world.specs.Asking.{Entries, NoContext, WithEntries, Question}
-use Rattle.cedar_world.specs.Bodies.{Fields, zipped, fields_of, found, entries_of, ask_body, named, all_named, some_name_of, holds_call, hold_call, some_part}
+use Rattle.cedar_world.specs.Asking.{Entries, NoContext, WithEntries}
+use Rattle.cedar_world.specs.Bodies.{Fields, zipped, fields_of, found, entries_of, ask_body, named, all_named, holds_call, hold_call, some_part}
 use Rattle.cedar_world.specs.Orders.{text_eq}
 use Rattle.cedar_world.specs.Setting.{Setting, functions_alone, value_of}
 use Rattle.cedar_world.specs.Values.{fails, holds_open, errs, errs_alone, context_errs, holds_bad_unknown}
@@ -26,7 +26,7 @@ use Rattle.cedar_extensions.specs.Tables.{functions_in}
 use Rattle.cedar_extensions.specs.declared.evaluation_error.EvaluationError.{EvaluationError}
 use Rattle.cedar_extensions.specs.declared.extensions.Extensions.{Extensions}
 use Rattle.cedar_bodies.specs.Fields.{Serves, part_answer, IsEvaluated}
-use Rattle.cedar_bodies.specs.Questions.{question_of, StandsAt, LendsFrom, LendsContext}
+use Rattle.cedar_bodies.specs.Questions.{question_of, StandsAt, LendsContext}
 use Rattle.cedar_bodies.specs.Reading.{TreesAreRead, IsRead}
 use Rattle.cedar_bodies.specs.Refusals.{refusal_by}
 use Rattle.cedar_bodies.specs.declared.questions.AskBody.{AskBody}

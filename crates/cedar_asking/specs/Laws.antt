@@ -17,6 +17,7 @@ use Rattle.cedar_entities.specs.Shown.{Shows}
 use Rattle.cedar_entities.specs.Store.{held_at, is_partial_store, IsClosed}
 use Rattle.cedar_entities.specs.declared.store.Entities.{Entities}
 use Rattle.cedar_extensions.specs.declared.extensions.Extensions.{Extensions}
+use Rattle.cedar_interpreter.specs.Asking.{untold}
 use Rattle.cedar_interpreter.specs.Operating.{HasFunctions}
 use Rattle.cedar_operators.specs.Store.{HasFacts}
 use Rattle.cedar_policy_set.specs.Entries.{Entries, IsWhole, policies_of}
@@ -78,5 +79,5 @@ module _ (by : Setting) (world : World) (facts : Facts) (es : Entries) (s : Enti
 abbrev pub ResponsesAnswerQuestions : Type 0
 ResponsesAnswerQuestions =
     (by : Setting) (world : World) (facts : Facts) (es : Entries) (s : Entities) (table : Extensions) (depth : ℕ) (q : Question) (r : RequestParts) (ks : List Kept)
-    → IsHeldBy by world facts es s table → IsRequestOf by table q r → AreKept r s table depth (policies_of es) ks
+    → IsHeldBy by world facts es s table → IsRequestOf by table q r → AreKept (untold r) s table depth (policies_of es) ks
     → AnswersQuestion by world facts es s table depth q r ks

@@ -6,3 +6,9 @@ pub mod Laws
 pub mod Bodies
 pub mod Answering
 pub mod Unknowns
+pub mod UnknownNames
+pub mod Tells
+pub mod TellSteps
+pub mod Keeping
+pub mod TellLaws
+pub mod Responses

@@ -1,42 +1,46 @@
-// The answer to a request.
+// The answer to a request, and the one once more is told.
+ghost use Rattle.std.specs.declared.rc.RcStr.{RcStr as Name};
+ghost use Rattle.std.specs.declared.alloc.Global.{Global as Memory};
+ghost use Rattle.std.specs.Prelude.{List};
+ghost use Rattle.cedar_language.specs.Value.{Value as Valued};
+ghost use Rattle.cedar_partial_evaluation.specs.Question.{Extends};
+ghost use Rattle.cedar_policy_set.specs.Entries.{Entries};
+ghost use Rattle.cedar_replies.specs.Replies.{answer_of};
 ghost use Rattle.cedar_requests.specs.Holding.{request_parts};
 ghost use Rattle.cedar_world.specs.Asking.{Question};
 ghost use Rattle.cedar_world.specs.Setting.{Setting};
 ghost use Rattle.cedar_world.specs.World.{World};
-ghost use Rattle.cedar_asking.specs.Answering.{AreOf, AnswersAsked};
+ghost use Rattle.cedar_asking.specs.Answering.{AreOf};
+ghost use Rattle.cedar_asking.specs.Keeping.{IsNamed, AreTold, KeepsQuestion};
 ghost use Rattle.cedar_asking.specs.Requests.{IsRequestOf};
+ghost use Rattle.cedar_asking.specs.Responses.{SaysResponse, AnswersAsked, AnswersTold, IsToldAs};
+ghost use Rattle.cedar_asking.specs.Tells.{told_in};
 
+use crate::joining::joined;
 use crate::listing::listed_errors;
-use crate::{responses_answer_questions, worlds_are_shown};
+use crate::{
+    questions_are_kept, responses_answer_questions, tells_are_answered, tells_are_refused,
+    worlds_are_shown,
+};
+use cedar_bodies::refusal;
 use cedar_entities::store::Entities;
 use cedar_evaluator::authorizer::Authorizer;
+use cedar_evaluator::errors::{ConcretizationError, ReauthorizationError};
+use cedar_evaluator::partial_response::PartialResponse;
 use cedar_extensions::extensions::Extensions;
 use cedar_policy_set::sets::PolicySet;
 use cedar_replies::{Answer, Erring, PolicyIds, Refusal};
 use cedar_requests::Request;
+use cedar_values::values::Value;
 use std::alloc::Global;
+use std::collections::HashMap;
+use std::rc::RcStr;
 
-/// What the policies and entities of a world answer to the request of a question: what is decided, the
-/// policies that must and that may be reasons, and those that err, each with the kind of its error.
-/// (Cedar language reference, "Authorization".)
-///
-/// It is refused `Depth` where the evaluation of some policy nests deeper than `depth`, and `Memory`.
-pub fn answer(
-    alloc: Global,
-    request: Request,
-    policies: &PolicySet,
-    entities: &Entities,
-    extensions: &Extensions<'_>,
-    depth: u32,
-) -> Result<Answer, Refusal>
-    ensures { (by : Setting) (world : World) (q : Question) → AreOf by world policies.now entities.now extensions.now depth → IsRequestOf by extensions.now q (request_parts request) → AnswersAsked by world q result }
+// What a response says, as an answer tells it. It is refused `Depth` where some error is a limit that was
+// met, and `Memory`.
+fn answer_by(alloc: Global, response: &PartialResponse) -> Result<Answer, Refusal>
+    ensures { SaysResponse response.now result }
 {
-    cedar_world::worlds_have_facts();
-    worlds_are_shown();
-    responses_answer_questions();
-    let _count = policies.len();
-    let authorizer = Authorizer::new(extensions, depth);
-    let response = authorizer.is_authorized_core(alloc, request, policies, entities)?;
     let listed = listed_errors(alloc, response.errors.as_slice())?;
     let must = response.must_be_determining_ids(alloc)?;
     let may = response.may_be_determining_ids(alloc)?;
@@ -46,4 +50,74 @@ pub fn answer(
         may: PolicyIds::new(may),
         erring: Erring::new(listed)?,
     })
+}
+
+/// What the policies and entities of a world answer to the request of a question: what is decided, the
+/// policies that must and that may be reasons, and those that err, each with the kind of its error; and the
+/// response that says so, by which [`answer_told`] goes on. (Cedar language reference, "Authorization".)
+///
+/// It is refused `Depth` where the evaluation of some policy nests deeper than `depth`, and `Memory`.
+pub fn answer(
+    alloc: Global,
+    request: Request,
+    policies: &PolicySet,
+    entities: &Entities,
+    extensions: &Extensions<'_>,
+    depth: u32,
+) -> Result<(PartialResponse, Answer), Refusal>
+    ensures { (by : Setting) (world : World) (q : Question) → AreOf by world policies.now entities.now extensions.now depth → IsRequestOf by extensions.now q (request_parts request) → IsNamed q.context → AnswersAsked by world q result }
+{
+    cedar_world::worlds_have_facts();
+    worlds_are_shown();
+    responses_answer_questions();
+    questions_are_kept();
+    let _count = policies.len();
+    let authorizer = Authorizer::new(extensions, depth);
+    let response = authorizer.is_authorized_core(alloc, request, policies, entities)?;
+    let answer = answer_by(alloc, &response)?;
+    Ok((response, answer))
+}
+
+// Why nothing is told. Only a context that errs is refused, where the values told are of their unknowns' kinds.
+fn why_not_told(error: &ReauthorizationError) -> Refusal
+    ensures { IsToldAs error.now result }
+{
+    match error {
+        ReauthorizationError::ConcretizationError(error) => match error {
+            ConcretizationError::ValueEval(error) => refusal(error),
+            ConcretizationError::Memory(_) => Refusal::Memory,
+            ConcretizationError::ValueError { .. } => Refusal::WrongKind,
+            ConcretizationError::VarConfictError { .. } => Refusal::AlreadyTold,
+            ConcretizationError::EntityTypeConfictError { .. } => Refusal::WrongKind,
+        },
+        ReauthorizationError::PolicySetError(_) => Refusal::IdConflict,
+        ReauthorizationError::Memory(_) => Refusal::Memory,
+    }
+}
+
+/// The answer to a question once more is told: its first response taken up again with all values told, joined
+/// with the answer that was given last. (Cedar language reference, "Partial evaluation".)
+///
+/// It is refused `Evaluation` where the context errs with these values, `Depth` where an evaluation nests
+/// deeper than `depth`, and `Memory`.
+pub fn answer_told(
+    alloc: Global,
+    first: &PartialResponse,
+    told: &HashMap<RcStr, Value>,
+    last: &Answer,
+    entities: &Entities,
+    extensions: &Extensions<'_>,
+    depth: u32,
+) -> Result<Answer, Refusal>
+    ensures { (by : Setting) (world : World) (q : Question) (old : List (Name Memory × Valued)) (es : Entries) → KeepsQuestion by world q first.now old (answer_of last.now) → AreOf by world es entities.now extensions.now depth → AreTold q told.now.entries → Extends (told_in old) (told_in told.now.entries) → AnswersTold by world q first.now old told.now.entries (answer_of last.now) result }
+{
+    tells_are_answered();
+    tells_are_refused();
+    let authorizer = Authorizer::new(extensions, depth);
+    let again = match first.reauthorize(alloc, told, &authorizer, entities) {
+        Ok(again) => again,
+        Err(error) => return Err(why_not_told(&error)),
+    };
+    let new = answer_by(alloc, &again)?;
+    Ok(joined(alloc, last, &new)?)
 }

@@ -4,14 +4,20 @@
 
 mod answering;
 mod bodies;
+mod joining;
 mod listing;
+mod telling;
+mod unknown_names;
 mod unknowns;
+mod wanted;
 
 ghost use Rattle.cedar_asking.specs.Contexts.{QuestionsAreAsked};
 ghost use Rattle.cedar_asking.specs.Laws.{StoresHaveWorldFacts, TablesServeWorlds, WorldsAreMade, ResponsesAnswerQuestions};
+ghost use Rattle.cedar_asking.specs.TellLaws.{MoreIsTold, QuestionsAreKept, TellsAreAnswered, TellsAreRefused};
 
-pub use answering::answer;
+pub use answering::{answer, answer_told};
 pub use bodies::request_of;
+pub use telling::told_by;
 
 /// The facts of a world are those of a whole store that shows its entities and of a table that has its
 /// functions, and what it holds is made again by trees for it.
@@ -39,4 +45,54 @@ pub fn responses_answer_questions()
     cedar_world::early_answers_stand();
     cedar_world::answers_are_made();
     cedar_policy_set::worlds::policy_sets_are_worlds();
+}
+
+/// A question that was just asked is kept by its response, where no limit was met.
+pub fn questions_are_kept()
+    ensures { QuestionsAreKept }
+{
+    cedar_grammar::linking_binds_the_condition();
+    cedar_partial_evaluation::linking_is_writing_early();
+    cedar_world::worlds_have_facts();
+    cedar_world::answers_are_made();
+    cedar_policy_set::worlds::policy_sets_are_worlds();
+    cedar_telling::early_stays_sound();
+    cedar_telling::first_answers_are_steady();
+}
+
+/// Values told besides others are told with them.
+pub fn more_is_told()
+    ensures { MoreIsTold }
+{}
+
+/// Where no limit is met, a first response that is taken up again once more is told, joined with the last
+/// answer, answers its question.
+pub fn tells_are_answered()
+    ensures { TellsAreAnswered }
+{
+    cedar_grammar::linking_binds_the_condition();
+    cedar_partial_evaluation::answers_are_prompt();
+    cedar_partial_evaluation::leaves_dont_matter();
+    cedar_partial_evaluation::contexts_stay();
+    cedar_world::worlds_have_facts();
+    cedar_world::answers_are_made();
+    cedar_policy_set::worlds::policy_sets_are_worlds();
+    cedar_requests::laws::told_contexts_are_evaluated();
+    cedar_telling::plain_answers();
+    cedar_telling::contexts_err_in_parts();
+    cedar_telling::again_is_sound();
+    cedar_telling::later_answers_stand();
+}
+
+/// Values that are of their unknowns' kinds are refused only where the question's context errs with them.
+pub fn tells_are_refused()
+    ensures { TellsAreRefused }
+{
+    cedar_partial_evaluation::leaves_dont_matter();
+    cedar_partial_evaluation::contexts_stay();
+    cedar_world::worlds_have_facts();
+    cedar_policy_set::worlds::policy_sets_are_worlds();
+    cedar_requests::laws::told_contexts_are_evaluated();
+    cedar_telling::plain_answers();
+    cedar_telling::contexts_err_in_parts();
 }

@@ -15,7 +15,7 @@ use cedar_trees::expr::{Expr, ExprKind};
 use std::collections::BTreeMap;
 use std::rc::RcStr;
 
-fn is_same(text: &str, other: &str) -> bool
+pub(crate) fn is_same(text: &str, other: &str) -> bool
     ensures { result ≡ text_eq text.now other.now }
 {
     text == other
@@ -32,7 +32,7 @@ fn is_variable_name(name: &str) -> bool
 }
 
 // Whether calls of this function name unknowns.
-fn is_unknown(name: &Name) -> bool
+pub(crate) fn is_unknown(name: &Name) -> bool
     ensures { result ≡ is_the_unknown name.now }
 {
     name.is_unqualified() && name.basename_as_ref().as_str() == "unknown"
@@ -40,7 +40,7 @@ fn is_unknown(name: &Name) -> bool
 
 // The name that a call of `unknown` gives: its one argument, where that is a text.
 #[tactic(auto, using(crate::proofs::Named::none_given, crate::proofs::Named::one_given))]
-fn name_of(args: &[Expr]) -> Option<&RcStr>
+pub(crate) fn name_of(args: &[Expr]) -> Option<&RcStr>
     ensures { option_map (λ text. rc_str_bytes text.now) result ≡ name_given (trees (map bare args.now)) }
 {
     if args.len() != 1 {

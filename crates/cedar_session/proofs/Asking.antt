@@ -1,9 +1,12 @@
 -- Steps of a session that asks.
-use Rattle.std.proofs.Common.{◌≡◌, inr, ◌<◌, ◌≤◌, ℕ, false, true, Some, Ok, Err, refl, sym, ◌∙◌, ap, subst, arith}
+use Rattle.std.proofs.Common.{◌≡◌, inr, ◌<◌, ◌≤◌, List, [], false, true, Some, Err, refl, sym, ◌∙◌, ap, subst, arith}
 use Rattle.std.specs.FinMap as finite
 use Rattle.cedar_language.specs.Uid as uid
 use Rattle.cedar_language.specs.Tree.{Tree}
+use Rattle.std.specs.declared.alloc.Global.{Global}
+use Rattle.std.specs.declared.rc.RcStr.{RcStr}
 use Rattle.cedar_language.specs.Height.{height}
+use Rattle.cedar_language.specs.Value.{Value}
 use Rattle.cedar_world.specs.World.{World}
 use Rattle.cedar_world.specs.Asking.{Question}
 use Rattle.cedar_world.specs.Question.{IsKnown}
@@ -24,9 +27,10 @@ use Rattle.cedar_replies.specs.declared.refusal.Refusal.TheVariants.{Text, Depth
 use Rattle.cedar_replies.specs.Refusals.{refusal_of}
 use Rattle.cedar_replies.specs.Replies.{answer_of}
 use Rattle.cedar_texts.specs.Reading.{ReadsBody}
-use Rattle.cedar_asking.specs.Answering.{AnswersAsked}
 use Rattle.cedar_asking.specs.Bodies.{AsksBody}
-use Rattle.cedar_session.specs.Sessions.{question_in}
+use Rattle.cedar_asking.specs.Responses.{AnswersAsked}
+use Rattle.cedar_asking.specs.Tells.{told_in}
+use Rattle.cedar_session.specs.Open.{question_in}
 use Rattle.cedar_session.proofs.Edits.{not_both}
 
 module _ (by : Setting) (old : World) (text : uid.Text) (once : BodiesAreOne by) where
@@ -87,12 +91,13 @@ module _ (by : Setting) (old : World) (text : uid.Text) (once : BodiesAreOne by)
       unanswered Memory h = ask_lacks_memory by old text
       unanswered r h = absurd h
 
-      pub answered : (answer kept : Answer) → kept ≡ answer → AnswersAsked by old q (Ok answer)
-          → Step by old Ask text (Answered (answer_of answer)) (record old { asked = Some (record { question = question_in tree; told = finite.empty; last = answer_of kept }) })
-      answered answer kept same first =
+      pub states : question_in tree ≡ q
+      states = rw asks refl
+
+      pub answered : (answer kept : Answer) → kept ≡ answer → (told : List (RcStr Global × Value)) → told ≡ [] → IsFirstAnswer by old q (answer_of answer)
+          → Step by old Ask text (Answered (answer_of answer)) (record old { asked = Some (record { question = question_in tree; told = told_in told; last = answer_of kept }) })
+      answered answer kept same told none first =
           ask_stands by old text once tree reads low restricted q (answer_of answer) _ asks fine named first
-          (ap (λ o. record old { asked = Some (record { question = o; told = finite.empty; last = answer_of kept }) }) states
+          (ap (λ o. record old { asked = Some (record { question = o; told = told_in told; last = answer_of kept }) }) states
+          ∙ ap (λ t. record old { asked = Some (record { question = q; told = told_in t; last = answer_of kept }) }) none
           ∙ ap (λ a. record old { asked = Some (record { question = q; told = finite.empty; last = answer_of a }) }) same)
-        where
-          states : question_in tree ≡ q
-          states = rw asks refl

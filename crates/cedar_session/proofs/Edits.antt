@@ -1,5 +1,5 @@
 -- Steps of a session that edits its entities.
-use Rattle.std.proofs.Common.{◌≡◌, inl, Bool, ◌<◌, ◌≤◌, false, true, ℕ, List, Some, None, Ok, Err, refl, sym, ◌∙◌, ap, subst, true≢false, arith}
+use Rattle.std.proofs.Common.{◌≡◌, inl, Bool, ◌<◌, ◌≤◌, false, true, List, Some, None, Ok, Err, refl, sym, ◌∙◌, subst, true≢false, arith}
 use Rattle.std.specs.FinSet as set
 use Rattle.cedar_language.specs.Uid as uid
 use Rattle.cedar_language.specs.Uid.{Uid}
@@ -10,7 +10,7 @@ use Rattle.cedar_world.specs.EntityEdits as edits
 use Rattle.cedar_world.specs.EntityEdits.{Version, IsListed, FitsIn, CanAdd, Puts, Adds, Removes}
 use Rattle.cedar_world.specs.Bodies.{EntityBody, is_restricted, entity_bodies, uids_of}
 use Rattle.cedar_world.specs.Setting.{Setting, IsBodyWithin, BodiesAreOne}
-use Rattle.cedar_world.specs.Values.{some_entry, errs_alone, holds_unknown, versions}
+use Rattle.cedar_world.specs.Values.{versions}
 use Rattle.cedar_world.specs.Commands as commands
 use Rattle.cedar_world.specs.Commands.{Add, Put, Remove, Done, Refused, rank}
 use Rattle.cedar_world.specs.Refusals.{Refuses, Stands, AddCases, PutCases, NoCases}

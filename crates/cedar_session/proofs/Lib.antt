@@ -1,4 +1,8 @@
 pub mod Asking
+pub mod Telling
+pub mod Untyped
+pub mod LaterProp
+pub mod Kept
 pub mod Runs
 pub mod Statuses
 pub mod Texts

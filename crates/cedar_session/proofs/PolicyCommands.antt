@@ -1,5 +1,5 @@
 -- Steps of a session that edits its policies by a body, the same for every command whose cases come behind those of any body.
-use Rattle.std.proofs.Common.{◌≡◌, ◌≢◌, inl, ◌<◌, ◌≤◌, true, ℕ, Option, Some, None, Ok, Err, refl, sym, subst, arith}
+use Rattle.std.proofs.Common.{◌≡◌, ◌≢◌, inl, ◌<◌, ◌≤◌, true, Option, Some, None, Ok, Err, refl, sym, subst, arith}
 use Rattle.std.specs.Bool.{⊤}
 use Rattle.cedar_language.specs.Uid as uid
 use Rattle.cedar_language.specs.Tree.{Tree}
@@ -7,7 +7,7 @@ use Rattle.cedar_language.specs.Height.{height}
 use Rattle.cedar_world.specs.World.{World, Policies}
 use Rattle.cedar_world.specs.Bodies.{LinkBody, is_restricted, string_of, link_body}
 use Rattle.cedar_world.specs.PolicyEdits.{Links, TakesAway}
-use Rattle.cedar_world.specs.Setting.{Setting, IsBodyWithin, BodyNestsWithin, BodiesAreOne}
+use Rattle.cedar_world.specs.Setting.{Setting, IsBodyWithin, BodiesAreOne}
 use Rattle.cedar_world.specs.Commands as commands
 use Rattle.cedar_world.specs.Commands.{Verb, Link, Tell, Done, Refused, rank}
 use Rattle.cedar_world.specs.Refusals.{Refuses, Stands, IsFirst, BodyStands, LinkCases, UnlinkCases, RemoveStaticCases, RemoveTemplateCases}

@@ -1,5 +1,5 @@
 -- What the program's exit status says.
-use Rattle.std.specs.Prelude.{◌≡◌, ℕ, List, Bool, true, false, Option, Result, Ok, Err}
+use Rattle.std.specs.Prelude.{◌≡◌, ℕ, List, true, false, Option, Result, Ok, Err}
 use Rattle.cedar_frames.specs.declared.watched.Watched.{Watched}
 use Rattle.cedar_frames.specs.Watching.{watched_failed}
 use Rattle.cedar_frames.specs.Reading.{Reads}

@@ -1,13 +1,9 @@
 -- What a session holds, as the world names it.
-use Rattle.std.specs.Prelude.{None, Result, Ok, Err, Vec}
+use Rattle.std.specs.Prelude.{Result, Ok, Err, Vec}
 use Rattle.std.specs.declared.alloc.Global.{Global}
 use Rattle.cedar_policy_parts.specs.declared.policy_id.PolicyID.{PolicyID}
-use Rattle.std.specs.Option.{option_map, unwrap_or}
-use Rattle.std.specs.FinMap as finite
-use Rattle.cedar_language.specs.Tree.{Tree}
+use Rattle.std.specs.Option.{option_map}
 use Rattle.cedar_restricted.specs.Views.{restricted_tree}
-use Rattle.cedar_world.specs.Asking.{Question, Missing, NoContext}
-use Rattle.cedar_world.specs.Bodies.{ask_body}
 use Rattle.cedar_world.specs.World as world
 use Rattle.cedar_world.specs.World.{World}
 use Rattle.cedar_texts.specs.Settings.{setting_with}
@@ -17,29 +13,23 @@ use Rattle.cedar_replies.specs.declared.answer.Answer.{Answer}
 use Rattle.cedar_replies.specs.declared.refusal.Refusal.{Refusal}
 use Rattle.cedar_replies.specs.Replies.{answer_of}
 use Rattle.cedar_replies.specs.Refusals.{refusal_of}
-use Rattle.cedar_session.specs.declared.session.Asked.{Asked}
+use Rattle.cedar_asking.specs.Tells.{told_in}
+use Rattle.cedar_session.specs.Open.{question_in}
+use Rattle.cedar_session.specs.declared.asked.Asked.{Asked}
 use Rattle.cedar_session.specs.declared.session.Session.{Session}
 
 -- the functions that a session knows, and its limit
 abbrev pub setting_of : Session → Setting
 setting_of session = setting_with session.extensions.now session.depth
 
--- a question of which nothing is given
-abbrev pub nothing_given : Question
-nothing_given = record { principal = Missing None; action = Missing None; resource = Missing None; context = NoContext }
-
--- the question that a body states; each body that a session keeps states one
-abbrev pub question_in : Tree → Question
-question_in tree = unwrap_or (ask_body tree) nothing_given
-
 abbrev pub asked_of : Asked → world.Asked
-asked_of asked = record { question = question_in (restricted_tree asked.body); told = finite.empty; last = answer_of asked.answer }
+asked_of asked = record { question = question_in (restricted_tree asked.body); told = told_in asked.told.entries; last = answer_of asked.answer }
 
 -- the policies, templates and links, the entities held, and the open question
 abbrev pub world_of : Session → World
 world_of session = record { policies = session.policies; entities = session.entities; asked = option_map asked_of session.asked }
 
--- what a `load`, an edit and an `ask` are answered
+-- what a `load`, an edit, and an `ask` or a `tell` are answered
 abbrev pub load_reply : Result (Vec PolicyID Global) Refusal → commands.Reply
 load_reply (Ok ids) = commands.Named ids.items
 load_reply (Err refusal) = commands.Refused (refusal_of refusal)

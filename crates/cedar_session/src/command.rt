@@ -1,6 +1,5 @@
 // Commands with their texts.
 ghost use Rattle.std.specs.Prelude.{◌≡◌, true};
-ghost use Rattle.cedar_frames.specs.SoFar.{is_offered};
 ghost use Rattle.cedar_session.specs.Commands.{command_verb, command_text};
 
 use cedar_frames::Verb;
@@ -26,12 +25,13 @@ pub enum Command<'t> {
     Remove(&'t str),
     /// Asks the question that a body states.
     Ask(&'t str),
+    /// Tells the open question's unknowns, as a body says.
+    Tell(&'t str),
 }
 
 impl<'t> Command<'t> {
-    /// The command of a verb that is offered.
+    /// The command of a verb.
     pub fn of(verb: Verb, text: &'t str) -> Command<'t>
-        requires { is_offered verb ≡ true }
         ensures verb { command_verb result ≡ verb }
         ensures text { command_text result ≡ text.now }
     {
@@ -45,7 +45,7 @@ impl<'t> Command<'t> {
             Verb::Put => Command::Put(text),
             Verb::Remove => Command::Remove(text),
             Verb::Ask => Command::Ask(text),
-            Verb::Tell => unreachable!(),
+            Verb::Tell => Command::Tell(text),
         }
     }
 }

@@ -6,6 +6,7 @@
 //! answers are made of are handed on here, so that a caller names them without the crates below.
 #![tactic(auto)]
 
+mod asked;
 mod command;
 mod entry;
 mod finishing;

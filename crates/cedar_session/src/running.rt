@@ -2,7 +2,6 @@
 ghost use Rattle.std.specs.Prelude.{◌≡◌, ◌≤◌, ℕ, List, false, true, length, IfOk, IfSome, IsErrOf, IsUtf8, Ok, Err};
 ghost use Rattle.cedar_frames.specs.Watching.{watched_failed};
 ghost use Rattle.cedar_frames.specs.Heads.{body_limit};
-ghost use Rattle.cedar_frames.specs.SoFar.{is_offered};
 ghost use Rattle.cedar_frames.specs.Reading.{Reads};
 ghost use Rattle.cedar_world.specs.RunText.{FrameStep, RunText, TextBeforeFailure, TextCutShort};
 ghost use Rattle.cedar_replies.specs.Replies.{reply_of};
@@ -43,7 +42,6 @@ fn answer(
     verb: Verb,
     body: &Option<Vec<u8>>,
 ) -> Result<Reply, Refusal>
-    requires offered { is_offered verb ≡ true }
     requires fits { IfSome body.now (λ held. length held.items ≤ body_limit) }
     ensures step { (bytes : List ℕ) → IfSome body.now (λ held. held.items ≡ bytes) → FrameStep (setting_of session.old) (world_of session.old) verb bytes (reply_of result) (world_of session.new) }
     ensures utf8 { IfSome body.now (λ held. (IsUtf8 held.items → ⊥) → result ≡ Err Refusal.NotUtf8) }

@@ -1,40 +1,23 @@
 // A session, and what it does at a command.
-ghost use Rattle.std.specs.Prelude.{◌≡◌, ◌≤◌, length, None, IfOk, OnErr, IsErrOf, Ok, Err};
+ghost use Rattle.std.specs.Prelude.{◌≡◌, ◌≤◌, length, IfOk, OnErr, IsErrOf, Ok, Err};
 ghost use Rattle.cedar_frames.specs.Heads.{body_limit};
 ghost use Rattle.cedar_world.specs.World.{new_world};
 ghost use Rattle.cedar_replies.specs.Replies.{reply_of};
 ghost use Rattle.cedar_session.specs.Commands.{command_verb, command_text};
+ghost use Rattle.cedar_session.specs.Open.{KeepsOpen};
 
+use crate::asked::{Asked, close, go_on};
 use crate::command::Command;
 use crate::naming::read_id;
-use cedar_asking::{answer, request_of};
+use cedar_asking::{answer, answer_told, request_of, told_by};
 use cedar_bodies::link_body;
 use cedar_extensions::extensions::Extensions;
 use cedar_held::{HeldEntities, HeldPolicies};
 use cedar_policy_parts::PolicyID;
 use cedar_replies::{Answer, Refusal, Reply};
-use cedar_restricted::restricted::RestrictedExpr;
 use cedar_texts::{read_body, read_policies};
 use std::alloc::Global;
-
-/// A question that was asked, as its body states it, and the answer that was given last.
-struct Asked {
-    body: RestrictedExpr,
-    answer: Answer,
-}
-
-impl Drop for Asked {
-    fn drop(self) {
-        let Asked { body: _, answer: _ } = self;
-    }
-}
-
-// Closes the open question.
-fn close(asked: &mut Option<Asked>)
-    ensures { asked.new ≡ None }
-{
-    *asked = None;
-}
+use std::collections::HashMap;
 
 /// Policies, templates and links, the entities that are held, and at most one open question.
 ///
@@ -55,6 +38,7 @@ pub struct Session<'e, 'f> {
     policies: HeldPolicies,
     entities: HeldEntities,
     asked: Option<Asked>,
+    ghost steady: { ∥ KeepsOpen extensions.now depth policies entities asked ∥₁ },
 }
 
 impl Drop for Session<'_, '_> {
@@ -71,7 +55,7 @@ impl Drop for Session<'_, '_> {
 }
 
 impl<'e, 'f> Session<'e, 'f> {
-    ghost use Rattle.cedar_frames.specs.declared.verb.Verb.TheVariants.{Load as LoadVerb, Link as LinkVerb, Unlink as UnlinkVerb, RemoveStatic as RemoveStaticVerb, RemoveTemplate as RemoveTemplateVerb, Add as AddVerb, Put as PutVerb, Remove as RemoveVerb, Ask as AskVerb};
+    ghost use Rattle.cedar_frames.specs.declared.verb.Verb.TheVariants.{Load as LoadVerb, Link as LinkVerb, Unlink as UnlinkVerb, RemoveStatic as RemoveStaticVerb, RemoveTemplate as RemoveTemplateVerb, Add as AddVerb, Put as PutVerb, Remove as RemoveVerb, Ask as AskVerb, Tell as TellVerb};
     ghost use Rattle.cedar_world.specs.Step.{Step};
     ghost use Rattle.cedar_session.specs.Sessions.{world_of, setting_of, load_reply, edit_reply, ask_reply};
     ghost use Rattle.cedar_texts.specs.Settings.{setting_with};
@@ -292,12 +276,13 @@ impl<'e, 'f> Session<'e, 'f> {
         ensures setting { setting_of self.new ≡ setting_of self.old }
     {
         cedar_world::texts_are_one();
+        cedar_world::calls_are_found();
         self.extensions.names_are_defined();
         let body = read_body(self.allocator, text, self.extensions, self.depth)?;
         let request = request_of(self.allocator, &body, self.extensions, self.depth)?;
         let policies = self.policies.set();
         let entities = self.entities.store();
-        let answer = answer(
+        let (first, answer) = answer(
             self.allocator,
             request,
             policies,
@@ -306,11 +291,66 @@ impl<'e, 'f> Session<'e, 'f> {
             self.depth,
         )?;
         let kept = answer.clone()?;
-        self.asked = Some(Asked { body, answer: kept });
+        self.asked = Some(Asked {
+            body,
+            first,
+            told: HashMap::new(self.allocator),
+            answer: kept,
+        });
         Ok(answer)
     }
 
-    /// Answers a command as the method of its verb does: `load` by the ids, `ask` by the answer, and any
+    /// Answers the open question with the values that a body tells besides those told before. What was
+    /// answered before stays: a decision that was given, the ids among `must` and those that err, each with
+    /// the kind that it was shown with, and no id comes to `may`. Once all is told, decision, reasons and
+    /// erring ids are those of the question asked with all known. Policies and entities stay.
+    /// (Cedar language reference, "Partial evaluation".)
+    ///
+    /// The body is a record from names to values: the names of the context's unknowns, and `principal`,
+    /// `action`, `resource` and `context` where the question leaves them out. An empty one is accepted.
+    ///
+    /// It is refused `NoQuestion` where no question is open, which is checked first and takes no memory; then
+    /// as any body; `Shape` where it is no record, `Evaluation` where a value errs, `NotAValue` where one holds
+    /// an unknown, `NoSuchUnknown` for a name that is no unknown of the question, `AlreadyTold` for one told
+    /// before, `WrongKind` where a principal, an action or a resource is told what is no entity or a context
+    /// what is no record, `Evaluation` where the context errs with all that is told, `Depth` where the
+    /// evaluation of some policy goes deeper than the limit, and `Memory`; then nothing changes.
+    pub fn tell(&mut self, text: &str) -> Result<Answer, Refusal>
+        requires { length text.now ≤ body_limit }
+        ensures step { Step (setting_of self.old) (world_of self.old) TellVerb text.now (ask_reply result) (world_of self.new) }
+        ensures setting { setting_of self.new ≡ setting_of self.old }
+    {
+        cedar_world::texts_are_one();
+        cedar_world::answers_read_what_is_in_force();
+        cedar_asking::more_is_told();
+        self.extensions.names_are_defined();
+        let Some(asked) = &self.asked else {
+            return Err(Refusal::NoQuestion);
+        };
+        let body = read_body(self.allocator, text, self.extensions, self.depth)?;
+        let told = told_by(
+            self.allocator,
+            &body,
+            &asked.body,
+            &asked.told,
+            self.extensions,
+            self.depth,
+        )?;
+        let answer = answer_told(
+            self.allocator,
+            &asked.first,
+            &told,
+            &asked.answer,
+            self.entities.store(),
+            self.extensions,
+            self.depth,
+        )?;
+        let kept = answer.clone()?;
+        go_on(&mut self.asked, told, kept);
+        Ok(answer)
+    }
+
+    /// Answers a command as the method of its verb does: `load` by the ids, `ask` and `tell` by the answer, and any
     /// other by [`Reply::Done`]. It is refused as that method, and a refused one changes nothing.
     pub fn apply(&mut self, command: &Command<'_>) -> Result<Reply, Refusal>
         requires { length (command_text command.now) ≤ body_limit }
@@ -348,6 +388,7 @@ impl<'e, 'f> Session<'e, 'f> {
                 Ok(Reply::Done)
             }
             Command::Ask(text) => Ok(Reply::Answer(self.ask(text)?)),
+            Command::Tell(text) => Ok(Reply::Answer(self.tell(text)?)),
         }
     }
 }

@@ -88,12 +88,11 @@ fn flushed(alloc: Global, room: usize) -> Answer {
     format!(in alloc; "{is_written} {failed} {is_flushed} {failed_then}")
 }
 
-/// A verb, how it is spelled, and whether it is offered.
+/// A verb, and how it is spelled.
 fn named(alloc: Global, verb: Option<Verb>) -> Answer {
     let Some(verb) = verb else {
         return String::from_str(alloc, "none");
     };
     let name = verb.name();
-    let is_offered = verb.is_offered();
-    format!(in alloc; "{verb:?} {name} {is_offered}")
+    format!(in alloc; "{verb:?} {name}")
 }

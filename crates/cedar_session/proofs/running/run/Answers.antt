@@ -1,7 +1,6 @@
 -- Rests on the frames so far, each with its step and its line, which Runs adds to at a frame and ends at the end.
-use Rattle.std.proofs.Common.{◌≡◌, ◌≢◌, ◌∙◌, ℕ, [], ◌∷◌, ◌<◌, inl, inr, refl, sym, arith, rules}
+use Rattle.std.proofs.Common.{◌≡◌, ◌≢◌, ◌∙◌, [], inl, inr, refl, arith, rules}
 use Rattle.cedar_frames.specs.declared.fault.Fault.TheVariants.{Truncated, TooMany}
-use Rattle.cedar_frames.specs.Reading.{IsReadOut}
 use Rattle.cedar_world.specs.RunText.{Start, most_frames}
 use Rattle.cedar_session.specs.declared.running.End.TheVariants.{Clean, Fault}
 use Rattle.cedar_session.specs.Running.{EndsInput}

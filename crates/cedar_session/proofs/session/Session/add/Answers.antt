@@ -4,6 +4,7 @@ use Rattle.cedar_restricted.specs.Views.{restricted_tree, borrowed_tree}
 use Rattle.cedar_session.specs.Sessions.{setting_of, world_of}
 use Rattle.cedar_session.proofs.Texts.{read_tree, serves}
 use Rattle.cedar_session.proofs.Edits.{add_unread, add_refused, add_changes_nothing, add_done}
+use Rattle.cedar_session.proofs.Kept.{stays}
 use Rattle.cedar_session.proofs.session.Session.add.Goals as goal
 
 pub returns-in_err-body-clause-step : goal.returns-in_err-body-clause-step
@@ -30,3 +31,14 @@ returns-clause-step c =
     let tree = borrowed_tree c.as_borrowed-listed.result in
     let read = read_tree by c.args.text.now (restricted_tree c.in_ok-body.body) tree c.as_borrowed-listed.ensures c.in_ok-body.ensures.body in
     rw (c.close.ensures) (add_done by (world_of c.args.self.now) c.args.text.now (c.texts_are_one.ensures.bodies by) tree read.0 read.1 c.as_borrowed-listed.result.restricted c.add.new.self (c.in_ok-add.ensures by (serves c.args.self.now.extensions.now c.args.self.now.depth (restricted_tree c.in_ok-body.body) (borrowed_tree c.as_borrowed-listed.result) c.as_borrowed-listed.ensures c.names_are_defined.ensures c.in_ok-body.ensures.calls)))
+
+pub invariant_of-self : goal.invariant_of-self
+invariant_of-self c =
+    let by = setting_of c.args.self.now in
+    let old = world_of c.args.self.now in
+    let once = c.texts_are_one.ensures.bodies by in
+    let tree = borrowed_tree c.as_borrowed-listed.result in
+    let read = read_tree by c.args.text.now (restricted_tree c.in_ok-body.body) tree c.as_borrowed-listed.ensures c.in_ok-body.ensures.body in
+    let edited = c.in_err-add.ensures by (serves c.args.self.now.extensions.now c.args.self.now.depth (restricted_tree c.in_ok-body.body) (borrowed_tree c.as_borrowed-listed.result) c.as_borrowed-listed.ensures c.names_are_defined.ensures c.in_ok-body.ensures.calls) in
+    let same = add_changes_nothing by old c.args.text.now once tree read.0 read.1 c.as_borrowed-listed.result.restricted c.in_err-add.field-0.0 c.add.new.self edited in
+    record { steady = stays c.args.self.now.extensions.now c.args.self.now.depth c.args.self.now.policies c.args.self.now.entities c.add.new.self same c.args.self.now.asked c.args.self.now.steady }

@@ -1,4 +1,4 @@
--- Rests on the step of each method; that of `ask` is taken over to the command by hand.
+-- Rests on the step of each method; those of `ask` and of `tell` are taken over to the command by hand.
 use Rattle.std.proofs.Common.{sym, subst}
 use Rattle.cedar_world.specs.Commands.{Answered}
 use Rattle.cedar_world.specs.Step.{Step}
@@ -11,3 +11,8 @@ pub returns-in_ok-ask-in-Ask-clause-step : goal.returns-in_ok-ask-in-Ask-clause-
 returns-in_ok-ask-in-Ask-clause-step c =
     subst (λ command. Step (setting_of c.args.self.now) (world_of c.args.self.now) (command_verb command) (command_text command) (Answered (answer_of c.in_ok-ask-in-Ask.field-0)) (world_of c.ask.new.self))
     (sym c.in-Ask.is) c.in_ok-ask-in-Ask.ensures.step
+
+pub returns-in_ok-tell-in-Tell-clause-step : goal.returns-in_ok-tell-in-Tell-clause-step
+returns-in_ok-tell-in-Tell-clause-step c =
+    subst (λ command. Step (setting_of c.args.self.now) (world_of c.args.self.now) (command_verb command) (command_text command) (Answered (answer_of c.in_ok-tell-in-Tell.field-0)) (world_of c.tell.new.self))
+    (sym c.in-Tell.is) c.in_ok-tell-in-Tell.ensures.step

@@ -2,8 +2,12 @@
 use Rattle.std.proofs.Common.{refl, sym}
 use Rattle.std.proofs.lemmas.Result.{err_from_is_err_and}
 use Rattle.cedar_restricted.specs.Views.{restricted_tree}
+use Rattle.cedar_world.specs.NameLaws.{is_answered}
+use Rattle.cedar_asking.specs.Keeping.{IsNamed}
 use Rattle.cedar_session.specs.Sessions.{setting_of, world_of}
+use Rattle.cedar_session.proofs.Kept.{bare, begins}
 use Rattle.cedar_session.proofs.Texts.{read_tree, serves}
+use Rattle.cedar_session.proofs.Untyped.{question_untyped}
 use Rattle.cedar_session.proofs.Asking.{unread_ask, unasked, unanswered, answered}
 use Rattle.cedar_session.proofs.session.Session.ask.Goals as goal
 
@@ -22,15 +26,16 @@ returns-in_err-request-clause-step c =
     let p = err_from_is_err_and c.from_residual-in_err-request.result c.from_residual-in_err-request.ensures.1 in
     rw (p.1, p.2) (unasked by (world_of c.args.self.now) c.args.text.now (c.texts_are_one.ensures.bodies by) tree read.0 read.1 c.in_ok-body.body.restricted c.args.self.now.extensions.now c.in_err-request.field-0.0 (c.in_err-request.ensures by served))
 
-pub returns-in_err-answer-clause-step : goal.returns-in_err-answer-clause-step
-returns-in_err-answer-clause-step c =
-    let by = setting_of c.args.self.now in
-    let world = world_of c.args.self.now in
+pub returns-in_err-first-clause-step : goal.returns-in_err-first-clause-step
+returns-in_err-first-clause-step c =
+    let self = c.args.self.now in
+    let by = setting_of self in
     let tree = restricted_tree c.in_ok-body.body in
     let read = read_tree by c.args.text.now tree tree refl c.in_ok-body.ensures.body in
-    let served = serves c.args.self.now.extensions.now c.args.self.now.depth tree tree refl c.names_are_defined.ensures c.in_ok-body.ensures.calls in
+    let served = serves self.extensions.now self.depth tree tree refl c.names_are_defined.ensures c.in_ok-body.ensures.calls in
     let asked = c.in_ok-request.ensures by served in
-    let answered = c.in_err-answer.ensures by world asked.0 (record {
+    let named : IsNamed asked.0.context = record { well = asked.2.named; untyped = question_untyped (is_answered by.functions) tree asked.0 ((c.calls_are_found.ensures by).bodies c.args.text.now tree (self.depth, read.0)) asked.1 } in
+    let answered = c.in_err-first.ensures by (world_of self) asked.0 (record {
       setting = record { functions = served.functions; depth_is = refl };
       slots = c.set-policies.ensures.slots;
       names = c.set-policies.ensures.names;
@@ -39,19 +44,20 @@ returns-in_err-answer-clause-step c =
       closed = c.store-entities.ensures.closed;
       whole = c.store-entities.ensures.whole;
       built = c.store-entities.ensures.built;
-    }) asked.2.is_request in
-    let p = err_from_is_err_and c.from_residual-in_err-answer.result c.from_residual-in_err-answer.ensures.1 in
-    rw (p.1, p.2) (unanswered by world c.args.text.now (c.texts_are_one.ensures.bodies by) tree read.0 read.1 c.in_ok-body.body.restricted asked.0 asked.1 asked.2.fine asked.2.named c.in_err-answer.field-0.0 answered)
+    }) asked.2.is_request named in
+    let p = err_from_is_err_and c.from_residual-in_err-first.result c.from_residual-in_err-first.ensures.1 in
+    rw (p.1, p.2) (unanswered by (world_of self) c.args.text.now (c.texts_are_one.ensures.bodies by) tree read.0 read.1 c.in_ok-body.body.restricted asked.0 asked.1 asked.2.fine asked.2.named c.in_err-first.field-0.0 answered)
 
 pub returns-clause-step : goal.returns-clause-step
 returns-clause-step c =
-    let by = setting_of c.args.self.now in
-    let world = world_of c.args.self.now in
+    let self = c.args.self.now in
+    let by = setting_of self in
     let tree = restricted_tree c.in_ok-body.body in
     let read = read_tree by c.args.text.now tree tree refl c.in_ok-body.ensures.body in
-    let served = serves c.args.self.now.extensions.now c.args.self.now.depth tree tree refl c.names_are_defined.ensures c.in_ok-body.ensures.calls in
+    let served = serves self.extensions.now self.depth tree tree refl c.names_are_defined.ensures c.in_ok-body.ensures.calls in
     let asked = c.in_ok-request.ensures by served in
-    let first = c.in_ok-answer.ensures by world asked.0 (record {
+    let named : IsNamed asked.0.context = record { well = asked.2.named; untyped = question_untyped (is_answered by.functions) tree asked.0 ((c.calls_are_found.ensures by).bodies c.args.text.now tree (self.depth, read.0)) asked.1 } in
+    let first = c.in_ok-first.ensures by (world_of self) asked.0 (record {
       setting = record { functions = served.functions; depth_is = refl };
       slots = c.set-policies.ensures.slots;
       names = c.set-policies.ensures.names;
@@ -60,5 +66,30 @@ returns-clause-step c =
       closed = c.store-entities.ensures.closed;
       whole = c.store-entities.ensures.whole;
       built = c.store-entities.ensures.built;
-    }) asked.2.is_request in
-    answered by world c.args.text.now (c.texts_are_one.ensures.bodies by) tree read.0 read.1 c.in_ok-body.body.restricted asked.0 asked.1 asked.2.fine asked.2.named c.in_ok-answer.answer c.in_ok-kept.kept c.in_ok-kept.ensures.cases first
+    }) asked.2.is_request named in
+    answered by (world_of self) c.args.text.now (c.texts_are_one.ensures.bodies by) tree read.0 read.1 c.in_ok-body.body.restricted asked.0 asked.1 asked.2.fine asked.2.named
+    c.in_ok-first.answer c.in_ok-kept.kept c.in_ok-kept.ensures.cases c.new.result.entries c.new.ensures.empty first.answers
+
+pub invariant_of-self-2 : goal.invariant_of-self-2
+invariant_of-self-2 c =
+    let self = c.args.self.now in
+    let by = setting_of self in
+    let tree = restricted_tree c.in_ok-body.body in
+    let read = read_tree by c.args.text.now tree tree refl c.in_ok-body.ensures.body in
+    let served = serves self.extensions.now self.depth tree tree refl c.names_are_defined.ensures c.in_ok-body.ensures.calls in
+    let asked = c.in_ok-request.ensures by served in
+    let named : IsNamed asked.0.context = record { well = asked.2.named; untyped = question_untyped (is_answered by.functions) tree asked.0 ((c.calls_are_found.ensures by).bodies c.args.text.now tree (self.depth, read.0)) asked.1 } in
+    let first = c.in_ok-first.ensures by (bare self.extensions.now self.depth self.policies self.entities) asked.0 (record {
+      setting = record { functions = served.functions; depth_is = refl };
+      slots = c.set-policies.ensures.slots;
+      names = c.set-policies.ensures.names;
+      policies = sym c.set-policies.ensures.policies;
+      shows = c.store-entities.ensures.shows;
+      closed = c.store-entities.ensures.closed;
+      whole = c.store-entities.ensures.whole;
+      built = c.store-entities.ensures.built;
+    }) asked.2.is_request named in
+    record {
+      steady = ∣ begins self.extensions.now self.depth self.policies self.entities (record { body = c.in_ok-body.body; first = c.in_ok-first.first; told = c.new.result; answer = c.in_ok-kept.kept })
+          asked.0 c.in_ok-first.answer asked.1 c.new.ensures.empty c.in_ok-kept.ensures.cases first.keeps ∣₁;
+    }

@@ -1,0 +1,146 @@
+-- The policies of a first response that are taken up again once values are told are just those in force, each as it stands then.
+use Rattle.std.proofs.Common.{◌≡◌, ◌∙◌, ap, sym, subst, ℕ, true, false, IsSome, List, map, Contains}
+use Rattle.std.specs.declared.alloc.Global.{Global}
+use Rattle.std.specs.declared.rc.RcStr.{RcStr}
+use Rattle.cedar_grammar.specs.Calls.{calls_only}
+use Rattle.cedar_grammar.specs.Laws.{LinkConditions}
+use Rattle.cedar_language.specs.Answering.{Standing, Judged}
+use Rattle.cedar_language.specs.Facts.{Facts}
+use Rattle.cedar_language.specs.Tree.{Tree}
+use Rattle.cedar_language.specs.Uid.{Text}
+use Rattle.cedar_language.specs.Value.{Value}
+use Rattle.cedar_partial_evaluation.specs.Early.{standing_of_answer}
+use Rattle.cedar_partial_evaluation.specs.Partial.{LeafAnswers, partial_in}
+use Rattle.cedar_partial_evaluation.specs.Question.{held_of}
+use Rattle.cedar_partial_evaluation.specs.ReadUnknowns.{calls_unknown}
+use Rattle.cedar_telling.specs.Again.{standing_again, StandsAgain}
+use Rattle.cedar_telling.specs.Plain.{PlainAnswers}
+use Rattle.cedar_world.specs.Asking.{Question}
+use Rattle.cedar_world.specs.Setting.{Setting}
+use Rattle.cedar_world.specs.Standing.{IsJudged, Judges, ErrOnce}
+use Rattle.cedar_world.specs.World.{World, in_force_at}
+use Rattle.cedar_world.specs.WorldFacts.{AreFactsOf}
+use Rattle.cedar_constraints.specs.Bindings.{binding_of, unbound}
+use Rattle.cedar_entities.specs.declared.store.Entities.{Entities}
+use Rattle.cedar_extensions.specs.declared.extensions.Extensions.{Extensions}
+use Rattle.cedar_interpreter.specs.Asking.{Inquiry, untold, request_held}
+use Rattle.cedar_interpreter.specs.Operating.{HasFunctions}
+use Rattle.cedar_operators.specs.Store.{HasFacts}
+use Rattle.cedar_policy_set.specs.Entries.{Entry, bound_at, policies_of}
+use Rattle.cedar_policy_set.specs.Texts.{syntax_in}
+use Rattle.cedar_policy_set.specs.Worlds.{FindsAsWorlds}
+use Rattle.cedar_requests.specs.Holding.{RequestParts}
+use Rattle.cedar_substitution.specs.Told.{told_for}
+use Rattle.cedar_evaluator.specs.Evaluations.{bindings_in, condition_in, Kept, IsKept, AreKept}
+use Rattle.cedar_evaluator.specs.Residuals.{residuals_with, is_any}
+use Rattle.cedar_evaluator.specs.declared.partial_response.PartialResponse.{PartialResponse}
+use Rattle.cedar_asking.specs.Keeping.{IsFirstResponse}
+use Rattle.cedar_asking.specs.Tells.{told_in}
+use Rattle.cedar_asking.proofs.Exactness.{clause_stands, clause_calls}
+use Rattle.cedar_asking.proofs.Firsts.{kept_of, of_kept, some_value, same_value, same_kind, effect_as_written, all_among}
+use Rattle.cedar_asking.proofs.InForce.{written_entry, is_bound, is_there, is_in_force, written_by}
+use Rattle.cedar_asking.proofs.Lists.{IsAmong, contained, contains, mapped, unmapped}
+use Rattle.cedar_asking.proofs.Naming.{is_other, no_unknown}
+use Rattle.cedar_asking.proofs.Rejudged.{binds_written, names_nothing, is_named, taken_up, clause_calls_nothing}
+use Rattle.cedar_asking.proofs.Standings.{standing_found, judged, is_settled, stands_as_found, no_slots}
+use Rattle.cedar_asking.proofs.Taken.{clause_of, IsLeftOf, is_left, left_of}
+
+along : (w x y z : Text) → w ≡ x → x ≡ y → y ≡ z → w ≡ z
+along w x y z e f g = e ∙ f ∙ g
+
+module _ (law : PlainAnswers) (finds : FindsAsWorlds) (by : Setting) (world : World) (facts : Facts) (are : AreFactsOf by world facts) (q : Question) (first : PartialResponse) (response : IsFirstResponse by world q first)
+    (told : List (RcStr Global × Value)) (more : RequestParts) (holds : request_held (record { request = more; told = told_for told }) unbound ≡ held_of facts q no_slots (told_in told))
+    (store : Entities) (table : Extensions) (depth : ℕ) (has : HasFacts store facts) (served : HasFunctions table facts)
+    (later : List Kept) (each : AreKept (record { request = more; told = told_for told }) store table depth (residuals_with is_any first) later) (settled : (k : Kept) → IsAmong k later → is_settled k.found ≡ true) where
+  abbrev inquiry : Inquiry
+  inquiry = record { request = more; told = told_for told }
+
+  abbrev standing_of : Entry → Standing
+  standing_of e = standing_again facts q (told_in told) (binding_of (bindings_in e)) (condition_in e)
+
+  -- a policy that is kept again, by its entry in the set of the first response
+  record IsAgain (l : Kept) : Type 0 where
+    entry : Text × Entry
+    in_set : IsAmong entry (policies_of response.policies)
+    id : l.id ≡ entry.0
+    effect : (written_entry entry.1).effect ≡ l.effect
+    named : calls_only is_other (condition_in entry.1) ≡ true
+    standing : standing_found l.found ≡ standing_of entry.1
+
+  module _ (l : Kept) (in_later : IsAmong l later) (d : Text × Entry) (of_later : IsKept inquiry store table depth d l) (k : Kept) (in_ks : IsAmong k response.responds.kept) (left : IsLeftOf k d)
+      (e : Text × Entry) (in_set : IsAmong e (policies_of response.policies)) (of : IsKept (untold response.request) response.store response.table response.depth e k) where
+    left_calls : calls_unknown (condition_in d.1) ≡ false
+    left_calls =
+        ap (λ (x : Entry). calls_unknown (condition_in x)) left.policy ∙ clause_calls k.effect left.annotations (clause_of k.found)
+        ∙ clause_calls_nothing law finds by world facts are q first response k in_ks e in_set of
+
+    left_stands : standing_found l.found ≡ standing_of_answer (partial_in facts (request_held inquiry (bindings_in d.1)) (condition_in d.1))
+    left_stands = stands_as_found facts _ l.found (settled l in_later) (of_later.found facts (record { entities = has; functions = served; names_nothing = names_nothing table (condition_in d.1) left_calls }))
+
+    stands_so : standing_found l.found ≡ standing_of e.1
+    stands_so =
+        left_stands
+        ∙ ap (λ (x : Entry). standing_of_answer (partial_in facts (request_held inquiry (bindings_in x)) (condition_in x))) left.policy
+        ∙ clause_stands k.effect left.annotations facts (request_held inquiry unbound) (clause_of k.found)
+        ∙ ap (λ (h : LeafAnswers). standing_of_answer (partial_in facts h (clause_of k.found))) holds
+        ∙ ap (λ (c : Tree). standing_of_answer (partial_in facts (held_of facts q no_slots (told_in told)) c)) (sym (taken_up law finds by world facts are q first response k in_ks e in_set of))
+
+    kept_again : IsAgain l
+    kept_again = record {
+      entry = e;
+      in_set = in_set;
+      id = of_later.id ∙ left.id ∙ of.id;
+      effect = effect_as_written e.1 ∙ sym of.effect ∙ sym (ap (λ (x : Entry). (syntax_in x).effect) left.policy) ∙ sym of_later.effect;
+      named = is_named law finds by world facts are q first response k in_ks e in_set of;
+      standing = stands_so;
+    }
+
+  again_of : (l : Kept) → IsAmong l later → IsAgain l
+  again_of l in_later =
+      let (d, in_left, of_later) = kept_of inquiry store table depth (residuals_with is_any first) later each l in_later in
+      let (k, in_ks, left) = is_left response.responds.kept first response.responds.holds d in_left in
+      let (e, in_set, of) = kept_of (untold response.request) response.store response.table response.depth (policies_of response.policies) response.responds.kept response.responds.each k in_ks in
+      kept_again l in_later d of_later k in_ks left e in_set of
+
+  each_judged : LinkConditions → (j : Judged) → IsAmong j (map judged later) → IsJudged world (StandsAgain facts q (told_in told)) j
+  each_judged conditions j a =
+      let (l, in_later, is) = unmapped judged later j a in
+      let x = again_of l in_later in
+      let (at, policy) = is_bound response.policies response.whole x.entry x.in_set in
+      subst (IsJudged world (StandsAgain facts q (told_in told))) is (record {
+        syntax = written_entry x.entry.1;
+        in_force = ap (in_force_at world.policies) x.id ∙ is_in_force response.policies response.whole response.of.slots finds world response.of.policies x.entry.0 x.entry.1 at policy;
+        effect = x.effect;
+        standing = record {
+          slots = binding_of (bindings_in x.entry.1);
+          unbound = condition_in x.entry.1;
+          binds = binds_written conditions x.entry.1;
+          names_nothing = no_unknown is_other (condition_in x.entry.1) x.named;
+          stands = x.standing;
+        };
+      })
+
+  every_judged : (id : Text) → IsSome (in_force_at world.policies id) → (j : Judged) × Contains (map judged later) j × (j.id ≡ id)
+  every_judged id some =
+      let (s, force) = some_value (in_force_at world.policies id) some in
+      let (e, at, is, policy) = written_by response.policies response.whole response.of.slots finds world response.of.policies id s force in
+      let (k, in_ks, named) = of_kept (untold response.request) response.store response.table response.depth (policies_of response.policies) response.responds.kept response.responds.each (id, e) (is_there response.policies response.whole id e at policy) in
+      let (d, in_left, same) = left_of response.responds.kept first response.responds.holds k in_ks in
+      let (l, in_later, again) = of_kept inquiry store table depth (residuals_with is_any first) later each d in_left in
+      (judged l, contains (map judged later) (judged l) (mapped judged later l in_later), along l.id d.0 k.id id again same named)
+
+  pub judges_again : LinkConditions → Judges world (StandsAgain facts q (told_in told)) (map judged later)
+  judges_again conditions = record { each = all_among _ (map judged later) (each_judged conditions); every = every_judged }
+
+  -- under one id one policy is kept, and it stands in one way
+  pub once_again : ErrOnce (map judged later)
+  once_again id k l (a, in_a, id_a, errs_a) (b, in_b, id_b, errs_b) =
+      let (m, m_later, m_is) = unmapped judged later a (contained (map judged later) a in_a) in
+      let (n, n_later, n_is) = unmapped judged later b (contained (map judged later) b in_b) in
+      let x = again_of m m_later in
+      let y = again_of n n_later in
+      let ids : x.entry.0 ≡ y.entry.0 = sym x.id ∙ ap (λ (j : Judged). j.id) m_is ∙ id_a ∙ sym id_b ∙ sym (ap (λ (j : Judged). j.id) n_is) ∙ y.id in
+      let same : x.entry.1 ≡ y.entry.1 =
+      same_value x.entry.1 y.entry.1 (sym (is_bound response.policies response.whole x.entry x.in_set).0 ∙ ap (bound_at response.policies) ids ∙ (is_bound response.policies response.whole y.entry y.in_set).0) in
+      same_kind k l
+      (sym errs_a ∙ sym (ap (λ (j : Judged). j.standing) m_is) ∙ x.standing ∙ ap standing_of same ∙ sym y.standing ∙ ap (λ (j : Judged). j.standing) n_is ∙ errs_b)

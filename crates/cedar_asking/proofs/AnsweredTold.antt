@@ -1,0 +1,45 @@
+-- Why nothing is told, as the answer to the question has it.
+use Rattle.std.proofs.Common.{◌≡◌, sym, subst, ℕ, List, Err}
+use Rattle.std.specs.declared.alloc.Global.{Global}
+use Rattle.std.specs.declared.rc.RcStr.{RcStr}
+use Rattle.cedar_language.specs.Value.{Value}
+use Rattle.cedar_world.specs.Answer.{Answer}
+use Rattle.cedar_world.specs.Asking.{Question}
+use Rattle.cedar_world.specs.Setting.{Setting}
+use Rattle.cedar_world.specs.World.{World}
+use Rattle.cedar_bodies.specs.Refusals.{refusal_by}
+use Rattle.cedar_entities.specs.declared.store.Entities.{Entities}
+use Rattle.cedar_extensions.specs.Failures.{Failure, OfKind, LimitMet, MemoryRanOut, failure_of}
+use Rattle.cedar_extensions.specs.declared.extensions.Extensions.{Extensions}
+use Rattle.cedar_replies.specs.declared.refusal.Refusal.{Refusal}
+use Rattle.cedar_replies.specs.declared.refusal.Refusal.TheVariants as refusal
+use Rattle.cedar_evaluator.specs.Reauthorizing.{Reauthorizes}
+use Rattle.cedar_evaluator.specs.declared.errors.ConcretizationError.TheVariants as concretization
+use Rattle.cedar_evaluator.specs.declared.errors.ReauthorizationError.{ReauthorizationError}
+use Rattle.cedar_evaluator.specs.declared.errors.ReauthorizationError.TheVariants as reauthorization
+use Rattle.cedar_evaluator.specs.declared.partial_response.PartialResponse.{PartialResponse}
+use Rattle.cedar_asking.specs.Responses.{AnswersTold, IsToldAs}
+use Rattle.cedar_asking.specs.TellLaws.{IsContextFailure, IsWhyNotTold}
+use Rattle.std.specs.Prelude.{Result}
+
+-- what an authorizer with this table and this limit makes of a response
+pub reauthorizes_at : (s : Entities) (t table : Extensions) (n depth : ℕ) (told : List (RcStr Global × Value)) (first : PartialResponse) (found : Result PartialResponse ReauthorizationError)
+    → t ≡ table → n ≡ depth → Reauthorizes s t n told first found → Reauthorizes s table depth told first found
+reauthorizes_at s t table n depth told first found e f h =
+    subst (λ (m : ℕ). Reauthorizes s table m told first found) f (subst (λ (u : Extensions). Reauthorizes s u n told first found) e h)
+
+module _ (by : Setting) (world : World) (q : Question) (first : PartialResponse) (old told : List (RcStr Global × Value)) (last : Answer) where
+  by_failure : (f : Failure) → IsContextFailure by q told f → AnswersTold by world q first old told last (Err (refusal_by f))
+  by_failure (OfKind k) h = h
+  by_failure LimitMet h = tt
+  by_failure MemoryRanOut h = tt
+
+  refused_by : (r s : Refusal) → r ≡ s → AnswersTold by world q first old told last (Err s) → AnswersTold by world q first old told last (Err r)
+  refused_by r s is h = subst (λ (x : Refusal). AnswersTold by world q first old told last (Err x)) (sym is) h
+
+  -- what is refused of values that aren't taken
+  pub tells_nothing : (e : ReauthorizationError) (r : Refusal) → IsWhyNotTold by q told e → IsToldAs e r → AnswersTold by world q first old told last (Err r)
+  tells_nothing (reauthorization.ConcretizationError (concretization.ValueEval e)) r why is = refused_by r (refusal_by (failure_of e)) is (by_failure (failure_of e) why)
+  tells_nothing (reauthorization.ConcretizationError (concretization.Memory e)) r why is = refused_by r refusal.Memory is tt
+  tells_nothing (reauthorization.Memory e) r why is = refused_by r refusal.Memory is tt
+  tells_nothing e r why is = absurd why

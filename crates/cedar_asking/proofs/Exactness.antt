@@ -1,0 +1,194 @@
+-- What was found of a policy is what its condition answers, where no extension value is held; and how what is left of it stands.
+use Rattle.std.proofs.Common.{◌≡◌, ◌∙◌, refl, ap, sym, subst, Bool, true, false, Option, Some, None, List, codes}
+use Rattle.std.specs.Prelude.{⊤}
+use Rattle.std.specs.FinMap as finite
+use Rattle.std.specs.FinMap.{get-empty}
+use Rattle.cedar_grammar.specs.Build.{Keyed}
+use Rattle.cedar_grammar.specs.Policy.{condition}
+use Rattle.cedar_language.specs.Answering.{Effect, Erring}
+use Rattle.cedar_language.specs.Facts.{Facts}
+use Rattle.cedar_language.specs.Order.{text_cmp}
+use Rattle.cedar_language.specs.Tree.{Boolean, Long, String, Entity, Variable, Principal, Action, Resource, Context, MakeRecord, Tree, Lit, Var, Slot, Unknown, If, And, Or, Apply, ValueType}
+use Rattle.cedar_language.specs.Uid.{Text}
+use Rattle.cedar_language.specs.Value.{Value, Plain, SetOf, RecordOf, ExtensionOf, Kind}
+use Rattle.cedar_partial_evaluation.specs.Early.{standing_of_answer}
+use Rattle.cedar_partial_evaluation.specs.Partial.{Answer, Evaluated, ResidualTree, Failed, LeafAnswers, last_answer, partial_in}
+use Rattle.cedar_partial_evaluation.specs.Question.{Part, Given, Missing, part_held, value_held, name_held, held_names, variable_held, context_held}
+use Rattle.cedar_partial_evaluation.specs.ReadUnknowns.{calls_unknown}
+use Rattle.cedar_partial_evaluation.specs.Reauthorizing.{condition_again}
+use Rattle.cedar_partial_evaluation.specs.Unknowns.{fits}
+use Rattle.cedar_telling.specs.Plain.{IsPlainValue, HoldPlain, IsPlainAnswer, ArePlainLeaves, as_unknown_calls, PlainAnswers}
+use Rattle.cedar_world.specs.Asking.{Entries, NoContext, WithEntries, Question, Told}
+use Rattle.cedar_world.specs.First.{IsData}
+use Rattle.cedar_world.specs.Setting.{Setting}
+use Rattle.cedar_world.specs.Values.{holds_bad_unknown}
+use Rattle.cedar_constraints.specs.Bindings.{Bindings, binding_of}
+use Rattle.cedar_extensions.specs.Failures.{OfKind, LimitMet, MemoryRanOut}
+use Rattle.cedar_extensions.specs.declared.extensions.Extensions.{Extensions}
+use Rattle.cedar_interpreter.specs.Asking.{untold, request_held}
+use Rattle.cedar_interpreter.specs.Operating.{HasFunctions}
+use Rattle.cedar_requests.specs.Holding.{RequestParts}
+use Rattle.cedar_evaluator.specs.Evaluations.{Found, Satisfied, Unsatisfied, Erred, Open, Finds}
+use Rattle.cedar_evaluator.specs.Residuals.{clause_policy}
+use Rattle.cedar_asking.specs.Requests.{IsRequestOf}
+use Rattle.cedar_asking.proofs.Plainness.{otherwise, all_call_none, or_right, slot_plain}
+use Rattle.cedar_asking.proofs.Standings.{is_settled}
+use Rattle.cedar_asking.proofs.Taken.{clause_of}
+
+-- ---- what is held of a question is plain
+
+part_plain : (p : Part) (n : Text) → IsPlainAnswer (part_held p None n)
+part_plain (Given u) n = tt
+part_plain (Missing ty) n = refl
+
+value_plain : (b : Bool) (v : Value) → IsPlainValue v → IsPlainAnswer (value_held b v)
+value_plain true v h = h
+value_plain false v h = tt
+
+name_plain : (n : Text) (ty : Option ValueType) (o : Option Value) → ((v : Value) → o ≡ Some v → IsPlainValue v) → IsPlainAnswer (name_held o n ty)
+name_plain n ty None h = refl
+name_plain n ty (Some v) h = value_plain (fits ty v) v (h v refl)
+
+abbrev pub ArePlainTold : Told → Type 0
+ArePlainTold told = (n : Text) (v : Value) → finite.get told n ≡ Some v → IsPlainValue v
+
+pub none_told : (n : Text) (v : Value) → finite.get {R = text_cmp} finite.empty n ≡ Some v → ⊥
+none_told n v h = let no : ◌≡◌ {A = Option Value} None (Some v) = sym (get-empty text_cmp n) ∙ h in cc
+
+pub empty_is_plain : ArePlainTold finite.empty
+empty_is_plain n v h = absurd (none_told n v h)
+
+pub names_plain : (told : Told) → ArePlainTold told → ArePlainLeaves (held_names told)
+names_plain told h = record {
+  variable = λ v. refl;
+  unknown = λ n ty. name_plain n ty (finite.get told n) (h n);
+  slot = λ s. refl;
+}
+
+pub record_calls_none : (c : Entries) → holds_bad_unknown c ≡ false → IsData c → (ks : _) (ts : _) → c ≡ WithEntries ks ts → calls_unknown (Apply (MakeRecord ks) ts) ≡ false
+record_calls_none NoContext named given ks ts is = cc
+record_calls_none (WithEntries js us) named given ks ts is =
+    let same : WithEntries js us ≡ WithEntries ks ts = is in
+    subst (λ (c : Entries). calls_in c ≡ false) same (all_call_none us given (or_right _ _ named))
+  where
+    calls_in : Entries → Bool
+    calls_in NoContext = false
+    calls_in (WithEntries ks ts) = calls_unknown (Apply (MakeRecord ks) ts)
+
+module _ (law : PlainAnswers) (facts : Facts) (plain : HoldPlain facts) where
+  pub context_plain : (c : Entries) → holds_bad_unknown c ≡ false → IsData c → (told : Told) → ArePlainTold told → IsPlainAnswer (context_held facts told c)
+  context_plain NoContext named given told h = name_plain _ None (finite.get told _) (h _)
+  context_plain (WithEntries ks ts) named given told h = law.plain facts plain (held_names told) (names_plain told h) (Apply (MakeRecord ks) ts) (record_calls_none (WithEntries ks ts) named given ks ts refl)
+
+  module _ (by : Setting) (table : Extensions) (q : Question) (r : RequestParts) (asked : IsRequestOf by table q r) (named : holds_bad_unknown q.context ≡ false) (served : HasFunctions table facts) where
+    held_plain : (v : Variable) → IsPlainAnswer (variable_held facts q finite.empty v)
+    held_plain Principal = subst (λ o. IsPlainAnswer (part_held q.principal o (codes "principal"))) (sym (get-empty text_cmp (codes "principal"))) (part_plain q.principal (codes "principal"))
+    held_plain Action = subst (λ o. IsPlainAnswer (part_held q.action o (codes "action"))) (sym (get-empty text_cmp (codes "action"))) (part_plain q.action (codes "action"))
+    held_plain Resource = subst (λ o. IsPlainAnswer (part_held q.resource o (codes "resource"))) (sym (get-empty text_cmp (codes "resource"))) (part_plain q.resource (codes "resource"))
+    held_plain Context = context_plain q.context named asked.is_data finite.empty empty_is_plain
+
+    pub leaves_plain : (slots : Bindings) → ArePlainLeaves (request_held (untold r) slots)
+    leaves_plain slots = record {
+      variable = λ v. subst IsPlainAnswer (sym (asked.holds facts served v)) (held_plain v);
+      unknown = λ n ty. refl;
+      slot = λ s. slot_plain (binding_of slots) s;
+    }
+
+-- ---- what was found is what is answered
+
+abbrev pub FoundAs : Answer → Found → Type 0
+FoundAs b Satisfied = b ≡ Evaluated (Plain (Boolean true))
+FoundAs b Unsatisfied = b ≡ Evaluated (Plain (Boolean false))
+FoundAs b (Erred (OfKind k)) = standing_of_answer b ≡ Erring k
+FoundAs b (Erred LimitMet) = ⊤
+FoundAs b (Erred MemoryRanOut) = ⊥
+FoundAs b (Open r) = b ≡ ResidualTree r
+
+module _ (law : PlainAnswers) (facts : Facts) (plain : HoldPlain facts) (holds : LeafAnswers) (leaves : ArePlainLeaves holds) (t : Tree) (calls : calls_unknown t ≡ false) where
+  one : partial_in (otherwise facts) holds t ≡ partial_in facts holds t
+  one = law.one facts plain holds leaves t calls as_unknown_calls
+
+  left_plain : (u : Tree) → partial_in facts holds t ≡ ResidualTree u → calls_unknown u ≡ false
+  left_plain u e = subst IsPlainAnswer e (law.plain facts plain holds leaves t calls)
+
+  pub found_as : (f : Found) → Finds (otherwise facts) (partial_in (otherwise facts) holds t) f → FoundAs (partial_in facts holds t) f
+  found_as Satisfied h = sym one ∙ h
+  found_as Unsatisfied h = sym one ∙ h
+  found_as (Erred (OfKind k)) h = ap standing_of_answer (sym one) ∙ h
+  found_as (Erred LimitMet) h = tt
+  found_as (Erred MemoryRanOut) h = h
+  found_as (Open r) (u, e, alike) =
+      let is : partial_in facts holds t ≡ ResidualTree u = sym one ∙ e in
+      is ∙ ap ResidualTree (sym (law.alike facts r u (left_plain u is) alike))
+
+  pub clause_calls_none : (f : Found) → FoundAs (partial_in facts holds t) f → calls_unknown (clause_of f) ≡ false
+  clause_calls_none Satisfied h = refl
+  clause_calls_none Unsatisfied h = refl
+  clause_calls_none (Erred e) h = refl
+  clause_calls_none (Open r) h = left_plain r h
+
+erring_again : (b : Answer) (k : Kind) → standing_of_answer b ≡ Erring k → condition_again b ≡ Lit (Boolean false)
+erring_again (Evaluated (Plain (Boolean true))) k h = cc
+erring_again (Evaluated (Plain (Boolean false))) k h = refl
+erring_again (Evaluated (Plain (Long n))) k h = refl
+erring_again (Evaluated (Plain (String s))) k h = refl
+erring_again (Evaluated (Plain (Entity u))) k h = refl
+erring_again (Evaluated (SetOf vs)) k h = refl
+erring_again (Evaluated (RecordOf ks vs)) k h = refl
+erring_again (Evaluated (ExtensionOf e)) k h = refl
+erring_again (ResidualTree r) k h = cc
+erring_again (Failed j) k h = refl
+
+-- a condition is taken up as what was found of it says
+pub again_is_clause : (b : Answer) (f : Found) → is_settled f ≡ true → FoundAs b f → condition_again b ≡ clause_of f
+again_is_clause b Satisfied s h = ap condition_again h
+again_is_clause b Unsatisfied s h = ap condition_again h
+again_is_clause b (Erred (OfKind k)) s h = erring_again b k h
+again_is_clause b (Erred LimitMet) s h = cc
+again_is_clause b (Erred MemoryRanOut) s h = absurd h
+again_is_clause b (Open r) s h = ap condition_again h
+
+-- ---- policies of one clause
+
+last_stands : (f : Tree → Tree) (a : Answer) → standing_of_answer (last_answer f a) ≡ standing_of_answer a
+last_stands f (Evaluated (Plain (Boolean true))) = refl
+last_stands f (Evaluated (Plain (Boolean false))) = refl
+last_stands f (Evaluated (Plain (Long n))) = refl
+last_stands f (Evaluated (Plain (String s))) = refl
+last_stands f (Evaluated (Plain (Entity u))) = refl
+last_stands f (Evaluated (SetOf vs)) = refl
+last_stands f (Evaluated (RecordOf ks vs)) = refl
+last_stands f (Evaluated (ExtensionOf e)) = refl
+last_stands f (ResidualTree r) = refl
+last_stands f (Failed k) = refl
+
+module _ (effect : Effect) (annotations : List (Keyed Text)) where
+  abbrev whole : Tree → Tree
+  whole c = condition (clause_policy effect c annotations)
+
+  -- such a policy stands as its clause
+  pub clause_stands : (facts : Facts) (holds : LeafAnswers) (c : Tree) → standing_of_answer (partial_in facts holds (whole c)) ≡ standing_of_answer (partial_in facts holds c)
+  clause_stands facts holds (Lit (Boolean b)) = refl
+  clause_stands facts holds (Lit (Long n)) = refl
+  clause_stands facts holds (Lit (String s)) = refl
+  clause_stands facts holds (Lit (Entity u)) = refl
+  clause_stands facts holds (Var v) = last_stands (And (Lit (Boolean true))) (partial_in facts holds (Var v))
+  clause_stands facts holds (Slot s) = last_stands (And (Lit (Boolean true))) (partial_in facts holds (Slot s))
+  clause_stands facts holds (Unknown n ty) = last_stands (And (Lit (Boolean true))) (partial_in facts holds (Unknown n ty))
+  clause_stands facts holds (If t y n) = last_stands (And (Lit (Boolean true))) (partial_in facts holds (If t y n))
+  clause_stands facts holds (And l r) = last_stands (And (Lit (Boolean true))) (partial_in facts holds (And l r))
+  clause_stands facts holds (Or l r) = last_stands (And (Lit (Boolean true))) (partial_in facts holds (Or l r))
+  clause_stands facts holds (Apply op ts) = last_stands (And (Lit (Boolean true))) (partial_in facts holds (Apply op ts))
+
+  pub clause_calls : (c : Tree) → calls_unknown (whole c) ≡ calls_unknown c
+  clause_calls (Lit (Boolean b)) = refl
+  clause_calls (Lit (Long n)) = refl
+  clause_calls (Lit (String s)) = refl
+  clause_calls (Lit (Entity u)) = refl
+  clause_calls (Var v) = refl
+  clause_calls (Slot s) = refl
+  clause_calls (Unknown n ty) = refl
+  clause_calls (If t y n) = refl
+  clause_calls (And l r) = refl
+  clause_calls (Or l r) = refl
+  clause_calls (Apply op ts) = refl

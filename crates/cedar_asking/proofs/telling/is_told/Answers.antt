@@ -1,0 +1,6 @@
+use Rattle.std.proofs.Common.{◌∙◌, ap, sym, is_some}
+use Rattle.cedar_asking.proofs.TellParts.{told_at}
+use Rattle.cedar_asking.proofs.telling.is_told.Goals as goal
+
+pub returns : goal.returns
+returns c = c.contains_key.ensures ∙ ap is_some (sym (told_at c.args.name.now c.args.told.now.entries))

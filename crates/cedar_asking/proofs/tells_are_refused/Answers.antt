@@ -1,0 +1,17 @@
+-- By what is told, which is in no conflict with the request, and by the parts of the context.
+use Rattle.cedar_asking.proofs.LaterTells.{is_refused}
+use Rattle.cedar_asking.proofs.tells_are_refused.Goals as goal
+
+pub returns : goal.returns
+returns c by world q first old told es s table depth last e keeps now are refused =
+    is_refused
+    (record {
+      exist = c.worlds_have_facts.ensures;
+      finds = c.policy_sets_are_worlds.ensures.finds;
+      apart = c.leaves_dont_matter.ensures;
+      stay = c.contexts_stay.ensures;
+      plain = c.plain_answers.ensures;
+      parts = c.contexts_err_in_parts.ensures;
+      tell = c.told_contexts_are_evaluated.ensures;
+    })
+    by world q first keeps.response told are es s table depth now e refused

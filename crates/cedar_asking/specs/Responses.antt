@@ -1,0 +1,65 @@
+-- What a question is answered over the policies and entities of a world, when it is asked and once more is told.
+use Rattle.std.specs.Prelude.{◌≡◌, ⊤, true, Result, Ok, Err, List, []}
+use Rattle.std.specs.declared.alloc.Global.{Global}
+use Rattle.std.specs.declared.rc.RcStr.{RcStr}
+use Rattle.cedar_language.specs.Uid.{Text}
+use Rattle.cedar_language.specs.Value.{Value}
+use Rattle.cedar_world.specs.Answer as answers
+use Rattle.cedar_world.specs.Asking.{Question}
+use Rattle.cedar_world.specs.Question.{IsKnown}
+use Rattle.cedar_world.specs.Setting.{Setting}
+use Rattle.cedar_world.specs.Step.{IsFirstAnswer}
+use Rattle.cedar_world.specs.Values.{context_errs}
+use Rattle.cedar_world.specs.World.{World}
+use Rattle.cedar_bodies.specs.Refusals.{refusal_by}
+use Rattle.cedar_evaluator.specs.Holding.{holding_in}
+use Rattle.cedar_evaluator.specs.declared.errors.ConcretizationError.TheVariants as concretization
+use Rattle.cedar_evaluator.specs.declared.errors.ReauthorizationError.{ReauthorizationError}
+use Rattle.cedar_evaluator.specs.declared.errors.ReauthorizationError.TheVariants as reauthorization
+use Rattle.cedar_evaluator.specs.declared.partial_response.PartialResponse.{PartialResponse}
+use Rattle.cedar_extensions.specs.Failures.{failure_of}
+use Rattle.cedar_replies.specs.Replies.{answer_of}
+use Rattle.cedar_replies.specs.declared.answer.Answer.{Answer}
+use Rattle.cedar_replies.specs.declared.error_kind.ErrorKind.{ErrorKind}
+use Rattle.cedar_replies.specs.declared.refusal.Refusal.{Refusal}
+use Rattle.cedar_replies.specs.declared.refusal.Refusal.TheVariants.{Evaluation, Depth, Memory}
+use Rattle.cedar_asking.specs.Answers.{SomeTooHigh}
+use Rattle.cedar_asking.specs.Erring.{SomeAtLimit}
+use Rattle.cedar_asking.specs.Keeping.{KeepsQuestion}
+use Rattle.cedar_asking.specs.Laws.{SaysHeld}
+use Rattle.cedar_asking.specs.TellLaws.{IsAnsweredLater}
+use Rattle.cedar_asking.specs.Tells.{told_in}
+
+-- the answer has the decision, the ids and the errors of what the response holds; or some error met the limit
+abbrev pub SaysResponse : PartialResponse → Result Answer Refusal → Type 0
+SaysResponse response (Ok answer) = (listed : List (Text × ErrorKind)) × SaysHeld (holding_in response) listed (answer_of answer)
+SaysResponse response (Err Depth) = SomeAtLimit (holding_in response).errors
+SaysResponse response (Err Memory) = ⊤
+SaysResponse response (Err r) = ⊥
+
+-- a first answer to the question, and the response by which it goes on
+pub record IsAnswered (by : Setting) (world : World) (q : Question) (first : PartialResponse) (answer : answers.Answer) : Type 0 where
+  pub answers : IsFirstAnswer by world q answer
+  pub keeps : KeepsQuestion by world q first [] answer
+
+-- At a known question the limit is met only where a condition in force is higher. Want of memory says nothing.
+abbrev pub AnswersAsked : Setting → World → Question → Result (PartialResponse × Answer) Refusal → Type 0
+AnswersAsked by world q (Ok found) = IsAnswered by world q found.0 (answer_of found.1)
+AnswersAsked by world q (Err Depth) = IsKnown q → SomeTooHigh by world
+AnswersAsked by world q (Err Memory) = ⊤
+AnswersAsked by world q (Err r) = ⊥
+
+-- the context errs, the limit was met, or memory ran out; nothing else is refused of values that are of their unknowns' kinds
+abbrev pub IsToldAs : ReauthorizationError → Refusal → Type 0
+IsToldAs (reauthorization.ConcretizationError (concretization.ValueEval e)) r = r ≡ refusal_by (failure_of e)
+IsToldAs (reauthorization.ConcretizationError (concretization.Memory e)) r = r ≡ Memory
+IsToldAs (reauthorization.Memory e) r = r ≡ Memory
+IsToldAs e r = ⊤
+
+-- the answer once these values are told besides the old ones, or why there is none
+abbrev pub AnswersTold : Setting → World → Question → PartialResponse → List (RcStr Global × Value) → List (RcStr Global × Value) → answers.Answer → Result Answer Refusal → Type 0
+AnswersTold by world q first old told last (Ok answer) = IsAnsweredLater by world q first old told last (answer_of answer)
+AnswersTold by world q first old told last (Err Evaluation) = context_errs by q.context (told_in told) ≡ true
+AnswersTold by world q first old told last (Err Depth) = ⊤
+AnswersTold by world q first old told last (Err Memory) = ⊤
+AnswersTold by world q first old told last (Err r) = ⊥

@@ -1,0 +1,83 @@
+-- What a response that is taken up again, once more is told, says of the question.
+use Rattle.std.specs.Prelude.{◌≡◌, ℕ, true, false, Ok, Err, List, []}
+use Rattle.std.specs.declared.alloc.Global.{Global}
+use Rattle.std.specs.declared.rc.RcStr.{RcStr}
+use Rattle.cedar_language.specs.Uid.{Text}
+use Rattle.cedar_language.specs.Value.{Value}
+use Rattle.cedar_partial_evaluation.specs.Question.{Extends}
+use Rattle.cedar_world.specs.Answer.{Answer}
+use Rattle.cedar_world.specs.Asking.{Question}
+use Rattle.cedar_world.specs.Bodies.{Fields}
+use Rattle.cedar_world.specs.Setting.{Setting}
+use Rattle.cedar_world.specs.Step.{IsLaterAnswer}
+use Rattle.cedar_world.specs.Values.{context_errs}
+use Rattle.cedar_world.specs.World.{World}
+use Rattle.cedar_telling.specs.Joined.{IsJoined}
+use Rattle.cedar_entities.specs.declared.store.Entities.{Entities}
+use Rattle.cedar_extensions.specs.Failures.{Failure, OfKind, failure_of}
+use Rattle.cedar_extensions.specs.declared.extensions.Extensions.{Extensions}
+use Rattle.cedar_interpreter.specs.Asking.{untold}
+use Rattle.cedar_policy_set.specs.Entries.{Entries, IsWhole}
+use Rattle.cedar_replies.specs.declared.error_kind.ErrorKind.{ErrorKind}
+use Rattle.cedar_requests.specs.Holding.{RequestParts}
+use Rattle.cedar_evaluator.specs.Authorizing.{Responds}
+use Rattle.cedar_evaluator.specs.Holding.{holding_in}
+use Rattle.cedar_evaluator.specs.Reauthorizing.{Reauthorizes}
+use Rattle.cedar_evaluator.specs.declared.errors.ConcretizationError.TheVariants as concretization
+use Rattle.cedar_evaluator.specs.declared.errors.ReauthorizationError.{ReauthorizationError}
+use Rattle.cedar_evaluator.specs.declared.errors.ReauthorizationError.TheVariants as reauthorization
+use Rattle.cedar_evaluator.specs.declared.partial_response.PartialResponse.{PartialResponse}
+use Rattle.cedar_asking.specs.Answering.{AreOf}
+use Rattle.cedar_asking.specs.Keeping.{IsNamed, AreTold, KeepsQuestion}
+use Rattle.cedar_asking.specs.Laws.{SaysHeld}
+use Rattle.cedar_asking.specs.Requests.{IsRequestOf}
+use Rattle.cedar_asking.specs.Tells.{told_in, TellMore}
+
+-- values told besides others are told with these
+abbrev pub MoreIsTold : Type 0
+MoreIsTold =
+    (by : Setting) (q : Question) (old all : List (RcStr Global × Value)) (fs : Fields)
+    → AreTold q old → TellMore by q (told_in old) fs (told_in all)
+    → AreTold q all × Extends (told_in old) (told_in all)
+
+-- a question that was just asked is kept, where no limit was met
+abbrev pub QuestionsAreKept : Type 0
+QuestionsAreKept =
+    (by : Setting) (world : World) (q : Question) (es : Entries) (s : Entities) (table : Extensions) (depth : ℕ) (r : RequestParts) (first : PartialResponse) (listed : List (Text × ErrorKind)) (answer : Answer)
+    → IsWhole es → AreOf by world es s table depth → IsRequestOf by table q r → IsNamed q.context → Responds (untold r) s table depth es first → SaysHeld (holding_in first) listed answer
+    → KeepsQuestion by world q first [] answer
+
+module _ (by : Setting) (world : World) (q : Question) (first : PartialResponse) (old told : List (RcStr Global × Value)) (last answer : Answer) where
+  -- the answer once these values are told, and what is kept then
+  pub record IsAnsweredLater : Type 0 where
+    pub later : IsLaterAnswer by world (record { question = q; told = told_in old; last = last }) (told_in told) answer
+    pub keeps : KeepsQuestion by world q first told answer
+    pub fine : context_errs by q.context (told_in told) ≡ false
+
+-- where no limit is met, the first response taken up again, joined with the last answer, answers the question
+abbrev pub TellsAreAnswered : Type 0
+TellsAreAnswered =
+    (by : Setting) (world : World) (q : Question) (first again : PartialResponse) (old told : List (RcStr Global × Value)) (es : Entries) (s : Entities) (table : Extensions) (depth : ℕ)
+    (listed : List (Text × ErrorKind)) (last new answer : Answer)
+    → KeepsQuestion by world q first old last → AreOf by world es s table depth → AreTold q told → Extends (told_in old) (told_in told)
+    → Reauthorizes s table depth told first (Ok again) → SaysHeld (holding_in again) listed new → IsJoined last new answer
+    → IsAnsweredLater by world q first old told last answer
+
+-- the context's evaluation failed, by an error that it meets wherever it is evaluated; or the limit was met, or memory ran out
+abbrev pub IsContextFailure : Setting → Question → List (RcStr Global × Value) → Failure → Type 0
+IsContextFailure by q told (OfKind k) = context_errs by q.context (told_in told) ≡ true
+IsContextFailure by q told f = Unit {0}
+
+-- nothing but the context is refused
+abbrev pub IsWhyNotTold : Setting → Question → List (RcStr Global × Value) → ReauthorizationError → Type 0
+IsWhyNotTold by q told (reauthorization.ConcretizationError (concretization.ValueEval e)) = IsContextFailure by q told (failure_of e)
+IsWhyNotTold by q told (reauthorization.ConcretizationError (concretization.Memory e)) = Unit {0}
+IsWhyNotTold by q told (reauthorization.Memory e) = Unit {0}
+IsWhyNotTold by q told e = ⊥
+
+abbrev pub TellsAreRefused : Type 0
+TellsAreRefused =
+    (by : Setting) (world : World) (q : Question) (first : PartialResponse) (old told : List (RcStr Global × Value)) (es : Entries) (s : Entities) (table : Extensions) (depth : ℕ) (last : Answer) (e : ReauthorizationError)
+    → KeepsQuestion by world q first old last → AreOf by world es s table depth → AreTold q told
+    → Reauthorizes s table depth told first (Err e)
+    → IsWhyNotTold by q told e

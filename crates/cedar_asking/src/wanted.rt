@@ -1,0 +1,118 @@
+// What a question asks for: its unknowns, and the kinds of their values.
+ghost use Rattle.std.specs.Prelude.{◌≡◌, ◌&&◌, true, false, codes, IfSome, option_map, if◌then◌else◌};
+ghost use Rattle.std.specs.Option.{unwrap_or};
+ghost use Rattle.cedar_language.specs.Tree.{RecordType};
+ghost use Rattle.cedar_partial_evaluation.specs.Unknowns.{is_of_type};
+ghost use Rattle.cedar_world.specs.Asking.{Missing, NoContext};
+ghost use Rattle.cedar_world.specs.Bodies.{part_of};
+ghost use Rattle.cedar_world.specs.Orders.{text_eq};
+ghost use Rattle.cedar_world.specs.Question as world;
+ghost use Rattle.cedar_world.specs.Values.{some_field};
+ghost use Rattle.cedar_bodies.specs.Fields.{unrestricted};
+ghost use Rattle.cedar_bodies.specs.Lent.{fields_in};
+ghost use Rattle.cedar_bodies.specs.Questions.{question_of, given_context};
+ghost use Rattle.cedar_asking.specs.TellSteps.{IsGivenRestricted, entries_as};
+
+use crate::unknown_names::some_entry_holds_name;
+use crate::unknowns::is_same;
+use cedar_bodies::{AskBody, entries_of};
+use cedar_literals::literals::Literal;
+use cedar_literals::uids::EntityUID;
+use cedar_trees::expr::Expr;
+use cedar_values::values::{Value, ValueKind};
+use std::collections::BTreeMap;
+use std::rc::RcStr;
+
+// Whether this is the name of the variable, for which nothing is given.
+fn is_missing(part: Option<&EntityUID>, variable: &str, name: &str) -> bool
+    ensures { result ≡ (world.is_missing (part_of (option_map (λ uid. uid.now) part.entry)) && text_eq name.now variable.now) }
+{
+    match part {
+        Some(_) => false,
+        None => is_same(name, variable),
+    }
+}
+
+// The entries of the record that is given for the context.
+fn context_entries(context: Option<&Expr>) -> Option<&BTreeMap<RcStr, Expr>>
+    requires { IsGivenRestricted context }
+    ensures context { entries_as (option_map (λ entries. fields_in entries.now) result) ≡ unwrap_or (option_map given_context context.entry) NoContext }
+    ensures restricted { IfSome result (λ entries. some_field unrestricted (fields_in entries.now) ≡ false) }
+{
+    match context {
+        None => None,
+        Some(record) => entries_of(record),
+    }
+}
+
+// Whether the context has an unknown of this name: itself, where none is given.
+fn is_in_context(context: Option<&Expr>, name: &str) -> bool
+    requires { IsGivenRestricted context }
+    ensures { result ≡ world.has_name (unwrap_or (option_map given_context context.entry) NoContext) name.now }
+{
+    match context_entries(context) {
+        None => is_same(name, "context"),
+        Some(entries) => some_entry_holds_name(entries, name),
+    }
+}
+
+/// Whether the question asks for a value of this name.
+pub(crate) fn asks_for(asked: &AskBody<'_>, name: &str) -> bool
+    requires { IsGivenRestricted asked.now.context }
+    ensures { result ≡ world.is_unknown (question_of asked.now) name.now }
+{
+    is_missing(asked.principal, "principal", name)
+        || is_missing(asked.action, "action", name)
+        || is_missing(asked.resource, "resource", name)
+        || is_in_context(asked.context, name)
+}
+
+fn is_entity(value: &Value) -> bool
+    ensures { result ≡ world.fits_part (Missing None) value.now }
+{
+    match value.value_kind() {
+        ValueKind::Lit(Literal::EntityUID(_)) => true,
+        _ => false,
+    }
+}
+
+fn is_record(value: &Value) -> bool
+    ensures { result ≡ is_of_type RecordType value.now }
+{
+    match value.value_kind() {
+        ValueKind::Record(_) => true,
+        _ => false,
+    }
+}
+
+// Whether a variable takes the value that is told for this name: an entity, where it is its own name.
+fn part_takes(part: Option<&EntityUID>, variable: &str, name: &str, value: &Value) -> bool
+    ensures { result ≡ (if text_eq name.now variable.now then world.fits_part (part_of (option_map (λ uid. uid.now) part.entry)) value.now else true) }
+{
+    match part {
+        Some(_) => true,
+        None => !is_same(name, variable) || is_entity(value),
+    }
+}
+
+// The same of a record for the context.
+fn context_takes(context: Option<&Expr>, name: &str, value: &Value) -> bool
+    requires { IsGivenRestricted context }
+    ensures { result ≡ (if text_eq name.now (codes "context") then world.fits_context (unwrap_or (option_map given_context context.entry) NoContext) value.now else true) }
+{
+    match context_entries(context) {
+        None => !is_same(name, "context") || is_record(value),
+        Some(_) => true,
+    }
+}
+
+/// Whether the value is of the kind of the unknown that has this name.
+pub(crate) fn takes(asked: &AskBody<'_>, name: &str, value: &Value) -> bool
+    requires { IsGivenRestricted asked.now.context }
+    ensures { result ≡ world.fits (question_of asked.now) name.now value.now }
+{
+    part_takes(asked.principal, "principal", name, value)
+        && part_takes(asked.action, "action", name, value)
+        && part_takes(asked.resource, "resource", name, value)
+        && context_takes(asked.context, name, value)
+}

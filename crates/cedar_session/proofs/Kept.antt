@@ -1,0 +1,168 @@
+-- What is kept of the open question, for the policies and entities held; and what it is answered once more is told.
+use Rattle.std.proofs.Common.{BuildHasherDefault, FoldHasher, ◌≡◌, ◌∙◌, sym, ap, subst, refl, ◌≤◌, true, false, ℕ, Option, Some, None, Ok, Err, List, []}
+use mathlib.Core.Bool.{Bool-set}
+use Rattle.std.proofs.Math.Logic.{∥∥₁_elim, ∥∥₁_map}
+use Rattle.std.specs.Option.{unwrap_or, option_map}
+use Rattle.std.specs.Prelude.{Result}
+use Rattle.std.specs.HashMap.{HashMap}
+use Rattle.std.specs.declared.alloc.Global.{Global}
+use Rattle.std.specs.declared.rc.RcStr.{RcStr}
+use Rattle.cedar_language.specs.Height.{height}
+use Rattle.cedar_language.specs.Tree.{Tree}
+use Rattle.cedar_language.specs.Uid as uid
+use Rattle.cedar_language.specs.Value.{Value}
+use Rattle.cedar_partial_evaluation.specs.Question.{Extends}
+use Rattle.cedar_world.specs.Answer as world
+use Rattle.cedar_world.specs.Asking.{Question}
+use Rattle.cedar_world.specs.Bodies.{Fields, ask_body, is_restricted, tell_body}
+use Rattle.cedar_world.specs.Commands.{Tell, Answered, Refused}
+use Rattle.cedar_world.specs.InForce.{AnswersReadWhatIsInForce}
+use Rattle.cedar_world.specs.Setting.{Setting, IsBodyWithin, BodiesAreOne}
+use Rattle.cedar_world.specs.Step.{Step, IsLaterAnswer, opens}
+use Rattle.cedar_world.specs.World.{World, Policies, Entities}
+use Rattle.cedar_world.proofs.Parts.{not_none}
+use Rattle.cedar_asking.specs.Answering.{AreOf}
+use Rattle.cedar_asking.specs.Answers.{IsSettingOf}
+use Rattle.cedar_bodies.specs.Built.{HoldBuilt}
+use Rattle.cedar_entities.specs.Shown.{Shows}
+use Rattle.cedar_entities.specs.Store.{held_at, is_partial_store, IsClosed}
+use Rattle.cedar_asking.specs.Keeping.{AreTold, KeepsQuestion}
+use Rattle.cedar_asking.specs.Responses.{AnswersTold}
+use Rattle.cedar_asking.specs.TellLaws.{MoreIsTold}
+use Rattle.cedar_asking.specs.Tells.{TellMore, told_in}
+use Rattle.cedar_entities.specs.declared.store.Entities.{Entities as Store}
+use Rattle.cedar_extensions.specs.declared.extensions.Extensions.{Extensions}
+use Rattle.cedar_policy_set.specs.Entries.{Entries}
+use Rattle.cedar_replies.specs.Refusals.{refusal_of}
+use Rattle.cedar_replies.specs.Replies.{answer_of}
+use Rattle.cedar_replies.specs.declared.answer.Answer.{Answer}
+use Rattle.cedar_replies.specs.declared.refusal.Refusal.{Refusal}
+use Rattle.cedar_replies.specs.declared.refusal.Refusal.TheVariants as refusal
+use Rattle.cedar_restricted.specs.Views.{restricted_tree}
+use Rattle.cedar_session.specs.Open.{KeepsAsked, KeepsOpen, question_in, nothing_given}
+use Rattle.cedar_session.specs.Sessions.{asked_of}
+use Rattle.cedar_session.specs.declared.asked.Asked.{Asked}
+use Rattle.cedar_texts.specs.Settings.{setting_with}
+use Rattle.cedar_session.proofs.LaterProp.{later_prop}
+use Rattle.cedar_session.proofs.Telling.{context_fails, too_deep, no_memory, told}
+
+is_stated : (o : Option Question) → (o ≡ None → ⊥) → o ≡ Some (unwrap_or o nothing_given)
+is_stated (Some q) h = refl
+is_stated None h = absurd (h refl)
+
+no_two : (x y : ⊥) → x ≡ y
+no_two x y = absurd x
+
+abbrev Map : Type 0
+Map = HashMap (RcStr Global) Value (BuildHasherDefault FoldHasher)
+
+-- the store holds the entities of the world, by the functions and the limit of the session
+pub record IsStoreOf (table : Extensions) (depth : ℕ) (entities : Entities) (s : Store) : Type 0 where
+  pub setting : IsSettingOf table depth (setting_with table depth)
+  pub shows : Shows (held_at s) entities
+  pub closed : IsClosed s
+  pub whole : is_partial_store s ≡ false
+  pub built : HoldBuilt entities
+
+module _ (table : Extensions) (depth : ℕ) (policies : Policies) (entities : Entities) where
+  abbrev by : Setting
+  by = setting_with table depth
+
+  -- what is held, with no open question, and with one
+  abbrev pub bare : World
+  bare = record { policies = policies; entities = entities; asked = None }
+
+  abbrev pub world_with : Option Asked → World
+  world_with o = record { policies = policies; entities = entities; asked = option_map asked_of o }
+
+  -- entities that stay keep it
+  pub stays : (new : Entities) → new ≡ entities → (o : Option Asked) → ∥ KeepsOpen table depth policies entities o ∥₁ → ∥ KeepsOpen table depth policies new o ∥₁
+  stays new same o h = subst (λ (e : Entities). ∥ KeepsOpen table depth policies e o ∥₁) (sym same) h
+
+  -- what is kept of a question that was just asked
+  pub begins : (asked : Asked) (q : Question) (answer : Answer) → ask_body (restricted_tree asked.body) ≡ Some q → asked.told.entries ≡ [] → asked.answer ≡ answer
+      → KeepsQuestion by bare q asked.first [] (answer_of answer) → KeepsAsked table depth policies entities asked
+  begins asked q answer asks none same keeps =
+      let is : question_in (restricted_tree asked.body) ≡ q = ap (λ o. unwrap_or o nothing_given) asks in
+      record {
+        states = asks ∙ ap Some (sym is);
+        keeps =
+            subst (λ (p : Question). KeepsQuestion by bare p asked.first asked.told.entries (answer_of asked.answer)) (sym is)
+            (subst (λ (es : List (RcStr Global × Value)). KeepsQuestion by bare q asked.first es (answer_of asked.answer)) (sym none)
+            (subst (λ (a : Answer). KeepsQuestion by bare q asked.first [] (answer_of a)) (sym same) keeps));
+      }
+
+  module _ (asked : Asked) (o : Option Asked) (is : o ≡ Some asked) (steady : ∥ KeepsOpen table depth policies entities o ∥₁) where
+    kept : ∥ KeepsAsked table depth policies entities asked ∥₁
+    kept = subst (λ x. ∥ KeepsOpen table depth policies entities x ∥₁) is steady
+
+    pub was_open : option_map asked_of o ≡ Some (asked_of asked)
+    was_open = ap (option_map asked_of) is
+
+    -- each body that is kept states a question
+    pub states : ask_body (restricted_tree asked.body) ≡ Some (question_in (restricted_tree asked.body))
+    states = is_stated _ (λ none. ∥∥₁_elim kept no_two (λ k. not_none _ (sym none ∙ k.states)))
+
+    abbrev question : Question
+    question = question_in (restricted_tree asked.body)
+
+    -- what an answer once these values are told is said to be
+    abbrev Says : Map → Store → Result Answer Refusal → Type 0
+    Says all s result =
+        (es : Entries) → KeepsQuestion by bare question asked.first asked.told.entries (answer_of asked.answer) → AreOf by bare es s table depth
+        → AreTold question all.entries → Extends (told_in asked.told.entries) (told_in all.entries)
+        → AnswersTold by bare question asked.first asked.told.entries all.entries (answer_of asked.answer) result
+
+    module _ (lasting : MoreIsTold) (reads : AnswersReadWhatIsInForce) (all : Map) (fs : Fields) (more : TellMore by question (told_in asked.told.entries) fs (told_in all.entries)) (s : Store) (holds : IsStoreOf table depth entities s) where
+      answered : (result : Result Answer Refusal) → Says all s result → KeepsAsked table depth policies entities asked
+          → AnswersTold by bare question asked.first asked.told.entries all.entries (answer_of asked.answer) result
+      answered result says k =
+          let are_told = lasting by question asked.told.entries all.entries fs k.keeps.are_told more in
+          says k.keeps.response.policies k.keeps
+          (record {
+            setting = holds.setting;
+            slots = k.keeps.response.of.slots;
+            names = k.keeps.response.of.names;
+            policies = k.keeps.response.of.policies;
+            shows = holds.shows;
+            closed = holds.closed;
+            whole = holds.whole;
+            built = holds.built;
+          })
+          are_told.0 are_told.1
+
+      later_here : (answer : world.Answer) → IsLaterAnswer by bare (asked_of asked) (told_in all.entries) answer → IsLaterAnswer by (world_with o) (asked_of asked) (told_in all.entries) answer
+      later_here answer h = ((reads.alike by bare (world_with o) (record { entities = refl; policies = λ id. refl })).later (asked_of asked) (told_in all.entries) answer).0 h
+
+      module _ (answer copy : Answer) (same : copy ≡ answer) (says : Says all s (Ok answer)) (new : Option Asked) (new_is : new ≡ option_map (λ (a : Asked). record a { told = all; answer = copy }) o) where
+        goes_on : new ≡ Some (record asked { told = all; answer = copy })
+        goes_on = new_is ∙ ap (option_map (λ (a : Asked). record a { told = all; answer = copy })) is
+
+        -- what is kept then
+        pub keeps_on : ∥ KeepsOpen table depth policies entities new ∥₁
+        keeps_on =
+            subst (λ x. ∥ KeepsOpen table depth policies entities x ∥₁) (sym goes_on)
+            (∥∥₁_map kept (λ k. record {
+              states = k.states;
+              keeps = subst (λ a. KeepsQuestion by bare question asked.first all.entries (answer_of a)) (sym same) (answered (Ok answer) says k).keeps;
+            }))
+
+      module _ (text : uid.Text) (once : BodiesAreOne by) (tree : Tree) (is_read : IsBodyWithin by depth text tree) (low : height tree ≤ depth) (restricted : is_restricted tree ≡ true) (body : tell_body tree ≡ Some fs) where
+        module _ (answer copy : Answer) (same : copy ≡ answer) (says : Says all s (Ok answer)) (new : Option Asked) (new_is : new ≡ option_map (λ (a : Asked). record a { told = all; answer = copy }) o) where
+          accepts : Step by (world_with o) Tell text (Answered (answer_of answer)) (opens (world_with o) question (told_in all.entries) (answer_of answer))
+          accepts =
+              told by (world_with o) text once (asked_of asked) was_open tree is_read low restricted fs body (told_in all.entries) more
+              (∥∥₁_elim kept (Bool-set _ _) (λ k. (answered (Ok answer) says k).fine)) (answer_of answer)
+              (∥∥₁_elim kept (later_prop by (world_with o) (asked_of asked) (told_in all.entries) (answer_of answer)) (λ k. later_here (answer_of answer) (answered (Ok answer) says k).later))
+
+          pub accepted : Step by (world_with o) Tell text (Answered (answer_of answer)) (world_with new)
+          accepted =
+              subst (λ n. Step by (world_with o) Tell text (Answered (answer_of answer)) (world_with n)) (sym (goes_on answer copy same says new new_is))
+              (subst (λ (a : Answer). Step by (world_with o) Tell text (Answered (answer_of answer)) (opens (world_with o) question (told_in all.entries) (answer_of a))) (sym same) accepts)
+
+        pub refused : (r : Refusal) → Says all s (Err r) → Step by (world_with o) Tell text (Refused (refusal_of r)) (world_with o)
+        refused refusal.Evaluation says =
+            context_fails by (world_with o) text once (asked_of asked) was_open tree is_read low restricted fs body (told_in all.entries) more (∥∥₁_elim kept (Bool-set _ _) (answered (Err refusal.Evaluation) says))
+        refused refusal.Depth says = too_deep by (world_with o) text once (asked_of asked) was_open tree is_read low restricted fs body (told_in all.entries) more
+        refused refusal.Memory says = no_memory by (world_with o) text once (asked_of asked) was_open tree is_read low restricted fs body (told_in all.entries) more
+        refused r says = absurd (∥∥₁_elim kept no_two (answered (Err r) says))
