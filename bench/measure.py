@@ -3,7 +3,8 @@
 
     python3 bench/measure.py --program crates/cedar_main/out/cedar_main [--repeat 5]
 
-Each case is a run of its own over standard input; the figure is the fastest of the repeats, in seconds.
+Each case is a run of its own over standard input; the figure is the fastest of the repeats, in seconds. Of questions and
+of edits the time of one is printed first, in microseconds: that of a run with many less that of a run with none.
 """
 import argparse
 import subprocess
@@ -95,12 +96,41 @@ def asks_with_unknowns(count, keys, known):
     return frame('load', text) + frame('ask', ASK.replace('{}', '{%s}' % context)) * count
 
 
-def tells(count):
-    """A hundred policies, each of which reads one of five unknown keys of the context, which are told one by one."""
+def tells(count, told=True):
+    """A hundred policies, each of which reads one of five unknown keys of the context, which are told one by one, or not."""
     text = ''.join('permit(principal, action, resource) when { context.k%d == %d };\n' % (n % 5, n) for n in range(100))
     context = ', '.join('k%d: unknown("k%d")' % (n, n) for n in range(5))
-    told = b''.join(frame('tell', '{k%d: %d}' % (n, n)) for n in range(5))
-    return frame('load', text) + (frame('ask', ASK.replace('{}', '{%s}' % context)) + told) * count
+    tells = b''.join(frame('tell', '{k%d: %d}' % (n, n)) for n in range(5)) if told else b''
+    return frame('load', text) + (frame('ask', ASK.replace('{}', '{%s}' % context)) + tells) * count
+
+
+def grants(held):
+    """One grant a policy, and as many users with one parent each."""
+    text = ''.join(
+        'permit(principal in Group::"g%d", action == Action::"view", resource == Photo::"p%d");\n' % (n, n) for n in range(held)
+    )
+    users = ', '.join('{uid: User::"u%d", parents: [Group::"g%d"]}' % (n, n) for n in range(held))
+    return frame('put', '[' + users + ']') + frame('load', text)
+
+
+def ask_of_grants(held):
+    n = held // 2
+    return frame('ask', '{principal: User::"u%d", action: Action::"view", resource: Photo::"p%d", context: {}}' % (n, n))
+
+
+def single():
+    """A run without a command and one with many, and how many there are."""
+    for held, count in ((10, 20_000), (100, 10_000), (1000, 1000), (10_000, 100)):
+        yield 'an ask, %s grants' % format(held, ','), grants(held), grants(held) + ask_of_grants(held) * count, count
+    user = '[{uid: User::"u7", attrs: {level: 50}}]'
+    ask = frame('ask', ASK.replace('{}', '{hour: 9}'))
+    for held, count in ((10, 20_000), (100, 10_000), (1000, 1000)):
+        before = frame('put', user) + frame('load', clauses(held))
+        yield 'an ask, %s clauses' % format(held, ','), before, before + ask * count, count
+    for held, count in ((1000, 1000), (10_000, 100)):
+        before = groups() + put(range(held))
+        yield 'a put of one, %s entities' % format(held, ','), before, before + put([0]) * count, count
+    yield 'five tells, 100 clauses', tells(1000, told=False), tells(1000), 1000
 
 
 def cases():
@@ -148,6 +178,9 @@ def main():
     parser.add_argument('--program', required=True)
     parser.add_argument('--repeat', type=int, default=5)
     options = parser.parse_args()
+    for name, before, data, count in single():
+        taken = seconds(options.program, data, options.repeat) - seconds(options.program, before, options.repeat)
+        print('%-40s %9d times  %8.1f microseconds' % (name, count, taken / count * 1e6), flush=True)
     for name, data in cases():
         taken = seconds(options.program, data, options.repeat)
         print('%-40s %9d bytes  %8.3f s' % (name, len(data), taken), flush=True)

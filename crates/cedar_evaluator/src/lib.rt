@@ -2,14 +2,27 @@
 //! what is found of all of them is a response, of which the decision and the policies that are its reasons
 //! are read. Once values are told for what was unknown, the response is made anew of what is left.
 //! (Cedar language reference, "Authorization" and "Partial evaluation".)
+//!
+//! `ast` and `evaluator` hand on requests and the evaluator of expressions, each item under the name that it
+//! has in `cedar-policy-core`; `prelude` has the traits.
 #![tactic(auto)]
 
+pub mod ast;
 pub mod authorizer;
 mod concretizing;
 pub mod errors;
 pub mod evaluation;
+pub mod evaluator;
 mod groups;
 pub mod partial_response;
+pub mod prelude;
 pub mod readers;
 mod reauthorizing;
 pub mod response;
+
+pub use authorizer::Authorizer;
+pub use cedar_extensions::extensions::Extensions;
+pub use cedar_policy_parts::Decision;
+pub use errors::{AuthorizationError, ConcretizationError, ReauthorizationError};
+pub use partial_response::{ErrorState, PartialResponse};
+pub use response::{Diagnostics, EvaluationResponse, Response};

@@ -15,9 +15,9 @@ mod running;
 mod session;
 
 pub use cedar_extensions::extensions::Extensions;
-pub use cedar_frames::{Fault, Verb, Watched};
+pub use cedar_frames::{BODY_LIMIT, Fault, Verb, Watched};
 pub use cedar_policy_parts::{Decision, PolicyID};
-pub use cedar_replies::{Answer, Erring, ErrorKind, PolicyIds, Refusal, Reply};
+pub use cedar_replies::{Answer, Erring, ErrorKind, PolicyIds, Refusal, Reply, put_line};
 pub use command::Command;
 pub use entry::program;
 pub use running::{End, RunError, run};

@@ -17,6 +17,7 @@ pub use cedar_entities::entity::{Ancestors, Entity};
 pub use cedar_entities::{
     EntityAttrEvaluationError, EntityCreationError, EntityValidation, EvaluateEntity,
 };
+pub use cedar_literals::slots::{Slot, SlotId};
 pub use cedar_literals::uids::{ACTION_ENTITY_TYPE, Eid, EntityType, EntityUID, EntityUIDImpl};
 pub use cedar_merging::merging::Merging;
 pub use cedar_merging::renaming::{Renaming, renamed_id, renaming_of};

@@ -1,0 +1,10 @@
+//! Expressions evaluated for a request, restricted expressions evaluated alone, what operators give for
+//! values, and why an evaluation has none.
+
+pub use crate::evaluation::EvaluatePolicy;
+pub use cedar_extensions::evaluation_error::EvaluationError;
+pub use cedar_interpreter::{Evaluator, RestrictedEvaluator};
+pub use cedar_operators::{
+    binary_arith, binary_relation, contains, contains_all, contains_any, get_attr, get_tag,
+    has_attr, has_path, has_tag, is_in, is_like, is_of_type, unary_app,
+};
