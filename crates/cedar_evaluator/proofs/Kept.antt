@@ -12,7 +12,7 @@ use Rattle.cedar_entities.specs.declared.store.Entities.{Entities}
 use Rattle.cedar_extensions.specs.declared.evaluation_error.EvaluationError.{EvaluationError}
 use Rattle.cedar_extensions.specs.declared.extensions.Extensions.{Extensions}
 use Rattle.cedar_interpreter.specs.Asking.{Inquiry, request_held, IsEvaluatorOf}
-use Rattle.cedar_interpreter.specs.Holding.{held_by, is_evaluated, is_held, Serves, Deep, depth_of}
+use Rattle.cedar_interpreter.specs.Holding.{is_evaluated, is_held, Serves, Deep, depth_of}
 use Rattle.cedar_interpreter.specs.Meeting.{IsLimit}
 use Rattle.cedar_interpreter.specs.Operating.{NamesNothing}
 use Rattle.cedar_interpreter.specs.declared.evaluator.Evaluator.{Evaluator}
@@ -31,7 +31,7 @@ use Rattle.cedar_evaluator.proofs.Entered.{syntax_entered, bindings_entered}
 module _
     (i : Inquiry) (store : Entities) (table : Extensions) (depth : ℕ) (ev : Evaluator) (is : IsEvaluatorOf i store table depth ev)
     (p : Policy) (answer : Result (Either Bool (Expr (Unit {0}))) EvaluationError)
-    (found : (facts : Facts) → Serves ev facts (condition_of p) → JudgesAt facts (partial_in facts (held_by ev (bindings_of p)) (condition_of p)) answer)
+    (found : (facts : Facts) → IsServed i store table depth facts (condition_of p) → JudgesAt facts (partial_in facts (request_held i (bindings_of p)) (condition_of p)) answer)
     (limit : IsLimit answer → Deep ev (depth_of ev) (condition_of p))
     (keepable : IsKeepable answer) where
   syntax_is : syntax_in (policy_entry p) ≡ policy_syntax p
@@ -46,10 +46,10 @@ module _
   serves : (facts : Facts) → IsServed i store table depth facts (condition_in (policy_entry p)) → Serves ev facts (condition_of p)
   serves facts served = is.serves facts (condition_of p) served.entities served.functions (subst (NamesNothing table) condition_is served.names_nothing)
 
-  held : held_by ev (bindings_of p) ≡ request_held i (bindings_in (policy_entry p))
-  held = is.holds (bindings_of p) ∙ ap (request_held i) (sym bindings_are)
+  held : request_held i (bindings_of p) ≡ request_held i (bindings_in (policy_entry p))
+  held = ap (request_held i) (sym bindings_are)
 
-  answer_is : (facts : Facts) → partial_in facts (held_by ev (bindings_of p)) (condition_of p) ≡ policy_answer i store table depth facts (policy_entry p)
+  answer_is : (facts : Facts) → partial_in facts (request_held i (bindings_of p)) (condition_of p) ≡ policy_answer i store table depth facts (policy_entry p)
   answer_is facts = ap (λ (holds : LeafAnswers). partial_in facts holds (condition_of p)) held ∙ ap (λ (t : Tree). partial_in facts (request_held i (bindings_in (policy_entry p))) t) (sym condition_is)
 
   given_is : is_held ev ≡ is_given i
@@ -62,7 +62,7 @@ module _
   is_kept = record {
     id = refl;
     effect = ap (λ (s : grammar.Policy). s.effect) (sym syntax_is);
-    found = λ facts served. subst (λ b. Finds facts b (found_in answer)) (answer_is facts) (finds facts _ answer (found facts (serves facts served)) keepable);
+    found = λ facts served. subst (λ b. Finds facts b (found_in answer)) (answer_is facts) (finds facts _ answer (found facts (subst (IsServed i store table depth facts) condition_is served)) keepable);
     limit = λ met facts served mentions.
         let deep : depth_of ev < height (condition_of p) = limit (limit_met answer met) facts (serves facts served) (known mentions) in
         subst (λ (t : Tree). depth < height t) (sym condition_is) (subst (λ (d : ℕ). d < height (condition_of p)) is.limit deep);

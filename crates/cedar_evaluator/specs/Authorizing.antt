@@ -13,8 +13,10 @@ use Rattle.cedar_evaluator.specs.Evaluations.{Kept, AreKept}
 use Rattle.cedar_evaluator.specs.Holding.{request_asked, holding_in}
 use Rattle.cedar_evaluator.specs.Residuals.{residuals_with, is_any}
 use Rattle.cedar_evaluator.specs.Responses.{holding_of}
+use Rattle.cedar_evaluator.specs.Scopes.{AreScopesOf}
 use Rattle.cedar_evaluator.specs.declared.authorizer.Authorizer.{Authorizer}
 use Rattle.cedar_evaluator.specs.declared.partial_response.PartialResponse.{PartialResponse}
+use Rattle.cedar_evaluator.specs.declared.scopes.Scopes.{Scopes}
 
 -- the functions that conditions may call
 abbrev pub table_of : Authorizer → Extensions
@@ -33,6 +35,6 @@ pub record Responds (i : Inquiry) (store : Entities) (table : Extensions) (depth
   pub asked : request_asked response ≡ i.request
   pub apart : IsDistinct same_text (keys_of (residuals_with is_any response))
 
--- by an evaluator, to each inquiry of this request that it answers for
-abbrev pub RespondsBy : Evaluator → RequestParts → Entries → PartialResponse → Type 0
-RespondsBy ev r es response = (i : Inquiry) (store : Entities) (table : Extensions) (depth : ℕ) → i.request ≡ r → IsEvaluatorOf i store table depth ev → Responds i store table depth es response
+-- by an evaluator and what is decided of scopes, to each inquiry of this request that these answer for
+abbrev pub RespondsBy : Evaluator → Scopes → RequestParts → Entries → PartialResponse → Type 0
+RespondsBy ev scopes r es response = (i : Inquiry) (store : Entities) (table : Extensions) (depth : ℕ) → i.request ≡ r → IsEvaluatorOf i store table depth ev → AreScopesOf i store scopes → Responds i store table depth es response

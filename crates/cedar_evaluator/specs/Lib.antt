@@ -11,3 +11,4 @@ pub mod Residuals
 pub mod Refusals
 pub mod Concretizing
 pub mod Reauthorizing
+pub mod Scopes

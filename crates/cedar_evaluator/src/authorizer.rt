@@ -7,6 +7,7 @@ ghost use Rattle.cedar_evaluator.specs.Authorizing.{table_of, limit_of, Responds
 
 use crate::groups::Groups;
 use crate::partial_response::PartialResponse;
+use crate::scopes::Scopes;
 use cedar_entities::store::Entities;
 use cedar_extensions::extensions::Extensions;
 use cedar_interpreter::Evaluator;
@@ -55,7 +56,8 @@ impl<'e, 'f> Authorizer<'e, 'f> {
         ensures { IfOk result (λ response. Responds (untold (request_parts request)) entities.now (table_of self.now) (limit_of self.now) policies.now response) }
     {
         let evaluator = Evaluator::new(alloc, &request, entities, self.extensions, self.depth)?;
-        responded(alloc, &evaluator, request, policies)
+        let scopes = Scopes::new(entities, &request)?;
+        responded(alloc, &evaluator, &scopes, request, policies)
     }
 
     /// The same where these values are told for unknowns.
@@ -71,20 +73,23 @@ impl<'e, 'f> Authorizer<'e, 'f> {
     {
         let evaluator = Evaluator::new(alloc, &request, entities, self.extensions, self.depth)?;
         let evaluator = evaluator.with_told(told);
-        responded(alloc, &evaluator, request, policies)
+        let scopes = Scopes::new(entities, &request)?;
+        responded(alloc, &evaluator, &scopes, request, policies)
     }
 }
 
-// What the policies of a set come to for a request, by its evaluator; refused for memory alone.
+// What the policies of a set come to for a request, by its evaluator and what it decides of scopes; refused
+// for memory alone.
 fn responded(
     alloc: Global,
     evaluator: &Evaluator<'_, '_, '_>,
+    scopes: &Scopes<'_>,
     request: Request,
     policies: &PolicySet,
 ) -> Result<PartialResponse, AllocError>
-    ensures { IfOk result (RespondsBy evaluator.now (request_parts request) policies.now) }
+    ensures { IfOk result (RespondsBy evaluator.now scopes.now (request_parts request) policies.now) }
 {
     let _count = policies.len();
-    let groups = Groups::of_policies(alloc, evaluator, policies)?;
+    let groups = Groups::of_policies(alloc, evaluator, scopes, policies)?;
     groups.into_response(alloc, request)
 }

@@ -66,7 +66,7 @@ impl<'s, 'e, 'f> EvaluatePolicy for Evaluator<'s, 'e, 'f> {
 }
 
 // Whether an answer is true, or what is left of it; `TypeError` where it is no Boolean.
-fn judged(
+pub(crate) fn judged(
     alloc: Global,
     answer: Result<PartialValue, EvaluationError>,
 ) -> Result<Either<bool, Expr>, EvaluationError>

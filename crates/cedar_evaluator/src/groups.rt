@@ -12,10 +12,12 @@ ghost use Rattle.cedar_trees.specs.Bare.{bare};
 ghost use Rattle.cedar_evaluator.specs.Evaluations.{Satisfied, Unsatisfied, Erred, Open};
 ghost use Rattle.cedar_evaluator.specs.Grouping.{held_in, with_kept, kept_of, is_want, IsKeepable, Keeps, AreApart};
 ghost use Rattle.cedar_evaluator.specs.Holding.{holding_in, request_asked};
+ghost use Rattle.cedar_evaluator.specs.Scopes.{AreScopesOf};
 
 use crate::errors::AuthorizationError;
-use crate::evaluation::EvaluatePolicy;
+use crate::judging::evaluated;
 use crate::partial_response::{ErrorState, PartialResponse};
+use crate::scopes::Scopes;
 use cedar_extensions::evaluation_error::EvaluationError;
 use cedar_extensions::lookups::ExtensionFunctionLookupError;
 use cedar_interpreter::Evaluator;
@@ -114,14 +116,15 @@ impl Groups {
     pub(crate) fn of_policies(
         alloc: Global,
         evaluator: &Evaluator<'_, '_, '_>,
+        scopes: &Scopes<'_>,
         policies: &PolicySet,
     ) -> Result<Groups, AllocError>
         ensures { IfOk result (λ groups. (i : Inquiry) (store : Store) (table : Extensions) (depth : ℕ) →
-            IsEvaluatorOf i store table depth evaluator.now → Keeps i store table depth (policies_of policies.now) groups) }
+            IsEvaluatorOf i store table depth evaluator.now → AreScopesOf i store scopes.now → Keeps i store table depth (policies_of policies.now) groups) }
     {
         let mut groups = Groups::new(alloc);
         for policy in policies.policies() {
-            groups.evaluate(alloc, evaluator, policy)?;
+            groups.evaluate(alloc, evaluator, scopes, policy)?;
         }
         Ok(groups)
     }
@@ -131,13 +134,14 @@ impl Groups {
         &mut self,
         alloc: Global,
         evaluator: &Evaluator<'_, '_, '_>,
+        scopes: &Scopes<'_>,
         policy: &Policy,
     ) -> Result<(), AllocError>
         ensures { OnOk result ((i : Inquiry) (store : Store) (table : Extensions) (depth : ℕ) →
-            IsEvaluatorOf i store table depth evaluator.now → (es : Entries) →
+            IsEvaluatorOf i store table depth evaluator.now → AreScopesOf i store scopes.now → (es : Entries) →
             Keeps i store table depth es self.old → Keeps i store table depth (es ++ policy_seen policy.now ∷ []) self.new) }
     {
-        let answer = evaluator.partial_evaluate(alloc, policy);
+        let answer = evaluated(alloc, evaluator, scopes, policy);
         self.keep(alloc, policy, answer)
     }
 

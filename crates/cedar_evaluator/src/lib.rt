@@ -14,11 +14,13 @@ pub mod errors;
 pub mod evaluation;
 pub mod evaluator;
 mod groups;
+mod judging;
 pub mod partial_response;
 pub mod prelude;
 pub mod readers;
 mod reauthorizing;
 pub mod response;
+mod scopes;
 
 pub use authorizer::Authorizer;
 pub use cedar_extensions::extensions::Extensions;

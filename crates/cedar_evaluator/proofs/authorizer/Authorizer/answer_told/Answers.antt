@@ -13,4 +13,4 @@ returns c =
     let store = c.args.entities.now in
     let table = table_of c.args.self.now in
     let depth = limit_of c.args.self.now in
-    if_ok c.responded.result (λ response by. by i store table depth refl (c.with_told-evaluator.ensures (request_parts c.args.request) store table depth c.in_ok-evaluator.ensures)) c.responded.ensures
+    if_ok c.responded.result (λ response by. by i store table depth refl (c.with_told-evaluator.ensures (request_parts c.args.request) store table depth c.in_ok-evaluator.ensures) (c.in_ok-scopes.ensures i.told)) c.responded.ensures

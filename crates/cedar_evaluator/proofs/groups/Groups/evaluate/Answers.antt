@@ -9,9 +9,9 @@ use Rattle.cedar_evaluator.proofs.groups.Groups.evaluate.Goals as goal
 pub returns : goal.returns
 returns c =
     let p = c.args.policy.now in
-    let answer = c.partial_evaluate-answer.result in
+    let answer = c.evaluated-answer.result in
     on_ok c.keep.result
-    (λ held keepable i store table depth is es keeps.
+    (λ held keepable i store table depth is scopes es keeps.
     keeps_more i store table depth es c.args.self.now c.keep.new.self (policy_seen p) (kept_of p answer) keeps held
-    (is_kept i store table depth c.args.evaluator.now is p answer c.partial_evaluate-answer.ensures.found c.partial_evaluate-answer.ensures.limit keepable))
+    (is_kept i store table depth c.args.evaluator.now is p answer (c.evaluated-answer.ensures.found i store table depth is scopes) c.evaluated-answer.ensures.limit keepable))
     c.keep.ensures.held c.keep.ensures.keepable

@@ -4,9 +4,10 @@ use Rattle.cedar_extensions.specs.declared.extensions.Extensions.{Extensions}
 use Rattle.cedar_interpreter.specs.Asking.{Inquiry, IsEvaluatorOf}
 use Rattle.cedar_policy_set.specs.Bounds.{policy_seen}
 use Rattle.cedar_evaluator.specs.Grouping.{Keeps}
+use Rattle.cedar_evaluator.specs.Scopes.{AreScopesOf}
 use Rattle.cedar_evaluator.proofs.groups.Groups.of_policies.Given as goal
 
 -- the policies so far are kept
 abbrev pub invariant-loop-policy : goal.invariant-loop-policy
 invariant-loop-policy l =
-    (i : Inquiry) (store : Entities) (table : Extensions) (depth : ℕ) → IsEvaluatorOf i store table depth l.evaluator → Keeps i store table depth (map (λ p. policy_seen p.now) l.yielded) l.groups
+    (i : Inquiry) (store : Entities) (table : Extensions) (depth : ℕ) → IsEvaluatorOf i store table depth l.evaluator → AreScopesOf i store l.scopes → Keeps i store table depth (map (λ p. policy_seen p.now) l.yielded) l.groups

@@ -1,0 +1,23 @@
+-- What the scope asks of the resource, whose slot is bound as the policy binds it.
+use Rattle.std.proofs.Common.{◌≡◌, ap, sym, ◌∙◌, subst}
+use Rattle.cedar_language.specs.Meaning.{slot_outcome}
+use Rattle.cedar_language.specs.Tree.{Resource, ResourceSlot}
+use Rattle.cedar_grammar.specs.Policy.{Constraint, constraint_tree}
+use Rattle.cedar_partial_evaluation.specs.Partial.{answer_of}
+use Rattle.cedar_constraints.specs.Asked.{constraint_of}
+use Rattle.cedar_constraints.specs.Bindings.{Bindings, binding_of}
+use Rattle.cedar_interpreter.specs.Asking.{request_held}
+use Rattle.cedar_policies.specs.Policies.{bindings_of, policy_syntax}
+use Rattle.cedar_templates.specs.Templates.{syntax_of}
+use Rattle.cedar_templates.specs.declared.templates.Template.{Template}
+use Rattle.cedar_evaluator.specs.Scopes.{IsDecided}
+use Rattle.cedar_evaluator.proofs.scopes.Scopes.resource_meets.Goals as goal
+
+pub returns : goal.returns
+returns c = λ i store facts scopes has.
+    let p = c.args.policy.now in
+    let holds = request_held i (bindings_of p) in
+    let asked : constraint_of c.as_inner.result.now ≡ (policy_syntax p).resource = c.as_inner.ensures ∙ c.resource_constraint-constraint.ensures ∙ ap (λ (t : Template). (syntax_of t).resource) c.template.ensures in
+    let bound = c.get-bound.ensures ∙ ap (λ (b : Bindings). binding_of b c.resource.result) c.env.ensures.bindings ∙ ap (binding_of (bindings_of p)) c.resource.ensures in
+    subst (λ (k : Constraint). IsDecided facts holds (constraint_tree Resource ResourceSlot k) c.part_meets.result) asked
+    (c.part_meets.ensures facts store holds Resource ResourceSlot has scopes.resource (sym (ap (λ o. answer_of (slot_outcome o)) bound)))

@@ -1,0 +1,51 @@
+-- What the scope of a policy asks, against the entities that a request gives.
+use Rattle.std.specs.Prelude.{◌≡◌, ⊤, Bool, true, Option, Some, None}
+use Rattle.std.specs.Option.{option_map}
+use Rattle.cedar_language.specs.Uid.{Uid}
+use Rattle.cedar_language.specs.Order.{same_name, same_uid}
+use Rattle.cedar_language.specs.Tree.{Boolean, Entity, Principal, Action, Resource, Tree}
+use Rattle.cedar_language.specs.Value.{Plain}
+use Rattle.cedar_language.specs.Facts.{Facts}
+use Rattle.cedar_grammar.specs.Policy.{Target, the_entity, the_slot, Constraint, anything, equals, within, of_type, of_type_within}
+use Rattle.cedar_world.specs.Scope.{and_then_met}
+use Rattle.cedar_partial_evaluation.specs.Partial.{Answer, Evaluated, LeafAnswers, partial_in}
+use Rattle.cedar_entities.specs.declared.store.Entities.{Entities}
+use Rattle.cedar_operators.specs.Store.{IsFound}
+use Rattle.cedar_interpreter.specs.Asking.{Inquiry, variable_asked}
+use Rattle.cedar_evaluator.specs.declared.scopes.GivenEntity.{GivenEntity}
+use Rattle.cedar_evaluator.specs.declared.scopes.Scopes.{Scopes}
+
+-- the Boolean that is answered of a tree, where it is decided
+abbrev pub IsDecided : Facts → LeafAnswers → Tree → Option Bool → Type 0
+IsDecided facts holds t None = ⊤
+IsDecided facts holds t (Some b) = partial_in facts holds t ≡ Evaluated (Plain (Boolean b))
+
+-- the entity that stands for a variable, and what the store holds of it
+abbrev pub IsGivenAs : Entities → Answer → Option GivenEntity → Type 0
+IsGivenAs store a None = ⊤
+IsGivenAs store a (Some g) = (a ≡ Evaluated (Plain (Entity g.uid.value))) × IsFound store g.uid.value g.entity
+
+pub record AreScopesOf (i : Inquiry) (store : Entities) (s : Scopes) : Type 0 where
+  pub principal : IsGivenAs store (variable_asked i.request Principal) s.principal
+  pub action : IsGivenAs store (variable_asked i.request Action) s.action
+  pub resource : IsGivenAs store (variable_asked i.request Resource) s.resource
+
+-- ---- what a constraint asks of an entity
+
+-- the entity that it names, or that its slot is bound to
+abbrev pub target_bound : Option Uid → Target → Option Uid
+target_bound bound (the_entity u) = Some u
+target_bound bound the_slot = bound
+
+-- by a test of what the entity is in; not said where the slot isn't bound
+abbrev pub constraint_met : (Uid → Bool) → Uid → Option Uid → Constraint → Option Bool
+constraint_met is_in u bound anything = Some true
+constraint_met is_in u bound (equals t) = option_map (same_uid u) (target_bound bound t)
+constraint_met is_in u bound (within t) = option_map is_in (target_bound bound t)
+constraint_met is_in u bound (of_type name) = Some (same_name u.type_name name)
+constraint_met is_in u bound (of_type_within name t) = and_then_met (Some (same_name u.type_name name)) (option_map is_in (target_bound bound t))
+
+-- where no entity is given
+abbrev pub unasked : Constraint → Option Bool
+unasked anything = Some true
+unasked c = None

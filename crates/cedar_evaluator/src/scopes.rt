@@ -1,0 +1,292 @@
+// The scopes of policies, decided by the entities that a request gives.
+ghost use Rattle.std.specs.Prelude.{◌≡◌, Option, Some, IfOk, true, false};
+ghost use Rattle.std.specs.FinSet as set;
+ghost use Rattle.std.specs.List.{list_any};
+ghost use Rattle.std.specs.Option.{option_map, option_map_or, option_copied};
+ghost use Rattle.cedar_language.specs.Facts.{Facts};
+ghost use Rattle.cedar_language.specs.Meaning.{slot_outcome};
+ghost use Rattle.cedar_language.specs.Order.{same_name, same_uid};
+ghost use Rattle.cedar_language.specs.Tree.{Variable, Principal, Action, Resource, SlotId as Slot, PrincipalSlot, ResourceSlot};
+ghost use Rattle.cedar_language.specs.Uid.{Text};
+ghost use Rattle.cedar_language.specs.Value.{Value};
+ghost use Rattle.cedar_grammar.specs.Policy.{constraint_tree, action_tree, scope_tree};
+ghost use Rattle.cedar_partial_evaluation.specs.Partial.{LeafAnswers, answer_of};
+ghost use Rattle.cedar_partial_evaluation.specs.Question.{part_held};
+ghost use Rattle.cedar_world.specs.Scope.{action_meets};
+ghost use Rattle.cedar_constraints.specs.Actions.{action_of, held_uids};
+ghost use Rattle.cedar_constraints.specs.Asked.{constraint_of};
+ghost use Rattle.cedar_constraints.specs.References.{target_of};
+ghost use Rattle.cedar_entities.specs.Data.{ancestors_of};
+ghost use Rattle.cedar_entities.specs.declared.store.Entities.{Entities as Store};
+ghost use Rattle.cedar_operators.specs.Hierarchy.{is_within_entity};
+ghost use Rattle.cedar_operators.specs.Store.{HasFacts};
+ghost use Rattle.cedar_interpreter.specs.Asking.{Inquiry, request_held};
+ghost use Rattle.cedar_policies.specs.Policies.{bindings_of, policy_syntax};
+ghost use Rattle.cedar_requests.specs.Holding.{request_parts};
+ghost use Rattle.cedar_requests.specs.Parts.{part_of};
+ghost use Rattle.cedar_evaluator.specs.Scopes.{IsDecided, IsGivenAs, AreScopesOf, target_bound, constraint_met, unasked};
+
+use cedar_constraints::actions::ActionConstraint;
+use cedar_constraints::constraints::PrincipalOrResourceConstraint;
+use cedar_constraints::references::EntityReference;
+use cedar_entities::entity::Entity;
+use cedar_entities::store::Entities;
+use cedar_literals::slots::SlotId;
+use cedar_literals::uids::{EntityType, EntityUID};
+use cedar_policies::policies::Policy;
+use cedar_requests::{EntityUIDEntry, Request};
+use std::alloc::AllocError;
+use std::rc::Rc;
+
+// An entity that a request gives, with what a store holds of it.
+pub(crate) struct GivenEntity<'s> {
+    uid: Rc<EntityUID>,
+    entity: Option<&'s Entity>,
+}
+
+impl Drop for GivenEntity<'_> {
+    fn drop(self) {
+        let GivenEntity { uid: _, entity: _ } = self;
+    }
+}
+
+/// The entities that a request gives for the variables of scopes. Over a store that is partial none is
+/// given, since what isn't held there isn't known.
+pub(crate) struct Scopes<'s> {
+    principal: Option<GivenEntity<'s>>,
+    action: Option<GivenEntity<'s>>,
+    resource: Option<GivenEntity<'s>>,
+}
+
+impl Drop for Scopes<'_> {
+    fn drop(self) {
+        let Scopes {
+            principal: _,
+            action: _,
+            resource: _,
+        } = self;
+    }
+}
+
+impl<'s> GivenEntity<'s> {
+    fn is(&self, uid: &EntityUID) -> bool
+        ensures { result ≡ same_uid self.now.uid.value uid.now }
+    {
+        *self.uid == *uid
+    }
+
+    fn is_of(&self, ty: &EntityType) -> bool
+        ensures { result ≡ same_name self.now.uid.value.type_name ty.now }
+    {
+        self.uid.entity_type() == ty
+    }
+
+    fn descends_from(&self, uid: &EntityUID) -> bool
+        ensures { result ≡ option_map_or (λ held. set.contains (ancestors_of held) uid.now) (option_copied self.now.entity) false }
+    {
+        match self.entity {
+            Some(entity) => entity.is_descendant_of(uid),
+            None => false,
+        }
+    }
+
+    fn is_in(&self, uid: &EntityUID) -> bool
+        ensures { result ≡ is_within_entity self.now.uid.value (option_copied self.now.entity) uid.now }
+    {
+        self.is(uid) || self.descends_from(uid)
+    }
+
+    fn is_in_some(&self, uids: &[Rc<EntityUID>]) -> bool
+        ensures { result ≡ list_any (is_within_entity self.now.uid.value (option_copied self.now.entity)) (held_uids uids.now) }
+    {
+        for uid in uids {
+            if self.is_in(uid) {
+                return true;
+            }
+        }
+        false
+    }
+
+    fn is_target(&self, target: Option<&EntityUID>) -> Option<bool>
+        ensures { result ≡ option_map (same_uid self.now.uid.value) (option_copied target.entry) }
+    {
+        match target {
+            Some(uid) => Some(self.is(uid)),
+            None => None,
+        }
+    }
+
+    fn is_in_target(&self, target: Option<&EntityUID>) -> Option<bool>
+        ensures { result ≡ option_map (is_within_entity self.now.uid.value (option_copied self.now.entity)) (option_copied target.entry) }
+    {
+        match target {
+            Some(uid) => Some(self.is_in(uid)),
+            None => None,
+        }
+    }
+
+    // Whether it is as a scope asks; not said where a slot isn't bound.
+    fn meets(
+        &self,
+        constraint: &PrincipalOrResourceConstraint,
+        bound: Option<&EntityUID>,
+    ) -> Option<bool>
+        ensures { result ≡ constraint_met (is_within_entity self.now.uid.value (option_copied self.now.entity)) self.now.uid.value (option_copied bound.entry) (constraint_of constraint.now) }
+    {
+        match constraint {
+            PrincipalOrResourceConstraint::Any => Some(true),
+            PrincipalOrResourceConstraint::Eq(named) => self.is_target(target(named, bound)),
+            PrincipalOrResourceConstraint::In(named) => self.is_in_target(target(named, bound)),
+            PrincipalOrResourceConstraint::Is(ty) => Some(self.is_of(ty)),
+            PrincipalOrResourceConstraint::IsIn(ty, named) => {
+                if self.is_of(ty) {
+                    self.is_in_target(target(named, bound))
+                } else {
+                    Some(false)
+                }
+            }
+        }
+    }
+
+    // Whether it is as a scope asks of the action.
+    fn meets_action(&self, constraint: &ActionConstraint) -> bool
+        ensures { result ≡ action_meets (λ a. is_within_entity self.now.uid.value (option_copied self.now.entity)) (action_of constraint.now) self.now.uid.value }
+    {
+        match constraint {
+            ActionConstraint::Any => true,
+            ActionConstraint::Eq(uid) => self.is(uid),
+            ActionConstraint::In(uids) => self.is_in_some(uids),
+        }
+    }
+}
+
+// The entity that a scope names, or that its slot is bound to.
+fn target<'p>(named: &'p EntityReference, bound: Option<&'p EntityUID>) -> Option<&'p EntityUID>
+    ensures { option_copied result ≡ target_bound (option_copied bound.entry) (target_of named.now) }
+{
+    match named {
+        EntityReference::EUID(uid) => Some(uid.as_ref()),
+        EntityReference::Slot(_) => bound,
+    }
+}
+
+// What a request gives, with what a store holds of it.
+fn given<'s>(
+    entities: &'s Entities,
+    entry: &EntityUIDEntry,
+) -> Result<Option<GivenEntity<'s>>, AllocError>
+    ensures { IfOk result (λ g. (name : Text) → IsGivenAs entities.now (part_held (part_of entry.now) None name) g) }
+{
+    if entities.is_partial() {
+        return Ok(None);
+    }
+    match entry {
+        EntityUIDEntry::Known { euid, loc: _ } => {
+            let uid = euid.clone()?;
+            let entity = entities.get(euid);
+            Ok(Some(GivenEntity { uid, entity }))
+        }
+        EntityUIDEntry::Unknown { ty: _, loc: _ } => Ok(None),
+    }
+}
+
+// What a scope asks where no entity is given: decided where it asks nothing.
+fn without_entity(constraint: &PrincipalOrResourceConstraint) -> Option<bool>
+    ensures { result ≡ unasked (constraint_of constraint.now) }
+{
+    match constraint {
+        PrincipalOrResourceConstraint::Any => Some(true),
+        PrincipalOrResourceConstraint::Eq(_)
+        | PrincipalOrResourceConstraint::In(_)
+        | PrincipalOrResourceConstraint::Is(_)
+        | PrincipalOrResourceConstraint::IsIn(_, _) => None,
+    }
+}
+
+// What a scope asks of the principal or of the resource, as far as it is decided.
+fn part_meets(
+    given: &Option<GivenEntity<'_>>,
+    constraint: &PrincipalOrResourceConstraint,
+    bound: Option<&EntityUID>,
+) -> Option<bool>
+    ensures { (facts : Facts) (store : Store) (holds : LeafAnswers) (v : Variable) (s : Slot) → HasFacts store facts → IsGivenAs store (holds.variable v) given.now → holds.slot s ≡ answer_of (slot_outcome (option_copied bound.entry)) → IsDecided facts holds (constraint_tree v s (constraint_of constraint.now)) result }
+{
+    match given {
+        Some(entity) => entity.meets(constraint, bound),
+        None => without_entity(constraint),
+    }
+}
+
+// What a scope asks of the action, as far as it is decided.
+fn action_meets(given: &Option<GivenEntity<'_>>, constraint: &ActionConstraint) -> Option<bool>
+    ensures { (facts : Facts) (store : Store) (holds : LeafAnswers) → HasFacts store facts → IsGivenAs store (holds.variable Action) given.now → IsDecided facts holds (action_tree (action_of constraint.now)) result }
+{
+    match given {
+        Some(entity) => Some(entity.meets_action(constraint)),
+        None => match constraint {
+            ActionConstraint::Any => Some(true),
+            ActionConstraint::Eq(_) | ActionConstraint::In(_) => None,
+        },
+    }
+}
+
+impl<'s> Scopes<'s> {
+    /// What the request gives; refused for memory alone.
+    pub(crate) fn new(entities: &'s Entities, request: &Request) -> Result<Scopes<'s>, AllocError>
+        ensures { IfOk result (λ scopes. (told : Text → Option Value) → AreScopesOf (record { request = request_parts request.now; told = told }) entities.now scopes) }
+    {
+        let principal = given(entities, request.principal())?;
+        let action = given(entities, request.action())?;
+        let resource = given(entities, request.resource())?;
+        Ok(Scopes {
+            principal,
+            action,
+            resource,
+        })
+    }
+
+    fn principal_meets(&self, policy: &Policy) -> Option<bool>
+        ensures { (i : Inquiry) (store : Store) (facts : Facts) → AreScopesOf i store self.now → HasFacts store facts → IsDecided facts (request_held i (bindings_of policy.now)) (constraint_tree Principal PrincipalSlot (policy_syntax policy.now).principal) result }
+    {
+        let constraint = policy.template().principal_constraint();
+        let bound = policy.env().get(&SlotId::principal());
+        part_meets(&self.principal, constraint.as_inner(), bound)
+    }
+
+    fn action_meets(&self, policy: &Policy) -> Option<bool>
+        ensures { (i : Inquiry) (store : Store) (facts : Facts) → AreScopesOf i store self.now → HasFacts store facts → IsDecided facts (request_held i (bindings_of policy.now)) (action_tree (policy_syntax policy.now).action) result }
+    {
+        action_meets(&self.action, policy.action_constraint())
+    }
+
+    fn resource_meets(&self, policy: &Policy) -> Option<bool>
+        ensures { (i : Inquiry) (store : Store) (facts : Facts) → AreScopesOf i store self.now → HasFacts store facts → IsDecided facts (request_held i (bindings_of policy.now)) (constraint_tree Resource ResourceSlot (policy_syntax policy.now).resource) result }
+    {
+        let constraint = policy.template().resource_constraint();
+        let bound = policy.env().get(&SlotId::resource());
+        part_meets(&self.resource, constraint.as_inner(), bound)
+    }
+
+    /// Whether the scope of a policy holds, read from the left: the principal, the action, the resource. Not
+    /// said where the request doesn't give what decides it.
+    pub(crate) fn hold(&self, policy: &Policy) -> Option<bool>
+        ensures { (i : Inquiry) (store : Store) (facts : Facts) → AreScopesOf i store self.now → HasFacts store facts → IsDecided facts (request_held i (bindings_of policy.now)) (scope_tree (policy_syntax policy.now)) result }
+    {
+        match self.principal_meets(policy) {
+            Some(true) => self.hold_behind_principal(policy),
+            Some(false) => Some(false),
+            None => None,
+        }
+    }
+
+    // The same of a policy whose principal is as its scope asks.
+    fn hold_behind_principal(&self, policy: &Policy) -> Option<bool>
+        ensures { (i : Inquiry) (store : Store) (facts : Facts) → AreScopesOf i store self.now → HasFacts store facts → IsDecided facts (request_held i (bindings_of policy.now)) (constraint_tree Principal PrincipalSlot (policy_syntax policy.now).principal) (Some true) → IsDecided facts (request_held i (bindings_of policy.now)) (scope_tree (policy_syntax policy.now)) result }
+    {
+        match self.action_meets(policy) {
+            Some(true) => self.resource_meets(policy),
+            Some(false) => Some(false),
+            None => None,
+        }
+    }
+}
