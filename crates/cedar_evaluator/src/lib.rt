@@ -4,7 +4,8 @@
 //! (Cedar language reference, "Authorization" and "Partial evaluation".)
 //!
 //! `ast` and `evaluator` hand on requests and the evaluator of expressions, each item under the name that it
-//! has in `cedar-policy-core`; `prelude` has the traits.
+//! has in `cedar-policy-core`; `prelude` has the traits. `crates/cedar_examples` shows how a request is
+//! authorized (`asking`).
 #![tactic(auto)]
 
 pub mod ast;

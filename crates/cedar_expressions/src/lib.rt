@@ -2,6 +2,7 @@
 //! them, restricted expressions, extension functions, and why an evaluation has no value. Each item has
 //! the name that it has in `cedar-policy-core`, in the module of that name; `laws` and `shared` are this
 //! library's own, and so is `prelude`, which holds the traits whose methods these items have.
+//! `crates/cedar_examples` shows how these are called.
 #![tactic(auto)]
 
 pub mod ast;

@@ -1,6 +1,7 @@
 //! The parser of Cedar: texts read into trees of the loose syntax, their conversion to expressions and
 //! policies, and calls that do both. Each item has the name that it has in `cedar-policy-core`, in the
-//! module of that name; `strict` is this library's own.
+//! module of that name; `strict` is this library's own. `crates/cedar_examples` shows how a text is read
+//! (`asking`).
 #![tactic(auto)]
 
 pub mod cst;

@@ -4,6 +4,7 @@
 //! or by [`Session::apply`]. [`run`] reads commands as frames from any reader and writes a line for each to
 //! any writer; [`program`] does so with a session of its own and gives an exit status. The types that their
 //! answers are made of are handed on here, so that a caller names them without the crates below.
+//! `crates/cedar_examples` shows frames in memory (`frames`) and telling (`telling`).
 #![tactic(auto)]
 
 mod asked;

@@ -314,7 +314,8 @@ impl<'e, 'f> Session<'e, 'f> {
     /// an unknown, `NoSuchUnknown` for a name that is no unknown of the question, `AlreadyTold` for one told
     /// before, `WrongKind` where a principal, an action or a resource is told what is no entity or a context
     /// what is no record, `Evaluation` where the context errs with all that is told, `Depth` where the
-    /// evaluation of some policy goes deeper than the limit, and `Memory`; then nothing changes.
+    /// evaluation of the context with all that is told, or of some policy, goes deeper than the limit, and
+    /// `Memory`; then nothing changes.
     pub fn tell(&mut self, text: &str) -> Result<Answer, Refusal>
         requires { length text.now ≤ body_limit }
         ensures step { Step (setting_of self.old) (world_of self.old) TellVerb text.now (ask_reply result) (world_of self.new) }

@@ -1,6 +1,7 @@
 //! Entities and policies of Cedar: the transitive closure, entities and their store, scopes, templates,
 //! policies and policy sets. Each item has the name that it has in `cedar-policy-core`, in the module of
-//! that name; `laws` and `prelude` are this library's own.
+//! that name; `laws` and `prelude` are this library's own. `crates/cedar_examples` shows how a policy set
+//! and a store are built (`asking`), a template is linked (`linking`) and entities are edited (`editing`).
 #![tactic(auto)]
 
 pub mod ast;
