@@ -1,3 +1,4 @@
+-- A tree is that of its kind: the kind of a record has the tree of its entries.
 use Rattle.std.proofs.Common.{◌∙◌, ap}
 use Rattle.cedar_trees.specs.Bare.{bare_kind}
 use Rattle.cedar_trees.proofs.Bares.{bare_is, bare-Record}

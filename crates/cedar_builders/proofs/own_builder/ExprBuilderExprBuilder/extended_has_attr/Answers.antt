@@ -1,3 +1,4 @@
+-- A path is made by one construct, whose tree is the test of one attribute after another, as it is written.
 use Rattle.std.proofs.Common.{◌∙◌, ap, sym, map}
 use Rattle.std.specs.Prelude.{Ok}
 use Rattle.std.specs.Rc.{rc_str_bytes}
