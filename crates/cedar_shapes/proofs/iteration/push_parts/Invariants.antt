@@ -1,3 +1,4 @@
+-- What is on the stack and what is still to be pushed are together the old stack and the parts.
 use Rattle.std.proofs.Common.{◌≡◌, ◌+◌, ◌++◌, length}
 use Rattle.std.specs.Vec.{vec_len, vec_capacity}
 use Rattle.cedar_trees.specs.Bare.{bare}

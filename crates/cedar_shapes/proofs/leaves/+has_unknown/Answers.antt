@@ -1,3 +1,4 @@
+-- An unknown is the expression itself, or stands in a part behind the first, or in the first; parts are lower.
 use Rattle.std.proofs.Common.{◌≡◌, ◌<◌, ◌+◌, ◌*◌, ◌∙◌, rules, arith, true, false}
 use Rattle.std.specs.List.{list_any}
 use Rattle.cedar_language.specs.Height.{height}

@@ -1,3 +1,4 @@
+-- The construct must be one of those that may stand there, and each part, which is lower, must do as well.
 use Rattle.std.proofs.Common.{◌≡◌, ◌<◌, ◌+◌, ◌*◌, rules, arith, true, false}
 use Rattle.cedar_language.specs.Height.{height}
 use Rattle.cedar_trees.specs.Bare.{bare}

@@ -1,3 +1,4 @@
+-- Each sort of what is held has its own order; that of a pattern goes by its elements.
 use Rattle.std.proofs.Common.{rules}
 use Rattle.cedar_shapes.proofs.MarkOrder.{elems_cmp}
 use Rattle.cedar_shapes.proofs.marks.cmp_held.Goals as goal

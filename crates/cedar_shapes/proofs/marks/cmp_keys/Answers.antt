@@ -1,3 +1,4 @@
+-- The keys that a map's iterator gives are those of its tree, in the same order.
 use Rattle.std.proofs.Common.{rules}
 use Rattle.cedar_shapes.proofs.Listing.{entries_keys}
 use Rattle.cedar_shapes.proofs.marks.cmp_keys.Goals as goal

@@ -1,3 +1,4 @@
+-- Where the kinds differ they decide; kinds that are one hold one sort of thing, and what is held decides.
 use Rattle.std.proofs.Common.{◌≡◌, ◌∙◌, rules}
 use Rattle.std.specs.declared.cmp.Ordering.TheVariants.{Equal}
 use Rattle.std.specs.Ordering.{nat_cmp}

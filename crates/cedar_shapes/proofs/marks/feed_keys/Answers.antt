@@ -1,3 +1,4 @@
+-- To walk a map's keys is to walk those of its tree.
 use Rattle.std.proofs.Common.{rules}
 use Rattle.cedar_shapes.proofs.Listing.{entries_keys}
 use Rattle.cedar_shapes.proofs.marks.feed_keys.Goals as goal

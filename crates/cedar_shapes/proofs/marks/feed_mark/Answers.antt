@@ -1,3 +1,4 @@
+-- Kind by kind; of a record the keys of its tree are fed.
 use Rattle.std.proofs.Common.{rules}
 use Rattle.cedar_shapes.proofs.MarkOrder.{held-Record}
 use Rattle.cedar_shapes.proofs.marks.feed_mark.Goals as goal

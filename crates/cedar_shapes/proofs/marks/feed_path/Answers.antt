@@ -1,3 +1,4 @@
+-- A path is fed as its first attribute and then the list of the others, each attribute as its text.
 use Rattle.std.proofs.Common.{ap, ◌∙◌}
 use Rattle.std.specs.List.{fold}
 use Rattle.std.proofs.lemmas.List.{length-map}

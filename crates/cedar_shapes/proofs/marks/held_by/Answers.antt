@@ -1,3 +1,4 @@
+-- Kind by kind; what stands in the mark of a record are its keys.
 use Rattle.std.proofs.Common.{rules}
 use Rattle.cedar_shapes.proofs.MarkOrder.{record_node, record_sort}
 use Rattle.cedar_shapes.proofs.marks.held_by.Goals as goal

@@ -1,3 +1,4 @@
+-- What stands at the top decides, or else the pairs behind the first, or else the first pair; all of them are lower.
 use Rattle.std.proofs.Common.{◌≡◌, ◌<◌, ◌+◌, ◌*◌, ◌∙◌, rules, arith, true, false}
 use Rattle.std.specs.Ordering.{is_ne}
 use Rattle.cedar_language.specs.Height.{height}

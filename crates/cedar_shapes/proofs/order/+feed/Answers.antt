@@ -1,3 +1,4 @@
+-- What stands here is fed, then the parts behind the first, and then the first; each part is lower than the whole.
 use Rattle.std.proofs.Common.{◌<◌, ◌+◌, ◌*◌, ◌∙◌, sym, rules, arith}
 use Rattle.cedar_language.specs.Height.{height}
 use Rattle.cedar_trees.specs.Bare.{bare}

@@ -1,3 +1,4 @@
+-- Each turn leaves one position fewer; what the walk needs is room that is there, or is needed by the stack still.
 use Rattle.std.proofs.Common.{arith, rules}
 use Rattle.cedar_shapes.proofs.Walking.{turn_is, turn_rises}
 use Rattle.cedar_shapes.proofs.iteration.ExprIterator.new.Goals as goal

@@ -1,3 +1,4 @@
+-- A turn puts the parts in the place of what is taken: it goes one position on, and needs no more room.
 use Rattle.std.proofs.Common.{arith, rules}
 use Rattle.cedar_shapes.proofs.Walking.{turn_is, turn_room, turn_need}
 use Rattle.cedar_shapes.proofs.iteration.ExprIteratorIterator.next.Goals as goal

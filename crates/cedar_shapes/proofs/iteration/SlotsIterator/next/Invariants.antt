@@ -1,3 +1,4 @@
+-- A position that holds no slot can be passed over: the slots that are left stay the same.
 use Rattle.std.proofs.Common.{◌≡◌, length}
 use Rattle.cedar_shapes.specs.PositionsLeft.{positions_left, slots_left}
 use Rattle.cedar_shapes.proofs.iteration.SlotsIterator.next.Given as goal

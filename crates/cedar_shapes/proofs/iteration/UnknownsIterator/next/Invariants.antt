@@ -1,3 +1,4 @@
+-- A position that holds no unknown can be passed over: the unknowns that are left stay the same.
 use Rattle.std.proofs.Common.{◌≡◌, length}
 use Rattle.cedar_shapes.specs.PositionsLeft.{positions_left, unknowns_left}
 use Rattle.cedar_shapes.proofs.iteration.UnknownsIterator.next.Given as goal

@@ -1,3 +1,4 @@
+-- The parts of a call, a set and a record are what their lists and maps hold; the others' are their operands.
 use Rattle.std.proofs.Common.{rules}
 use Rattle.cedar_shapes.proofs.Listing.{parts-Call, parts-Set, parts-Record}
 use Rattle.cedar_shapes.proofs.parts.Parts.of.Goals as goal

@@ -1,3 +1,4 @@
+-- Shapes that the order takes for equal are equal trees.
 use Rattle.std.proofs.Common.{◌≡◌, rules}
 use Rattle.std.specs.Ordering.{eq_by_cmp}
 use Rattle.cedar_trees.specs.Bare.{bare}
