@@ -1,3 +1,4 @@
+-- An offence is found exactly where the residual isn't restricted.
 use Rattle.std.proofs.Common.{◌∙◌, sym, refl}
 use Rattle.cedar_trees.specs.Bare.{bare}
 use Rattle.cedar_restricted.proofs.Offending.{seen_none, seen_some}

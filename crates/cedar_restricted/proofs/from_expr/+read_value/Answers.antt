@@ -1,3 +1,4 @@
+-- What is read is what the values so far and the reading of the rest give together; the first refusal refuses all.
 use Rattle.std.proofs.Common.{◌≡◌, ◌∙◌, ap, sym, ◌∷◌, [], ◌++◌, map, drop, arith, rules, Vec, BTreeMap, Global}
 use Rattle.std.specs.Prelude.{Some, option_map}
 use Rattle.std.specs.declared.rc.RcStr.{RcStr}

@@ -1,3 +1,4 @@
+-- A part that doesn't offend itself offends where its parts do; those of a record are its entries' expressions.
 use Rattle.std.proofs.Common.{◌∙◌, ap, sym, BTreeMap, Global}
 use Rattle.std.specs.declared.rc.RcStr.{RcStr}
 use Rattle.cedar_trees.specs.declared.expr.Expr.{Expr}

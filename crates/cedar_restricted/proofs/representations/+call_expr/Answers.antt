@@ -1,3 +1,4 @@
+-- Arguments are written one by one, each less deep than what holds it; of ground parts the whole is ground.
 use Rattle.std.proofs.Common.{◌≡◌, ◌≤◌, ◌+◌, ◌∙◌, ap, ◌∷◌, [], ◌++◌, map, drop, arith, rules, BTreeMap, Global}
 use Rattle.std.specs.Rc.{rc_str_bytes}
 use Rattle.std.specs.declared.rc.RcStr.{RcStr}

@@ -1,3 +1,4 @@
+-- What writes the items that are left, put behind what is written, writes all; in the end none is left.
 use Rattle.std.proofs.Common.{◌≡◌, ◌∙◌, sym, [], map}
 use Rattle.std.proofs.lemmas.List.{nil_from_length}
 use Rattle.cedar_trees.specs.Bare.{bare}

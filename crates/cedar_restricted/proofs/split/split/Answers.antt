@@ -1,3 +1,4 @@
+-- Whether an item is a residual decides whether all are taken as values or all are written as expressions.
 use Rattle.std.proofs.Common.{}
 use Rattle.cedar_restricted.proofs.Splits.{any_residual}
 use Rattle.cedar_restricted.proofs.split.split.Goals as goal

@@ -1,3 +1,4 @@
+-- The values so far and the items that are left are together the items that were given.
 use Rattle.std.proofs.Common.{◌≡◌, ◌++◌, map}
 use Rattle.either.specs.declared.Either.TheVariants.{Left}
 use Rattle.cedar_restricted.specs.PartialValues.{partial_of}

@@ -1,3 +1,4 @@
+-- Members are written one by one, each weighing less than what holds it; a record keeps the order of its keys.
 use Rattle.std.proofs.Common.{◌≡◌, ◌≤◌, ◌+◌, ◌∙◌, ap, ◌∷◌, [], ◌++◌, map, drop, arith, rules}
 use Rattle.std.proofs.lemmas.Grind.{common_steps}
 use Rattle.cedar_language.specs.Order.{all_of}

@@ -1,3 +1,4 @@
+-- The values of a restricted record are restricted, and they and its keys are those of its tree.
 use Rattle.std.proofs.Common.{◌∙◌, ap, BTreeMap, Global}
 use Rattle.std.specs.Prelude.{Some}
 use Rattle.std.specs.declared.rc.RcStr.{RcStr}

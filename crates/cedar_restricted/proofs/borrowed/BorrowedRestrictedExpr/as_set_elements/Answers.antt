@@ -1,3 +1,4 @@
+-- The elements that are lent are the parts of the tree of the set.
 use Rattle.std.proofs.Common.{◌∙◌, ap, Vec, Global}
 use Rattle.std.specs.Prelude.{Some}
 use Rattle.cedar_trees.specs.declared.expr.Expr.{Expr}

@@ -1,3 +1,4 @@
+-- The call that makes an extension value is ground, and ground trees are restricted.
 use Rattle.std.proofs.Common.{}
 use Rattle.cedar_trees.specs.Bare.{bare}
 use Rattle.cedar_restricted.proofs.conversions.RestrictedExprFromInRepresentableExtensionValue.from_in.Goals as goal

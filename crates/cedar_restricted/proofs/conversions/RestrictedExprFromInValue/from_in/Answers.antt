@@ -1,3 +1,4 @@
+-- What writes a value is ground, and ground trees are restricted.
 use Rattle.std.proofs.Common.{}
 use Rattle.cedar_trees.specs.Bare.{bare}
 use Rattle.cedar_restricted.proofs.conversions.RestrictedExprFromInValue.from_in.Goals as goal

@@ -1,3 +1,4 @@
+-- What writes the value of that kind is ground, and ground trees are restricted.
 use Rattle.std.proofs.Common.{}
 use Rattle.cedar_trees.specs.Bare.{bare}
 use Rattle.cedar_values.specs.Kinds.{value_of}

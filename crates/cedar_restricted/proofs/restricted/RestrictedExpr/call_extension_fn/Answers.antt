@@ -1,3 +1,4 @@
+-- A call is restricted where its arguments are, and those that are given are.
 use Rattle.std.proofs.Common.{◌∙◌, ap}
 use Rattle.cedar_language.specs.Tree.{Call, Apply}
 use Rattle.cedar_language.specs.Restricted.{is_restricted, are_restricted}

@@ -1,3 +1,4 @@
+-- What is unwrapped so far and what is left are together the trees of all; at first nothing is unwrapped.
 use Rattle.std.proofs.Common.{◌≡◌, ap, map, rules}
 use Rattle.cedar_trees.specs.Bare.{bare}
 use Rattle.cedar_restricted.specs.Views.{restricted_tree}

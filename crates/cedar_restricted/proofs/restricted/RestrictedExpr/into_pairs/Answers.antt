@@ -1,3 +1,4 @@
+-- As into_exprs does, each tree beside its key.
 use Rattle.std.proofs.Common.{◌≡◌, ap, rules}
 use Rattle.cedar_trees.specs.Bare.{bare_entries}
 use Rattle.cedar_restricted.specs.Views.{restricted_entries}

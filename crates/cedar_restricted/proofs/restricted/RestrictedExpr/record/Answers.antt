@@ -1,3 +1,4 @@
+-- A record that is made of restricted entries is restricted; a repeated key is refused as among their trees.
 use Rattle.std.proofs.Common.{◌≡◌, ◌∙◌, ap, sym}
 use Rattle.std.specs.Prelude.{Ok}
 use Rattle.cedar_trees.specs.Bare.{bare}

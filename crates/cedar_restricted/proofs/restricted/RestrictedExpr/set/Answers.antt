@@ -1,3 +1,4 @@
+-- A set is restricted where its items are, and those that are given are.
 use Rattle.std.proofs.Common.{◌∙◌, ap}
 use Rattle.cedar_language.specs.Tree.{MakeSet, Apply}
 use Rattle.cedar_language.specs.Restricted.{is_restricted, are_restricted}
