@@ -1,3 +1,4 @@
+-- By induction on the tree: what the own builder makes of a construct, a lawful builder builds as that construct.
 use Rattle.cedar_substitution.proofs.Again.{again}
 use Rattle.cedar_substitution.proofs.laws.substituted_is_built_alike.Goals as goal
 

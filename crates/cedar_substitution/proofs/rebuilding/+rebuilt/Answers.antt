@@ -1,3 +1,4 @@
+-- A chain of first parts is built from its end, each construct around what is built of its first part.
 use Rattle.std.proofs.Common.{◌≡◌, ◌≤◌, ◌∙◌, ap, sym, refl, subst, [], ◌∷◌, ◌++◌, map, drop, arith, rules, Vec, BTreeMap, Global}
 use Rattle.std.specs.Prelude.{Ok, true}
 use Rattle.std.specs.Option.{is_some}

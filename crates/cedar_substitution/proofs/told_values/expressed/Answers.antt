@@ -1,3 +1,4 @@
+-- No name is told twice, so what is gathered under a name stays what writes its value.
 use Rattle.std.proofs.Common.{subst, sym}
 use Rattle.std.specs.List.{IsDistinct}
 use Rattle.std.specs.Map.{keys_of}

@@ -1,3 +1,4 @@
+-- Unknowns come from the last to the first, so one that is mistyped takes the place of those found before it.
 use Rattle.std.proofs.Common.{◌≡◌, ◌∙◌, ap, rules}
 use Rattle.std.specs.Option.{option_map, option_copied}
 use Rattle.cedar_trees.specs.Unknowns.{unknown_name, unknown_type}

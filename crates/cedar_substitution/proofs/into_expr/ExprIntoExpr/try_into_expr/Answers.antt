@@ -1,3 +1,4 @@
+-- An unknown that stands for itself changes nothing of what is built.
 use Rattle.std.proofs.Common.{sym}
 use Rattle.cedar_trees.specs.Bare.{bare}
 use Rattle.cedar_substitution.proofs.Giving.{gives, unchanged}

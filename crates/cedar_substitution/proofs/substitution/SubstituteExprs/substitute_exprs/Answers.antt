@@ -1,3 +1,4 @@
+-- The own builder takes every call and the keys of records rise, so no repeated key is refused.
 use Rattle.std.proofs.Common.{◌≡◌, ◌∙◌, ap, sym}
 use Rattle.std.specs.Prelude.{None, Some}
 use Rattle.cedar_trees.specs.Records.{refused_key}

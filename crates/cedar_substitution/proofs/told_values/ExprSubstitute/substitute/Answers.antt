@@ -1,3 +1,4 @@
+-- The trees that write the values are told, and any such trees will do.
 use Rattle.cedar_substitution.specs.Told.{told_tree}
 use Rattle.cedar_substitution.proofs.Typing.{each_ok}
 use Rattle.cedar_substitution.proofs.told_values.ExprSubstitute.substitute.Goals as goal

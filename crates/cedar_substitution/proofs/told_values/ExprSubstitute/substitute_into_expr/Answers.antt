@@ -1,3 +1,4 @@
+-- As substitute does, through any builder: one that takes every call refuses for memory alone.
 use Rattle.cedar_trees.specs.Bare.{bare}
 use Rattle.cedar_substitution.specs.Told.{told_tree}
 use Rattle.cedar_substitution.proofs.Typing.{gives_values, refused_for_memory}
