@@ -1,3 +1,4 @@
+-- The map has just the pairs that were put, whose keys differ; so a key that it holds stands before, too.
 use Rattle.std.proofs.Common.{true, false, ◌++◌, ap, sym, ◌∙◌}
 use Rattle.std.specs.Map.{keys_of}
 use Rattle.std.specs.Vec.Iter.{into_iter_items}

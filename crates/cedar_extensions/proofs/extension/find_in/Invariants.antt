@@ -1,3 +1,4 @@
+-- A function of another name can be passed over.
 use Rattle.std.proofs.Common.{◌≡◌, drop}
 use Rattle.cedar_extensions.specs.Holding.{found_in}
 use Rattle.cedar_extensions.proofs.extension.find_in.Given as goal

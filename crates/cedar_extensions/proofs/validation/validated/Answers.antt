@@ -1,3 +1,4 @@
+-- A call that fits is passed over, and the first one that doesn't is the first fault of the walk.
 use Rattle.std.proofs.Common.{◌≡◌, length, rules}
 use Rattle.cedar_trees.specs.Bare.{bare}
 use Rattle.cedar_shapes.specs.PositionsLeft.{positions_left}

@@ -1,3 +1,4 @@
+-- A function that isn't the built-in one can be passed over.
 use Rattle.std.proofs.Common.{◌≡◌, length}
 use Rattle.std.specs.List.{list_any}
 use Rattle.cedar_extensions.specs.Functions.{is_unknown}

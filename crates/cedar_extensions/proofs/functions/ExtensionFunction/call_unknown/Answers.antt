@@ -1,3 +1,4 @@
+-- With any other number of arguments than one the call is refused, whatever they are.
 use Rattle.cedar_extensions.proofs.BuiltInCalls.{called_others}
 use Rattle.cedar_extensions.proofs.functions.ExtensionFunction.call_unknown.Goals as goal
 

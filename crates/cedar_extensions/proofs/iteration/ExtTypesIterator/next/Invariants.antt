@@ -1,3 +1,4 @@
+-- A function that makes no extension type can be passed over.
 use Rattle.std.proofs.Common.{◌≡◌, length}
 use Rattle.cedar_extensions.specs.Tables.{functions_left, type_names_left}
 use Rattle.cedar_extensions.proofs.iteration.ExtTypesIterator.next.Given as goal

@@ -1,3 +1,4 @@
+-- An extension with no function left gives way to the next one: the functions that are left stay the same.
 use Rattle.std.proofs.Common.{◌≡◌, length}
 use Rattle.std.specs.Slice.Iter.{iter_rest}
 use Rattle.cedar_extensions.specs.Tables.{functions_left}

@@ -1,3 +1,4 @@
+-- As the functions: an extension with no ordered type left gives way to the next one.
 use Rattle.std.proofs.Common.{◌≡◌, length}
 use Rattle.std.specs.Slice.Iter.{iter_rest}
 use Rattle.cedar_extensions.specs.Tables.{ordered_left}
