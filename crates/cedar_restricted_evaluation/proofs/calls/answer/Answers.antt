@@ -1,3 +1,4 @@
+-- An unknown comes of the built-in function alone, which gives it without a type.
 use Rattle.cedar_language.specs.Order.{all_of}
 use Rattle.cedar_restricted.specs.PartialValues.{partial_of}
 use Rattle.cedar_restricted_evaluation.proofs.Naming.{unknown_called}

@@ -1,3 +1,4 @@
+-- Parts are found one by one, a level lower; the whole errs as the first that errs, or waits where one waits.
 use Rattle.std.proofs.Common.{◌≡◌, ◌<◌, ◌≤◌, ◌∙◌, ◌+◌, ap, sym, subst, List, ◌∷◌, [], ◌++◌, map, drop, arith, rules, Vec, BTreeMap, Global}
 use Rattle.std.specs.declared.rc.RcStr.{RcStr}
 use Rattle.std.proofs.lemmas.List.{map-append, length-map}

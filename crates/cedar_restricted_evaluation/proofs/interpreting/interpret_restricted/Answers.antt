@@ -1,3 +1,4 @@
+-- What is found of the tree gives its meaning where all is known, its answer, and what is left of it.
 use Rattle.std.proofs.Common.{◌<◌}
 use Rattle.cedar_language.specs.Height.{height}
 use Rattle.cedar_restricted.specs.Views.{borrowed_tree}

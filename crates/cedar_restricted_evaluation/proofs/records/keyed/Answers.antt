@@ -1,3 +1,4 @@
+-- Items are put at the keys in their order, and there are as many items as keys.
 use Rattle.std.proofs.Common.{◌≡◌, ◌∷◌, ap, length, arith, rules}
 use Rattle.cedar_restricted.proofs.Rising.{put_next, texts_next}
 use Rattle.cedar_restricted_evaluation.proofs.Keying.{items_next}
