@@ -1,3 +1,4 @@
+-- The bytes of a text are those of its first character, and then those of the others.
 use Rattle.std.proofs.Common.{sym, ◌∙◌, ap, ◌++◌}
 use Rattle.std.specs.Prelude.{encode_utf8}
 use Rattle.cedar_tokens.proofs.Rests.{starts}

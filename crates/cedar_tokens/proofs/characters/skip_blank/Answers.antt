@@ -1,3 +1,4 @@
+-- White space and comments are passed over without a change of what is left; where neither begins, that is all.
 use Rattle.std.proofs.Common.{◌≡◌, true, false, sym, ap, ◌∙◌}
 use Rattle.std.specs.Str.{chars}
 use Rattle.std.specs.Char.{is_whitespace}

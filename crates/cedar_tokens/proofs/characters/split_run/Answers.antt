@@ -1,3 +1,4 @@
+-- The run is what passed so far and then the run of the rest, which ends at the first character that fails.
 use Rattle.std.proofs.Common.{◌≡◌, true, false, sym, ap, ◌∙◌, ◌++◌, arith}
 use Rattle.std.specs.Str.{chars}
 use Rattle.cedar_grammar.specs.Tokens.{run_of}

@@ -1,3 +1,4 @@
+-- Behind a backslash `x` and `u` lead to digits, and any other character is an escape by itself or none.
 use Rattle.std.proofs.Common.{ap, ◌∙◌}
 use Rattle.std.specs.Str.{chars}
 use Rattle.cedar_grammar.specs.Escape.{between, escape, hex, unicode, simple_escape, parts_from}

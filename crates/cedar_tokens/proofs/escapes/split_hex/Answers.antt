@@ -1,3 +1,4 @@
+-- Fewer than two characters are no escape, and two are the one that their code names, if any.
 use Rattle.std.proofs.Common.{ap, ◌∙◌, ◌∷◌, arith}
 use Rattle.std.specs.Str.{chars}
 use Rattle.cedar_grammar.specs.Escape.{between, hex, named, hex_escape, parts_from}

@@ -1,3 +1,4 @@
+-- A backslash leads to an escape, a carriage return is refused, and any other character is itself.
 use Rattle.std.proofs.Common.{◌≡◌, length, ap, ◌∙◌, arith}
 use Rattle.std.specs.Str.{chars}
 use Rattle.cedar_grammar.specs.Escape.{between, escape, parts_from}

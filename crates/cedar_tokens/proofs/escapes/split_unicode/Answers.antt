@@ -1,3 +1,4 @@
+-- The digits so far are at most six, so their code is small; the closing bracket tells what they name.
 use Rattle.std.proofs.Common.{arith}
 use Rattle.std.specs.Str.{chars}
 use Rattle.cedar_grammar.specs.Escape.{unicode, between, named, unicode_escape, parts_from}

@@ -1,3 +1,4 @@
+-- As is_listed does, of texts that are owned.
 use Rattle.std.proofs.Common.{rules, tests, ◌∙◌, string_bytes}
 use Rattle.std.specs.Str.{bytes_eq}
 use Rattle.std.proofs.lemmas.Iterator.{YieldsList-from_slice}

@@ -1,3 +1,4 @@
+-- Some element passes the test just where some text of the list does.
 use Rattle.std.proofs.Common.{rules, tests, ◌∙◌}
 use Rattle.std.specs.Str.{bytes_eq}
 use Rattle.std.proofs.lemmas.Iterator.{YieldsList-from_slice}

@@ -1,3 +1,4 @@
+-- The first character tells the kind: a word, digits, a string, a slot, or else a mark.
 use Rattle.std.proofs.Common.{◌≡◌, true, false, sym, ◌∙◌}
 use Rattle.std.specs.Char.{is_ascii_digit}
 use Rattle.cedar_tokens.specs.View.{word_view, mark_view}

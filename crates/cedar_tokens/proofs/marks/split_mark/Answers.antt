@@ -1,3 +1,4 @@
+-- Marks of two characters go first, so one of one character is the longest where none of two begins.
 use Rattle.std.proofs.Common.{◌≡◌, List, ℕ, Option, Some, None}
 use Rattle.std.specs.Prelude.{MatchOption}
 use Rattle.std.specs.Str.{chars}

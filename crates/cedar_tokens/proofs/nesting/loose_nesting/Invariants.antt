@@ -1,3 +1,4 @@
+-- The count and the places of the rest make the places of the text, of which there are no more than bytes.
 use Rattle.std.proofs.Common.{◌≡◌, ◌+◌, ◌≤◌, length, false}
 use denote.Text.{Utf8}
 use denote.Shadow.{shadow}

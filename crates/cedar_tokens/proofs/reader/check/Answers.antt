@@ -1,3 +1,4 @@
+-- The tokens passed and those of the rest are those of the text; where a rest begins with none, the text has none.
 use Rattle.std.proofs.Common.{◌≡◌, length, sym, ap, ◌∙◌, subst, arith}
 use Rattle.std.specs.Str.{chars}
 use Rattle.std.proofs.lemmas.Bool.{eqb-true, eqb-false}

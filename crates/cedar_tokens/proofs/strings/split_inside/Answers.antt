@@ -1,3 +1,4 @@
+-- What was passed and the inside of the rest are the inside of the text; a backslash passes what is behind it.
 use Rattle.std.proofs.Common.{◌≡◌, sym, ap, ◌∙◌, arith, Some}
 use Rattle.std.specs.Str.{chars}
 use Rattle.cedar_tokens.proofs.Rests.{rest_all, rest_past, front_of}

@@ -1,3 +1,4 @@
+-- The text so far and what the rest stands for are what the whole stands for; a star stands for no text.
 use Rattle.std.proofs.Common.{◌≡◌, length, sym, ap, ◌∙◌, Some}
 use Rattle.std.specs.Prelude.{string_bytes}
 use Rattle.std.proofs.lemmas.Bool.{eqb-true}

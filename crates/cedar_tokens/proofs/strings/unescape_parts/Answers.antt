@@ -1,3 +1,4 @@
+-- The parts so far and those of the rest are the parts of the whole, and an empty rest has none.
 use Rattle.std.proofs.Common.{◌≡◌, length, sym, ◌∙◌, ap}
 use Rattle.std.specs.Prelude.{map}
 use Rattle.std.proofs.lemmas.Bool.{eqb-true}

@@ -1,3 +1,4 @@
+-- As check does, with the tokens kept: each is placed behind those before it, and is as it is spelled.
 use Rattle.std.proofs.Common.{◌≡◌, ◌++◌, ◌∷◌, [], ◌-◌, length, sym, ap, ◌∙◌, subst, arith}
 use Rattle.std.specs.Prelude.{map, All}
 use Rattle.std.specs.Str.{chars}

@@ -1,3 +1,4 @@
+-- A text that spells none of the named words is another word.
 use Rattle.std.proofs.Common.{sym}
 use Rattle.cedar_grammar.specs.Token.{named_words}
 use Rattle.cedar_tokens.proofs.OtherWords.{other_word}

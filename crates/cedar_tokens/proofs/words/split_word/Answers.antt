@@ -1,3 +1,4 @@
+-- A run is a word just where its first character begins one, and it is the word that it spells.
 use Rattle.std.proofs.Common.{◌≡◌, true, sym, ◌∙◌}
 use Rattle.std.specs.Str.{chars}
 use Rattle.cedar_grammar.specs.Tokens.{begins_word}

@@ -1,3 +1,4 @@
+-- Each kind is tested by its text, among the texts of all kinds that are expected.
 use Rattle.std.proofs.Common.{rules, tests, ◌∙◌, map, string_bytes}
 use Rattle.std.proofs.lemmas.Iterator.{YieldsList-from_slice}
 use Rattle.std.proofs.lemmas.Iterator.Search.{any_from_yields_List}

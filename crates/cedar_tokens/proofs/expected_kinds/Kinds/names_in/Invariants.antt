@@ -1,3 +1,4 @@
+-- The names so far and those that the rest of the table has are those of the whole table.
 use Rattle.std.proofs.Common.{◌≡◌, ◌++◌, drop, map, string_bytes}
 use Rattle.cedar_tokens.specs.Kinds.{named, names_in}
 use Rattle.cedar_tokens.proofs.expected_kinds.Kinds.names_in.Given as goal

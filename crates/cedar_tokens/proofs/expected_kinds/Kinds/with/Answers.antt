@@ -1,3 +1,4 @@
+-- A number shares bits with a union of bits just where it shares some with one of the two.
 use Rattle.cedar_tokens.proofs.Bits.{meets_either}
 use Rattle.cedar_tokens.proofs.expected_kinds.Kinds.with.Goals as goal
 

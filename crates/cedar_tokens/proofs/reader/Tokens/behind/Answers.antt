@@ -1,3 +1,4 @@
+-- Behind the token that is next stand the others.
 use Rattle.std.proofs.Common.{List, ap, ◌∙◌}
 use Rattle.cedar_grammar.specs.Token.{Token}
 use Rattle.cedar_tokens.specs.Unread.{Unread, behind_first}

@@ -1,3 +1,4 @@
+-- A text that is tokens throughout has all of them left in its reader.
 use Rattle.std.proofs.Common.{sym, ap, subst}
 use Rattle.std.specs.Str.{chars}
 use Rattle.cedar_grammar.specs.Tokens.{AreTokens}

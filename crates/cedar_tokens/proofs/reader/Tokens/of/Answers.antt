@@ -1,3 +1,4 @@
+-- Behind white space stands the first token or nothing, and behind that token stand the others.
 use Rattle.std.proofs.Common.{ℕ, List, ◌≡◌, [], Some, sym, ap, ◌∙◌, subst}
 use Rattle.std.specs.Prelude.{IsSome}
 use Rattle.std.specs.Str.{chars}
