@@ -1,3 +1,4 @@
+-- Where the node holds a value, it is that value and the node's place that the function is called with.
 use Rattle.std.proofs.Common.{◌≡◌, refl, sym, ap, ◌∙◌, subst, None, Some, MatchOption}
 use Rattle.std.specs.Option.{option_copied}
 use Rattle.cedar_cst.specs.Nodes.{GivesAtNode}
