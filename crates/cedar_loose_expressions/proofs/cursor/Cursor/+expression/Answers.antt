@@ -1,3 +1,4 @@
+-- Each rule is read step by step; of chains and lists, what is read and what the fewer tokens left give is all.
 use Rattle.std.proofs.Common.{◌-◌, Ok, map, sym, ap, ◌∙◌}
 use Rattle.std.proofs.lemmas.Result.{err_from_is_err_and}
 use Rattle.std.proofs.lemmas.List.{map_push}

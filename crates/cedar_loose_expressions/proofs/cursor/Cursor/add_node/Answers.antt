@@ -1,3 +1,4 @@
+-- A node shows the value that it holds, and a sum is shown by its operands and their signs.
 use Rattle.std.proofs.Common.{◌∙◌}
 use Rattle.std.proofs.lemmas.Result.{IfOk-weaker}
 use Rattle.cedar_grammar.specs.Loose as loose

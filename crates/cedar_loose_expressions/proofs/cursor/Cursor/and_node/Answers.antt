@@ -1,3 +1,4 @@
+-- As add_node does: a chain of `&&` is shown by its operands.
 use Rattle.std.proofs.Common.{◌∙◌}
 use Rattle.std.proofs.lemmas.Result.{IfOk-weaker}
 use Rattle.cedar_grammar.specs.Loose as loose

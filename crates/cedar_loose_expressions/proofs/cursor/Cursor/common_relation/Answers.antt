@@ -1,3 +1,4 @@
+-- As add_node does: a chain of comparisons is shown by its operands and operators.
 use Rattle.std.proofs.Common.{◌∙◌, refl}
 use Rattle.std.proofs.lemmas.Result.{IfOk-weaker}
 use Rattle.cedar_grammar.specs.Loose as loose

@@ -1,3 +1,4 @@
+-- Each turn takes one sign and counts it, up to 255; where none is next, the count is whole.
 use Rattle.std.proofs.Common.{sym, ◌∙◌, arith}
 use Rattle.cedar_tokens.specs.View.{mark_view}
 use Rattle.cedar_loose_expressions.proofs.Signs.{sign_more, sign_none}

@@ -1,3 +1,4 @@
+-- As add_node does: a choice is shown by its three expressions, whatever boxes it lies in.
 use Rattle.std.proofs.Common.{◌∙◌, refl}
 use Rattle.std.proofs.lemmas.Result.{IfOk-weaker}
 use Rattle.cedar_grammar.specs.Loose as loose

@@ -1,3 +1,4 @@
+-- Where no bracket opens, a primary is read as a literal, a name or a slot, by the token that is next.
 use Rattle.std.proofs.Common.{Ok, sym, ap, ◌∙◌}
 use Rattle.std.proofs.lemmas.Result.{err_from_is_err_and}
 use Rattle.cedar_grammar.specs.Loose as loose

@@ -1,3 +1,4 @@
+-- As add_node does: a list is shown by its items.
 use Rattle.std.proofs.Common.{◌∙◌, refl}
 use Rattle.std.proofs.lemmas.Result.{IfOk-weaker}
 use Rattle.cedar_grammar.specs.Loose as loose

@@ -1,3 +1,4 @@
+-- As add_node does: a member is shown by its primary, which a box doesn't change, and its accesses.
 use Rattle.std.proofs.Common.{map, ap, ◌∙◌}
 use Rattle.std.proofs.lemmas.Result.{IfOk-weaker}
 use Rattle.cedar_grammar.specs.Loose as loose

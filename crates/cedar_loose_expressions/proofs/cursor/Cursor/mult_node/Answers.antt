@@ -1,3 +1,4 @@
+-- As add_node does: a product is shown by its operands and operators.
 use Rattle.std.proofs.Common.{◌∙◌}
 use Rattle.std.proofs.lemmas.Result.{IfOk-weaker}
 use Rattle.cedar_grammar.specs.Loose as loose

@@ -1,3 +1,4 @@
+-- The words so far, the last of them and those that follow are the whole name; each turn leaves fewer tokens.
 use Rattle.std.proofs.Common.{Ok, map, ap, sym, ◌∙◌, refl}
 use Rattle.std.proofs.lemmas.Result.{err_from_is_err_and}
 use Rattle.std.proofs.lemmas.List.{map_push}

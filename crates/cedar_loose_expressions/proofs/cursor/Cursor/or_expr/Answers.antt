@@ -1,3 +1,4 @@
+-- As add_node does: an expression that is no choice is shown by its chain of `||`.
 use Rattle.std.proofs.Common.{◌∙◌, refl}
 use Rattle.std.proofs.lemmas.Result.{IfOk-weaker}
 use Rattle.cedar_grammar.specs.Loose as loose

@@ -1,3 +1,4 @@
+-- The entries so far and those up to the closing bracket are all; each entry leaves fewer tokens.
 use Rattle.std.proofs.Common.{map}
 use Rattle.std.proofs.lemmas.Result.{err_from_is_err_and}
 use Rattle.std.proofs.lemmas.List.{map_push}

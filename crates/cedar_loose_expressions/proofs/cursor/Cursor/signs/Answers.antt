@@ -1,3 +1,4 @@
+-- Bangs are counted first; where there is none, no token is taken, and the count of dashes tells.
 use Rattle.std.proofs.Common.{◌≡◌, subst}
 use Rattle.std.specs.Prelude.{min}
 use Rattle.cedar_grammar.specs.Token as token
