@@ -1,3 +1,4 @@
+-- As policies_in does, by what the laws of limits say of expressions.
 use Rattle.std.proofs.lemmas.Result.{err_from_is_err_and}
 use Rattle.cedar_cst.specs.View.{shown_expr}
 use Rattle.cedar_grammar.specs.LooseReading.{read_expr}

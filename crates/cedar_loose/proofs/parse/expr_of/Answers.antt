@@ -1,3 +1,4 @@
+-- An expression counts itself, so it is read within the whole limit; no token may be left behind it.
 use Rattle.std.proofs.Common.{◌-◌, Ok, map, sym, ap, ◌∙◌}
 use Rattle.std.proofs.lemmas.Result.{err_from_is_err_and}
 use Rattle.cedar_grammar.specs.ReadingPolicies.{word_read, is_more}

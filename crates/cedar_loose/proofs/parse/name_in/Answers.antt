@@ -1,3 +1,4 @@
+-- As ref_in does: nothing nests in a name.
 use Rattle.std.proofs.lemmas.Result.{err_from_is_err_and}
 use Rattle.cedar_cst.specs.LeafView.{shown_name}
 use Rattle.cedar_grammar.specs.LooseReading.{read_name}

@@ -1,3 +1,4 @@
+-- As ref_of does, of a name.
 use Rattle.std.proofs.Common.{◌-◌, Ok, map, sym, ap, ◌∙◌}
 use Rattle.std.proofs.lemmas.Result.{err_from_is_err_and}
 use Rattle.cedar_grammar.specs.ReadingPolicies.{word_read, is_more}

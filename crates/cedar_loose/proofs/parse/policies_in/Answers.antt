@@ -1,3 +1,4 @@
+-- A text is read as its tokens are; wider limits change nothing, and one is met only where constructs open.
 use Rattle.std.proofs.lemmas.Result.{err_from_is_err_and}
 use Rattle.cedar_cst.specs.View.{shown_policies}
 use Rattle.cedar_grammar.specs.LooseReading.{read_policies}

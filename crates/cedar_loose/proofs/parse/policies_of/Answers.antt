@@ -1,3 +1,4 @@
+-- Within no nesting nothing is read; else policies are read a level further in, and no token may be left.
 use Rattle.std.proofs.Common.{◌-◌, Ok, map, sym, ap, ◌∙◌}
 use Rattle.std.proofs.lemmas.Result.{err_from_is_err_and}
 use Rattle.cedar_grammar.specs.ReadingPolicies.{is_more}

@@ -1,3 +1,4 @@
+-- As policies_in does, by what the laws of limits say of one policy.
 use Rattle.std.proofs.lemmas.Result.{err_from_is_err_and}
 use Rattle.cedar_cst.specs.View.{shown_policy}
 use Rattle.cedar_grammar.specs.LooseReading.{read_policy}

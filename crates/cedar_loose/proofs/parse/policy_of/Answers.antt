@@ -1,3 +1,4 @@
+-- As policies_of does, of one policy.
 use Rattle.std.proofs.Common.{◌-◌, sym, ◌∙◌}
 use Rattle.std.proofs.lemmas.Result.{err_from_is_err_and}
 use Rattle.cedar_grammar.specs.LooseReading.{◌>>◌, whole, policy_of, read_policy}

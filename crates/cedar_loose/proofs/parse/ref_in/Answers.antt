@@ -1,3 +1,4 @@
+-- A text is read as its tokens are; nothing nests in a reference, so no limit is met.
 use Rattle.std.proofs.lemmas.Result.{err_from_is_err_and}
 use Rattle.cedar_cst.specs.LeafView.{shown_ref}
 use Rattle.cedar_grammar.specs.LooseReading.{read_ref}

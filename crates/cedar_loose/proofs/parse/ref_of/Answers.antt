@@ -1,3 +1,4 @@
+-- A reference is the whole where no token is left behind it.
 use Rattle.std.proofs.Common.{◌-◌, Ok, map, sym, ap, ◌∙◌}
 use Rattle.std.proofs.lemmas.Result.{err_from_is_err_and}
 use Rattle.cedar_grammar.specs.ReadingPolicies.{word_read, is_more}

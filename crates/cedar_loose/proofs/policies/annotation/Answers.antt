@@ -1,3 +1,4 @@
+-- By its steps: the mark, the key and the value; it fails as the first of them that fails.
 use Rattle.std.proofs.Common.{◌+◌, Ok, map, sym, ap, ◌∙◌}
 use Rattle.std.proofs.lemmas.Result.{err_from_is_err_and}
 use Rattle.cedar_grammar.specs.Token as token

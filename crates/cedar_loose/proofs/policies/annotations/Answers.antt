@@ -1,3 +1,4 @@
+-- The annotations so far and those that follow are all, as long as the mark of one is next.
 use Rattle.std.proofs.Common.{◌+◌, map}
 use Rattle.std.proofs.lemmas.Result.{err_from_is_err_and}
 use Rattle.std.proofs.lemmas.List.{map_push}

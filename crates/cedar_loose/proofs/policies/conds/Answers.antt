@@ -1,3 +1,4 @@
+-- The clauses so far and those that follow are all, as long as a word is next.
 use Rattle.std.proofs.Common.{◌+◌, map}
 use Rattle.std.proofs.lemmas.Result.{err_from_is_err_and}
 use Rattle.std.proofs.lemmas.List.{map_push}

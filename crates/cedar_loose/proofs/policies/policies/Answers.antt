@@ -1,3 +1,4 @@
+-- The policies so far and those that the tokens left give are all; each policy leaves fewer tokens.
 use Rattle.std.proofs.Common.{◌+◌, map}
 use Rattle.std.proofs.lemmas.Result.{err_from_is_err_and}
 use Rattle.std.proofs.lemmas.List.{map_push}

@@ -1,3 +1,4 @@
+-- By its steps: the variable, and then a type's name, a type and a comparison, each of which may lack.
 use Rattle.std.proofs.Common.{◌+◌, refl, ◌∙◌}
 use Rattle.std.proofs.lemmas.Result.{err_from_is_err_and}
 use Rattle.cedar_grammar.specs.Token as token
