@@ -1,3 +1,4 @@
+-- Three parts are two and one more, whose faults follow those of the two.
 use Rattle.std.proofs.Common.{◌++◌, sym, subst}
 use Rattle.cedar_conversion_leaves.specs.Flat.{FailsByAll, failing}
 use Rattle.cedar_conversion_leaves.proofs.Gathering.{one_more, two_fail}

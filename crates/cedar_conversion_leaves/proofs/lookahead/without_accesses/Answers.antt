@@ -1,3 +1,4 @@
+-- A member of which something is accessed doesn't stand without accesses.
 use Rattle.std.proofs.Common.{◌≡◌, ◌<◌, length, sym, ap, ◌∙◌}
 use Rattle.std.specs.Prelude.{◌==◌}
 use Rattle.cedar_grammar.specs.Loose as loose

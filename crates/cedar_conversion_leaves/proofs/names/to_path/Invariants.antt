@@ -1,3 +1,4 @@
+-- The identifiers so far and those of the words left are those of all words, and none so far is reserved.
 use Rattle.std.proofs.Common.{◌≡◌, map, drop, Some, ◌++◌, false}
 use Rattle.std.specs.Prelude.{Option, None}
 use Rattle.cedar_names.specs.Names.{is_reserved_name}

@@ -1,3 +1,4 @@
+-- The text has an identifier in the grammar just where it is a normal one that isn't reserved.
 use Rattle.std.proofs.Common.{◌≡◌, true, sym, ap, ◌∙◌, Some}
 use Rattle.cedar_conversion_leaves.proofs.Words.{written_is, written_not}
 use Rattle.cedar_conversion_leaves.proofs.names.unreserved.Goals as goal

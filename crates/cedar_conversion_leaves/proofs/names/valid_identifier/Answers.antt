@@ -1,3 +1,4 @@
+-- What is refused as not normal spells no valid identifier in the grammar.
 use Rattle.std.proofs.Common.{Err, sym, subst}
 use Rattle.cedar_names.specs.Reading.{ReadsId}
 use Rattle.cedar_conversion_leaves.proofs.Words.{none_valid}

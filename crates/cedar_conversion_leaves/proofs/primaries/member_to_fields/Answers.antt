@@ -1,3 +1,4 @@
+-- A name gives its words and those accessed, a string without accesses its text, and all else nothing.
 use Rattle.std.proofs.Common.{◌≡◌, ◌<◌, length, [], ◌∷◌, map, sym, ap, ◌∙◌, subst, Some, None}
 use Rattle.std.specs.Prelude.{◌==◌}
 use Rattle.cedar_grammar.specs.Loose as loose

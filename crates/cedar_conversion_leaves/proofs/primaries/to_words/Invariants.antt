@@ -1,3 +1,4 @@
+-- The words so far and those of the accesses that are left are the attributes of all accesses.
 use Rattle.std.proofs.Common.{◌≡◌, ◌++◌, map, drop, Some}
 use Rattle.std.specs.Rc.{rc_str_bytes}
 use Rattle.cedar_grammar.specs.Reading.{◌>>=◌}

@@ -1,3 +1,4 @@
+-- The elements so far and those of the parts that are left are the elements of all parts.
 use Rattle.std.proofs.Common.{◌≡◌, ◌++◌, map, drop}
 use Rattle.cedar_grammar.specs.Escape.{pattern_elem}
 use Rattle.cedar_tokens.specs.Parts.{part_view}

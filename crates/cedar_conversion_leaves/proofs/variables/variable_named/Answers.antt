@@ -1,3 +1,4 @@
+-- A word that spells none of the four variables names none.
 use Rattle.std.proofs.Common.{sym}
 use Rattle.cedar_conversion_leaves.proofs.Words.{no_variable}
 use Rattle.cedar_conversion_leaves.proofs.variables.variable_named.Goals as goal
