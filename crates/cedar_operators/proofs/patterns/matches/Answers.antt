@@ -1,3 +1,4 @@
+-- Both tests decide whether the text is one that the pattern stands for, so they agree.
 use Rattle.std.specs.Str.{chars}
 use Rattle.cedar_language.specs.Pattern.{matches}
 use Rattle.cedar_operators.proofs.ByPart.{tests_agree}

@@ -1,3 +1,4 @@
+-- Two sets share a member just where they aren't disjoint.
 use Rattle.cedar_language.specs.Operators.{has_some}
 use Rattle.cedar_language.specs.Order.{all_of}
 use Rattle.cedar_operators.proofs.BySets.{undone}

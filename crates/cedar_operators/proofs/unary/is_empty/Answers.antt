@@ -1,3 +1,4 @@
+-- The set that a value is has its members, and is empty where there are none.
 use Rattle.std.proofs.Common.{◌≡◌, Some, rules}
 use Rattle.cedar_language.specs.Order.{all_of}
 use Rattle.cedar_language.specs.Tree.{Boolean}
