@@ -1,3 +1,4 @@
+-- The parts listed so far and those that are left are the parts of the expression.
 use Rattle.std.proofs.Common.{◌≡◌, ◌++◌, map}
 use Rattle.cedar_shapes.specs.Parts.{parts}
 use Rattle.cedar_shapes.specs.PartsLeft.{parts_left}
