@@ -1,3 +1,4 @@
+-- The pieces of an answer's line in their order; ids and kinds are listed as in its sets.
 use Rattle.std.proofs.Common.{◌≡◌, ◌∙◌, ap, map}
 use Rattle.std.specs.FinMap as finite
 use Rattle.cedar_frames.specs.Quoting.{quoted}

@@ -1,3 +1,4 @@
+-- As put_ids does, of ids with their kinds.
 use Rattle.cedar_replies.specs.Lines.{with_name}
 use Rattle.cedar_replies.proofs.Lists.{items_listed}
 use Rattle.cedar_replies.proofs.lines.put_erring.Goals as goal

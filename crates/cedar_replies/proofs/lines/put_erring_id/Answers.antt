@@ -1,3 +1,4 @@
+-- Three texts, one behind the other: the id, the colon and the name of the kind.
 use Rattle.std.proofs.Common.{codes}
 use Rattle.cedar_frames.specs.Quoting.{quoted}
 use Rattle.cedar_replies.specs.Kinds.{error_name}

@@ -1,3 +1,4 @@
+-- A list in brackets is its first item, and then each further one behind a comma.
 use Rattle.cedar_frames.specs.Quoting.{quoted}
 use Rattle.cedar_replies.proofs.Lists.{items_listed}
 use Rattle.cedar_replies.proofs.lines.put_ids.Goals as goal

@@ -1,3 +1,4 @@
+-- A refusal's line is its word, the name of the refusal and the line feed, one behind the other.
 use Rattle.std.proofs.Common.{codes}
 use Rattle.cedar_world.specs.Lines.{refusal_name, line_of}
 use Rattle.cedar_replies.specs.Refusals.{refusal_of}

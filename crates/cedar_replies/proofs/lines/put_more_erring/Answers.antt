@@ -1,3 +1,4 @@
+-- As put_more_ids does, of ids with their kinds.
 use Rattle.std.proofs.Common.{◌≡◌, take, take_all}
 use Rattle.cedar_replies.proofs.Lists.{item_more}
 use Rattle.cedar_replies.specs.Lines.{with_name}

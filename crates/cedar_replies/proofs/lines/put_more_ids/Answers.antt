@@ -1,3 +1,4 @@
+-- What is written is that of the ids so far; each turn adds one more behind a comma.
 use Rattle.std.proofs.Common.{◌≡◌, take, take_all}
 use Rattle.cedar_replies.proofs.Lists.{item_more}
 use Rattle.cedar_frames.specs.Quoting.{quoted}

@@ -1,3 +1,4 @@
+-- By the kind of the reply; what is put one behind the other is the line that they make.
 use Rattle.std.proofs.Common.{map, codes}
 use Rattle.cedar_frames.specs.Quoting.{quoted}
 use Rattle.cedar_world.specs.Lines.{listed, line_of}

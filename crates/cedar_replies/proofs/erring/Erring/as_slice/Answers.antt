@@ -1,3 +1,4 @@
+-- Entries that rise, each with a kind, are the entries of the map that they make.
 use Rattle.std.proofs.Common.{ap, ◌∙◌}
 use Rattle.cedar_replies.specs.Erring.{with_kinds}
 use Rattle.cedar_replies.proofs.ErringIds.{kinds_listed}

@@ -1,3 +1,4 @@
+-- A stable sort puts the first of each id before its others, and a dedup keeps it: the same map, in order.
 use Rattle.std.proofs.Common.{◌≡◌, rules}
 use Rattle.std.specs.List.{dedup}
 use Rattle.std.specs.List.Sorted.{IsSortedBy, IsStableBy}

@@ -1,3 +1,4 @@
+-- An empty list is in order, and each of its entries has a kind.
 use Rattle.std.proofs.Common.{refl}
 use Rattle.std.specs.List.Sorted.{IsStrictlySortedBy}
 use Rattle.cedar_replies.proofs.erring.Erring.none.Goals as goal

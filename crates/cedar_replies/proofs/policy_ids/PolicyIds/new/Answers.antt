@@ -1,3 +1,4 @@
+-- A sort and a dedup leave the same set of ids, in order.
 use Rattle.std.proofs.lemmas.List.Filters.{dedup_is}
 use Rattle.cedar_replies.proofs.Sets.{sorted_ids, ids_rise}
 use Rattle.cedar_replies.proofs.policy_ids.PolicyIds.new.Goals as goal
