@@ -1,3 +1,4 @@
+-- What the parser refuses a text for tells what the command is refused by.
 use Rattle.std.proofs.Common.{Err, subst, sym}
 use Rattle.cedar_texts.specs.PolicyReading.{ReadsSet}
 use Rattle.cedar_texts.proofs.Readings.{set_refused}

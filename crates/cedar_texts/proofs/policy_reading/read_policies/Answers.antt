@@ -1,3 +1,4 @@
+-- The policies that the parser reads are those that a session loads, and no call of theirs is of `unknown`.
 use Rattle.std.proofs.Common.{subst}
 use Rattle.cedar_parser.specs.Settings.{setting_with}
 use Rattle.cedar_texts.specs.PolicyReading.{ReadsSet}

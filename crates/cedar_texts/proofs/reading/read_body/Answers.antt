@@ -1,3 +1,4 @@
+-- A text is one body at most, so the parser's error tells its refusal; where `unknown` is lacking, none is called.
 use Rattle.std.proofs.Common.{subst, sym, ◌≡◌, false, Ok, Err}
 use Rattle.cedar_world.specs.Bodies.{holds_call}
 use Rattle.cedar_restricted.specs.Views.{restricted_tree}
