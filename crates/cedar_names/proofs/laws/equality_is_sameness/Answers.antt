@@ -1,3 +1,4 @@
+-- Names are compared identifier by identifier, and these character by character.
 use Rattle.cedar_names.proofs.Sameness.{names_same}
 use Rattle.cedar_names.proofs.laws.equality_is_sameness.Goals as goal
 

@@ -1,3 +1,4 @@
+-- Identifiers are ordered as lists of numbers are, and names as lists of these: totally, and ties are the same.
 use Rattle.cedar_language.specs.OrderLaws.{name_cmp_total, name_cmp_same}
 use Rattle.cedar_names.proofs.laws.names_are_ordered.Goals as goal
 

@@ -1,3 +1,4 @@
+-- The copies so far are those of the identifiers that were passed.
 use Rattle.std.proofs.Common.{◌≡◌, take}
 use Rattle.cedar_names.proofs.names.copied.Given as goal
 

@@ -1,3 +1,4 @@
+-- What is written so far is the identifiers that were passed, each behind `::`.
 use Rattle.std.proofs.Common.{◌++◌, take, codes}
 use Rattle.std.specs.List.{flat_map}
 use Rattle.std.specs.Fmt.{HasWritten, IsPlainFormatter}

@@ -1,3 +1,4 @@
+-- No candidate before the index is declared, so the search from there on finds the one that stands there.
 use Rattle.std.proofs.Common.{sym, ◌∙◌}
 use Rattle.cedar_names.proofs.Finding.{find-here}
 use Rattle.cedar_names.proofs.raw_names.ConditionalName.first_defined.Goals as goal
