@@ -1,3 +1,4 @@
+-- A line that is a head opens a frame, which the body and the byte behind it make whole, cut or overrun.
 use Rattle.std.proofs.Common.{[], ◌∷◌, ◌++◌, arith, le_of_lt}
 use Rattle.std.proofs.lemmas.Result.{err_from_is_err_and}
 use Rattle.cedar_frames.proofs.Bytes.{consumes_more, consumes_none}

@@ -1,3 +1,4 @@
+-- The bytes so far are those taken, none of them a line feed; 33 are more than a head has.
 use Rattle.std.proofs.Common.{◌≡◌, ◌≤◌, ◌<◌, length, take, rules, arith}
 use Rattle.std.proofs.lemmas.List.{length-take-le, take_more_set}
 use Rattle.cedar_frames.proofs.Bytes.{consumes_more, consumes_none, not_nil}

@@ -1,3 +1,4 @@
+-- No verb's name holds a space, so that of a head stands before the first one.
 use Rattle.cedar_frames.proofs.Heads.{no_head}
 use Rattle.cedar_frames.proofs.head.head_of.Goals as goal
 

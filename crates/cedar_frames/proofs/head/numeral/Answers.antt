@@ -1,3 +1,4 @@
+-- The value is that of the digits so far and below ten to their number, so 32 digits don't overflow.
 use Rattle.std.proofs.Common.{arith, ◌<◌, get_or, ◌+◌, ◌*◌, ap, ◌∙◌, ◌^◌}
 use Rattle.cedar_frames.proofs.Heads.{fits_more, small_more, number_step, digits_step, not_numeral, not_low, not_high}
 use Rattle.cedar_frames.proofs.head.numeral.Goals as goal

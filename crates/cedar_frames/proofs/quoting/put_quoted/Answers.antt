@@ -1,3 +1,4 @@
+-- What is written so far is a quote and the bytes that were passed, escaped.
 use Rattle.std.proofs.Common.{◌≡◌, ◌∷◌, [], ◌++◌, take_all, take}
 use Rattle.cedar_frames.proofs.Bytes.{puts_more}
 use Rattle.cedar_frames.specs.Quoting.{escaped_all}

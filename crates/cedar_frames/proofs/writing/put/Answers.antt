@@ -1,3 +1,4 @@
+-- The bytes in front are written, and each write takes the next ones of the rest.
 use Rattle.std.proofs.Common.{arith}
 use Rattle.std.proofs.lemmas.List.{length-drop}
 use Rattle.cedar_frames.proofs.Bytes.{appends_tail, tail_is_drop}
