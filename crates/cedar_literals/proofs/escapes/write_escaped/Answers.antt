@@ -1,3 +1,4 @@
+-- What is written so far is the characters that were taken, each escaped; at the end these are all.
 use Rattle.std.proofs.Common.{[], ap, sym, ◌∙◌, rules}
 use Rattle.std.proofs.Output.{has_written_append, has_written_of_eq}
 use Rattle.std.proofs.lemmas.List.{flat_map_more, map-id}

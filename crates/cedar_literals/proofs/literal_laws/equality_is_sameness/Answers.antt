@@ -1,3 +1,4 @@
+-- Ties in the order of literals, and in that of types, are the same; patterns are compared element by element.
 use Rattle.cedar_literals.specs.Literals.{same_literal_decides}
 use Rattle.cedar_literals.specs.Patterns.{same_pattern_decides}
 use Rattle.cedar_literals.specs.Types.{same_type_decides}

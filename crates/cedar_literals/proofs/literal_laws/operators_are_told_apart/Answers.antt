@@ -1,3 +1,4 @@
+-- Each variable and operator is read back from the language's own.
 use Rattle.cedar_literals.specs.Operators.{unary_operators_told_apart, binary_operators_told_apart}
 use Rattle.cedar_literals.specs.Variables.{variables_told_apart}
 use Rattle.cedar_literals.proofs.literal_laws.operators_are_told_apart.Goals as goal

@@ -1,3 +1,4 @@
+-- Literals and types are ordered by heads that they are read back from, patterns as lists of their elements.
 use Rattle.cedar_literals.specs.Literals.{literal_cmp_total, literal_cmp_same}
 use Rattle.cedar_literals.specs.Patterns.{pattern_cmp_total, pattern_cmp_same}
 use Rattle.cedar_literals.specs.Types.{type_cmp_total, type_cmp_same}

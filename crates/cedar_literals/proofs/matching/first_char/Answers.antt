@@ -1,3 +1,4 @@
+-- What stands behind the code of the first character is the text of those that follow.
 use Rattle.std.proofs.Common.{sym, ◌∙◌, ap, ◌++◌}
 use Rattle.std.proofs.lemmas.Str.{chars_past_char}
 use Rattle.std.specs.Prelude.{encode_utf8}

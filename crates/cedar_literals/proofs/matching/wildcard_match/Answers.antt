@@ -1,3 +1,4 @@
+-- Each turn keeps whether a match can be found, and at the text's end nothing but wildcards matches.
 use Rattle.std.proofs.Common.{inl, inr, sym, ◌∙◌}
 use Rattle.cedar_literals.proofs.Turns.{at_text_end, wildcards_left}
 use Rattle.cedar_literals.proofs.matching.wildcard_match.Goals as goal

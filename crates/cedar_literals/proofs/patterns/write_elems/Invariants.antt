@@ -1,3 +1,4 @@
+-- What is written so far is the elements that were passed.
 use Rattle.std.proofs.Common.{take, map}
 use Rattle.std.specs.Fmt.{HasWritten, IsPlainFormatter}
 use Rattle.cedar_literals.specs.Patterns.{elem_of, pattern_text}

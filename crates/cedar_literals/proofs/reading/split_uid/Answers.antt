@@ -1,3 +1,4 @@
+-- No identifier holds a quote, so a uid's first quote begins its id, and two colons stand before it.
 use Rattle.std.proofs.Common.{Some, None, arith}
 use Rattle.std.proofs.lemmas.Str.Pattern.{strip_suffix_char}
 use Rattle.cedar_literals.proofs.Cutting.{no_quote, no_colon, one_colon, no_last, a_cut}

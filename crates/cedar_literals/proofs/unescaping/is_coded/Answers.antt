@@ -1,3 +1,4 @@
+-- A character that is written by its code is a control without a name.
 use Rattle.std.proofs.Common.{sym, ◌∙◌}
 use Rattle.std.proofs.lemmas.Bool.{false≢true}
 use Rattle.cedar_literals.proofs.Escaping.{code_only}

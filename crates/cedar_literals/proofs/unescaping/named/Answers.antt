@@ -1,3 +1,4 @@
+-- Behind a backslash alone stands one of seven names, so any other character stands for nothing.
 use Rattle.std.proofs.Common.{arith}
 use Rattle.std.proofs.lemmas.Bool.Decides.{nat_tests}
 use Rattle.cedar_literals.proofs.Escaping.{name_only}

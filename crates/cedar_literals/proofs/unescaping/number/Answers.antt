@@ -1,3 +1,4 @@
+-- A number below 256 has one digit or two, and these are the whole code.
 use Rattle.cedar_literals.proofs.Escaping.{with_one, with_two}
 use Rattle.cedar_literals.proofs.unescaping.number.Goals as goal
 

@@ -1,3 +1,4 @@
+-- The digits of a code hold no brace, so the first closing one ends it.
 use Rattle.std.proofs.Common.{Some, arith}
 use Rattle.std.proofs.lemmas.Str.Pattern.{strip_prefix_char}
 use Rattle.cedar_literals.proofs.Escaping.{no_bracket, no_end, no_code, a_code_begins}

@@ -1,3 +1,4 @@
+-- Behind a backslash stands `u` and a code or a name, so anything else begins no character.
 use Rattle.cedar_literals.proofs.Escaping.{no_escape, no_name}
 use Rattle.cedar_literals.proofs.unescaping.split_escape.Goals as goal
 

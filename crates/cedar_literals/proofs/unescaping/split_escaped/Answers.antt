@@ -1,3 +1,4 @@
+-- What stands for a character begins with a backslash or is that character, which then is plain.
 use Rattle.std.proofs.Common.{sym, ◌∙◌}
 use Rattle.std.proofs.lemmas.Bool.{false≢true}
 use Rattle.cedar_literals.proofs.Escaping.{nothing_begins, no_plain}

@@ -1,3 +1,4 @@
+-- Each digit is that of one number, and the first of two is never zero.
 use Rattle.std.proofs.Common.{sym, ◌∙◌, arith}
 use Rattle.cedar_literals.proofs.Escaping.{digits_both, both_digits, same_digit}
 use Rattle.cedar_literals.proofs.unescaping.two_digits.Goals as goal

@@ -1,3 +1,4 @@
+-- Where the place matches nothing, the last wildcard takes one character more, and less is left.
 use Rattle.std.proofs.Common.{refl}
 use Rattle.cedar_literals.proofs.Turns.{later_turn}
 use Rattle.cedar_literals.proofs.matching.Search.later.Goals as goal

@@ -1,3 +1,4 @@
+-- Behind a wildcard a new search begins, and a character that both have is left out of both.
 use Rattle.std.proofs.Common.{refl, ap, ◌∙◌}
 use Rattle.std.specs.Str.{chars}
 use Rattle.cedar_literals.specs.declared.patterns.PatternElem.TheVariants as kind

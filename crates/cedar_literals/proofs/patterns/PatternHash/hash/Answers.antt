@@ -1,3 +1,4 @@
+-- Each element feeds what its meaning feeds, and there are as many of the one as of the other.
 use Rattle.std.proofs.lemmas.List.{length-map}
 use Rattle.std.proofs.lemmas.List.Folds.{flat_map-map}
 use Rattle.cedar_literals.specs.Patterns.{elem_hash, elem_of}

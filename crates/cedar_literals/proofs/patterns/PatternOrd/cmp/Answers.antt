@@ -1,3 +1,4 @@
+-- Elements are compared one after the other, each as what it means.
 use Rattle.std.proofs.Common.{rules}
 use Rattle.std.specs.Cmp.Derive.Mapped.{lex_map}
 use Rattle.cedar_literals.specs.Patterns.{elem_cmp, elem_of}

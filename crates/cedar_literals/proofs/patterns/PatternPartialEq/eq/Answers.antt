@@ -1,3 +1,4 @@
+-- Patterns are the same where their elements are, one by one and each as what it means.
 use Rattle.std.proofs.Common.{rules}
 use Rattle.std.specs.Cmp.Derive.Mapped.{pointwise-map}
 use Rattle.cedar_literals.specs.Patterns.{same_elem, elem_of}

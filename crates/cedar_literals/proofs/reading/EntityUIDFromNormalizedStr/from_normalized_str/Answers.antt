@@ -1,3 +1,4 @@
+-- A text is cut into type and id in one way, so what is answered of these is answered of the uid.
 use Rattle.std.proofs.lemmas.Result.{err_from_is_err_and}
 use Rattle.cedar_literals.proofs.Cutting.{refused_id, refused_type, read_uid}
 use Rattle.cedar_literals.proofs.reading.EntityUIDFromNormalizedStr.from_normalized_str.Goals as goal
