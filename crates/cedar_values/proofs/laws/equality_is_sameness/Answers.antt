@@ -1,3 +1,4 @@
+-- What ties in the order of values is the same, and a set or an extension value is read back from its value.
 use Rattle.std.proofs.Common.{ap}
 use Rattle.cedar_language.specs.Value.{SetOf, ExtensionOf}
 use Rattle.cedar_language.specs.Order.{all_of}

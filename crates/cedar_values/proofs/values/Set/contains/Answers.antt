@@ -1,3 +1,4 @@
+-- In a list that rises strictly a search by halves finds what ties with the value, and that is the value.
 use Rattle.std.proofs.Common.{◌≡◌, ◌∙◌, ap}
 use Rattle.cedar_values.proofs.Sets.{found, found_is}
 use Rattle.cedar_values.proofs.values.Set.contains.Goals as goal

@@ -1,3 +1,4 @@
+-- A member that both have is looked for, which is how the language tests for some of them.
 use Rattle.std.proofs.Common.{◌≡◌, ◌∙◌, ap, sym, not}
 use Rattle.std.specs.List.{list_any}
 use Rattle.cedar_language.specs.Operators.{has_member, has_some}

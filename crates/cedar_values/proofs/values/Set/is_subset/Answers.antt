@@ -1,3 +1,4 @@
+-- Each member is looked up in the other set, which is how the language tests for all of them.
 use Rattle.std.proofs.Common.{◌≡◌, ◌∙◌, ap, sym}
 use Rattle.std.specs.List.{list_all}
 use Rattle.cedar_language.specs.Operators.{has_member, has_all}

@@ -1,3 +1,4 @@
+-- Sorting keeps the members and `dedup` leaves one of each, so the list rises strictly and is the language's set.
 use Rattle.cedar_values.proofs.Sets.{is_sorted, has_members, is_rising}
 use Rattle.cedar_values.proofs.values.Set.new.Goals as goal
 

@@ -1,3 +1,4 @@
+-- What was fed so far and the keys that are left make what all keys feed.
 use Rattle.std.proofs.Common.{◌≡◌}
 use Rattle.std.specs.Hash as fed
 use Rattle.std.specs.List.{fold, flat_map}

@@ -1,3 +1,4 @@
+-- The values of a record weigh less than the record, so the comparison ends.
 use Rattle.std.proofs.Common.{◌≡◌, ap, arith}
 use Rattle.std.specs.BTreeMap.{values}
 use denote.Param.Weighed.{most}

@@ -1,3 +1,4 @@
+-- The keys that are left compare as all keys did, since those that were passed are the same in both.
 use Rattle.std.proofs.Common.{◌≡◌}
 use Rattle.std.specs.Cmp.Lexicographic.{slice_cmp}
 use Rattle.cedar_language.specs.Order.{text_cmp}

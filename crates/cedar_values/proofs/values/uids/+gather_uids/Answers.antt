@@ -1,3 +1,4 @@
+-- As the comparison of kinds does: what a record holds weighs less than the record, here where its uids are gathered.
 use Rattle.std.proofs.Common.{◌≡◌, ap, arith}
 use Rattle.std.specs.BTreeMap.{values}
 use denote.Param.Weighed.{most}

@@ -1,3 +1,4 @@
+-- The insert adds the uid of the literal, and no other one.
 use Rattle.std.proofs.Common.{◌≡◌, ◌∙◌}
 use Rattle.std.specs.BTreeSet.{contains}
 use Rattle.cedar_language.specs.Order.{uid_cmp}
