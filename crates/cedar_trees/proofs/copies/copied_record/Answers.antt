@@ -1,3 +1,4 @@
+-- The copied handle holds the same entries, so the same bare tree.
 use Rattle.std.proofs.Common.{◌∙◌, ap, BTreeMap, Global}
 use Rattle.std.specs.declared.rc.RcStr.{RcStr}
 use Rattle.cedar_trees.specs.Bare.{bare_entries, record_tree}

@@ -1,3 +1,4 @@
+-- The items that were passed are entities, so those that are left decide.
 use Rattle.std.proofs.Common.{◌≡◌, map, drop}
 use Rattle.cedar_grammar.specs.Build.{trees}
 use Rattle.cedar_trees.specs.Bare.{bare}

@@ -1,3 +1,4 @@
+-- As a disjunction does: where one operand is no literal Boolean, the conjunction of both is left whole.
 use Rattle.std.proofs.Common.{◌∙◌, ap, sym}
 use Rattle.cedar_language.specs.Tree as tree
 use Rattle.cedar_trees.specs.Bare.{bare}

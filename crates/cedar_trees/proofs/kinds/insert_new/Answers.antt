@@ -1,3 +1,4 @@
+-- The map looks a key up and puts it in where the bare entries do.
 use Rattle.std.proofs.Common.{◌≡◌, ◌∙◌, ap, sym}
 use Rattle.std.specs.Prelude.{false}
 use Rattle.std.specs.Rc.{rc_str_bytes}

@@ -1,3 +1,4 @@
+-- What all pairs make is the map with the rest of them put in: the empty map and all of them at first.
 use Rattle.std.proofs.Common.{◌≡◌, ◌∙◌, ap, sym, rules}
 use Rattle.cedar_trees.specs.Bare.{bare_entries}
 use Rattle.cedar_trees.proofs.Records.{all_put, entries_put}

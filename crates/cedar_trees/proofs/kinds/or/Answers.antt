@@ -1,3 +1,4 @@
+-- Where one operand is no literal Boolean a disjunction is left whole, with the bare trees of both.
 use Rattle.std.proofs.Common.{◌∙◌, ap, sym}
 use Rattle.cedar_language.specs.Tree as tree
 use Rattle.cedar_trees.specs.Bare.{bare}

@@ -1,3 +1,4 @@
+-- The entries that the pairs make are those of the record, and its bare tree is made of them.
 use Rattle.std.proofs.Common.{◌∙◌, ap, sym}
 use Rattle.std.specs.Prelude.{Ok}
 use Rattle.cedar_trees.specs.Bare.{bare_entries, record_tree}

@@ -1,3 +1,4 @@
+-- The arguments behind the first weigh no more than all of them, and these weigh less than the call.
 use Rattle.std.proofs.Common.{◌≡◌, ◌≤◌, ◌<◌, ℕ, List, [], ◌∷◌, arith, rules}
 use Rattle.std.specs.List.{remove}
 use contract.BorrowLft.{⊑_meet, ⊑_static}

@@ -1,3 +1,4 @@
+-- The bare tree of a record is what its copy has.
 use Rattle.std.proofs.Common.{◌≡◌, ◌∙◌, IfOk, ap, subst, sym}
 use Rattle.cedar_language.specs.Tree.{Tree}
 use Rattle.cedar_trees.specs.Bare.{bare_kind}

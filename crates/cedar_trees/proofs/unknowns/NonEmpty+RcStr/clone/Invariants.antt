@@ -1,3 +1,4 @@
+-- The texts copied so far are those that were passed.
 use Rattle.std.proofs.Common.{◌≡◌, map, take}
 use Rattle.std.specs.Rc.{rc_str_bytes}
 use Rattle.cedar_trees.proofs.unknowns.NonEmpty+RcStr.clone.Given as goal
