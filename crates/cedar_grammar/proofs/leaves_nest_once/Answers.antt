@@ -1,3 +1,4 @@
+-- An entity is read by each rule's plainest case, and nothing is read within no nesting.
 use Rattle.cedar_grammar.proofs.Leaves.{entities_nest_once, no_policies_nest_once}
 use Rattle.cedar_grammar.proofs.leaves_nest_once.Goals as goal
 

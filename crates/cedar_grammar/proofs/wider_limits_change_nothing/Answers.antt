@@ -1,3 +1,4 @@
+-- Each step of reading meets the narrower limit or is the same within the wider one.
 use Rattle.cedar_grammar.proofs.Stays.{exprs_stay, primaries_stay, policy_stays, policies_stay}
 use Rattle.cedar_grammar.proofs.LooseLaws.{exprs_stand, literals_stand, policy_stands, policies_stand}
 use Rattle.cedar_grammar.proofs.wider_limits_change_nothing.Goals as goal

@@ -1,3 +1,4 @@
+-- Rule by rule a linked scope is read with its entities and all else is kept, and tokens are one list of policies.
 use Rattle.cedar_grammar.proofs.WrittenLinks.{links_are_read, links_are_one}
 use Rattle.cedar_grammar.proofs.written_links_are_one.Goals as goal
 
