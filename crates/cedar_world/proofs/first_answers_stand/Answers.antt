@@ -1,3 +1,4 @@
+-- To stand as settled is fair, sharp and exact, so what the rules say of policies that stand so is a first answer.
 use Rattle.cedar_world.proofs.First.{first_answers_stand as law}
 use Rattle.cedar_world.proofs.first_answers_stand.Goals as goal
 

@@ -1,3 +1,4 @@
+-- With the gap a text is read and nests as without it, so the same refusals stand and the same policies are loaded.
 use Rattle.cedar_world.proofs.LoadedGaps.{gaps_change_no_load}
 use Rattle.cedar_world.proofs.gaps_change_no_load.Goals as goal
 

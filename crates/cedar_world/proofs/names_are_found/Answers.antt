@@ -1,3 +1,4 @@
+-- The names and the look-up are made of one table: without `unknown`, which bodies alone have where it is built in.
 use Rattle.cedar_world.proofs.Named as named
 use Rattle.cedar_world.proofs.names_are_found.Goals as goal
 

@@ -1,3 +1,4 @@
+-- What nests within the least nesting does within more, and no text is read in two ways.
 use Rattle.cedar_world.proofs.Nesting.{nesting_is_least}
 use Rattle.cedar_world.proofs.nesting_is_least.Goals as goal
 

@@ -1,3 +1,4 @@
+-- A run that read fewer frames would have ended where a frame stands; two that read as many end in one way.
 use Rattle.cedar_world.proofs.Runs.{read_the_same}
 use Rattle.cedar_world.proofs.runs_read_the_same.Goals as goal
 

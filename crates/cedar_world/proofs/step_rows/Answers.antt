@@ -1,3 +1,4 @@
+-- The texts of the rows are read by computing, and in no second way, so the case of each step is the only one.
 use Rattle.cedar_world.proofs.StepRows as rows
 use Rattle.cedar_world.proofs.step_rows.Goals as goal
 

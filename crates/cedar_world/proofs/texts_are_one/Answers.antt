@@ -1,3 +1,4 @@
+-- Characters are one list of tokens at most, and tokens have one meaning at most.
 use Rattle.cedar_world.proofs.Readings.{reads_once, policies_once}
 use Rattle.cedar_world.proofs.texts_are_one.Goals as goal
 
