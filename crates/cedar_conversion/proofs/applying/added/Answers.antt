@@ -1,3 +1,4 @@
+-- `+` and `-` are operators that the builder applies to both operands.
 use Rattle.std.proofs.Common.{Some, ap}
 use Rattle.cedar_language.specs.Tree as tree
 use Rattle.cedar_grammar.specs.Build.{binary}

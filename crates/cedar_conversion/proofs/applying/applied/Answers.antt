@@ -1,3 +1,4 @@
+-- `||` and `&&` are what a lawful builder makes of them; the other joints by the functions of their operators.
 use Rattle.std.proofs.Common.{Some, ap}
 use Rattle.cedar_conversion.specs.Building.{IsBuilt, IsRefused}
 use Rattle.cedar_conversion.specs.Joints.{joined}

@@ -1,3 +1,4 @@
+-- A comparison is `<`, `<=`, `==` or `in`, or the negation of one of them; a single `=` writes no tree.
 use Rattle.std.proofs.Common.{Some, ap}
 use Rattle.cedar_language.specs.Tree as tree
 use Rattle.cedar_grammar.specs.Build.{unary, binary}

@@ -1,3 +1,4 @@
+-- Operands are joined where both are there; a joined tree lacks, or is refused, where an operand is.
 use Rattle.cedar_conversion.specs.Building.{IsBuilt, IsRefused}
 use Rattle.cedar_conversion.specs.Joints.{joined}
 use Rattle.cedar_conversion.proofs.Converting.{same_as, passed, flat_err, flat_ok, both_some}

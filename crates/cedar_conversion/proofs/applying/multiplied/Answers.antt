@@ -1,3 +1,4 @@
+-- `*` is an operator that the builder applies; division and remainder write no tree.
 use Rattle.std.proofs.Common.{Some, ap}
 use Rattle.cedar_language.specs.Tree as tree
 use Rattle.cedar_grammar.specs.Build.{binary}

@@ -1,3 +1,4 @@
+-- A list with one more at the end is built where all of it is; what refuses a part refuses the list.
 use Rattle.std.proofs.Common.{◌≡◌, Some, Ok, [], ◌∷◌, ◌++◌, sym, ap, ◌∙◌, map, rules}
 use Rattle.std.proofs.lemmas.List.{map-append}
 use Rattle.cedar_conversion.specs.Building.{IsBuilt, IsRefused, AreBuilt, AreRefused}

@@ -1,3 +1,4 @@
+-- A call lacks its tree where the head or the arguments lack theirs, and the reasons of both are joined.
 use Rattle.std.proofs.Common.{List, Option, Some, subst}
 use Rattle.cedar_language.specs.Tree.{Tree}
 use Rattle.cedar_grammar.specs.Converting as converting

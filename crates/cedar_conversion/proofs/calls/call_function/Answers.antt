@@ -1,3 +1,4 @@
+-- What is called is the path of the written name, where the table of names has that path.
 use Rattle.std.proofs.Common.{Some, None, sym, ap, ◌∙◌}
 use Rattle.std.specs.Prelude.{cond}
 use Rattle.cedar_language.specs.Tree as tree

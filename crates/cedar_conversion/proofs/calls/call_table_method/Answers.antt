@@ -1,3 +1,4 @@
+-- A method of the table is the function of its name, called with the operand before the arguments.
 use Rattle.std.proofs.Common.{◌≡◌, Some, None, [], ◌∷◌, sym, ap, ◌∙◌, map, rules}
 use Rattle.std.specs.Prelude.{cond}
 use Rattle.cedar_language.specs.Tree as tree

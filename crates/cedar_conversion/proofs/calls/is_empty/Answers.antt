@@ -1,3 +1,4 @@
+-- Arguments are none exactly where trees are none, and only then has `isEmpty` a tree.
 use Rattle.std.proofs.Common.{◌≡◌, ◌<◌, Ok, [], length, sym, ap, ◌∙◌, map, arith}
 use Rattle.std.proofs.lemmas.List.{length-map}
 use Rattle.cedar_language.specs.Tree as tree

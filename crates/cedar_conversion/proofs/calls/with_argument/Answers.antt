@@ -1,3 +1,4 @@
+-- As many arguments are built as trees stand there, so that there is one argument where there is one tree.
 use Rattle.std.proofs.Common.{◌≡◌, Ok, [], ◌∷◌, length, sym, ap, ◌∙◌, map}
 use Rattle.std.proofs.lemmas.List.{length-map}
 use Rattle.cedar_literals.specs.Operators.{binary_operator_of}

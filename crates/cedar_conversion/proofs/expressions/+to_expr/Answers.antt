@@ -1,3 +1,4 @@
+-- The tree of a node is what its construct makes of its parts; that of a chain is joined one part at a time.
 use Rattle.std.proofs.Common.{◌≡◌, ◌<◌, Some, Ok, map, drop, [], ◌∷◌, length, refl, sym, ap, ◌∙◌, subst, arith}
 use Rattle.std.proofs.lemmas.Grind.{common_steps}
 use Rattle.cedar_grammar.specs.Reading.{◌>>=◌}

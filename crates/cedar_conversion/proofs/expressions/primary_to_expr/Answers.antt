@@ -1,3 +1,4 @@
+-- The tree of a primary is what its head is used as, when nothing accesses it.
 use Rattle.cedar_grammar.specs.Converting.{primary_head}
 use Rattle.cedar_cst.specs.View.{shown_primary}
 use Rattle.cedar_conversion.proofs.expressions.primary_to_expr.Goals as goal

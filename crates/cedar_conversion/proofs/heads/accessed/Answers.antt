@@ -1,3 +1,4 @@
+-- The text of the identifier is the attribute that the operator reads.
 use Rattle.std.proofs.Common.{Ok, [], ◌∷◌, sym, ap, ◌∙◌}
 use Rattle.cedar_language.specs.Tree as tree
 use Rattle.cedar_language.specs.Tree.{Tree}

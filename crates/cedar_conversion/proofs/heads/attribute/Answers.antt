@@ -1,3 +1,4 @@
+-- The tree before the dot is all that is built so far, so it alone may be refused.
 use Rattle.std.proofs.Common.{◌≡◌, Some, sym, ◌∙◌, subst}
 use Rattle.cedar_grammar.specs.Reading.{◌>>=◌}
 use Rattle.cedar_grammar.specs.Converting as converting

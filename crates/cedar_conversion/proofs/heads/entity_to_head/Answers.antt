@@ -1,3 +1,4 @@
+-- An entity is a literal, and what is shared of it is the same uid.
 use Rattle.std.proofs.Common.{◌≡◌, Some, Ok, sym, ap, ◌∙◌, subst}
 use Rattle.cedar_language.specs.Tree as tree
 use Rattle.cedar_language.specs.Tree.{Tree}

@@ -1,3 +1,4 @@
+-- A head that is an expression is refused where its tree is.
 use Rattle.std.proofs.Common.{Some, subst}
 use Rattle.cedar_grammar.specs.Converting as converting
 use Rattle.cedar_grammar.specs.Converting.{head_tree, name_path, record_tree}

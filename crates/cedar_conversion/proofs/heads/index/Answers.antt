@@ -1,3 +1,4 @@
+-- The text between the brackets is the attribute, read of the tree that the head is used as.
 use Rattle.std.proofs.Common.{◌≡◌, Some, Ok, [], ◌∷◌, sym, ap, ◌∙◌, subst}
 use Rattle.std.specs.Rc.{rc_str_bytes}
 use Rattle.cedar_language.specs.Tree as tree

@@ -1,3 +1,4 @@
+-- A literal is built as it is, and stands alone as a head.
 use Rattle.std.proofs.Common.{◌≡◌, Some, subst}
 use Rattle.cedar_language.specs.Tree as tree
 use Rattle.cedar_language.specs.Tree.{Tree}

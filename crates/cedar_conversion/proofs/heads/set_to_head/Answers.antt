@@ -1,3 +1,4 @@
+-- A set is one operator on all its items: built where they are, and refused where one of them is.
 use Rattle.std.proofs.Common.{Some, subst}
 use Rattle.cedar_language.specs.Tree as tree
 use Rattle.cedar_language.specs.Tree.{Tree}

@@ -1,3 +1,4 @@
+-- Where the operations refuse what a head holds, they refuse the tree that it is used as.
 use Rattle.std.proofs.Common.{subst}
 use Rattle.cedar_grammar.specs.Converting.{head_tree}
 use Rattle.cedar_conversion_leaves.specs.Reasons.{reason}

@@ -1,3 +1,4 @@
+-- A name is used as a tree where it is a variable, and that is what the builder makes.
 use Rattle.std.proofs.Common.{Some, sym}
 use Rattle.cedar_language.specs.Tree as tree
 use Rattle.cedar_language.specs.Tree.{Tree}

@@ -1,3 +1,4 @@
+-- The trees that texts write are fine, and a fine tree calls no `unknown` that the table of names lacks.
 use Rattle.cedar_conversion.proofs.Written.{calls_are_named}
 use Rattle.cedar_conversion.proofs.laws.calls_are_named.Goals as goal
 

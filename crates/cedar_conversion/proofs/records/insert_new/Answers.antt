@@ -1,3 +1,4 @@
+-- The map's look-up says whether the key is new, and its insertion puts the entry in the place of its key.
 use Rattle.std.proofs.Common.{◌≡◌, false, sym, ap, ◌∙◌}
 use Rattle.std.specs.Rc.{rc_str_bytes}
 use Rattle.cedar_grammar.specs.Build.{keys}

@@ -1,3 +1,4 @@
+-- Entries in order are what putting them one by one into nothing gives, or else a key stands twice.
 use Rattle.std.proofs.Common.{◌≡◌, sym, ap, ◌∙◌, rules}
 use Rattle.cedar_conversion.specs.Entries.{keyed}
 use Rattle.cedar_trees.proofs.Records.{all_put}

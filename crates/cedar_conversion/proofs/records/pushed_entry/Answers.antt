@@ -1,3 +1,4 @@
+-- Entries with one more at the end are built where all of them are; what refuses one refuses them together.
 use Rattle.std.proofs.Common.{◌≡◌, Some, [], ◌∷◌, ◌++◌, sym, ap, ◌∙◌, subst, rules}
 use Rattle.std.proofs.lemmas.List.{map-append}
 use Rattle.std.specs.Rc.{rc_str_bytes}

@@ -1,3 +1,4 @@
+-- Expressions and trees stand beside the same keys, so both are put in the same order, or a key stands twice.
 use Rattle.std.proofs.Common.{◌≡◌, Some, ap, ◌∙◌, subst}
 use Rattle.cedar_grammar.specs.Reading.{◌>>=◌}
 use Rattle.cedar_grammar.specs.Build.{keys, record_of}

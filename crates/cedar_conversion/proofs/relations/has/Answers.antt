@@ -1,3 +1,4 @@
+-- A path of one attribute is the plain test, a longer one the extended test; both hold the path's texts.
 use Rattle.std.proofs.Common.{◌≡◌, Some, ◌∷◌, sym, ap, ◌∙◌, map}
 use Rattle.std.specs.Rc.{rc_str_bytes}
 use Rattle.cedar_language.specs.Tree as tree

@@ -1,3 +1,4 @@
+-- The type stands in the operator by its written name, and only the tested operand is built.
 use Rattle.std.proofs.Common.{◌≡◌, Some, Ok, [], ◌∷◌, sym, ap, ◌∙◌}
 use Rattle.cedar_language.specs.Tree as tree
 use Rattle.cedar_language.specs.Tree.{Tree}

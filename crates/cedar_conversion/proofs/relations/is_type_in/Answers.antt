@@ -1,3 +1,4 @@
+-- `is` with `in` is the conjunction of both tests, which a lawful builder makes of them.
 use Rattle.std.proofs.Common.{◌≡◌, Some, Ok, [], ◌∷◌, sym, ap, ◌∙◌, subst}
 use Rattle.cedar_language.specs.Tree as tree
 use Rattle.cedar_language.specs.Tree.{Tree}

@@ -1,3 +1,4 @@
+-- A choice is built of its three parts, and refused where the test or one of the branches is.
 use Rattle.std.proofs.Common.{Some, sym, ◌∙◌, subst}
 use Rattle.cedar_language.specs.Tree as tree
 use Rattle.cedar_language.specs.Tree.{Tree}

@@ -1,3 +1,4 @@
+-- A number and the minus before it are one literal, which the builder makes as it is.
 use Rattle.std.proofs.Common.{sym}
 use Rattle.cedar_language.specs.Tree as tree
 use Rattle.cedar_language.specs.Tree.{Tree}

@@ -1,3 +1,4 @@
+-- After each round one more sign stands before the operand; where fewer signs are refused, so are all.
 use Rattle.std.proofs.Common.{Some, sym, subst}
 use Rattle.std.specs.Prelude.{IfSome}
 use Rattle.cedar_conversion_leaves.specs.Reasons.{reason}

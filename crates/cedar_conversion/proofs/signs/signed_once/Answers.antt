@@ -1,3 +1,4 @@
+-- One sign is its operator, applied to what is built.
 use Rattle.std.proofs.Common.{Some, ap}
 use Rattle.cedar_language.specs.Tree as tree
 use Rattle.cedar_language.specs.Tree.{Tree}
