@@ -1,3 +1,4 @@
+-- What a part asks of the action, by its variable; a name behind `:`, or a type, leaves nothing to ask.
 use Rattle.std.proofs.Common.{◌≡◌, ◌⊎◌, inl, inr, Some, sym, ap, ◌∙◌}
 use Rattle.cedar_language.specs.Tree as tree
 use Rattle.cedar_grammar.specs.Reading.{◌>>=◌}

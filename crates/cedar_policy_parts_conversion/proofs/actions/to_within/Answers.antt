@@ -1,3 +1,4 @@
+-- Where no actions are found one fault may take the other's place, since a fault is all that is said.
 use Rattle.std.proofs.Common.{Some}
 use Rattle.cedar_grammar.specs.Policy.{action_within_any}
 use Rattle.cedar_grammar.specs.Converting.{alone, actions_among}

@@ -1,3 +1,4 @@
+-- What is made of the annotations before a place, and then of the one there, is made of those before the next.
 use Rattle.std.proofs.Common.{◌∷◌, [], ◌++◌, take, sym, ap, ◌∙◌, subst}
 use Rattle.std.proofs.lemmas.List.{take_more}
 use Rattle.cedar_policy_parts_conversion.specs.Notes.{placed_notes, AreMade, Makes}

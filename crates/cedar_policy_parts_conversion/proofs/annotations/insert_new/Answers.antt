@@ -1,3 +1,4 @@
+-- Whether the key is new is what the map's look-up says, and a new key is put where the map puts it.
 use Rattle.std.proofs.Common.{ap, Some, sym, ◌∙◌}
 use Rattle.cedar_policy_parts_conversion.proofs.Gathering.{faulty}
 use Rattle.cedar_policy_parts_conversion.proofs.Ordering.{put_found, put_unfound}

@@ -1,3 +1,4 @@
+-- One more annotation is made and put beside what was made of those before it.
 use Rattle.cedar_policy_parts_conversion.specs.Notes.{placed_note}
 use Rattle.cedar_policy_parts_conversion.proofs.Making.{node_put}
 use Rattle.cedar_policy_parts_conversion.proofs.annotations.insert_node.Goals as goal

@@ -1,3 +1,4 @@
+-- The own maker keeps the text of each value, or the empty one, so what it makes are the annotations.
 use Rattle.std.proofs.Common.{map, sym, ap, ◌∙◌, Some, rules}
 use Rattle.cedar_cst.specs.View.{shown_annotation}
 use Rattle.cedar_conversion_leaves.specs.Reasons.{reason}

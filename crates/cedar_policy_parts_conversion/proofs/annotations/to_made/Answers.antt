@@ -1,3 +1,4 @@
+-- Key, value and place are those of the node, and the maker was called with the latter two.
 use Rattle.std.proofs.Common.{◌≡◌, rules}
 use Rattle.std.specs.Option.{option_map}
 use Rattle.std.specs.Rc.{rc_str_bytes}

@@ -1,3 +1,4 @@
+-- Only the spellings `when` and `unless` begin a clause; any other is no beginning.
 use Rattle.std.proofs.Common.{sym}
 use Rattle.cedar_policy_parts_conversion.proofs.Words.{no_clause_word}
 use Rattle.cedar_policy_parts_conversion.proofs.clauses.clause_word_named.Goals as goal

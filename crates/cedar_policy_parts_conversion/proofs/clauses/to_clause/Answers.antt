@@ -1,3 +1,4 @@
+-- A clause is what its word makes of its condition, and lacks where one of these does.
 use Rattle.std.proofs.Common.{◌≡◌, Some, Ok, Err, sym, ap, ◌∙◌, subst}
 use Rattle.std.specs.Option.{option_map}
 use Rattle.cedar_grammar.specs.Converting.{clause_by}

@@ -1,3 +1,4 @@
+-- The clauses before a node, joined by `&&` with the one there, are those before the next node.
 use Rattle.std.proofs.Common.{map, take, sym, ap, ◌∙◌, subst}
 use Rattle.std.specs.Option.{option_map}
 use Rattle.cedar_grammar.specs.Converting.{clause}

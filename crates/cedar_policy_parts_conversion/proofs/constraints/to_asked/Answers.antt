@@ -1,3 +1,4 @@
+-- With a type and an operator, what is asked is made of both, once the target is found.
 use Rattle.cedar_constraints.specs.References.{target_of}
 use Rattle.cedar_constraints.specs.Asked.{constraint_of}
 use Rattle.cedar_policy_parts_conversion.specs.Own.{own_word}

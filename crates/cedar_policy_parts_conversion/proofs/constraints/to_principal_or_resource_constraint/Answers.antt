@@ -1,3 +1,4 @@
+-- A part asks by its own variable, without a name behind `:`; of any other variable it asks nothing.
 use Rattle.std.proofs.Common.{◌≡◌, true, Some, ap, ◌∙◌}
 use Rattle.cedar_grammar.specs.Reading.{◌>>=◌}
 use Rattle.cedar_cst.specs.LeafView.{shown_ident}

@@ -1,3 +1,4 @@
+-- That a test of a type stands behind `in` is a fault as well, so the target lacks either way.
 use Rattle.cedar_grammar.specs.Converting.{target}
 use Rattle.cedar_cst.specs.View.{shown_expr}
 use Rattle.cedar_policy_parts_conversion.specs.Own.{own_word}

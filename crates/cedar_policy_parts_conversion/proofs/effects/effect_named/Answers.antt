@@ -1,3 +1,4 @@
+-- A spelling that is neither `permit` nor `forbid` is that of no effect.
 use Rattle.std.proofs.Common.{sym}
 use Rattle.cedar_policy_parts_conversion.proofs.Words.{no_effect}
 use Rattle.cedar_policy_parts_conversion.proofs.effects.effect_named.Goals as goal

@@ -1,3 +1,4 @@
+-- A uid's own test decides whether its type ends in `Action`.
 use Rattle.cedar_policy_parts_conversion.proofs.Acting.{decided}
 use Rattle.cedar_policy_parts_conversion.proofs.entities.is_action.Goals as goal
 

@@ -1,3 +1,4 @@
+-- The view of a list between brackets is the list of its items' views.
 use Rattle.std.proofs.Common.{sym, ap, ◌∙◌}
 use Rattle.cedar_grammar.specs.Loose as loose
 use Rattle.cedar_cst.specs.View.{view_primary}

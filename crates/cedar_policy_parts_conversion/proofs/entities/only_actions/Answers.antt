@@ -1,3 +1,4 @@
+-- All are actions exactly where those that are none are an empty list.
 use Rattle.std.proofs.Common.{◌≡◌, ◌<◌, [], length, sym, ap, ◌∙◌}
 use Rattle.std.specs.Prelude.{◌==◌}
 use Rattle.cedar_constraints.specs.Actions.{held_uids}

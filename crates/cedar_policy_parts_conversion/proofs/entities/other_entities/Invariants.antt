@@ -1,3 +1,4 @@
+-- Those set aside so far, and the ones that are no actions in the rest, are the ones in the whole.
 use Rattle.std.proofs.Common.{◌≡◌, ◌++◌, drop}
 use Rattle.cedar_constraints.specs.Actions.{held_uids}
 use Rattle.cedar_policy_parts_conversion.specs.Entities.{others}

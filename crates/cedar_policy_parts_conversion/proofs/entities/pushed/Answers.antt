@@ -1,3 +1,4 @@
+-- The longer list is found where the shorter one and the entity are, and lacks where one of the two does.
 use Rattle.std.proofs.Common.{◌≡◌, Some, Vec, Global, [], ◌∷◌, ◌++◌, sym, ap, ◌∙◌, rules}
 use Rattle.cedar_language.specs.Uid.{Uid}
 use Rattle.cedar_grammar.specs.Reading.{◌>>=◌}

@@ -1,3 +1,4 @@
+-- The entities shared so far, and those that are left, are all that were given.
 use Rattle.std.proofs.Common.{◌≡◌, ◌++◌}
 use Rattle.cedar_constraints.specs.Actions.{held_uids}
 use Rattle.cedar_policy_parts_conversion.proofs.entities.shared.Given as goal

@@ -1,3 +1,4 @@
+-- An action is an entity that stands alone, and then is held to be one.
 use Rattle.std.proofs.Common.{ap, ◌∙◌}
 use Rattle.cedar_language.specs.Uid.{Uid}
 use Rattle.cedar_grammar.specs.Reading.{◌>>=◌}

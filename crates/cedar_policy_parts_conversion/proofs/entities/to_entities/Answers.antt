@@ -1,3 +1,4 @@
+-- The entities of the items before a place, and the one of the item there, are those before the next place.
 use Rattle.std.proofs.Common.{◌≡◌, ◌+◌, Some, Vec, Global, [], ◌∷◌, ◌++◌, map, take, sym, ap, ◌∙◌}
 use Rattle.std.proofs.lemmas.List.{map-append, take_more}
 use Rattle.cedar_language.specs.Uid.{Uid}

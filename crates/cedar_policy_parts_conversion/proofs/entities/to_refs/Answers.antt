@@ -1,3 +1,4 @@
+-- The entities of a list are found first and then held to be actions; the entity that stands alone likewise.
 use Rattle.std.proofs.Common.{◌≡◌, Some, [], ◌∷◌, map, sym, ap, ◌∙◌}
 use Rattle.cedar_grammar.specs.Reading.{◌>>=◌}
 use Rattle.cedar_grammar.specs.Loose as loose

@@ -1,3 +1,4 @@
+-- A step goes inside one pair of parentheses: fewer pairs are left, and what stands alone in them is the same.
 use Rattle.std.proofs.Common.{◌≡◌, Option, Some, None, Bor, sym, subst, arith}
 use Rattle.std.specs.Prelude.{MatchResult}
 use Rattle.cedar_cst.specs.declared.node.Node.{Node}

@@ -1,3 +1,4 @@
+-- A slot matches the variable exactly where it is that variable's own, and any other is no target.
 use Rattle.std.proofs.Common.{◌≡◌, true, Some, None, sym, ap, ◌∙◌}
 use Rattle.std.specs.Prelude.{cond}
 use Rattle.cedar_grammar.specs.Policy.{the_slot}

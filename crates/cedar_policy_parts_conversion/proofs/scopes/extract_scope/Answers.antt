@@ -1,3 +1,4 @@
+-- A scope is found where its three parts are and no more stand there, and lacks where one of the four does.
 use Rattle.std.proofs.Common.{map, subst}
 use Rattle.cedar_grammar.specs.Token as token
 use Rattle.cedar_grammar.specs.Policy.{Constraint}

@@ -1,3 +1,4 @@
+-- What stands at a place among the views is the view of what stands there.
 use Rattle.std.proofs.Common.{map, ap, ◌∙◌}
 use Rattle.std.specs.Prelude.{slice_get}
 use Rattle.cedar_cst.specs.View.{shown_variable_def}
