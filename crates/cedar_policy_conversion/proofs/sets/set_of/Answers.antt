@@ -1,3 +1,4 @@
+-- The policies before a node bear smaller numbers than it, so its own number isn't bound yet.
 use Rattle.std.proofs.Common.{map, take, refl, sym, ap, ◌∙◌, subst, arith}
 use Rattle.std.proofs.lemmas.List.{length-map, length-take-le}
 use Rattle.cedar_cst.specs.View.{shown_policy}

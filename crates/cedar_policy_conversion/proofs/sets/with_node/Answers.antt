@@ -1,3 +1,4 @@
+-- The number isn't bound in the set so far, so the node's policy goes behind it; without either there is no set.
 use Rattle.std.proofs.Common.{◌≡◌, ◌<◌, ◌^◌, arith, [], ◌∷◌, ◌++◌, Some, None, Ok, Err, sym, ap, ◌∙◌, subst}
 use Rattle.std.specs.Prelude.{IfOk}
 use Rattle.std.specs.Option.{option_map}

@@ -1,3 +1,4 @@
+-- A policy is found where effect, annotations, scope and clauses are, and lacks where one of the four does.
 use Rattle.std.proofs.Common.{Ok, Err, map}
 use Rattle.std.specs.Option.{option_map}
 use Rattle.cedar_grammar.specs.Converting.{effect, scope_syntax}
