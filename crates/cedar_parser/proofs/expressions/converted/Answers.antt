@@ -1,3 +1,4 @@
+-- Why no expression was made of the tree is what the first error tells, which else tells of memory.
 use Rattle.std.proofs.Common.{◌≡◌, subst}
 use Rattle.cedar_grammar.specs.Converting.{expr_tree}
 use Rattle.cedar_cst.specs.View.{shown_expr}

@@ -1,3 +1,4 @@
+-- Loose reading and conversion are the strict grammar: a text has one list of tokens, and wider limits keep its tree.
 use Rattle.cedar_cst.specs.View.{shown_expr}
 use Rattle.cedar_parser.proofs.Reading.{tree_unread, tree_read}
 use Rattle.cedar_parser.proofs.expressions.parse_expr_strict.Goals as goal

@@ -1,3 +1,4 @@
+-- A tree is no higher than a limit where its parts are no higher than the limit below it.
 use Rattle.std.proofs.Common.{◌≡◌, ◌∙◌, ◌+◌, ap, suc, rules, arith}
 use Rattle.std.specs.Prelude.{nat_le}
 use Rattle.cedar_language.specs.Height.{height}

@@ -1,3 +1,4 @@
+-- That a reference means no entity is told by the first error, which else tells of memory.
 use Rattle.cedar_grammar.specs.Converting.{ref_entity}
 use Rattle.cedar_cst.specs.LeafView.{shown_ref}
 use Rattle.cedar_conversion_leaves.specs.Reasons.{reason}

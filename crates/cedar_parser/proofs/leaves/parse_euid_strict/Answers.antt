@@ -1,3 +1,4 @@
+-- References of both grammars are the same entities, and a text has one list of tokens.
 use Rattle.cedar_cst.specs.LeafView.{shown_ref}
 use Rattle.cedar_parser.proofs.Reading.{uid_unread, uid_read}
 use Rattle.cedar_parser.proofs.leaves.parse_euid_strict.Goals as goal

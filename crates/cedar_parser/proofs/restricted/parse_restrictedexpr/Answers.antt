@@ -1,3 +1,4 @@
+-- The text has this tree alone: too high for the limit, kept as restricted, or refused for a part of it.
 use Rattle.std.proofs.Common.{rules, ◌≡◌, Err, ap, subst, sym}
 use Rattle.cedar_trees.specs.Bare.{bare}
 use Rattle.cedar_loose.specs.Errors.{cause_of}

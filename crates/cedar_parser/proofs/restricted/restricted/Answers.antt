@@ -1,3 +1,4 @@
+-- By the law of offences, a tree that the maker finds one in isn't restricted.
 use Rattle.cedar_trees.specs.Bare.{bare}
 use Rattle.cedar_parser.proofs.Bodies.{unrestricted}
 use Rattle.cedar_parser.proofs.restricted.restricted.Goals as goal

@@ -1,3 +1,4 @@
+-- That the policies of a tree mean nothing is told by the first error, which else tells of memory.
 use Rattle.std.proofs.Common.{option_map}
 use Rattle.cedar_grammar.specs.Converting.{policies_syntax}
 use Rattle.cedar_cst.specs.View.{shown_policies}

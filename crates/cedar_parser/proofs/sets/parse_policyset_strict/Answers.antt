@@ -1,3 +1,4 @@
+-- The policies that a loose tree is converted to are those of the strict grammar, which wider limits keep.
 use Rattle.cedar_cst.specs.View.{shown_policies}
 use Rattle.cedar_parser.proofs.Reading.{set_unread, set_read}
 use Rattle.cedar_parser.proofs.sets.parse_policyset_strict.Goals as goal

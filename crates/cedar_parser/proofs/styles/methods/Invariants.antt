@@ -1,3 +1,4 @@
+-- Only `unknown` is so named; the methods among the functions passed, and among those to come, are all.
 use Rattle.std.proofs.Common.{◌≡◌, ◌++◌, true}
 use Rattle.cedar_world.specs.Functions.{method_names}
 use Rattle.cedar_extensions.specs.Holding.{are_named}

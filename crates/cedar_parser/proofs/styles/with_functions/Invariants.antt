@@ -1,3 +1,4 @@
+-- Behind the given names stand those of the functions passed; with those to come they are all.
 use Rattle.std.proofs.Common.{◌≡◌, ◌++◌, true}
 use Rattle.cedar_world.specs.Functions.{function_names}
 use Rattle.cedar_extensions.specs.Holding.{are_named}
