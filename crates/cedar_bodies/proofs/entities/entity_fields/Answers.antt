@@ -1,3 +1,4 @@
+-- A body is written where the uid, the parents, the attributes and the tags are each found in the fields.
 use Rattle.cedar_bodies.specs.Lent.{fields_in}
 use Rattle.cedar_bodies.proofs.Wholes.{entity_from}
 use Rattle.cedar_bodies.proofs.entities.entity_fields.Goals as goal

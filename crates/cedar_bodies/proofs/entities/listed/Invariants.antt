@@ -1,3 +1,4 @@
+-- All items are read as the uids so far, and behind them what the items to come are read as.
 use Rattle.std.proofs.Common.{◌≡◌, map, drop}
 use Rattle.cedar_grammar.specs.Build.{trees}
 use Rattle.cedar_trees.specs.Bare.{bare}

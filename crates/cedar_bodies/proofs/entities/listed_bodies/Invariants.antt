@@ -1,3 +1,4 @@
+-- What all items are read as begins with the bodies so far and goes on with those of the items to come.
 use Rattle.std.proofs.Common.{◌≡◌, map, drop}
 use Rattle.cedar_grammar.specs.Build.{trees}
 use Rattle.cedar_trees.specs.Bare.{bare}

@@ -1,3 +1,4 @@
+-- One tree that errs makes all err, one with an unknown leaves all open, and else each value has its key.
 use Rattle.std.proofs.Common.{◌||◌, ap}
 use Rattle.std.proofs.lemmas.Result.{err_from_is_err_and}
 use Rattle.cedar_bodies.proofs.Entries.{stops, goes_on, ended, found, waits}

@@ -1,3 +1,4 @@
+-- The map's look-up and the search among fields come to the same tree, entry by entry.
 use Rattle.cedar_bodies.proofs.Keyed.{found_at}
 use Rattle.cedar_bodies.proofs.fields.field.Goals as goal
 

@@ -1,3 +1,4 @@
+-- Every key that was passed is allowed, so those to come decide.
 use Rattle.std.proofs.Common.{◌≡◌, map}
 use Rattle.cedar_trees.specs.Bare.{bare_entries}
 use Rattle.cedar_world.specs.Bodies as world

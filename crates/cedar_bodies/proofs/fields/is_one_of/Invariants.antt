@@ -1,3 +1,4 @@
+-- No key that was passed is the one sought, so those to come decide.
 use Rattle.std.proofs.Common.{◌≡◌, map, drop}
 use Rattle.cedar_world.specs.Bodies as world
 use Rattle.cedar_bodies.proofs.fields.is_one_of.Given as goal

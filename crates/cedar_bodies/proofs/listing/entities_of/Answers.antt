@@ -1,3 +1,4 @@
+-- What errs, is open or is made of all bodies is that of the bodies so far, joined with that of the rest.
 use Rattle.std.proofs.Common.{◌≡◌, ◌+◌, ◌++◌, [], ◌∷◌, ap, map, drop, rules}
 use Rattle.std.proofs.lemmas.List.{drop_all}
 use Rattle.std.proofs.lemmas.Result.{err_from_is_err_and}

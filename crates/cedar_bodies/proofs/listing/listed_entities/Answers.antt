@@ -1,3 +1,4 @@
+-- The world reads the bodies that are written, unknowns named; its answer is what all of them are made to.
 use Rattle.std.proofs.Common.{Ok, Err, Option, List, map, subst}
 use Rattle.std.specs.Global.{Vec}
 use Rattle.std.proofs.lemmas.Result.{err_from_is_err_and}

@@ -1,3 +1,4 @@
+-- The tree of a record is made of the keys and trees of its map, which are its fields again.
 use Rattle.cedar_bodies.proofs.Keyed.{record_fields, record_is}
 use Rattle.cedar_bodies.proofs.literals.entries_of.Goals as goal
 

@@ -1,3 +1,4 @@
+-- An entity is open where its attributes or its tags are, and else shows the version that its body is.
 use Rattle.cedar_bodies.specs.Entities.{written_of}
 use Rattle.cedar_bodies.proofs.Versions as versions
 use Rattle.cedar_bodies.proofs.making.entity_of.Goals as goal

@@ -1,3 +1,4 @@
+-- A uid is listed where it is in the set, or is still to be put there.
 use Rattle.std.proofs.lemmas.List.{drop_all}
 use Rattle.cedar_bodies.proofs.Sets.{put_next, all_put}
 use Rattle.cedar_bodies.proofs.making.set_of.Goals as goal

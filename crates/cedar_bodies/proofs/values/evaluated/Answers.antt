@@ -1,3 +1,4 @@
+-- What is answered of a restricted tree says which value it has, that an unknown is in it, or what errs.
 use Rattle.std.proofs.Common.{Ok, Err, subst}
 use Rattle.cedar_trees.specs.Bare.{bare}
 use Rattle.cedar_restricted_evaluation.specs.Evaluations as evaluation

@@ -1,3 +1,4 @@
+-- Restricted trees are made of such trees by sets, records and calls, and are answered by their parts.
 use Rattle.cedar_bodies.proofs.Reading as reading
 use Rattle.cedar_bodies.proofs.version_laws.trees_are_read.Goals as goal
 
