@@ -1,3 +1,4 @@
+-- Refusals are tried in the order of the world's cases; where none stands, the link is bound under its own id.
 use Rattle.std.proofs.Common.{sym, subst, Err}
 use Rattle.std.proofs.lemmas.Result.{err_from_is_err_and}
 use Rattle.cedar_bodies.specs.Links.{link_of}

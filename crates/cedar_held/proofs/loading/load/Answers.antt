@@ -1,3 +1,4 @@
+-- Sets joined by a renaming are what the world's load leaves, and the policies of a text name no unknown.
 use Rattle.std.proofs.Common.{◌<◌, ◌^◌, subst}
 use Rattle.cedar_held.proofs.Loaded.{loaded, loaded_held}
 use Rattle.cedar_held.proofs.loading.load.Goals as goal

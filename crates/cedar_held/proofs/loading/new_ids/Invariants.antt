@@ -1,3 +1,4 @@
+-- The ids so far, and the new ones of the policies to come, are the new ids of all.
 use Rattle.std.proofs.Common.{◌≡◌, ◌++◌, map}
 use Rattle.std.specs.Map.{keys_of}
 use Rattle.cedar_merging.specs.Renaming.{new_id}

@@ -1,3 +1,4 @@
+-- What is bound and isn't removed is no static policy, in the world as in the set.
 use Rattle.std.proofs.Common.{◌∙◌, sym, subst, Err}
 use Rattle.std.specs.Rc.{rc_str_bytes}
 use Rattle.cedar_policy_set.specs.Worlds.{policies_in}

@@ -1,3 +1,4 @@
+-- What the set binds to the id the world does, and a link that names the template is one there too.
 use Rattle.std.proofs.Common.{◌∙◌, sym, subst, Ok, Err}
 use Rattle.std.specs.Rc.{rc_str_bytes}
 use Rattle.cedar_templates.specs.Templates.{syntax_of}

@@ -1,3 +1,4 @@
+-- Listed versions keep parents alone, so that adding them to a closed copy is adding them in the world.
 use Rattle.std.proofs.Common.{Ok, Err, refl}
 use Rattle.cedar_held.proofs.EditedStores.{adds, add_refused}
 use Rattle.cedar_held.proofs.stores.with_added.Goals as goal

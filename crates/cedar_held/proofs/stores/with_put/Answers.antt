@@ -1,3 +1,4 @@
+-- A put to a copy is the world's put to what the store shows, and is refused for the world's cycles.
 use Rattle.std.proofs.Common.{Ok, Err, refl}
 use Rattle.cedar_held.proofs.EditedStores.{puts, put_refused}
 use Rattle.cedar_held.proofs.stores.with_put.Goals as goal

@@ -1,3 +1,4 @@
+-- A copy shows what the store shows, so a removal from it is the world's, which memory alone can refuse.
 use Rattle.std.proofs.Common.{Ok, refl}
 use Rattle.std.specs.FinSet as set
 use Rattle.cedar_held.proofs.EditedStores.{removes, copy_closed, remove_refused}

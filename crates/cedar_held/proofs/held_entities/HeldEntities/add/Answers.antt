@@ -1,3 +1,4 @@
+-- As `put` does, by the world's addition, which may also be refused for a duplicate.
 use Rattle.std.proofs.lemmas.Result.{err_from_is_err_and}
 use Rattle.cedar_restricted.specs.Views.{borrowed_tree}
 use Rattle.cedar_held.proofs.EditedBodies.{shows_as, left_shown, left_built, add_unread, add_refused, add_done}

@@ -1,3 +1,4 @@
+-- Where a store finds nothing it shows no entities, and no value stands there that would have to be built.
 use Rattle.std.specs.FinMap as finite
 use Rattle.cedar_entities.specs.Store.{held_at}
 use Rattle.cedar_held.specs.HoldingEntities.{shown_is_one}

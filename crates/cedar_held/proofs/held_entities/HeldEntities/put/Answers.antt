@@ -1,3 +1,4 @@
+-- The store left is that of the world's put; what it holds was held or listed, and either was built.
 use Rattle.std.proofs.lemmas.Result.{err_from_is_err_and}
 use Rattle.cedar_restricted.specs.Views.{borrowed_tree}
 use Rattle.cedar_held.proofs.EditedBodies.{shows_as, left_shown, left_built, put_unread, put_refused, put_done}

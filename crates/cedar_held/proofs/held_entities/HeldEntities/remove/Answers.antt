@@ -1,3 +1,4 @@
+-- The uids that the body lists, as a set, go from the store as from the world; what stays was built.
 use Rattle.std.proofs.Common.{◌∙◌, sym, ap}
 use Rattle.std.specs.FinSet as set
 use Rattle.std.proofs.lemmas.Result.{err_from_is_err_and}

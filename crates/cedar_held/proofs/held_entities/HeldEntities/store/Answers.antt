@@ -1,3 +1,4 @@
+-- The entities that the store shows are built, which its invariant keeps.
 use Rattle.cedar_held.proofs.EditedBodies.{shows_as}
 use Rattle.cedar_held.proofs.held_entities.HeldEntities.store.Goals as goal
 
