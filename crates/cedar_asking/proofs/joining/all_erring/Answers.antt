@@ -1,3 +1,4 @@
+-- Of two lists in turn the first entry of an id is kept, so what erred before keeps its kind.
 use Rattle.std.proofs.Common.{◌∙◌, ◌++◌, ap}
 use Rattle.std.proofs.lemmas.Result.{IfOk-weaker}
 use Rattle.cedar_asking.proofs.JoinedIds.{first_kept}

@@ -1,3 +1,4 @@
+-- The members of a set rise, so that a binary search finds each of them, and nothing else.
 use Rattle.std.proofs.Common.{◌∙◌}
 use Rattle.cedar_asking.proofs.JoinedIds.{found}
 use Rattle.cedar_asking.proofs.joining.has.Goals as goal

@@ -1,3 +1,4 @@
+-- Ids that are chosen of a set by a test are its members that pass it: here that a policy may be, or must be.
 use Rattle.std.proofs.Common.{◌∙◌, ◌||◌, ap}
 use Rattle.std.proofs.lemmas.List.{take_all}
 use Rattle.std.specs.List.{filter}

@@ -1,3 +1,4 @@
+-- As `may_ids` does, by the test that the policy had to be a reason, or has to now.
 use Rattle.std.proofs.Common.{◌∙◌, ◌||◌, ap}
 use Rattle.std.proofs.lemmas.List.{take_all}
 use Rattle.std.specs.List.{filter}

@@ -1,3 +1,4 @@
+-- What was there at first is followed by the entries that were passed.
 use Rattle.std.proofs.Common.{◌≡◌, ◌++◌, take}
 use Rattle.cedar_asking.proofs.joining.push_all.Given as goal
 

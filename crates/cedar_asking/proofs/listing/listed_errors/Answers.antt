@@ -1,3 +1,4 @@
+-- Why one error can't be listed is why the list can't: a limit that was met, or memory.
 use Rattle.std.proofs.lemmas.Result.{err_from_is_err_and}
 use Rattle.cedar_asking.proofs.Listed.{stops}
 use Rattle.cedar_asking.proofs.listing.listed_errors.Goals as goal

@@ -1,3 +1,4 @@
+-- Each value that was passed is of its unknown's kind, so the values to come decide.
 use Rattle.std.proofs.Common.{◌≡◌}
 use Rattle.cedar_entities.specs.Attributes.{seen_entries}
 use Rattle.cedar_bodies.specs.Questions.{question_of}

@@ -1,3 +1,4 @@
+-- The map has a key exactly where a value is told at that name.
 use Rattle.std.proofs.Common.{◌∙◌, ap, sym, is_some}
 use Rattle.cedar_asking.proofs.TellParts.{told_at}
 use Rattle.cedar_asking.proofs.telling.is_told.Goals as goal

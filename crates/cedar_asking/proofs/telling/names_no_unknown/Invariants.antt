@@ -1,3 +1,4 @@
+-- Each name that was passed is an unknown of the question, so the names to come decide.
 use Rattle.std.proofs.Common.{◌≡◌, not}
 use Rattle.cedar_trees.specs.Bare.{bare_entries}
 use Rattle.cedar_world.specs.Question.{is_unknown}

@@ -1,3 +1,4 @@
+-- No name that was passed was told before, so the names to come decide.
 use Rattle.std.proofs.Common.{◌≡◌, is_some}
 use Rattle.std.specs.FinMap as finite
 use Rattle.cedar_trees.specs.Bare.{bare_entries}

@@ -1,3 +1,4 @@
+-- What is inserted is found at its name, and at every other name what was there before.
 use Rattle.std.proofs.Common.{ap}
 use Rattle.either.specs.declared.Either.TheVariants.{Left}
 use Rattle.cedar_restricted.specs.PartialValues.{partial_of}

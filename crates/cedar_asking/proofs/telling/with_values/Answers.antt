@@ -1,3 +1,4 @@
+-- A copy tells the same, and the last value that is left is the next one that the world puts in.
 use Rattle.std.proofs.Common.{sym, ap}
 use Rattle.cedar_entities.specs.Attributes.{seen_entries}
 use Rattle.cedar_world.specs.Asking.{Told}

@@ -1,3 +1,4 @@
+-- A name stands in a record where it stands in the tree of one of its entries.
 use Rattle.std.proofs.Common.{◌∙◌, ap, sym, BTreeMap, Global}
 use Rattle.std.specs.declared.rc.RcStr.{RcStr}
 use Rattle.cedar_trees.specs.declared.expr.Expr.{Expr}

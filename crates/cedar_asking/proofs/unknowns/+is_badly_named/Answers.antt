@@ -1,3 +1,4 @@
+-- What is badly named in a record is so in a tree that stands beside one of its keys.
 use Rattle.std.proofs.Common.{◌∙◌, ap, sym, BTreeMap, Global}
 use Rattle.std.specs.declared.rc.RcStr.{RcStr}
 use Rattle.cedar_trees.specs.declared.expr.Expr.{Expr}

@@ -1,3 +1,4 @@
+-- Texts are equal exactly where their order ties them.
 use Rattle.std.proofs.Common.{◌∙◌}
 use Rattle.std.specs.Cmp.Lexicographic.{texts_ties}
 use Rattle.cedar_asking.proofs.unknowns.is_same.Goals as goal

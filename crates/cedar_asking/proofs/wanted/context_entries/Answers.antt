@@ -1,3 +1,4 @@
+-- A record that is restricted has restricted entries alone.
 use Rattle.std.proofs.Common.{subst}
 use Rattle.cedar_trees.specs.Bare.{bare}
 use Rattle.cedar_asking.specs.TellSteps.{IsGivenRestricted}

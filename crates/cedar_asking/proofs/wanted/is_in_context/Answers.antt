@@ -1,3 +1,4 @@
+-- The same names stand in a restricted tree as it is written and once its calls of `unknown` are named.
 use Rattle.std.proofs.Common.{◌∙◌, ap}
 use Rattle.cedar_world.specs.Asking.{Entries}
 use Rattle.cedar_world.specs.Orders.{text_eq}
