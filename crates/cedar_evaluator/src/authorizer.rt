@@ -1,4 +1,6 @@
-// The authorizer.
+//! The authorizer: what answers requests by the policies of a set and the entities of a store. Begin with
+//! `Authorizer::new`, and then `is_authorized`, or `is_authorized_core` where parts of the request may be
+//! unknown.
 ghost use Rattle.std.specs.Prelude.{◌≡◌, IfOk};
 ghost use Rattle.cedar_interpreter.specs.Asking.{untold};
 ghost use Rattle.cedar_requests.specs.Holding.{request_parts};

@@ -1,4 +1,5 @@
-// Errors of policies, and of telling values for unknowns.
+//! Errors of policies, which responses tell as `AuthorizationError`s; and why no response is made of one to which
+//! values are told for unknowns. Begin with `ReauthorizationError`, which `reauthorize` gives.
 use cedar_extensions::evaluation_error::EvaluationError;
 use cedar_literals::uids::EntityType;
 use cedar_policy_parts::PolicyID;

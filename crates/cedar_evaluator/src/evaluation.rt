@@ -1,4 +1,5 @@
-// Policies evaluated for a request.
+//! One policy evaluated for a request: by `EvaluatePolicy` an `Evaluator` says whether it is satisfied, or what
+//! is left of its condition. All policies of a set together are an `Authorizer`'s to evaluate.
 ghost use Rattle.std.specs.Prelude.{◌≡◌, ◌<◌, ⊤, ℕ};
 ghost use Rattle.cedar_language.specs.Facts.{Facts};
 ghost use Rattle.cedar_language.specs.Value.{Outcome};

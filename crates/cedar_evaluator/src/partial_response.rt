@@ -1,4 +1,6 @@
-// Responses to requests of which parts may be unknown.
+//! Responses to requests of which parts may be unknown. Begin with `PartialResponse`: what is found of the
+//! policies, in groups, and what is decided and by which of them; once values are told, `reauthorize` takes
+//! it up again.
 ghost use Rattle.std.specs.Prelude.{◌≡◌, ◌++◌, ◌||◌, IfOk, OnOk, option_map};
 ghost use Rattle.std.specs.Map.{keys_of};
 ghost use Rattle.cedar_language.specs.Answering.{decision, decision_by, in_must, in_may};

@@ -1,4 +1,5 @@
-// The policies of a response, by what was found of them.
+//! The policies of a `PartialResponse`, by what was found of them, each as what is left of it: `true` where it is
+//! satisfied, and `false` where it isn't or erred. Begin with `all_residuals`, or with `get` for one policy.
 ghost use Rattle.std.specs.Prelude.{◌≡◌, true, false, ◌++◌, map, IfOk, OnOk};
 ghost use Rattle.std.specs.Map.{keys_of, lookup};
 ghost use Rattle.std.specs.Map.Iter.{deref};

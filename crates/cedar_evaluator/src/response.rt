@@ -1,4 +1,6 @@
-// Responses to requests of which nothing more will be told.
+//! Responses to requests of which nothing more will be told. Begin with `Response`, the decision and, in its
+//! `Diagnostics`, the reasons and errors: `Authorizer::is_authorized` gives it, and `PartialResponse::concretize`
+//! makes it of what is found so far.
 ghost use Rattle.std.specs.Prelude.{◌≡◌, ◌++◌, map, IfOk, OnOk};
 ghost use Rattle.std.specs.Map.{keys_of};
 ghost use Rattle.cedar_language.specs.Answering.{known_decision, in_must};

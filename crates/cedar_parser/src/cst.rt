@@ -1,4 +1,5 @@
-// The trees of the loose syntax.
+//! The trees of the loose syntax, which `text_to_cst` reads and `cst_to_ast` converts. Begin with `Policies` or
+//! `Expr`; each part of a tree stands in a `Node`, which has its place, and in which it may be missing.
 
 pub use cedar_cst::cst::{
     Add, AddOp, And, Annotation, Cond, Expr, ExprData, ExprImpl, Ident, Literal, MemAccess, Member,

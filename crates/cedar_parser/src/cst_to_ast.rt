@@ -1,4 +1,6 @@
-// The conversion of loose trees.
+//! The conversion of loose trees to what they write, or to the faults of those that mean nothing. Begin with
+//! `to_policyset` for a whole text, with `to_policy_or_template` for one policy, or with `to_expr` for an
+//! expression, which any builder builds; the others convert parts of these.
 
 pub use cedar_conversion::to_expr;
 pub use cedar_conversion_leaves::{

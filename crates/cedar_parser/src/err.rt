@@ -1,4 +1,6 @@
-// Why a text is refused.
+//! Why a text is refused. Begin with `ParseErrors`, which calls on texts give: at least one `ParseError`, which
+//! says whether the text is outside the loose grammar (`ToCSTError`), means nothing (`ToASTError`), is nested
+//! too deep, or met want of memory; the conversion of a tree alone gives a `ConversionError`.
 
 pub use crate::literals::LiteralParseError;
 pub use crate::restricted::RestrictedExpressionParseError;

@@ -1,4 +1,5 @@
-// Texts that are read by the strict grammar.
+//! Texts that are read by the strict grammar: each call reads a whole text and gives what it writes, or why it
+//! is refused. Begin with `parse_policyset_strict` for policies, or with `parse_expr_strict` for an expression.
 
 pub use crate::expressions::parse_expr_strict;
 pub use crate::leaves::parse_euid_strict;
