@@ -42,7 +42,8 @@ impl Model for HeldEntities {
 }
 
 impl HeldEntities {
-    /// No entities.
+    /// No entities: nothing is held at any uid. Takes no memory. A session begins with these, and `add` and
+    /// `put` bring others.
     pub fn new(alloc: Global) -> HeldEntities
         ensures { result ≡ finite.empty }
     {
