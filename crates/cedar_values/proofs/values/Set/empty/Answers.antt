@@ -1,5 +1,4 @@
 -- A list without members rises.
-use Rattle.std.proofs.Common.{}
 use Rattle.std.specs.List.Sorted.{IsStrictlySortedBy}
 use Rattle.cedar_values.proofs.values.Set.empty.Goals as goal
 
