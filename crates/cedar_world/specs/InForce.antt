@@ -1,16 +1,20 @@
 -- Answers read nothing of a world's policies but what is in force.
-use Rattle.std.specs.Prelude.{◌≡◌, ◌↔◌, true, Some, List, All, Contains}
+use Rattle.std.specs.Prelude.{◌≡◌, ◌↔◌, true, Some, List, [], ◌∷◌, All, Contains}
 use Rattle.std.specs.FinMap as map
 use Rattle.std.specs.FinMap.Entries.{find}
 use Rattle.cedar_language.specs.Uid.{Text}
 use Rattle.cedar_language.specs.Facts.{Facts}
 use Rattle.cedar_language.specs.Authorization.{Known}
+use Rattle.cedar_grammar.specs.Token.{Token}
+use Rattle.cedar_grammar.specs.Tokens.{IsTokens}
+use Rattle.cedar_grammar.specs.Policies.{IsWrittenLink}
 use Rattle.cedar_world.specs.Orders.{text_cmp}
 use Rattle.cedar_world.specs.Answer.{Answer}
-use Rattle.cedar_world.specs.Syntax.{PolicySyntax, Bindings, linked}
+use Rattle.cedar_world.specs.Functions.{policy_names}
+use Rattle.cedar_world.specs.Syntax.{PolicySyntax, Bindings, binding_of, linked}
 use Rattle.cedar_world.specs.World.{World, Asked, Policy, Link, Policies, template_at, in_force, in_force_at}
 use Rattle.cedar_world.specs.Asking.{Question, Told}
-use Rattle.cedar_world.specs.Setting.{Setting}
+use Rattle.cedar_world.specs.Setting.{Setting, ArePolicies}
 use Rattle.cedar_world.specs.Answers.{known_answer}
 use Rattle.cedar_world.specs.Refusals.{binds_exactly}
 use Rattle.cedar_world.specs.Step.{IsFirstAnswer, IsLaterAnswer}
@@ -44,3 +48,11 @@ LinksAreAnsweredAsWritten =
     (by : Setting) (world : World) (id template : Text) (b : Bindings) (s : PolicySyntax)
     → map.get world.policies id ≡ Some (Link template b) → template_at world.policies template ≡ Some s → binds_exactly b s ≡ true
     → AnswerAlike by world (record world { policies = map.insert world.policies id (Policy (linked b s)) })
+
+-- Any text that writes a link, its template's tokens with some spelling of the bound entity in the place of each slot, is read as one policy, and the link is answered as that policy.
+abbrev pub WrittenLinksAreAnswered : Type 0
+WrittenLinksAreAnswered =
+    (by : Setting) (world : World) (id template : Text) (b : Bindings) (s : PolicySyntax)
+    → map.get world.policies id ≡ Some (Link template b) → template_at world.policies template ≡ Some s → binds_exactly b s ≡ true
+    → (text : Text) (tokens : List Token) → IsTokens text tokens → IsWrittenLink (policy_names by.functions) s (binding_of b) tokens
+    → (p : PolicySyntax) × ArePolicies by text (p ∷ []) × AnswerAlike by world (record world { policies = map.insert world.policies id (Policy p) })
