@@ -22,7 +22,7 @@ use Rattle.cedar_policy_set.specs.Entries.{Entry, static_policy, template, link,
 use Rattle.cedar_policy_set.specs.EntryNodes.{same_entry, entries_decide}
 use Rattle.cedar_policy_set.specs.Worlds.{world_bound, policies_in}
 use Rattle.cedar_policy_set.proofs.Distinct.{distinct_apart}
-use Rattle.cedar_policy_set.proofs.Finding.{same_id, id_itself, none_from, or_right, found_first}
+use Rattle.cedar_policy_set.proofs.Finding.{id_apart, same_id, id_itself, none_from, or_right, found_first}
 use Rattle.cedar_policy_set.proofs.WorldLaws.{ties_are, finds_as_worlds, binds_as_worlds}
 use Rattle.cedar_merging.specs.Renaming as merging
 use Rattle.cedar_merging.specs.Renaming.{NewIds, is_taken, conflicts, conflicting, Numbers, IsRenaming, new_id, renamed}
@@ -31,7 +31,7 @@ use Rattle.cedar_policy_set.specs.Texts.{text_entry, text_entries, HaveSlots}
 use Rattle.cedar_merging.specs.Loading.{LoadsAsWorlds}
 use Rattle.cedar_merging.proofs.Joins.{member_of_filter}
 use Rattle.cedar_merging.proofs.Keeps.{false_unless, not_false, or_none, not_renamed}
-use Rattle.cedar_merging.proofs.Numbers.{id_apart, numbered_injective}
+use Rattle.cedar_merging.proofs.Numbers.{numbered_injective}
 use Rattle.cedar_merging.proofs.RenamingLaws.{numbers_keys}
 use Rattle.cedar_merging.proofs.Texts.{number_in_text, text_has_number, text_bound, text_renamed, text_is_whole}
 use Rattle.cedar_merging.proofs.Wholes.{all_of, whole_joined}

@@ -11,16 +11,9 @@ use Rattle.cedar_language.specs.Uid.{Text}
 use Rattle.cedar_language.specs.Order.{same_text}
 use Rattle.cedar_world.specs.PolicyEdits.{numbered}
 use Rattle.cedar_policy_set.specs.Entries.{Entries}
-use Rattle.cedar_policy_set.proofs.Finding.{same_id}
+use Rattle.cedar_policy_set.proofs.Finding.{same_id, id_apart}
 use Rattle.cedar_merging.specs.Renaming.{is_taken}
 use Rattle.cedar_merging.specs.Room.{HasRoom}
-
-pub id_apart : (a b : Text) → (a ≡ b → ⊥) → same_text a b ≡ false
-id_apart a b n = by (same_text a b) refl
-  where
-    by : (r : Bool) → same_text a b ≡ r → same_text a b ≡ false
-    by true e = absurd (n (same_id a b e))
-    by false e = e
 
 pub numbered_injective : (m n : ℕ) → m < 2 ^ 64 → n < 2 ^ 64 → numbered m ≡ numbered n → m ≡ n
 numbered_injective m n hm hn e = decimal_injective m n hm hn (append_cancel_left (codes "policy") (decimal m) (decimal n) e)

@@ -9,9 +9,9 @@ use Rattle.cedar_language.specs.Uid.{Text}
 use Rattle.cedar_language.specs.Order.{same_text}
 use Rattle.cedar_world.specs.PolicyEdits.{numbered}
 use Rattle.cedar_policy_set.specs.Entries.{Entry, Entries, is_bound}
-use Rattle.cedar_policy_set.proofs.Finding.{same_id, or_right}
+use Rattle.cedar_policy_set.proofs.Finding.{same_id, id_apart, or_right}
 use Rattle.cedar_merging.specs.Renaming.{NewIds, is_taken, conflicting, Numbers, IsRenaming, IsNextFree, new_id}
-use Rattle.cedar_merging.proofs.Numbers.{id_apart, numbered_injective}
+use Rattle.cedar_merging.proofs.Numbers.{numbered_injective}
 
 -- x is a numbered id from `from` on that is free
 pub record IsFreeNumber (mine theirs : Entries) (from : ℕ) (x : Text) : Type 0 where

@@ -9,6 +9,7 @@ ghost use Rattle.cedar_merging.specs.Room.{HasRoom};
 
 use cedar_policy_parts::PolicyID;
 use cedar_policy_set::bounds::Bound;
+use cedar_policy_set::numbers::numbered_id;
 use cedar_policy_set::sets::PolicySet;
 use indexmap::IndexMap;
 use std::alloc::{AllocError, Global};
@@ -63,21 +64,15 @@ fn next_free(
     ensures id { IfOk result (λ found. found.1 ≡ numbered found.0) }
     ensures below { IfOk result (λ found. found.0 < 2 ^ 64 - 1) }
 {
-    for number in from..u64::MAX {
-        let id = numbered(alloc, number)?;
+    let mut number = mine.skip_bound(from);
+    while number < u64::MAX {
+        let id = numbered_id(alloc, number)?;
         if !mine.is_bound(&id) && !theirs.is_bound(&id) {
             return Ok((number, id));
         }
+        number = mine.skip_bound(number + 1);
     }
     unreachable!()
-}
-
-// The id of this number.
-fn numbered(alloc: Global, number: u64) -> Result<PolicyID, AllocError>
-    ensures { IfOk result (λ id. id ≡ numbered number) }
-{
-    let text = format!(in alloc; "policy{number}")?;
-    PolicyID::from_string(alloc, text.as_str())
 }
 
 // Gives a new id to one that has none yet.

@@ -1,5 +1,5 @@
 -- What the edits of the map do to what contracts see of it.
-use Rattle.std.proofs.Common.{◌≡◌, Bool, true, false, List, [], ◌∷◌, ◌++◌, map, refl, sym, ap, subst, ◌∙◌, Option, None, Some, is_some}
+use Rattle.std.proofs.Common.{◌≡◌, ◌≢◌, ℕ, Bool, true, false, List, [], ◌∷◌, ◌++◌, map, refl, sym, ap, subst, ◌∙◌, Option, None, Some, is_some}
 use Rattle.std.specs.List.{IsDistinct}
 use Rattle.std.specs.Option.{option_map}
 use Rattle.std.specs.Map.{lookup, keys_of, remove_entry}
@@ -9,10 +9,14 @@ use Rattle.indexmap.proofs.MapLemmas.{absent_from_lookup, insert_entry-absent}
 use Rattle.cedar_language.specs.Uid.{Text}
 use Rattle.cedar_language.specs.Order.{same_text}
 use Rattle.cedar_grammar.specs.Policy.{Policy}
+use Rattle.cedar_world.specs.PolicyEdits.{numbered}
 use Rattle.cedar_policy_set.specs.Entries.{Entry, template, Entries, bound_at, without, HasItsTemplate, IsFull, IsWhole, has_links}
 use Rattle.cedar_policy_set.specs.declared.bounds.Bound.{Bound}
 use Rattle.cedar_policy_set.specs.Bounds.{entry_of, bound_id, entries_of, IsNamed, IsSound}
+use Rattle.cedar_policy_set.specs.Numbers.{Counts, AreBound}
+use Rattle.cedar_policy_set.specs.declared.numbers.Numbers.{Numbers}
 use Rattle.cedar_policy_set.proofs.Appending.{insert_all_apart}
+use Rattle.cedar_policy_set.proofs.Counting.{counts_more, counts_without}
 use Rattle.cedar_policy_set.proofs.Views.{named_push, named_append, named_without, found_entry, keys_of_entries, entries_append, entries_without}
 use Rattle.cedar_policy_set.proofs.Wholes.{empty_is_whole, whole_push, whole_without}
 
@@ -38,6 +42,9 @@ module _ (es new : List (Text × Bound)) (seen : Entries) (view : entries_of es 
     pub bind_is : entries_of new ≡ seen ++ (id, entry_of b) ∷ []
     bind_is = ap entries_of pushed ∙ entries_append es ((id, b) ∷ []) ∙ ap (λ xs. xs ++ (id, entry_of b) ∷ []) view
 
+    pub counts_bind : (n : Numbers) → AreBound (entries_of es) n → AreBound (entries_of new) n
+    counts_bind n h = subst (λ xs. AreBound xs n) (sym bind_is) (counts_more seen ((id, entry_of b) ∷ []) n (subst (λ xs. AreBound xs n) view h))
+
     pub sound_bind : bound_id b ≡ id → HasItsTemplate seen (entry_of b) → IsFull (entry_of b) → IsSound new
     sound_bind named its full =
         record {
@@ -59,6 +66,9 @@ module _ (es new : List (Text × Bound)) (seen : Entries) (view : entries_of es 
     pub append_is : entries_of new ≡ seen ++ entries_of more
     append_is = ap entries_of joined_is ∙ appended_is
 
+    pub counts_append : (n : Numbers) → AreBound (entries_of es) n → AreBound (entries_of new) n
+    counts_append n h = subst (λ xs. AreBound xs n) (sym append_is) (counts_more seen (entries_of more) n (subst (λ xs. AreBound xs n) view h))
+
     pub sound_append : IsNamed more → IsSound new
     sound_append named =
         record {
@@ -70,6 +80,9 @@ module _ (es new : List (Text × Bound)) (seen : Entries) (view : entries_of es 
   module _ (id : Text) (is : new ≡ remove_entry (same_text id) es) where
     pub without_is : entries_of new ≡ without id seen
     without_is = ap entries_of is ∙ entries_without id es ∙ ap (without id) view
+
+    pub counts_gone : (old n : Numbers) → ((k : ℕ) → Counts n k → (id ≢ numbered k) × Counts old k) → AreBound (entries_of es) old → AreBound (entries_of new) n
+    counts_gone old n others h = subst (λ xs. AreBound xs n) (sym (ap entries_of is ∙ entries_without id es)) (counts_without (entries_of es) id old n sound.whole others h)
 
     pub sound_without : IsDistinct same_text (keys_of new) → ((s : Policy) → bound_at seen id ≡ Some (template s) → has_links seen id ≡ false) → IsSound new
     sound_without distinct unlinked =

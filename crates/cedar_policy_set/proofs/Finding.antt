@@ -13,6 +13,13 @@ same_id a b = (bytes_decides a b).0
 pub id_itself : (a : Text) → same_text a a ≡ true
 id_itself a = (bytes_decides a a).1 refl
 
+pub id_apart : (a b : Text) → (a ≡ b → ⊥) → same_text a b ≡ false
+id_apart a b n = by (same_text a b) refl
+  where
+    by : (r : Bool) → same_text a b ≡ r → same_text a b ≡ false
+    by true e = absurd (n (same_id a b e))
+    by false e = e
+
 pub none_from : {A : Type 0} (o : Option A) → is_some o ≡ false → o ≡ None
 none_from None e = refl
 none_from (Some x) e = absurd (true≢false e)

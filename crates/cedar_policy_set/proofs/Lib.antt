@@ -1,5 +1,6 @@
 pub mod Additions
 pub mod Appending
+pub mod Counting
 pub mod Distinct
 pub mod Edits
 pub mod Finding

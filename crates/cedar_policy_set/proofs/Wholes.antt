@@ -47,12 +47,13 @@ module _ (es : Entries) (id : Text) (e : Entry) (free : bound_at es id ≡ None)
         full = pushed_by IsFull whole.full full;
       }
 
-module _ (es : Entries) (id : Text) (whole : IsWhole es) (unlinked : (s : Policy) → bound_at es id ≡ Some (template s) → has_links es id ≡ false) where
-  found_without : (k : Text) → bound_at (without id es) k ≡ cond (same_text id k) None (bound_at es k)
-  found_without k = lookup-remove_entry nat_list_eq_equiv (same_text id) (λ x y h. ap (λ i. same_text i y) (same_id id x h)) k es whole.distinct
+-- what is found once an id is taken away
+pub found_without : (es : Entries) (id : Text) → IsWhole es → (k : Text) → bound_at (without id es) k ≡ cond (same_text id k) None (bound_at es k)
+found_without es id whole k = lookup-remove_entry nat_list_eq_equiv (same_text id) (λ x y h. ap (λ i. same_text i y) (same_id id x h)) k es whole.distinct
 
+module _ (es : Entries) (id : Text) (whole : IsWhole es) (unlinked : (s : Policy) → bound_at es id ≡ Some (template s) → has_links es id ≡ false) where
   still_bound : (k : Text) (e : Entry) → bound_at (without id es) k ≡ Some e → bound_at es k ≡ Some e
-  still_bound k e h = by (same_text id k) (sym (found_without k) ∙ h)
+  still_bound k e h = by (same_text id k) (sym (found_without es id whole k) ∙ h)
     where
       by : (c : Bool) → cond c None (bound_at es k) ≡ Some e → bound_at es k ≡ Some e
       by true g = absurd (some_apart e None refl g)
@@ -62,7 +63,7 @@ module _ (es : Entries) (id : Text) (whole : IsWhole es) (unlinked : (s : Policy
   still_has : (k : Text) (e : Entry) → bound_at es k ≡ Some e → HasItsTemplate es e → HasItsTemplate (without id es) e
   still_has k (static_policy s) h its = tt
   still_has k (template s) h its = tt
-  still_has k (link t s b) h its = found_without t ∙ by (same_text id t) refl
+  still_has k (link t s b) h its = found_without es id whole t ∙ by (same_text id t) refl
     where
       by : (c : Bool) → same_text id t ≡ c → cond c None (bound_at es t) ≡ Some (template s)
       by false g = its

@@ -1,6 +1,7 @@
 pub mod Entries
 pub mod EntryNodes
 pub mod Bounds
+pub mod Numbers
 pub mod SameSets
 pub mod Refused
 pub mod Validated

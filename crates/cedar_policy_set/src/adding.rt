@@ -74,10 +74,10 @@ impl PolicySet {
         let _count = self.len();
         if self.lacks_template(&policy) {
             let more = with_its_template(alloc, policy)?;
-            return self.append(more);
+            return self.bind_all(more);
         }
         let more = alone(alloc, policy)?;
-        self.append(more)
+        self.bind_all(more)
     }
 
     /// The set of this policy alone, a link after its template; refused where a link has the id of its

@@ -8,6 +8,7 @@ pub mod errors;
 pub mod laws;
 mod linking;
 pub mod listing;
+pub mod numbers;
 mod reading;
 mod removing;
 pub mod sets;

@@ -1,10 +1,11 @@
 // The policy set as one map from ids.
-ghost use Rattle.std.specs.Prelude.{◌≡◌, ◌↔◌, ◌^◌, ◌<◌, [], ◌∷◌, ◌++◌, IsTrue, IfSome, OnOk, OnErr, Some, None, true, false, length, option_map};
+ghost use Rattle.std.specs.Prelude.{◌≡◌, ◌↔◌, ◌^◌, ◌<◌, ◌≤◌, [], ◌∷◌, ◌++◌, IsTrue, IfSome, OnOk, OnErr, Some, None, true, false, length, option_map};
 ghost use Rattle.std.specs.Option.{option_copied};
 ghost use Rattle.cedar_language.specs.Uid.{Text};
 ghost use Rattle.cedar_grammar.specs.Policy.{Policy as PolicySyntax};
 
 use crate::bounds::Bound;
+use crate::numbers::Numbers;
 use cedar_policy_parts::PolicyID;
 use indexmap::IndexMap;
 use indexmap::map::{IntoValues, Values};
@@ -17,12 +18,16 @@ use std::marker::Model;
 #[derive(Debug)]
 pub struct PolicySet {
     bound: IndexMap<PolicyID, Bound>,
+    numbers: Numbers,
 }
 
 // Written by hand, so that a function which may return early lets go of a set by a call.
 impl Drop for PolicySet {
     fn drop(self) {
-        let PolicySet { bound: _bound } = self;
+        let PolicySet {
+            bound: _bound,
+            numbers: _numbers,
+        } = self;
     }
 }
 
@@ -36,11 +41,12 @@ impl Model for PolicySet {
 
     ghost coded = { coded_list (coded× text_code entry_code) };
 
-    ghost use Rattle.cedar_policy_set.specs.Bounds.{entries_of, IsSound};
+    ghost use Rattle.cedar_policy_set.specs.Bounds.{entries_of};
+    ghost use Rattle.cedar_policy_set.specs.Numbers.{IsCounted};
 
     ghost view = { λ s. entries_of s.bound.entries };
 
-    ghost invariant = { λ s. IsSound s.bound.entries };
+    ghost invariant = { λ s. IsCounted s.bound.entries s.numbers };
 }
 
 /// Both bind the same ids to the same things, in whatever order; places don't count.
@@ -66,6 +72,7 @@ impl Eq for PolicySet {
 impl PolicySet {
     ghost use Rattle.cedar_policy_set.specs.Entries.{bound_at, is_bound, without, HasItsTemplate, IsFull, IsWhole, template, has_links};
     ghost use Rattle.cedar_policy_set.specs.Bounds.{entry_of, bound_id, entries_of, seen, IsNamed, IsSound};
+    ghost use Rattle.cedar_policy_set.specs.Numbers.{BindsNumbers};
 
     /// The empty set; takes no memory.
     pub fn new(alloc: Global) -> PolicySet
@@ -73,6 +80,7 @@ impl PolicySet {
     {
         PolicySet {
             bound: IndexMap::new(alloc),
+            numbers: Numbers::new(alloc),
         }
     }
 
@@ -83,7 +91,8 @@ impl PolicySet {
         requires { IsSound bound.entries }
         ensures { result ≡ entries_of bound.entries }
     {
-        PolicySet { bound }
+        let numbers = Numbers::new(*bound.allocator());
+        PolicySet { bound, numbers }
     }
 
     /// What an id is bound to, if it is: a static policy, a link or a template.
@@ -99,6 +108,15 @@ impl PolicySet {
         ensures { result ≡ is_bound self.now id.now }
     {
         self.bound.contains_key(id)
+    }
+
+    /// Where a search for a free id `policyN` may begin that looks at no number below this one: the ids of
+    /// the numbers that it passes over are bound.
+    pub fn skip_bound(&self, from: u64) -> u64
+        ensures from { from ≤ result }
+        ensures bound { BindsNumbers self.now from result }
+    {
+        self.numbers.next(from)
     }
 
     /// How many ids are bound.
@@ -128,7 +146,10 @@ impl PolicySet {
     pub fn into_values(self) -> IntoValues<PolicyID, Bound>
         ensures { seen result ≡ self }
     {
-        let PolicySet { bound } = self;
+        let PolicySet {
+            bound,
+            numbers: _numbers,
+        } = self;
         bound.into_values()
     }
 
@@ -148,7 +169,20 @@ impl PolicySet {
     /// Binds these after what is bound, in their order. The caller sees to it that each stands under its own
     /// id, that no id is bound already, and that each link names a template that is bound then and gives
     /// exactly its slots. Refused for memory alone; a refused call changes nothing.
-    pub fn append(&mut self, mut more: IndexMap<PolicyID, Bound>) -> Result<(), AllocError>
+    pub fn append(&mut self, more: IndexMap<PolicyID, Bound>) -> Result<(), AllocError>
+        requires named { IsNamed more.entries }
+        requires whole { IsWhole (self.old ++ entries_of more.entries) }
+        ensures appended { OnOk result (self.new ≡ self.old ++ entries_of more.entries) }
+        ensures err { OnErr result (self.new ≡ self.old) }
+    {
+        self.bind_all(more)?;
+        // Merges append, and they alone look for free ids.
+        self.numbers.advance(&self.bound);
+        Ok(())
+    }
+
+    // Binds these as `append` does, without a look at which numbers are bound then.
+    pub(crate) fn bind_all(&mut self, mut more: IndexMap<PolicyID, Bound>) -> Result<(), AllocError>
         requires named { IsNamed more.entries }
         requires whole { IsWhole (self.old ++ entries_of more.entries) }
         ensures appended { OnOk result (self.new ≡ self.old ++ entries_of more.entries) }
@@ -165,6 +199,7 @@ impl PolicySet {
         ensures entry { option_map entry_of result ≡ bound_at self.old id.now }
         ensures id { IfSome result (λ bound. bound_id bound ≡ id.now) }
     {
+        self.numbers.take_away(id);
         self.bound.shift_remove(id)
     }
 }

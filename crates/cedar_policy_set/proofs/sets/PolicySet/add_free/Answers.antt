@@ -14,8 +14,8 @@ with_its_template-requires c =
     differs_from c.args.self.now (policy_id p) (link_of p) (template_id (policy_template p)) (policy_syntax p) (bindings_of p) c.requires
     (sym c.lacks_template.ensures.lacks ∙ c.if-lacks_template.true)
 
-pub append-requires-clause-whole : goal.append-requires-clause-whole
-append-requires-clause-whole c =
+pub bind_all-requires-clause-whole : goal.bind_all-requires-clause-whole
+bind_all-requires-clause-whole c =
     let es = c.args.self.now in
     let p = c.args.policy in
     subst IsWhole
@@ -23,8 +23,8 @@ append-requires-clause-whole c =
     ∙ sym (λ i. es ++ c.in_ok-more.ensures.both i))
     (whole_added es (policy_id p) (policy_entry p) c.len-count.ensures.whole c.requires c.lacks_template.ensures.full)
 
-pub append-requires-2-clause-whole : goal.append-requires-2-clause-whole
-append-requires-2-clause-whole c =
+pub bind_all-requires-2-clause-whole : goal.bind_all-requires-2-clause-whole
+bind_all-requires-2-clause-whole c =
     let es = c.args.self.now in
     let p = c.args.policy in
     subst IsWhole
@@ -35,7 +35,7 @@ pub returns-then-lacks_template-clause-added : goal.returns-then-lacks_template-
 returns-then-lacks_template-clause-added c =
     let es = c.args.self.now in
     let p = c.args.policy in
-    subst (λ (all : Entries). OnOk c.append.result (c.append.new.self ≡ all))
+    subst (λ (all : Entries). OnOk c.bind_all.result (c.bind_all.new.self ≡ all))
     ((λ i. es ++ c.in_ok-more.ensures.both i)
     ∙ sym (both_are es (policy_id p) (link_of p) (template_id (policy_template p)) (policy_syntax p) (bindings_of p) (sym c.lacks_template.ensures.lacks ∙ c.if-lacks_template.true)))
-    c.append.ensures.appended
+    c.bind_all.ensures.appended

@@ -3,18 +3,22 @@ use Rattle.std.proofs.Common.{ap, sym, ◌∙◌}
 use Rattle.std.specs.Option.{option_map}
 use Rattle.cedar_policy_set.specs.Bounds.{entry_of}
 use Rattle.cedar_policy_set.specs.Entries.{bound_at}
-use Rattle.cedar_policy_set.proofs.Edits.{without_is, sound_without}
+use Rattle.cedar_policy_set.proofs.Edits.{without_is, sound_without, counts_gone}
 use Rattle.cedar_policy_set.proofs.Views.{found_entry, taken_named}
 use Rattle.cedar_policy_set.proofs.sets.PolicySet.take_away.Goals as goal
 
 pub invariant_of-self : goal.invariant_of-self
-invariant_of-self c = sound_without _ _ _ c.self.view_is c.self.invariant _ c.shift_remove.ensures.entries c.shift_remove.ensures.unique c.requires
+invariant_of-self c =
+    record {
+      sound = sound_without _ _ _ c.self.view_is c.self.invariant.sound _ c.shift_remove.ensures.entries c.shift_remove.ensures.unique c.requires;
+      counts = counts_gone _ _ _ c.self.view_is c.self.invariant.sound _ c.shift_remove.ensures.entries _ _ c.take_away.ensures c.self.invariant.counts;
+    }
 
 pub returns-clause-removed : goal.returns-clause-removed
-returns-clause-removed c = without_is _ _ _ c.self.view_is c.self.invariant _ c.shift_remove.ensures.entries
+returns-clause-removed c = without_is _ _ _ c.self.view_is c.self.invariant.sound _ c.shift_remove.ensures.entries
 
 pub returns-clause-entry : goal.returns-clause-entry
 returns-clause-entry c = ap (option_map entry_of) c.shift_remove.ensures.value ∙ sym (found_entry c.self.inside.bound.entries c.args.id.now) ∙ ap (λ es. bound_at es c.args.id.now) c.self.view_is
 
 pub returns-clause-id : goal.returns-clause-id
-returns-clause-id c = taken_named c.self.inside.bound.entries c.self.invariant.named c.args.id.now c.shift_remove.result c.shift_remove.ensures.value
+returns-clause-id c = taken_named c.self.inside.bound.entries c.self.invariant.sound.named c.args.id.now c.shift_remove.result c.shift_remove.ensures.value

@@ -5,5 +5,5 @@ use Rattle.cedar_policy_set.proofs.sets.PolicySetPartialEq.eq.Goals as goal
 
 pub returns : goal.returns
 returns c =
-    c.eq.ensures ∙ maps_same c.self.inside.bound c.other.inside.bound c.self.invariant.named c.other.invariant.named
+    c.eq.ensures ∙ maps_same c.self.inside.bound c.other.inside.bound c.self.invariant.sound.named c.other.invariant.sound.named
     ∙ (λ i. same_sets (c.self.view_is i) (c.other.view_is i))

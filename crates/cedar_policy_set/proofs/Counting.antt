@@ -1,0 +1,25 @@
+-- What is known of the ids policy0, policy1, .. stays known when ids are bound, and of the others when one is taken away.
+use Rattle.std.proofs.Common.{◌≡◌, ◌≢◌, ℕ, true, false, cond, ◌++◌, refl, sym, ap, ◌∙◌, true≢false, Option, None, Some, is_some}
+use Rattle.cedar_language.specs.Uid.{Text}
+use Rattle.cedar_language.specs.Order.{same_text}
+use Rattle.cedar_world.specs.PolicyEdits.{numbered}
+use Rattle.cedar_policy_set.specs.Entries.{Entry, Entries, bound_at, is_bound, without, IsWhole}
+use Rattle.cedar_policy_set.specs.Numbers.{Counts, AreBound}
+use Rattle.cedar_policy_set.specs.declared.numbers.Numbers.{Numbers}
+use Rattle.cedar_policy_set.proofs.Finding.{id_apart, found_first}
+use Rattle.cedar_policy_set.proofs.Wholes.{found_without}
+
+bound_more : (es more : Entries) (id : Text) → is_bound es id ≡ true → is_bound (es ++ more) id ≡ true
+bound_more es more id h = by (bound_at es id) refl h
+  where
+    by : (o : Option Entry) → bound_at es id ≡ o → is_some o ≡ true → is_bound (es ++ more) id ≡ true
+    by None e g = absurd (true≢false (sym g))
+    by (Some x) e g = ap is_some (found_first es more id x e)
+
+pub counts_more : (es more : Entries) (n : Numbers) → AreBound es n → AreBound (es ++ more) n
+counts_more es more n h k c = bound_more es more (numbered k) (h k c)
+
+pub counts_without : (es : Entries) (id : Text) (old new : Numbers) → IsWhole es → ((k : ℕ) → Counts new k → (id ≢ numbered k) × Counts old k) → AreBound es old → AreBound (without id es) new
+counts_without es id old new whole others h k c =
+    let other = others k c in
+    ap is_some (found_without es id whole (numbered k) ∙ ap (λ b. cond b None (bound_at es (numbered k))) (id_apart id (numbered k) other.0)) ∙ h k other.1
