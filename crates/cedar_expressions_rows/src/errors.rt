@@ -201,7 +201,8 @@ pub(crate) fn left(
     }
 }
 
-/// What is asked of the errors on top: whether the two are equal, or the last at another place.
+/// What is asked of the errors on top: whether the two are equal, the name that the last tells, or the last at
+/// another place.
 pub(crate) fn asked(alloc: Global, verb: &str, word: &str, errors: &mut Errors) -> Answer {
     if verb == "with_maybe_source_loc" {
         let loc = place(alloc, word)?;
@@ -210,8 +211,17 @@ pub(crate) fn asked(alloc: Global, verb: &str, word: &str, errors: &mut Errors) 
             None => no_case(alloc),
         };
     }
-    match errors.as_slice() {
-        [.., a, b] => said(alloc, a == b),
+    match (verb, errors.as_slice()) {
+        ("extension_name", [.., error]) => extension_name(alloc, error),
+        (_, [.., a, b]) => said(alloc, a == b),
+        _ => no_case(alloc),
+    }
+}
+
+/// The name that the error of a function which gave no answer tells.
+fn extension_name(alloc: Global, error: &EvaluationError) -> Answer {
+    match error {
+        EvaluationError::FailedExtensionFunctionExecution(error) => error.extension_name(alloc),
         _ => no_case(alloc),
     }
 }

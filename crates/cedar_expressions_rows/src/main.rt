@@ -54,6 +54,7 @@ fn answer(alloc: Global, section: &str, step: &Step<'_>, held: &mut Held) -> Ans
     match section {
         "names" => names::read(alloc, verb, one, &mut held.names),
         "internal" => names::called(alloc, verb, &mut held.names),
+        "within" => names::qualified(alloc, verb, &held.names),
         "conversions" => names::converted(alloc, verb, &mut held.names),
         "places" => names::placed(alloc, verb, one, other, &mut held.names),
         "order" => names::compared(alloc, verb, &held.names),
@@ -98,7 +99,7 @@ fn of_restricted(alloc: Global, section: &str, step: &Step<'_>, held: &mut Held)
         "changed" => restricted::changed(alloc, verb, stack),
         "restricted-two" => restricted::compared(alloc, verb, stack),
         "as" => restricted::read(alloc, verb, stack),
-        "lent-as" => restricted::read_lent(alloc, verb, stack),
+        "lent-as" => restricted::read_lent(alloc, verb, stack, &expressions.table),
         _ => sections::answer(alloc, section, verb, one, other, expressions),
     }
 }

@@ -1,10 +1,10 @@
 // Restricted expressions on a stack of their own, and what is read of the one on its top.
-use cedar_expressions::FromIn;
 use cedar_expressions::ast::{
     BorrowedRestrictedExpr, EntityUID, Expr, Literal, Name, ParseNameError, PartialValue,
     RepresentableExtensionValue, RestrictedElements, RestrictedExpr, RestrictedExprShapeOnly,
     RestrictedPairs, Unknown, ValueKind,
 };
+use cedar_expressions::{Extensions, FromIn};
 use cedar_rows::{Answer, alike, count_of, maybe, no_case, number, paired, push, said, taken};
 use cedar_value_rows::names::{Names, loc};
 use cedar_value_rows::values::{Stack, long, rank};
@@ -226,13 +226,14 @@ pub fn read(alloc: Global, verb: &str, stack: &Restricted) -> Answer {
     }
 }
 
-/// The same of what is lent.
-pub fn read_lent(alloc: Global, verb: &str, stack: &Restricted) -> Answer {
+/// The same of what is lent, and the type that it shows with the functions of a table.
+pub fn read_lent(alloc: Global, verb: &str, stack: &Restricted, table: &Extensions<'_>) -> Answer {
     let Some(top) = stack.last() else {
         return no_case(alloc);
     };
     let top = top.as_borrowed();
     match verb {
+        "type" => maybe(alloc, top.try_type_of(alloc, table)?),
         "bool" => maybe(alloc, top.as_bool()),
         "long" => maybe(alloc, top.as_long()),
         "text" => maybe(alloc, top.as_string()),

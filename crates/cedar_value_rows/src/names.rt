@@ -4,7 +4,7 @@ use cedar_names::identifiers::{AnyId, Id, UnreservedId, is_normalized_ident};
 use cedar_names::names::{InternalName, Name};
 use cedar_names::places::{Loc, Span};
 use cedar_names::reading::FromNormalizedStr;
-use cedar_rows::{Answer, alike, keep, no_case, number, said, show, tell};
+use cedar_rows::{Answer, alike, keep, no_case, number, refused, said, show, tell};
 use std::alloc::{AllocError, Global};
 use std::rc::RcStr;
 
@@ -49,6 +49,10 @@ pub fn none() -> Names {
 pub fn read(alloc: Global, verb: &str, text: &str, held: &mut Names) -> Answer {
     match verb {
         "any-id" => show(alloc, AnyId::from_normalized_str(alloc, text)),
+        "any-id-copy" => match AnyId::from_normalized_str(alloc, text) {
+            Ok(id) => show(alloc, id.clone(alloc)),
+            Err(error) => refused(alloc, error),
+        },
         "id" => keep(alloc, &mut held.id, Id::from_normalized_str(alloc, text)),
         "unreserved-id" => keep(
             alloc,
@@ -88,15 +92,32 @@ pub fn called(alloc: Global, verb: &str, held: &mut Names) -> Answer {
     match verb {
         "copied" => show(alloc, internal.clone(alloc)),
         "namespace" => show(alloc, internal.namespace(alloc)),
+        "is-placed" => said(alloc, internal.loc().is_some()),
+        "qualified-by-name" => show(alloc, internal.qualify_with_name(alloc, held.name.as_ref())),
         _ => show(alloc, internal.qualify_with(alloc, Some(other))),
     }
 }
 
-/// An identifier is made a name, and a name an identifier.
+/// The name held, in the namespace of the other name, or in that of the second.
+pub fn qualified(alloc: Global, verb: &str, held: &Names) -> Answer {
+    let Some(name) = &held.name else {
+        return no_case(alloc);
+    };
+    match verb {
+        "by-other" => show(alloc, name.qualify_with(alloc, held.other.as_ref())),
+        _ => show(alloc, name.qualify_with_name(alloc, held.second.as_ref())),
+    }
+}
+
+/// An identifier is made a name, or copied, and a name an identifier.
 pub fn converted(alloc: Global, verb: &str, held: &mut Names) -> Answer {
     match verb {
         "name-of-id" => match held.unreserved.take() {
             Some(id) => keep(alloc, &mut held.name, Name::from_in(alloc, id)),
+            None => no_case(alloc),
+        },
+        "unreserved-copy" => match &held.unreserved {
+            Some(id) => show(alloc, id.clone(alloc)),
             None => no_case(alloc),
         },
         "id-of-name" => match held.name.take() {
@@ -110,6 +131,18 @@ pub fn converted(alloc: Global, verb: &str, held: &mut Names) -> Answer {
         "internal-of-id" => match held.id.take() {
             Some(id) => keep(alloc, &mut held.internal, InternalName::from_in(alloc, id)),
             None => no_case(alloc),
+        },
+        "internal-of-unreserved" => match held.unreserved.take() {
+            Some(id) => keep(alloc, &mut held.internal, InternalName::from_in(alloc, id)),
+            None => no_case(alloc),
+        },
+        "type-in-namespace" => match (held.id.take(), held.internal.take()) {
+            (Some(id), Some(namespace)) => {
+                let loc = Some(loc(alloc, "0", "1")?);
+                let name = InternalName::type_in_namespace(alloc, id, namespace, loc);
+                keep(alloc, &mut held.internal, name)
+            }
+            _ => no_case(alloc),
         },
         _ => match held.internal.take() {
             Some(name) => keep(alloc, &mut held.id, Id::from_in(alloc, name)),

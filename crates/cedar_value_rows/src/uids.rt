@@ -114,6 +114,10 @@ pub fn called(alloc: Global, verb: &str, held: &mut Uids) -> Answer {
     };
     match verb {
         "eid" => tell(alloc, uid.eid().as_str()),
+        "copied-eid" => match uid.eid().clone(alloc) {
+            Ok(eid) => tell(alloc, eid.as_str()),
+            Err(error) => Err(error),
+        },
         "static-type" => show(alloc, uid.type_of(alloc)),
         "name-of-type" => match uid.entity_type().clone(alloc) {
             Ok(entity_type) => show(alloc, Ok::<_, AllocError>(Name::from(entity_type))),
