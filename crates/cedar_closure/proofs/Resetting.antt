@@ -1,12 +1,13 @@
 -- Nodes that are left their direct edges in turn, and what is left where that stops.
-use Rattle.std.proofs.Common.{◌≡◌, ◌⊎◌, inl, inr, Bool, true, false, ◌||◌, List, [], ◌∷◌, Option, None, Some, MatchOption, refl, sym, ap, ◌∙◌}
-use Rattle.std.specs.Option.{option_map_or, IsSomeAnd}
+use Rattle.std.proofs.Common.{◌≡◌, ◌⊎◌, inl, inr, Bool, true, false, ◌||◌, List, [], ◌∷◌, ◌↔◌, Option, None, Some, MatchOption, IsTrue, refl, sym, ap, ◌∙◌, true≢false}
+use Rattle.std.specs.Option.{option_map_or, IsSomeAnd, is_some}
 use Rattle.std.specs.Cmp.{IsEquivalence}
 use Rattle.std.specs.Set.{is_member}
 use Rattle.std.specs.HashMap.{HashMap, get}
 use Rattle.cedar_language.specs.Facts.{Reaches, edge, further}
-use Rattle.cedar_closure.specs.Graph.{SameKeys, SameNodes, IsBetween, edges_at}
-use Rattle.cedar_closure.proofs.Search.{IsEdge, Reaches-more}
+use Rattle.cedar_closure.specs.Graph.{SameKeys, SameNodes, IsBetween, IsBuiltBeside, IsClosedBeside, edges_at}
+use Rattle.cedar_closure.proofs.Members.{member_alike}
+use Rattle.cedar_closure.proofs.Search.{IsEdge, Reaches-more, Reaches-joined}
 
 module _ {V : Type 0} (Same : V → V → Type 0) where
   abbrev pub IsSameIn : Option V → Option V → Type 0
@@ -52,11 +53,33 @@ module _ {K : Type 0} (eq : K → K → Bool) (D E : K → List K) where
       ]
     ] refl
 
-    pub reset_still : (left rest : List K) → left ≡ x ∷ rest → ((a : K) → is_member eq left a ≡ false → SameKeys eq (D a) (M a)) → (a : K) → is_member eq rest a ≡ false → SameKeys eq (D a) (F a)
-    reset_still left rest cut before a none = elim (eq x a) as (λ b. eq x a ≡ b → SameKeys eq (D a) (F a)) [
+    pub reset_still : (listed left rest : List K) → left ≡ x ∷ rest → ((a : K) → IsTrue (is_member eq listed a) → is_member eq left a ≡ false → SameKeys eq (D a) (M a)) → (a : K) → IsTrue (is_member eq listed a) → is_member eq rest a ≡ false → SameKeys eq (D a) (F a)
+    reset_still listed left rest cut before a among none = elim (eq x a) as (λ b. eq x a ≡ b → SameKeys eq (D a) (F a)) [
       | true ↦ λ e. reset_here a e
-      | false ↦ λ e q. ap (λ ys. is_member eq ys q) (others a e) ∙ before a (ap (λ ys. is_member eq ys a) cut ∙ ap (λ b. b || is_member eq rest a) (laws.symm a x ∙ e) ∙ none) q
+      | false ↦ λ e q. ap (λ ys. is_member eq ys q) (others a e) ∙ before a among (ap (λ ys. is_member eq ys a) cut ∙ ap (λ b. b || is_member eq rest a) (laws.symm a x ∙ e) ∙ none) q
     ] refl
+
+    -- a key that isn't listed is none of those that are reset
+    pub unlisted_still : (listed : List K) → IsTrue (is_member eq listed x) → ((a : K) → is_member eq listed a ≡ false → M a ≡ E a) → (a : K) → is_member eq listed a ≡ false → F a ≡ E a
+    unlisted_still listed among before a none = elim (eq x a) as (λ b. eq x a ≡ b → F a ≡ E a) [
+      | true ↦ λ e. absurd (true≢false (sym among ∙ member_alike laws listed x a e ∙ none))
+      | false ↦ λ e. others a e ∙ before a none
+    ] refl
+
+-- where all keys with a node are listed, each node has its direct edges alone
+module _ {K V S : Type 0} (eq : K → K → Bool) (direct edges : V → List K) (m n : HashMap K V S) (listed : List K) where
+  nowhere : (o : Option V) → is_some o ≡ false → option_map_or edges o [] ≡ option_map_or direct o []
+  nowhere None h = refl
+  nowhere (Some v) h = absurd (true≢false h)
+
+  pub reset_everywhere : ((q : K) → is_member eq listed q ≡ is_some (get eq m q))
+      → ((a : K) → IsTrue (is_member eq listed a) → SameKeys eq (edges_at eq direct m a) (edges_at eq edges n a))
+      → ((a : K) → is_member eq listed a ≡ false → edges_at eq edges n a ≡ edges_at eq edges m a)
+      → (a : K) → SameKeys eq (edges_at eq direct m a) (edges_at eq edges n a)
+  reset_everywhere keys reset others a = elim (is_member eq listed a) as (λ b. is_member eq listed a ≡ b → SameKeys eq (edges_at eq direct m a) (edges_at eq edges n a)) [
+    | true ↦ λ e. reset a e
+    | false ↦ λ e q. ap (λ ys. is_member eq ys q) (others a e ∙ nowhere (get eq m a) (sym (keys a) ∙ e))
+  ] refl
 
 module _ {K : Type 0} (eq : K → K → Bool) (D E F : K → List K) where
   -- the direct ones of the edges stay, and what comes is reached along direct ones
@@ -73,4 +96,38 @@ module _ {K : Type 0} (eq : K → K → Bool) (D E F : K → List K) where
   partly_closed M reset between = record {
     least = λ a b h. between.least a b (reset a b ∙ h.0);
     most = λ a b h. inr (Reaches-more (λ x y k. sym (reset x y) ∙ k) (between.most a b h));
+  }
+
+-- M: the edges once the listed nodes were reset; the others had just what their direct edges reach
+module _ {K : Type 0} (eq : K → K → Bool) (D E M : K → List K) (listed : List K)
+    (beside : IsBuiltBeside eq listed (IsEdge eq D) (IsEdge eq E))
+    (reset : (a : K) → IsTrue (is_member eq listed a) → SameKeys eq (D a) (M a))
+    (others : (a : K) → is_member eq listed a ≡ false → M a ≡ E a) where
+  left_edge : (a b : K) → IsEdge eq M a b → Reaches (IsEdge eq D) a b
+  left_edge a b h = elim (is_member eq listed a) as (λ l. is_member eq listed a ≡ l → Reaches (IsEdge eq D) a b) [
+    | true ↦ λ l. edge (sym (reset a l b) ∙ h)
+    | false ↦ λ l. (beside a b l).0 (sym (ap (λ ys. is_member eq ys b) (others a l)) ∙ h)
+  ] refl
+
+  direct_left : (a b : K) → IsEdge eq D a b → IsEdge eq M a b
+  direct_left a b h = elim (is_member eq listed a) as (λ l. is_member eq listed a ≡ l → IsEdge eq M a b) [
+    | true ↦ λ l. reset a l b ∙ h
+    | false ↦ λ l. ap (λ ys. is_member eq ys b) (others a l) ∙ (beside a b l).1 (edge h)
+  ] refl
+
+  -- what is left leads just where direct edges do
+  pub along_direct : {a b : K} → Reaches (IsEdge eq M) a b → Reaches (IsEdge eq D) a b
+  along_direct (edge {a} {b} h) = left_edge a b h
+  along_direct (further {a} {b} h r) = Reaches-joined (left_edge a b h) (along_direct r)
+
+  pub along_left : {a b : K} → Reaches (IsEdge eq D) a b → Reaches (IsEdge eq M) a b
+  along_left r = Reaches-more direct_left r
+
+  pub closed_beside : IsClosedBeside eq listed (IsEdge eq M)
+  closed_beside a b l r = ap (λ ys. is_member eq ys b) (others a l) ∙ (beside a b l).1 (along_direct r)
+
+  pub partly_repaired : (F : K → List K) → IsBetween (IsEdge eq M) (Reaches (IsEdge eq M)) (IsEdge eq F) → IsPartlyRebuilt eq D E F
+  partly_repaired F between = record {
+    least = λ a b h. between.least a b (direct_left a b h.0);
+    most = λ a b h. inr (along_direct (between.most a b h));
   }

@@ -15,6 +15,11 @@ module _ {K : Type 0} {E : K → K → Type 0} where
   Reaches-then (edge h) k = further h (edge k)
   Reaches-then (further h r) k = further h (Reaches-then r k)
 
+  -- and more edges
+  pub Reaches-joined : {a b c : K} → Reaches E a b → Reaches E b c → Reaches E a c
+  Reaches-joined (edge h) k = further h k
+  Reaches-joined (further h r) k = further h (Reaches-joined r k)
+
   -- the first edge and the last
   pub Reaches-first : {a b : K} → Reaches E a b → (c : K) × E a c
   Reaches-first (edge {b} h) = (b, h)

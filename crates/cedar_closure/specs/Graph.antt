@@ -1,5 +1,5 @@
 -- A graph that is held as a map from keys to nodes. `eq` says which keys are one, and `edges` to which keys edges lead from a node.
-use Rattle.std.specs.Prelude.{Bool, false, List, [], IsTrue, ◌≡◌}
+use Rattle.std.specs.Prelude.{Bool, false, List, [], IsTrue, ◌≡◌, ◌↔◌}
 use Rattle.std.specs.Option.{option_map_or, MatchOption, IsSomeAnd}
 use Rattle.std.specs.declared.option.Option.TheVariants.{None}
 use Rattle.std.specs.Set.{is_member}
@@ -14,6 +14,10 @@ module _ {K : Type 0} (eq : K → K → Bool) where
   -- each key that isn't listed has an edge to all that it reaches
   abbrev pub IsClosedBeside : List K → (K → K → Type 0) → Type 0
   IsClosedBeside listed IsEdge = (a b : K) → is_member eq listed a ≡ false → Reaches IsEdge a b → IsEdge a b
+
+  -- each key that isn't listed has edges to just those that direct ones reach from it
+  abbrev pub IsBuiltBeside : List K → (K → K → Type 0) → (K → K → Type 0) → Type 0
+  IsBuiltBeside listed IsDirect IsEdge = (a b : K) → is_member eq listed a ≡ false → IsEdge a b ↔ Reaches IsDirect a b
 
 -- the edges of the first graph are there, and no others than those of the second
 pub record IsBetween {K : Type 0} (Least Most IsEdge : K → K → Type 0) : Type 0 where

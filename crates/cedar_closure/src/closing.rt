@@ -55,22 +55,6 @@ fn find_cycle<K: Eq + Hash>(all: &[Reached<K>]) -> Option<&K>
     None
 }
 
-// Adds an edge to each of the keys.
-fn add_edges<K: Eq + Hash + Drop, V: TCNode<K>>(
-    node: &mut V,
-    keys: Vec<K>,
-) -> Result<(), AllocError>
-    ensures added { OnOk result (SameKeys K.eq (keys.items ++ V.edges node.old) (V.edges node.new)) }
-    ensures kept { OnErr result ((q : K) → IsTrue (is_member K.eq (V.edges node.old) q) → IsTrue (is_member K.eq (V.edges node.new) q)) }
-    ensures only { OnErr result ((q : K) → IsTrue (is_member K.eq (V.edges node.new) q) → IsTrue (is_member K.eq (keys.items ++ V.edges node.old) q)) }
-    ensures same { V.is_same node.old node.new }
-{
-    for key in keys {
-        node.add_edge_to(key)?;
-    }
-    Ok(())
-}
-
 // Adds an edge to each key that a key reaches at its node, where it has one.
 fn add_reached<K: Eq + Hash + Drop, V: TCNode<K>>(
     nodes: &mut HashMap<K, V>,
@@ -87,7 +71,7 @@ fn add_reached<K: Eq + Hash + Drop, V: TCNode<K>>(
 {
     let Reached { from, keys } = reached;
     if let Some(node) = nodes.get_mut(&from) {
-        add_edges(node, keys)?;
+        node.add_edges_to(keys)?;
     }
     Ok(())
 }

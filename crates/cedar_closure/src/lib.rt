@@ -12,4 +12,4 @@ pub use closing::{compute_tc, repair_tc};
 pub use enforcing::enforce_tc_and_dag;
 pub use errors::{HasCycle, MissingTcEdge, TcError};
 pub use nodes::TCNode;
-pub use rebuilding::rebuild_tc;
+pub use rebuilding::{rebuild_tc, rebuild_tc_at};

@@ -1,5 +1,5 @@
 //! The nodes of a graph.
-ghost use Rattle.std.specs.Prelude.{◌≡◌, List, ◌∷◌, map, IfOk, OnOk, OnErr};
+ghost use Rattle.std.specs.Prelude.{◌≡◌, List, ◌∷◌, ◌++◌, map, IfOk, OnOk, OnErr, IsTrue};
 ghost use Rattle.std.specs.Set.{is_member};
 ghost use Rattle.std.specs.Map.Iter.{deref};
 ghost use Rattle.cedar_closure.specs.Graph.{SameKeys};
@@ -28,6 +28,22 @@ pub trait TCNode<K: Eq> {
         ensures added { OnOk result (SameKeys K.eq (k ∷ edges self.old) (edges self.new)) }
         ensures err { OnErr result (edges self.new ≡ edges self.old) }
         ensures same { is_same self.old self.new };
+
+    /// Adds an edge to each of the keys, none of them a direct one, where there is none. A node that keeps its
+    /// edges in an order can take them all at once. Refused where memory runs out; some edges may then be added.
+    fn add_edges_to(&mut self, keys: Vec<K>) -> Result<(), AllocError>
+    where
+        K: Drop,
+        ensures added { OnOk result (SameKeys K.eq (keys.items ++ edges self.old) (edges self.new)) }
+        ensures kept { OnErr result ((q : K) → IsTrue (is_member K.eq (edges self.old) q) → IsTrue (is_member K.eq (edges self.new) q)) }
+        ensures only { OnErr result ((q : K) → IsTrue (is_member K.eq (edges self.new) q) → IsTrue (is_member K.eq (keys.items ++ edges self.old) q)) }
+        ensures same { is_same self.old self.new }
+    {
+        for key in keys {
+            self.add_edge_to(key)?;
+        }
+        Ok(())
+    }
 
     /// The keys to which edges lead, in any order. Refused where memory runs out.
     fn out_edges(&self, alloc: Global) -> Result<Vec<&K>, AllocError>

@@ -1,12 +1,11 @@
 //! The closure of the direct edges.
-ghost use Rattle.std.specs.Prelude.{◌≡◌, ◌↔◌, ◌⊎◌, false, OnOk, IfErr, OnErr, IsTrue, is_some};
+ghost use Rattle.std.specs.Prelude.{◌≡◌, ◌↔◌, ◌⊎◌, false, OnOk, IfErr, OnErr, IsTrue};
 ghost use Rattle.std.specs.Set.{is_member, ClonesAreEqual};
-ghost use Rattle.std.specs.HashMap.{get};
-ghost use Rattle.cedar_closure.specs.Graph.{edges_at, HasEdge, SameKeys, SameNodes, IsBetween};
+ghost use Rattle.cedar_closure.specs.Graph.{edges_at, HasEdge, SameKeys, SameNodes, IsBetween, IsBuiltBeside};
 ghost use Rattle.cedar_language.specs.Facts.{Reaches};
 ghost use Rattle.cedar_closure.specs.Refused.{IsTcRefusal};
 
-use crate::closing::{compute_tc, keys_of};
+use crate::closing::{compute_tc, keys_of, repair_tc};
 use crate::errors::TcError;
 use crate::nodes::TCNode;
 use std::alloc::{AllocError, Global};
@@ -31,14 +30,15 @@ fn reset_node<K: Eq + Hash, V: TCNode<K>>(
     Ok(())
 }
 
-// Leaves each node its direct edges alone.
+// Leaves each listed node its direct edges alone.
 fn reset_all<K: Eq + Hash, V: TCNode<K>>(
     nodes: &mut HashMap<K, V>,
     listed: &[K],
 ) -> Result<(), AllocError>
-    requires { (q : K) → is_member K.eq listed.now q ≡ is_some (get K.eq nodes.old q) }
-    ensures reset { OnOk result ((a : K) →
+    ensures reset { OnOk result ((a : K) → IsTrue (is_member K.eq listed.now a) →
         SameKeys K.eq (edges_at K.eq V.direct nodes.old a) (edges_at K.eq V.edges nodes.new a)) }
+    ensures others { (a : K) → is_member K.eq listed.now a ≡ false →
+        edges_at K.eq V.edges nodes.new a ≡ edges_at K.eq V.edges nodes.old a }
     ensures left { OnErr result ((a : K) → SameKeys K.eq (edges_at K.eq V.direct nodes.old a) (edges_at K.eq V.edges nodes.new a)
         ⊎ (edges_at K.eq V.edges nodes.new a ≡ edges_at K.eq V.edges nodes.old a)) }
     ensures same { SameNodes K.eq V.is_same nodes.old nodes.new }
@@ -75,6 +75,40 @@ pub fn rebuild_tc<K: Eq + Hash + Clone + Drop, V: TCNode<K>>(
     let listed = keys_of(alloc, nodes)?;
     reset_all(nodes, &listed)?;
     match compute_tc(alloc, nodes, enforce_dag) {
+        Ok(()) => Ok(()),
+        Err(refusal) => Err(refusal),
+    }
+}
+
+/// Gives each node at one of the keys an edge to each key that one or more direct edges lead to from it, cycles
+/// included, and no other edge. Every other node has to have just these edges before, and then every node does.
+/// Where `enforce_dag`, it is refused if direct edges lead from one of the keys back to it.
+///
+/// `HasCycle` names such a key; refused otherwise only where memory runs out.
+/// A refused call leaves the nodes with the direct ones of their edges, and perhaps some of the others and of those
+/// that were to be added.
+pub fn rebuild_tc_at<K: Eq + Hash + Clone + Drop, V: TCNode<K>>(
+    alloc: Global,
+    nodes: &mut HashMap<K, V>,
+    keys: &[K],
+    enforce_dag: bool,
+) -> Result<(), TcError<K>>
+    requires clones { ClonesAreEqual K.eq K.is_clone }
+    requires beside { IsBuiltBeside K.eq keys.now (HasEdge K.eq V.direct nodes.old) (HasEdge K.eq V.edges nodes.old) }
+    ensures edges { OnOk result ((a b : K) →
+        HasEdge K.eq V.edges nodes.new a b ↔ Reaches (HasEdge K.eq V.direct nodes.old) a b) }
+    ensures acyclic { OnOk result (IsTrue enforce_dag →
+        (a : K) → IsTrue (is_member K.eq keys.now a) → ¬ (Reaches (HasEdge K.eq V.direct nodes.old) a a)) }
+    ensures left { OnErr result (IsBetween
+        (λ a b. HasEdge K.eq V.direct nodes.old a b × HasEdge K.eq V.edges nodes.old a b)
+        (λ a b. HasEdge K.eq V.edges nodes.old a b ⊎ Reaches (HasEdge K.eq V.direct nodes.old) a b)
+        (HasEdge K.eq V.edges nodes.new)) }
+    ensures refused { IfErr result (IsTcRefusal enforce_dag
+        (λ k. IsTrue (is_member K.eq keys.now k) × Reaches (HasEdge K.eq V.direct nodes.old) k k)) }
+    ensures same { SameNodes K.eq V.is_same nodes.old nodes.new }
+{
+    reset_all(nodes, keys)?;
+    match repair_tc(alloc, nodes, keys, enforce_dag) {
         Ok(()) => Ok(()),
         Err(refusal) => Err(refusal),
     }
