@@ -1,0 +1,3 @@
+pub mod UidSets
+mod Listed
+pub mod Distinct
