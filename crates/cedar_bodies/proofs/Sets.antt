@@ -4,7 +4,7 @@ use Rattle.std.specs.List.{list_any}
 use Rattle.cedar_language.specs.Uid.{Uid}
 use Rattle.cedar_language.specs.Order.{same_uid}
 use Rattle.cedar_literals.specs.Laws.{same_uid_equiv}
-use Rattle.cedar_entities.proofs.Uids.{reordered}
+use Rattle.cedar_entities.proofs.UidLemmas.{reordered}
 use Rattle.cedar_bodies.specs.Making.{set_listed}
 
 -- what is in the set, or still to be put there, is all

@@ -5,7 +5,7 @@ use Rattle.cedar_language.specs.Uid.{Uid}
 use Rattle.cedar_language.specs.Order.{same_uid}
 use Rattle.cedar_literals.specs.Laws.{same_uid_equiv}
 use Rattle.cedar_entities.specs.Data.{EntityData, IsSameEntity}
-use Rattle.cedar_entities.proofs.Uids.{uid_is}
+use Rattle.cedar_entities.proofs.UidLemmas.{uid_is}
 use Rattle.cedar_entities.specs.Edits.{first_by, or_first, IsListed}
 use Rattle.cedar_entities.specs.Kept.{Lookup, same, added_to, AreVersions, IsOtherVersion}
 use Rattle.cedar_entities.specs.Refusals.{IsAddRefusal, IsOneRefusal}

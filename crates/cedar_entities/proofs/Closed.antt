@@ -7,16 +7,16 @@ use Rattle.std.specs.Set.{is_member}
 use Rattle.cedar_language.specs.Uid.{Uid}
 use Rattle.cedar_language.specs.Facts.{Reaches, edge, further}
 use Rattle.cedar_language.specs.Order.{uid_cmp, same_uid}
-use Rattle.cedar_closure.specs.Graph.{HasEdge, SameNodes}
+use Rattle.cedar_closure.specs.Graph.{HasEdge, SameNodes, IsBuiltBeside}
 use Rattle.cedar_closure.specs.Paths.{IsTransitive}
 use Rattle.cedar_closure.specs.Refused.{IsTcRefusal, IsTcViolation}
 use Rattle.cedar_closure.specs.declared.errors.TcError.{TcError}
 use Rattle.cedar_closure.specs.declared.errors.TcError.TheVariants as closure
 use Rattle.cedar_entities.specs.Data.{EntityData, IsSameBesideAncestors, ancestors_of}
 use Rattle.cedar_literals.specs.Laws.{same_uid_equiv}
-use Rattle.cedar_entities.proofs.Uids.{contains-items}
+use Rattle.cedar_entities.proofs.UidLemmas.{contains-items}
 use Rattle.cedar_entities.specs.Held.{held_of, parents_of, IsParent, IsAncestor}
-use Rattle.cedar_entities.specs.Kept.{Lookup, in_map, held_in, IsKept, KeepsAncestors, IsByUid}
+use Rattle.cedar_entities.specs.Kept.{Lookup, in_map, held_in, IsKept, KeepsAncestors, KeepsBeside, IsByUid}
 use Rattle.cedar_entities.specs.Refusals.{from_closure}
 use Rattle.cedar_entities.specs.Modes.{IsComputed, IsEnforced, IsClosureRefusal}
 use Rattle.cedar_entities.specs.declared.closing.TCComputation.TheVariants.{ComputeNow, EnforceAlreadyComputed}
@@ -73,6 +73,24 @@ module _ {S : Type 0} where
           acyclic = λ a r. acyclic a (reaches_along (from_parent m) (ancestors_same (held_in (in_map n)) (held_in (in_map m)) held r));
         };
       }
+
+  -- what is kept beside some uids are edges that are built beside them
+  pub built_beside : (m : HashMap Uid EntityData S) (uids : List Uid) → KeepsBeside uids (in_map m) → IsBuiltBeside same_uid uids (HasEdge same_uid parent_edges m) (HasEdge same_uid kept_edges m)
+  built_beside m uids beside a b l =
+      let is = beside.ancestors a b l in
+      (λ h. reaches_along (from_parent m) (is.0 (to_kept m a b h)), λ r. from_kept m a b (is.1 (reaches_along (to_parent m) r)))
+
+  -- no uid is on a cycle where those to rebuild aren't, and the others weren't
+  pub acyclic_beside : (m : HashMap Uid EntityData S) (uids : List Uid) → KeepsBeside uids (in_map m) → ((a : Uid) → IsTrue (is_member same_uid uids a) → ¬ (Reaches (HasEdge same_uid parent_edges m) a a)) → (a : Uid) → ¬ (Reaches (HasEdge same_uid parent_edges m) a a)
+  acyclic_beside m uids beside acyclic a r = elim (is_member same_uid uids a) as (λ b. is_member same_uid uids a ≡ b → ⊥) [
+    | true ↦ λ l. acyclic a l r
+    | false ↦ λ l. beside.acyclic a l (reaches_along (to_parent m) r)
+  ] refl
+
+  pub rebuilding_refused : (m : HashMap Uid EntityData S) (uids : List Uid) (e : TcError Uid) → IsTcRefusal true (λ k. IsTrue (is_member same_uid uids k) × Reaches (HasEdge same_uid parent_edges m) k k) e → IsClosureRefusal ComputeNow (in_map m) (from_closure e)
+  rebuilding_refused m uids (closure.MissingTcEdge e) h = h
+  rebuilding_refused m uids (closure.HasCycle e) h = reaches_along (to_parent m) h.1.1
+  rebuilding_refused m uids (closure.Memory e) h = h
 
   by_uid_at : (m n : HashMap Uid EntityData S) (uid : Uid) (e : EntityData) → IsByUid (in_map m) → get same_uid n uid ≡ Some e → (o : Option EntityData) → get same_uid m uid ≡ o → MatchOption o (get same_uid n uid ≡ None) (λ v. IsSomeAnd (get same_uid n uid) (IsSameBesideAncestors v)) → IsTrue (same_uid e.uid uid)
   by_uid_at m n uid e by is None p none = let never : None ≡ Some e = sym none ∙ is in cc

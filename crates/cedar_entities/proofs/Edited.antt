@@ -10,7 +10,7 @@ use Rattle.cedar_literals.specs.Laws.{uid_cmp_total}
 use Rattle.cedar_closure.specs.declared.errors.TcError.{TcError}
 use Rattle.cedar_closure.specs.declared.errors.TcError.TheVariants as closure
 use Rattle.cedar_entities.specs.Data.{EntityData, UidSet, IsSameEntity, ancestors_of}
-use Rattle.cedar_entities.proofs.Uids.{union-empty, uid_is, same_uids}
+use Rattle.cedar_entities.proofs.UidLemmas.{union-empty, uid_is, same_uids}
 use Rattle.cedar_entities.specs.Held.{Held, held_of, parents_of, IsAncestor}
 use Rattle.cedar_entities.specs.Edits.{first_by, or_first, add, without_parents, FitsIn, IsAsHeld, ArePlain, IsListed}
 use Rattle.cedar_entities.specs.Kept.{Lookup, held_in, KeepsAncestors, IsByUid, same, added_to, removed_from, IsVersion, AreVersions}

@@ -1,4 +1,4 @@
-pub mod Uids
+pub mod UidLemmas
 mod Entries
 mod SameMaps
 mod Lookups
@@ -15,3 +15,6 @@ mod Joined
 pub mod Shown
 mod EditedWorlds
 mod Fitting
+pub mod Untouched
+pub mod Gathering
+pub mod Whole

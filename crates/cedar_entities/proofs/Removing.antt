@@ -9,7 +9,7 @@ use Rattle.std.proofs.lemmas.Map.Made.{lookup-map_values}
 use Rattle.cedar_language.specs.Uid.{Uid}
 use Rattle.cedar_language.specs.Order.{same_uid, uid_cmp}
 use Rattle.cedar_entities.specs.Data.{EntityData, without}
-use Rattle.cedar_entities.proofs.Uids.{contains-listed, uid_is}
+use Rattle.cedar_entities.proofs.UidLemmas.{contains-listed, uid_is}
 use Rattle.cedar_entities.specs.Kept.{in_map}
 
 turned : {A : Type 0} (b : Bool) (x y : A) → cond (not b) x y ≡ cond b y x

@@ -5,7 +5,7 @@ use Rattle.std.specs.Set.{is_member}
 use Rattle.cedar_language.specs.Uid.{Uid}
 use Rattle.cedar_language.specs.Order.{same_uid}
 use Rattle.cedar_entities.specs.Data.{EntityData, IsSameEntity}
-use Rattle.cedar_entities.proofs.Uids.{uid_is}
+use Rattle.cedar_entities.proofs.UidLemmas.{uid_is}
 use Rattle.cedar_entities.specs.Kept.{Lookup, IsSameAt, HoldsAllOf, HoldsUidsOf}
 
 or_more : (a b : Bool) → b ≡ true → (a || b) ≡ true

@@ -1,13 +1,13 @@
 -- Entities by their uids, with the ancestors that are kept of them.
-use Rattle.std.specs.Prelude.{◌≡◌, ◌↔◌, Option, None, Some, IsTrue, List, cond}
+use Rattle.std.specs.Prelude.{◌≡◌, ◌↔◌, ◌||◌, Option, None, Some, IsTrue, List, cond, false}
 use Rattle.std.specs.Option.{option_map, option_map_or, MatchOption, IsSome, IsSomeAnd}
 use Rattle.std.specs.FinSet as set
 use Rattle.std.specs.HashMap.{HashMap, get}
-use Rattle.std.specs.List.{AllByRecursion}
+use Rattle.std.specs.List.{AllByRecursion, list_any}
 use Rattle.cedar_language.specs.Uid.{Uid}
 use Rattle.cedar_language.specs.Order.{same_uid}
 use Rattle.cedar_entities.specs.Data.{UidSet, EntityData, IsSameEntity, ancestors_of, without}
-use Rattle.cedar_entities.specs.Held.{Held, held_of, IsAncestor}
+use Rattle.cedar_entities.specs.Held.{Held, held_of, parents_of, IsParent, IsAncestor}
 use Rattle.cedar_entities.specs.Edits.{last_by, first_by, or_first, IsListed}
 
 -- what stands at a uid
@@ -29,6 +29,33 @@ IsKept found a b = IsTrue (set.contains (option_map_or ancestors_of (found a) se
 pub record KeepsAncestors (found : Lookup) : Type 0 where
   pub ancestors : (a b : Uid) → IsKept found a b ↔ IsAncestor (held_in found) a b
   pub acyclic : (a : Uid) → ¬ (IsAncestor (held_in found) a a)
+
+-- the ancestors that are kept of what stands at a uid
+abbrev pub kept_at : Lookup → Uid → UidSet
+kept_at found uid = option_map_or ancestors_of (found uid) set.empty
+
+-- The same in facts that have one proof each: the ancestors that are kept are the parents and those kept of the parents,
+-- and none is kept of itself.
+abbrev pub IsWhole : Lookup → Type 0
+IsWhole found =
+    ((a b : Uid) → IsParent (held_in found) a b → IsKept found a b)
+    × ((a b c : Uid) → IsParent (held_in found) a b → IsKept found b c → IsKept found a c)
+    × ((a b : Uid) → IsKept found a b → IsTrue (set.contains (parents_of (held_in found a)) b || list_any (λ m. set.contains (kept_at found m) b) (set.items (parents_of (held_in found a)))))
+    × ((a : Uid) → set.contains (kept_at found a) a ≡ false)
+
+-- a uid that isn't edited, and keeps none of those that are as an ancestor
+pub record IsUntouched (found : Lookup) (edited : List Uid) (uid : Uid) : Type 0 where
+  pub stays : list_any (same_uid uid) edited ≡ false
+  pub apart : list_any (set.contains (kept_at found uid)) edited ≡ false
+
+-- all uids but these are untouched
+abbrev pub Covers : Lookup → List Uid → List Uid → Type 0
+Covers found edited uids = (uid : Uid) → list_any (same_uid uid) uids ≡ false → IsUntouched found edited uid
+
+-- at all uids but these the ancestors that are kept are those that the parents held reach, and none reaches itself
+pub record KeepsBeside (uids : List Uid) (found : Lookup) : Type 0 where
+  pub ancestors : (a b : Uid) → list_any (same_uid a) uids ≡ false → IsKept found a b ↔ IsAncestor (held_in found) a b
+  pub acyclic : (a : Uid) → list_any (same_uid a) uids ≡ false → ¬ (IsAncestor (held_in found) a a)
 
 -- each entity stands under its own uid
 abbrev pub IsByUid : Lookup → Type 0

@@ -2,7 +2,7 @@
 
 use crate::entity::Entity;
 use crate::errors::EntitiesError;
-use cedar_closure::{enforce_tc_and_dag, rebuild_tc};
+use cedar_closure::{enforce_tc_and_dag, rebuild_tc, rebuild_tc_at};
 use cedar_literals::uids::EntityUID;
 use std::alloc::Global;
 use std::collections::HashMap;
@@ -19,8 +19,8 @@ pub enum TCComputation {
 }
 
 impl TCComputation {
-    ghost use Rattle.std.specs.Prelude.{OnOk, IfErr};
-    ghost use Rattle.cedar_entities.specs.Kept.{in_map, IsByUid};
+    ghost use Rattle.std.specs.Prelude.{OnOk, IfOk, IfErr, IfSome, IsTrue};
+    ghost use Rattle.cedar_entities.specs.Kept.{in_map, IsByUid, IsWhole, KeepsBeside};
     ghost use Rattle.cedar_entities.specs.Modes.{IsComputed, IsEnforced, IsClosedAs, IsClosureRefusal};
     ghost use Rattle.cedar_entities.specs.declared.closing.TCComputation.TheVariants.{ComputeNow, EnforceAlreadyComputed};
 
@@ -37,6 +37,38 @@ impl TCComputation {
         Ok(())
     }
 
+    // The same, where it is done for all but these uids.
+    fn compute_at(
+        alloc: Global,
+        entities: &mut HashMap<EntityUID, Entity>,
+        stale: &[EntityUID],
+    ) -> Result<(), EntitiesError>
+        requires { KeepsBeside stale.now (in_map entities.old) }
+        ensures computed { OnOk result (IsComputed (in_map entities.old) (in_map entities.new)) }
+        ensures by_uid { IsByUid (in_map entities.old) → IsByUid (in_map entities.new) }
+        ensures refused { IfErr result (IsClosureRefusal ComputeNow (in_map entities.old)) }
+    {
+        rebuild_tc_at(alloc, entities, stale, true)?;
+        Ok(())
+    }
+
+    // The same, for all or for those that are stale.
+    fn compute_stale(
+        alloc: Global,
+        entities: &mut HashMap<EntityUID, Entity>,
+        stale: Option<Vec<EntityUID>>,
+    ) -> Result<(), EntitiesError>
+        requires { IfSome stale (λ uids. KeepsBeside uids.items (in_map entities.old)) }
+        ensures computed { OnOk result (IsComputed (in_map entities.old) (in_map entities.new)) }
+        ensures by_uid { IsByUid (in_map entities.old) → IsByUid (in_map entities.new) }
+        ensures refused { IfErr result (IsClosureRefusal ComputeNow (in_map entities.old)) }
+    {
+        match stale {
+            Some(uids) => TCComputation::compute_at(alloc, entities, &uids),
+            None => TCComputation::compute(alloc, entities),
+        }
+    }
+
     // Refuses ancestors that aren't their own closure.
     fn enforce(alloc: Global, entities: &HashMap<EntityUID, Entity>) -> Result<(), EntitiesError>
         ensures enforced { OnOk result (IsEnforced (in_map entities.now) (in_map entities.now)) }
@@ -46,20 +78,30 @@ impl TCComputation {
         Ok(())
     }
 
-    /// Closes the ancestors of a map's entities, or sees that they are closed.
+    /// Closes the ancestors of a map's entities, or sees that they are closed; those that are stale alone, where
+    /// it is said which are. Answers whether they are then known to be what the parents reach.
     pub(crate) fn close(
         self,
         alloc: Global,
         entities: &mut HashMap<EntityUID, Entity>,
-    ) -> Result<(), EntitiesError>
+        stale: Option<Vec<EntityUID>>,
+    ) -> Result<bool, EntitiesError>
+        requires { IfSome stale (λ uids. KeepsBeside uids.items (in_map entities.old)) }
         ensures closed { OnOk result (IsClosedAs self (in_map entities.old) (in_map entities.new)) }
+        ensures known { IfOk result (λ known. IsTrue known → IsWhole (in_map entities.new)) }
         ensures by_uid { IsByUid (in_map entities.old) → IsByUid (in_map entities.new) }
         ensures refused { IfErr result (IsClosureRefusal self (in_map entities.old)) }
     {
         match self {
-            TCComputation::AssumeAlreadyComputed => Ok(()),
-            TCComputation::EnforceAlreadyComputed => TCComputation::enforce(alloc, entities),
-            TCComputation::ComputeNow => TCComputation::compute(alloc, entities),
+            TCComputation::AssumeAlreadyComputed => Ok(false),
+            TCComputation::EnforceAlreadyComputed => {
+                TCComputation::enforce(alloc, entities)?;
+                Ok(false)
+            }
+            TCComputation::ComputeNow => {
+                TCComputation::compute_stale(alloc, entities, stale)?;
+                Ok(true)
+            }
         }
     }
 }

@@ -1,12 +1,13 @@
 //! Edits of a map of entities.
-ghost use Rattle.std.specs.Prelude.{◌≡◌, OnOk, IfErr, Some, None, cond};
+ghost use Rattle.std.specs.Prelude.{◌≡◌, OnOk, IfOk, IfErr, Some, None, cond};
 ghost use Rattle.std.specs.Option.{option_map, IsSomeAnd};
 ghost use Rattle.std.specs.FinSet as set;
+ghost use Rattle.std.specs.List.{list_any};
 ghost use Rattle.cedar_language.specs.Uid.{Uid};
 ghost use Rattle.cedar_language.specs.Order.{same_uid, uid_cmp};
 ghost use Rattle.cedar_entities.specs.Data.{IsSameEntity, without};
 ghost use Rattle.cedar_entities.specs.Edits.{or_first};
-ghost use Rattle.cedar_entities.specs.Kept.{in_map, put_over, added_to, removed_from, AreVersions};
+ghost use Rattle.cedar_entities.specs.Kept.{in_map, put_over, added_to, removed_from, AreVersions, Covers};
 ghost use Rattle.cedar_entities.specs.Refusals.{IsAddRefusal, IsOneRefusal};
 
 use crate::entity::Entity;
@@ -74,6 +75,17 @@ pub(crate) fn add_all(
     Ok(())
 }
 
+/// The uids of the entities.
+pub(crate) fn uids_of(alloc: Global, entities: &[Entity]) -> Result<HashSet<EntityUID>, AllocError>
+    ensures { IfOk result (λ uids. (q : Uid) → list_any (same_uid q) uids.keys ≡ list_any (λ e. same_uid q e.uid) entities.now) }
+{
+    let mut uids = HashSet::new(alloc);
+    for entity in entities {
+        uids.insert(entity.uid().clone(alloc)?)?;
+    }
+    Ok(uids)
+}
+
 // Takes the entities of these uids away.
 fn drop_all(map: &mut HashMap<EntityUID, Entity>, uids: &HashSet<EntityUID>)
     ensures { (uid : Uid) → in_map map.new uid ≡ cond (set.contains (set.from_list {R = uid_cmp} uids.now.keys) uid) None (in_map map.old uid) }
@@ -81,20 +93,47 @@ fn drop_all(map: &mut HashMap<EntityUID, Entity>, uids: &HashSet<EntityUID>)
     map.retain(|uid, _entity| !uids.contains(uid));
 }
 
-// Takes the uids away from the ancestors of each entity.
-fn cut_all(map: &mut HashMap<EntityUID, Entity>, uids: &HashSet<EntityUID>)
-    ensures { (uid : Uid) → in_map map.new uid ≡ option_map (without (set.from_list {R = uid_cmp} uids.now.keys)) (in_map map.old uid) }
+// Takes the uids away from the ancestors of the entity at one uid.
+fn cut_one(
+    map: &mut HashMap<EntityUID, Entity>,
+    at: &EntityUID,
+    uids: &HashSet<EntityUID>,
+) -> Result<(), AllocError>
+    ensures { OnOk result ((uid : Uid) → in_map map.new uid
+        ≡ cond (same_uid at.now uid) (option_map (without (set.from_list {R = uid_cmp} uids.now.keys)) (in_map map.old uid)) (in_map map.old uid)) }
 {
-    map.retain(|_uid, entity| {
-        entity.remove_ancestors(uids);
-        true
-    });
+    match map.get_mut(at) {
+        Some(entity) => entity.remove_ancestors(uids),
+        None => Ok(()),
+    }
 }
 
-/// Takes the entities of these uids away, and the uids from the ancestors of those that stay.
-pub(crate) fn remove_all(map: &mut HashMap<EntityUID, Entity>, uids: &HashSet<EntityUID>)
-    ensures { (uid : Uid) → in_map map.new uid ≡ removed_from (in_map map.old) (set.from_list {R = uid_cmp} uids.now.keys) uid }
+// Takes the uids away from the ancestors of each entity, none of the others having one of them.
+fn cut_all(
+    map: &mut HashMap<EntityUID, Entity>,
+    touched: &[EntityUID],
+    uids: &HashSet<EntityUID>,
+) -> Result<(), AllocError>
+    requires { Covers (in_map map.old) uids.now.keys touched.now }
+    ensures { OnOk result ((uid : Uid) → in_map map.new uid ≡ option_map (without (set.from_list {R = uid_cmp} uids.now.keys)) (in_map map.old uid)) }
 {
-    cut_all(map, uids);
+    for at in touched {
+        cut_one(map, at, uids)?;
+    }
+    Ok(())
+}
+
+/// Takes the entities of these uids away, and the uids from the ancestors of those that stay: of those touched, none
+/// of the others having one of them.
+pub(crate) fn remove_all(
+    map: &mut HashMap<EntityUID, Entity>,
+    touched: &[EntityUID],
+    uids: &HashSet<EntityUID>,
+) -> Result<(), AllocError>
+    requires { Covers (in_map map.old) uids.now.keys touched.now }
+    ensures { OnOk result ((uid : Uid) → in_map map.new uid ≡ removed_from (in_map map.old) (set.from_list {R = uid_cmp} uids.now.keys) uid) }
+{
+    cut_all(map, touched, uids)?;
     drop_all(map, uids);
+    Ok(())
 }

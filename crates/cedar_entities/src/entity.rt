@@ -3,18 +3,20 @@ ghost use Rattle.std.specs.Prelude.{◌≡◌, ◌↔◌, IsTrue, OnOk, OnErr, I
 ghost use Rattle.std.specs.Option.{option_map};
 ghost use Rattle.std.specs.FinMap as finite;
 ghost use Rattle.std.specs.FinSet as set;
-ghost use Rattle.std.specs.List.{list_all};
+ghost use Rattle.std.specs.List.{list_all, list_any};
 ghost use Rattle.std.specs.Rc.{rc_str_bytes};
 ghost use Rattle.cedar_language.specs.Uid.{Uid};
 ghost use Rattle.cedar_restricted.specs.PartialValues.{partial_of};
 ghost use Rattle.cedar_entities.specs.Attributes.{attributes_of, seen_entries};
+ghost use Rattle.cedar_uid_lists.specs.Lists.{AreRising, AreInTurn};
 ghost use Rattle.cedar_entities.specs.Data.{EntityData, bare_entity, ancestors_of, IsListOf, IsSameEntity, without};
 
 use crate::attributes::{Attributes, same_attributes};
 use cedar_literals::uids::EntityUID;
 use cedar_restricted::partial_values::PartialValue;
+use cedar_uid_lists::{EntityUIDs, Uids};
 use std::alloc::{AllocError, Global};
-use std::collections::{BTreeMap, HashSet, btree_map, hash_set};
+use std::collections::{BTreeMap, HashSet, btree_map};
 use std::hash::{Hash, Hasher};
 use std::marker::Model;
 use std::rc::{Rc, RcStr};
@@ -26,12 +28,12 @@ pub struct Entity {
     uid: EntityUID,
     attrs: Attributes,
     tags: Attributes,
-    parents: HashSet<EntityUID>,
-    indirect_ancestors: HashSet<EntityUID>,
+    parents: EntityUIDs,
+    indirect_ancestors: EntityUIDs,
 }
 
-/// A walk over the ancestors of an entity, in no stated order.
-pub type Ancestors<'a> = hash_set::Union<'a, EntityUID>;
+/// A walk over the ancestors of an entity: its parents, and then the others.
+pub type Ancestors<'a> = Uids<'a>;
 
 impl Drop for Entity {
     fn drop(self) {
@@ -46,7 +48,6 @@ impl Drop for Entity {
 }
 
 impl Model for Entity {
-    ghost use Rattle.std.specs.FinSet as set;
     ghost use Rattle.cedar_entities.specs.Attributes.{attributes_of};
     ghost use Rattle.cedar_entities.specs.Data.{EntityData, data_code};
 
@@ -58,8 +59,8 @@ impl Model for Entity {
       uid = a.uid;
       attributes = attributes_of a.attrs.value.entries;
       tags = attributes_of a.tags.value.entries;
-      parents = set.from_list a.parents.keys;
-      indirect = set.from_list a.indirect_ancestors.keys;
+      parents = a.parents;
+      indirect = a.indirect_ancestors;
     } };
 }
 
@@ -99,6 +100,8 @@ impl Entity {
     {
         let attrs = Rc::new(alloc, attrs)?;
         let tags = Rc::new(alloc, tags)?;
+        let parents = EntityUIDs::from_set(alloc, parents)?;
+        let indirect_ancestors = EntityUIDs::from_set(alloc, indirect_ancestors)?;
         Ok(Entity {
             uid,
             attrs,
@@ -194,44 +197,46 @@ impl Entity {
         self.is_child_of(uid) || self.is_indirect_descendant_of(uid)
     }
 
-    /// Its parents, in no stated order.
-    pub fn parents(&self) -> hash_set::Iter<'_, EntityUID>
-        ensures { IsListOf result self.now.parents }
+    /// Whether one of the uids is one of its ancestors.
+    pub fn is_descendant_of_one(&self, uids: &HashSet<EntityUID>) -> bool
+        ensures { result ≡ list_any (set.contains (ancestors_of self.now)) uids.now.keys }
+    {
+        self.parents.meets(uids) || self.indirect_ancestors.meets(uids)
+    }
+
+    /// Its parents, each below the next.
+    pub fn parents(&self) -> Uids<'_>
+        ensures listed { IsListOf result self.now.parents }
+        ensures rising { AreRising result }
     {
         self.parents.iter()
     }
 
-    /// The ancestors that are kept beside its parents, in no stated order.
-    pub fn indirect_ancestors(&self) -> hash_set::Iter<'_, EntityUID>
-        ensures { IsListOf result self.now.indirect }
+    /// The ancestors that are kept beside its parents, each below the next.
+    pub fn indirect_ancestors(&self) -> Uids<'_>
+        ensures listed { IsListOf result self.now.indirect }
+        ensures rising { AreRising result }
     {
         self.indirect_ancestors.iter()
     }
 
-    /// Its ancestors, parents or not, each once, in no stated order.
+    /// Its ancestors, each once: its parents, each below the next, and then the others, each below the next.
     pub fn ancestors(&self) -> Ancestors<'_>
         ensures listed { IsListOf result (ancestors_of self.now) }
+        ensures in_turn { AreInTurn self.now.parents self.now.indirect result }
         ensures fits { length result < 2 ^ 64 }
     {
-        self.parents.union(&self.indirect_ancestors)
+        self.parents.followed_by(&self.indirect_ancestors)
     }
 
     /// Its uid, attributes, indirect ancestors, parents and tags.
-    pub fn into_inner(
-        self,
-    ) -> (
-        EntityUID,
-        Attributes,
-        HashSet<EntityUID>,
-        HashSet<EntityUID>,
-        Attributes,
-    )
+    pub fn into_inner(self) -> (EntityUID, Attributes, EntityUIDs, EntityUIDs, Attributes)
         ensures { self ≡ record {
           uid = result.0;
           attributes = attributes_of result.1.value.entries;
           tags = attributes_of result.4.value.entries;
-          parents = set.from_list result.3.keys;
-          indirect = set.from_list result.2.keys;
+          parents = result.3;
+          indirect = result.2;
         } }
     {
         let Entity {
@@ -247,10 +252,16 @@ impl Entity {
 
 // ---- comparisons
 
-fn are_ancestors(uids: &HashSet<EntityUID>, of: &Entity) -> bool
-    ensures { result ≡ list_all (set.contains (ancestors_of of.now)) uids.now.keys }
+fn are_listed_ancestors(uids: &[EntityUID], of: &Entity) -> bool
+    ensures { result ≡ list_all (set.contains (ancestors_of of.now)) uids.now }
 {
     uids.iter().all(|uid| of.is_descendant_of(uid))
+}
+
+fn are_ancestors(uids: &EntityUIDs, of: &Entity) -> bool
+    ensures { result ≡ set.is_subset uids.now (ancestors_of of.now) }
+{
+    are_listed_ancestors(uids.as_slice(), of)
 }
 
 // Whether each ancestor of the first is one of the second.
@@ -328,8 +339,8 @@ impl Clone for Entity {
             uid: Clone::clone(&self.uid)?,
             attrs: self.attrs.clone()?,
             tags: self.tags.clone()?,
-            parents: self.parents.clone()?,
-            indirect_ancestors: self.indirect_ancestors.clone()?,
+            parents: Clone::clone(&self.parents)?,
+            indirect_ancestors: Clone::clone(&self.indirect_ancestors)?,
         })
     }
 }
@@ -337,7 +348,7 @@ impl Clone for Entity {
 // ---- changes
 
 impl Entity {
-    /// A copy that shares attributes and tags; refused for memory alone.
+    /// A copy that shares attributes, tags and the lists of ancestors; refused for memory alone.
     pub fn clone(&self, _alloc: Global) -> Result<Entity, AllocError>
         ensures { IfOk result (λ copy. copy ≡ self.now) }
     {
@@ -358,6 +369,18 @@ impl Entity {
         Ok(())
     }
 
+    /// Keeps these uids beside the parents, those that are parents left out. The list of those kept is made once.
+    /// Refused for memory alone; the entity is then unchanged.
+    pub fn add_indirect_ancestors(&mut self, uids: Vec<EntityUID>) -> Result<(), AllocError>
+        ensures added { OnOk result (self.new ≡ record self.old {
+          indirect = set.union self.old.indirect (set.difference (set.from_list uids.items) self.old.parents);
+        }) }
+        ensures err { OnErr result (self.new ≡ self.old) }
+    {
+        let others = others_than(&self.parents, uids);
+        self.indirect_ancestors.extend(others)
+    }
+
     /// Adds a parent, which isn't kept beside the parents any more. Refused for memory alone; the entity
     /// is then unchanged.
     pub fn add_parent(&mut self, uid: EntityUID) -> Result<(), AllocError>
@@ -367,32 +390,41 @@ impl Entity {
         }) }
         ensures err { OnErr result (self.new ≡ self.old) }
     {
-        self.parents.reserve(1)?;
-        self.indirect_ancestors.remove(&uid);
+        let mut indirect_ancestors = Clone::clone(&self.indirect_ancestors)?;
+        indirect_ancestors.remove(&uid)?;
         self.parents.insert(uid)?;
+        self.indirect_ancestors = indirect_ancestors;
         Ok(())
     }
 
-    /// Takes away an ancestor that is kept beside the parents, if it is one.
-    pub fn remove_indirect_ancestor(&mut self, uid: &EntityUID)
-        ensures { self.new ≡ record self.old { indirect = set.remove self.old.indirect uid.now } }
+    /// Takes away an ancestor that is kept beside the parents, if it is one. Refused for memory alone; the entity
+    /// is then unchanged.
+    pub fn remove_indirect_ancestor(&mut self, uid: &EntityUID) -> Result<(), AllocError>
+        ensures removed { OnOk result (self.new ≡ record self.old { indirect = set.remove self.old.indirect uid.now }) }
+        ensures err { OnErr result (self.new ≡ self.old) }
     {
-        self.indirect_ancestors.remove(uid);
+        self.indirect_ancestors.remove(uid)
     }
 
-    /// Takes away a parent, if it is one.
-    pub fn remove_parent(&mut self, uid: &EntityUID)
-        ensures { self.new ≡ record self.old { parents = set.remove self.old.parents uid.now } }
+    /// Takes away a parent, if it is one. Refused for memory alone; the entity is then unchanged.
+    pub fn remove_parent(&mut self, uid: &EntityUID) -> Result<(), AllocError>
+        ensures removed { OnOk result (self.new ≡ record self.old { parents = set.remove self.old.parents uid.now }) }
+        ensures err { OnErr result (self.new ≡ self.old) }
     {
-        self.parents.remove(uid);
+        self.parents.remove(uid)
     }
 
-    /// Takes these uids away from its parents and from the ancestors that are kept beside them.
-    pub fn remove_ancestors(&mut self, uids: &HashSet<EntityUID>)
-        ensures { self.new ≡ without (set.from_list uids.now.keys) self.old }
+    /// Takes these uids away from its parents and from the ancestors that are kept beside them. Refused for memory
+    /// alone; the entity is then unchanged.
+    pub fn remove_ancestors(&mut self, uids: &HashSet<EntityUID>) -> Result<(), AllocError>
+        ensures removed { OnOk result (self.new ≡ without (set.from_list uids.now.keys) self.old) }
+        ensures err { OnErr result (self.new ≡ self.old) }
     {
-        self.parents.retain(|uid| !uids.contains(uid));
-        self.indirect_ancestors.retain(|uid| !uids.contains(uid));
+        let parents = self.parents.without(uids)?;
+        let indirect_ancestors = self.indirect_ancestors.without(uids)?;
+        self.parents = parents;
+        self.indirect_ancestors = indirect_ancestors;
+        Ok(())
     }
 
     /// Takes away all ancestors that are kept beside the parents.
@@ -401,4 +433,13 @@ impl Entity {
     {
         self.indirect_ancestors.clear();
     }
+}
+
+// Those of the uids that aren't in the list.
+fn others_than(list: &EntityUIDs, uids: Vec<EntityUID>) -> Vec<EntityUID>
+    ensures { set.from_list result.items ≡ set.difference (set.from_list uids.items) list.now }
+{
+    let mut others = uids;
+    others.retain(|uid| !list.contains(uid));
+    others
 }

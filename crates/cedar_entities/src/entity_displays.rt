@@ -1,5 +1,5 @@
-//! How entities are printed. Their ancestors are kept by hash, so they are printed in the order of uids;
-//! that takes no memory, and a pass over all of them for each.
+//! How entities are printed. All ancestors are printed in the order of uids, parents or not; that takes no
+//! memory, and a pass over all of them for each.
 
 use crate::entity::Entity;
 use cedar_literals::uids::EntityUID;

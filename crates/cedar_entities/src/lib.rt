@@ -15,11 +15,13 @@ mod evaluation_errors;
 mod nodes;
 pub mod store;
 mod store_displays;
+mod touching;
 mod typing;
 mod validated_attributes;
 mod validation;
 mod world_laws;
 
+pub use cedar_uid_lists::{EntityUIDs, Uids};
 pub use evaluation::EvaluateEntity;
 pub use evaluation_errors::{EntityAttrEvaluationError, EntityCreationError};
 pub use validation::{EntitiesValidation, EntityValidation};

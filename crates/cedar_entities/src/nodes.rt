@@ -6,7 +6,12 @@ use cedar_literals::uids::EntityUID;
 use std::alloc::{AllocError, Global};
 
 impl TCNode<EntityUID> for Entity {
+    ghost use Rattle.std.specs.Prelude.{◌++◌, IsTrue, OnOk, OnErr};
     ghost use Rattle.std.specs.FinSet as set;
+    ghost use Rattle.std.specs.Set.{is_member};
+    ghost use Rattle.cedar_closure.specs.Graph.{SameKeys};
+    ghost use Rattle.cedar_language.specs.Order.{same_uid};
+    ghost use Rattle.cedar_language.specs.Uid.{Uid};
     ghost use Rattle.cedar_entities.specs.Data.{ancestors_of, IsSameBesideAncestors};
     ghost use Rattle.cedar_entities.specs.Sameness.{same_beside_itself, same_beside_through};
 
@@ -24,6 +29,15 @@ impl TCNode<EntityUID> for Entity {
 
     fn add_edge_to(&mut self, k: EntityUID) -> Result<(), AllocError> {
         self.add_indirect_ancestor(k)
+    }
+
+    fn add_edges_to(&mut self, keys: Vec<EntityUID>) -> Result<(), AllocError>
+        ensures added { OnOk result (SameKeys same_uid (keys.items ++ set.items (ancestors_of self.old)) (set.items (ancestors_of self.new))) }
+        ensures kept { OnErr result ((q : Uid) → IsTrue (is_member same_uid (set.items (ancestors_of self.old)) q) → IsTrue (is_member same_uid (set.items (ancestors_of self.new)) q)) }
+        ensures only { OnErr result ((q : Uid) → IsTrue (is_member same_uid (set.items (ancestors_of self.new)) q) → IsTrue (is_member same_uid (keys.items ++ set.items (ancestors_of self.old)) q)) }
+        ensures same { IsSameBesideAncestors self.old self.new }
+    {
+        self.add_indirect_ancestors(keys)
     }
 
     fn out_edges(&self, alloc: Global) -> Result<Vec<&EntityUID>, AllocError> {

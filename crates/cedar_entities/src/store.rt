@@ -6,13 +6,14 @@ ghost use Rattle.cedar_language.specs.Order.{uid_cmp};
 ghost use Rattle.cedar_language.specs.Tree as tree;
 ghost use Rattle.cedar_trees.specs.Bare.{bare};
 ghost use Rattle.cedar_literals.specs.Escapes.{uid_text};
-ghost use Rattle.cedar_entities.specs.Kept.{in_map, IsByUid};
+ghost use Rattle.cedar_entities.specs.Kept.{in_map, IsByUid, IsWhole, KeepsBeside, Covers};
 
 use crate::closing::TCComputation;
 use crate::comparing::{agree_where_held, has_uids_of};
-use crate::edits::{add_all, put_all, remove_all};
+use crate::edits::{add_all, put_all, remove_all, uids_of};
 use crate::entity::Entity;
 use crate::errors::EntitiesError;
+use crate::touching::{are_few, few, touched};
 use cedar_literals::types::Type;
 use cedar_literals::uids::EntityUID;
 use cedar_trees::expr::Expr;
@@ -33,7 +34,10 @@ enum Mode {
 pub struct Entities {
     entities: HashMap<EntityUID, Entity>,
     mode: Mode,
+    // whether the ancestors kept are known to be those that the parents reach
+    is_closed: bool,
     pub ghost by_uid: { IsByUid (in_map entities) },
+    pub ghost closed: { IsTrue is_closed → IsWhole (in_map entities) },
 }
 
 impl Drop for Entities {
@@ -41,6 +45,7 @@ impl Drop for Entities {
         let Entities {
             entities: _,
             mode: _,
+            is_closed: _,
         } = self;
     }
 }
@@ -99,6 +104,7 @@ impl Entities {
         Entities {
             entities: HashMap::new(alloc),
             mode: Mode::Concrete,
+            is_closed: true,
         }
     }
 
@@ -107,10 +113,15 @@ impl Entities {
         ensures found { (uid : Uid) → found_in result uid ≡ found_in self uid }
         ensures partial { is_partial_store result ≡ true }
     {
-        let Entities { entities, mode: _ } = self;
+        let Entities {
+            entities,
+            mode: _,
+            is_closed,
+        } = self;
         Entities {
             entities,
             mode: Mode::Partial,
+            is_closed,
         }
     }
 
@@ -184,19 +195,43 @@ impl Entities {
             && has_uids_of(&self.entities, &other.entities)
     }
 
-    // The store of these entities, their ancestors closed or seen to be closed.
+    // The store of these entities, their ancestors closed or seen to be closed; those that are stale alone, where it
+    // is said which are.
     fn closed(
         alloc: Global,
         mut entities: HashMap<EntityUID, Entity>,
         mode: Mode,
         tc_computation: TCComputation,
+        stale: Option<Vec<EntityUID>>,
     ) -> Result<Entities, EntitiesError>
-        requires { IsByUid (in_map entities) }
+        requires by_uid { IsByUid (in_map entities) }
+        requires stale { IfSome stale (λ uids. KeepsBeside uids.items (in_map entities)) }
         ensures edited { Edits tc_computation (in_map entities) result }
         ensures partial { IfOk result (λ store. is_partial_store store ≡ is_partial_mode mode) }
     {
-        tc_computation.close(alloc, &mut entities)?;
-        Ok(Entities { entities, mode })
+        let is_closed = tc_computation.close(alloc, &mut entities, stale)?;
+        Ok(Entities {
+            entities,
+            mode,
+            is_closed,
+        })
+    }
+
+    // The uids of the entities that an edit of these uids touches, where they are few and the ancestors of all others
+    // are known to be whole: where ancestors are to be computed, those of these entities alone are then stale.
+    fn stale(
+        &self,
+        alloc: Global,
+        edited: &HashSet<EntityUID>,
+        tc_computation: TCComputation,
+    ) -> Result<Option<Vec<EntityUID>>, AllocError>
+        ensures { IfOk result (λ stale. IfSome stale (λ uids. IsClosed self.now × Covers (found_in self.now) edited.now.keys uids.items)) }
+    {
+        if tc_computation != TCComputation::ComputeNow || !are_few(edited.len(), self.len()) {
+            return Ok(None);
+        }
+        let uids = touched(alloc, &self.entities, edited)?;
+        Ok(few(self.is_closed, uids, self.len()))
     }
 
     /// The store of these entities, which isn't partial. A uid may be listed more than once, if its versions
@@ -232,9 +267,12 @@ impl Entities {
     ///
     /// Refused `Duplicate` with the uid of a version that differs from the one held, or else from the first one
     /// listed. Ancestors are then closed or looked at, and refused, as `from_entities` says of
-    /// `tc_computation`; that goes over the whole store, at the cost told there. Also refused where memory runs
-    /// out. The store is consumed: a refused call leaves nothing of it, so a caller that goes on with it adds
-    /// to a clone.
+    /// `tc_computation`. Also refused where memory runs out. The store is consumed: a refused call leaves nothing
+    /// of it, so a caller that goes on with it adds to a clone.
+    ///
+    /// With `ComputeNow` it looks once at each entity for those listed among its ancestors, and closes again
+    /// these entities and those listed, where they are few; else it goes over the whole store, at the cost told
+    /// at `from_entities`.
     pub fn add_entities(
         self,
         alloc: Global,
@@ -245,21 +283,22 @@ impl Entities {
         ensures added { tc_computation ≡ ComputeNow → IsClosed self → ArePlain entities.items → Adds (held_at self) entities.items result }
         ensures partial { IfOk result (λ store. is_partial_store store ≡ is_partial_store self) }
     {
+        let stale = self.stale(alloc, &uids_of(alloc, &entities)?, tc_computation)?;
         let Entities {
             entities: mut map,
             mode,
+            is_closed: _,
         } = self;
         add_all(alloc, &mut map, entities)?;
-        Entities::closed(alloc, map, mode, tc_computation)
+        Entities::closed(alloc, map, mode, tc_computation, stale)
     }
 
     /// The store with these entities in the place of those of the same uids: of each uid the version listed
     /// last stands, with its attributes, tags and parents, and nothing of the version held before.
     ///
     /// Never refused `Duplicate`. Ancestors are closed or looked at, and refused, as `from_entities` says of
-    /// `tc_computation`; that goes over the whole store, at the cost told there. Also refused where memory runs
-    /// out. The store is consumed: a refused call leaves nothing of it, so a caller that goes on with it puts
-    /// into a clone.
+    /// `tc_computation`, at the cost told at `add_entities`. Also refused where memory runs out. The store is
+    /// consumed: a refused call leaves nothing of it, so a caller that goes on with it puts into a clone.
     pub fn upsert_entities(
         self,
         alloc: Global,
@@ -270,12 +309,14 @@ impl Entities {
         ensures put { tc_computation ≡ ComputeNow → Leaves (put (held_at self) entities.items) result }
         ensures partial { IfOk result (λ store. is_partial_store store ≡ is_partial_store self) }
     {
+        let stale = self.stale(alloc, &uids_of(alloc, &entities)?, tc_computation)?;
         let Entities {
             entities: mut map,
             mode,
+            is_closed: _,
         } = self;
         put_all(alloc, &mut map, entities)?;
-        Entities::closed(alloc, map, mode, tc_computation)
+        Entities::closed(alloc, map, mode, tc_computation, stale)
     }
 
     /// The store without the entities of these uids, and without all parent edges from and to them; of a uid
@@ -284,9 +325,9 @@ impl Entities {
     /// loses it else. The other two take the removed uids alone from the ancestors that are kept.
     ///
     /// Ancestors are closed or looked at, and refused, as `from_entities` says of `tc_computation`, but a closed
-    /// store is never refused with `ComputeNow`, memory aside; that goes over the whole store, at the cost told
-    /// there, and looks each ancestor up among `uids`. The store is consumed: a refused call leaves nothing of
-    /// it, so a caller that goes on with it removes from a clone.
+    /// store is never refused with `ComputeNow`, memory aside; at the cost told at `add_entities`, where in each
+    /// mode each entity is looked at once for `uids` among its ancestors. The store is consumed: a refused call
+    /// leaves nothing of it, so a caller that goes on with it removes from a clone.
     pub fn remove_entities(
         self,
         alloc: Global,
@@ -301,9 +342,12 @@ impl Entities {
         let Entities {
             entities: mut map,
             mode,
+            is_closed,
         } = self;
-        remove_all(&mut map, uids);
-        Entities::closed(alloc, map, mode, tc_computation)
+        let touched = touched(alloc, &map, uids)?;
+        remove_all(&mut map, &touched, uids)?;
+        let stale = few(is_closed, touched, map.len());
+        Entities::closed(alloc, map, mode, tc_computation, stale)
     }
 }
 
@@ -319,7 +363,11 @@ impl IntoIterator for Entities {
 
     /// The entities, in no stated order.
     fn into_iter(self) -> hash_map::IntoValues<EntityUID, Entity> {
-        let Entities { entities, mode: _ } = self;
+        let Entities {
+            entities,
+            mode: _,
+            is_closed: _,
+        } = self;
         entities.into_values()
     }
 }
@@ -348,6 +396,7 @@ impl Clone for Entities {
         Ok(Entities {
             entities: self.entities.clone()?,
             mode: self.mode,
+            is_closed: self.is_closed,
         })
     }
 }
@@ -355,7 +404,7 @@ impl Clone for Entities {
 impl Entities {
     ghost use Rattle.cedar_entities.specs.Store.{IsCopy};
 
-    /// A copy that shares names, attributes and tags; refused for memory alone.
+    /// A copy that shares names, attributes, tags and the lists of ancestors; refused for memory alone.
     pub fn clone(&self, _alloc: Global) -> Result<Entities, AllocError>
         ensures { IfOk result (IsCopy self.now) }
     {

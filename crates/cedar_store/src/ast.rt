@@ -15,7 +15,8 @@ pub use cedar_constraints::resources::ResourceConstraint;
 pub use cedar_entities::attributes::Attributes;
 pub use cedar_entities::entity::{Ancestors, Entity};
 pub use cedar_entities::{
-    EntityAttrEvaluationError, EntityCreationError, EntityValidation, EvaluateEntity,
+    EntityAttrEvaluationError, EntityCreationError, EntityUIDs, EntityValidation, EvaluateEntity,
+    Uids,
 };
 pub use cedar_literals::slots::{Slot, SlotId};
 pub use cedar_literals::uids::{ACTION_ENTITY_TYPE, Eid, EntityType, EntityUID, EntityUIDImpl};

@@ -2,5 +2,6 @@
 //! for what lacks. Nodes are what implements `TCNode`.
 
 pub use cedar_closure::{
-    HasCycle, MissingTcEdge, TCNode, TcError, compute_tc, enforce_tc_and_dag, rebuild_tc, repair_tc,
+    HasCycle, MissingTcEdge, TCNode, TcError, compute_tc, enforce_tc_and_dag, rebuild_tc,
+    rebuild_tc_at, repair_tc,
 };

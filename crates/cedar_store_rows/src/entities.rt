@@ -11,13 +11,13 @@ use cedar_policy_rows::words::{
 use cedar_restricted::errors::RestrictedExpressionError;
 use cedar_restricted::partial_values::PartialValue;
 use cedar_restricted::restricted::RestrictedExpr;
-use cedar_store::ast::{Attributes, Entity, EntityValidation, EvaluateEntity};
+use cedar_store::ast::{Attributes, Entity, EntityUIDs, EntityValidation, EvaluateEntity};
 use cedar_store::entities::Dereference;
 use cedar_store::transitive_closure::TCNode;
 use cedar_trees::expr::Expr;
 use cedar_values::values::Value;
 use std::alloc::Global;
-use std::collections::{BTreeMap, HashSet};
+use std::collections::BTreeMap;
 use std::hash::{DefaultHasher, Hash, Hasher};
 use std::mem;
 use std::rc::RcStr;
@@ -157,18 +157,12 @@ pub(crate) fn edit(alloc: Global, case: &Case<'_>, entities: &mut Vec<Entity>) -
         "add-ancestor" => done(alloc, entity.add_indirect_ancestor(uid(alloc, case.one)?)),
         "add-edge" => done(alloc, entity.add_edge_to(uid(alloc, case.one)?)),
         "reset-edges" => done(alloc, entity.reset_edges()),
-        "remove-parent" => {
-            entity.remove_parent(&uid(alloc, case.one)?);
-            text(alloc, "ok")
-        }
-        "remove-ancestor" => {
-            entity.remove_indirect_ancestor(&uid(alloc, case.one)?);
-            text(alloc, "ok")
-        }
-        "remove-ancestors" => {
-            entity.remove_ancestors(&uids(alloc, case.one)?);
-            text(alloc, "ok")
-        }
+        "remove-parent" => done(alloc, entity.remove_parent(&uid(alloc, case.one)?)),
+        "remove-ancestor" => done(
+            alloc,
+            entity.remove_indirect_ancestor(&uid(alloc, case.one)?),
+        ),
+        "remove-ancestors" => done(alloc, entity.remove_ancestors(&uids(alloc, case.one)?)),
         _ => {
             let copy = entity.clone(alloc);
             push(alloc, entities, copy)
@@ -209,6 +203,7 @@ fn lineage(alloc: Global, case: &Case<'_>, entity: &Entity) -> Answer {
         "parents" => sorted(alloc, entity.parents().collect(alloc)),
         "further" => sorted(alloc, entity.indirect_ancestors().collect(alloc)),
         "ancestors" => sorted(alloc, entity.ancestors().collect(alloc)),
+        "in-order" => listed(alloc, entity.ancestors().collect(alloc)),
         "edges" => sorted(alloc, entity.out_edges(alloc)),
         "direct-edges" => sorted(alloc, entity.direct_edges(alloc)),
         "key" => told(alloc, entity.get_key()),
@@ -238,19 +233,13 @@ fn of_two(alloc: Global, verb: &str, low: &Entity, high: &Entity) -> Answer {
     }
 }
 
-type Parts = (
-    EntityUID,
-    Attributes,
-    HashSet<EntityUID>,
-    HashSet<EntityUID>,
-    Attributes,
-);
+type Parts = (EntityUID, Attributes, EntityUIDs, EntityUIDs, Attributes);
 
 /// How many attributes, further ancestors, parents and tags there are.
 fn counted(alloc: Global, parts: Parts) -> Answer {
     let (uid, attrs, indirect, parents, tags) = parts;
-    let (attrs, indirect) = (attrs.len(), indirect.len());
-    let (parents, tags) = (parents.len(), tags.len());
+    let (attrs, indirect) = (attrs.len(), indirect.as_slice().len());
+    let (parents, tags) = (parents.as_slice().len(), tags.len());
     Ok(format!(in alloc; "{uid} {attrs} {indirect} {parents} {tags}")?)
 }
 

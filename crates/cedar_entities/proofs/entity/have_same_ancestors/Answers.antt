@@ -1,6 +1,6 @@
 -- Sets that lie within one another are one.
 use Rattle.cedar_entities.specs.Data.{ancestors_of}
-use Rattle.cedar_entities.proofs.Uids.{same_both}
+use Rattle.cedar_entities.proofs.UidLemmas.{same_both}
 use Rattle.cedar_entities.proofs.entity.have_same_ancestors.Goals as goal
 
 pub returns-then-shares_ancestors : goal.returns-then-shares_ancestors

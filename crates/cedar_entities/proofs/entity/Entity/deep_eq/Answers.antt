@@ -1,7 +1,7 @@
 -- Uids that are equal by the test are one.
 use Rattle.std.proofs.Common.{◌∙◌}
 use Rattle.cedar_language.specs.Order.{same_uid}
-use Rattle.cedar_entities.proofs.Uids.{same_entity, other_entity}
+use Rattle.cedar_entities.proofs.UidLemmas.{same_entity, other_entity}
 use Rattle.cedar_entities.proofs.entity.Entity.deep_eq.Goals as goal
 
 pub returns-then-eq : goal.returns-then-eq

@@ -1,5 +1,5 @@
 -- A union holds what either set does.
-use Rattle.cedar_entities.proofs.Uids.{contains-both, found_first, found_second}
+use Rattle.cedar_entities.proofs.UidLemmas.{contains-both, found_first, found_second}
 use Rattle.cedar_entities.proofs.entity.Entity.is_descendant_of.Goals as goal
 
 pub returns-then-is_child_of : goal.returns-then-is_child_of

@@ -1,6 +1,6 @@
--- The keys of a set of uids are its members, each once.
-use Rattle.cedar_entities.proofs.Uids.{list_of}
+-- A list that rises has each uid once.
+use Rattle.cedar_entities.proofs.UidLemmas.{list_rising}
 use Rattle.cedar_entities.proofs.entity.Entity.parents.Goals as goal
 
-pub returns : goal.returns
-returns c = rw (← c.self.view_is) (list_of _ c.iter.result c.iter.ensures.rest c.iter.ensures.unique)
+pub returns-clause-listed : goal.returns-clause-listed
+returns-clause-listed c = rw (← c.self.view_is) (list_rising c.iter.result c.self.inside.parents c.iter.ensures.rising c.iter.ensures.listed)

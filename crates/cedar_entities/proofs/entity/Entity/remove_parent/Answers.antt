@@ -1,7 +1,10 @@
--- The list of uids as a set: one is removed.
+-- One uid is removed.
 use Rattle.std.specs.FinSet as set
-use Rattle.cedar_entities.proofs.Uids.{parents_are, removed}
+use Rattle.std.proofs.lemmas.Result.{on_ok_weaker}
+use Rattle.cedar_entities.proofs.UidLemmas.{parents_are}
 use Rattle.cedar_entities.proofs.entity.Entity.remove_parent.Goals as goal
 
-pub returns : goal.returns
-returns c = parents_are _ c.args.self.now (λ s. set.remove s c.args.uid.now) (set.from_list c.remove.new.self.keys) c.self.view_is (removed _ _ c.args.uid.now c.remove.ensures.updates.0)
+pub returns-clause-removed : goal.returns-clause-removed
+returns-clause-removed c = on_ok_weaker c.remove.result
+    (λ is. parents_are _ c.args.self.now (λ s. set.remove s c.args.uid.now) c.remove.new.self c.self.view_is is)
+    c.remove.ensures.removed

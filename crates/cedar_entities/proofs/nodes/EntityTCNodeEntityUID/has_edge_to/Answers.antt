@@ -1,6 +1,6 @@
 -- A set holds what the list of its members does.
 use Rattle.std.proofs.Common.{◌∙◌}
-use Rattle.cedar_entities.proofs.Uids.{contains-items}
+use Rattle.cedar_entities.proofs.UidLemmas.{contains-items}
 use Rattle.cedar_entities.specs.Data.{ancestors_of}
 use Rattle.cedar_entities.proofs.nodes.EntityTCNodeEntityUID.has_edge_to.Goals as goal
 

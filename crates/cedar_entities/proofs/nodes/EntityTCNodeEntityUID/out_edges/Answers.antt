@@ -1,6 +1,6 @@
 -- A list of all ancestors has the edges: the walk gives each of them.
 use Rattle.cedar_entities.specs.Data.{ancestors_of}
-use Rattle.cedar_entities.proofs.Uids.{listed_all}
+use Rattle.cedar_entities.proofs.UidLemmas.{listed_all}
 use Rattle.cedar_entities.proofs.nodes.EntityTCNodeEntityUID.out_edges.Goals as goal
 
 pub returns : goal.returns

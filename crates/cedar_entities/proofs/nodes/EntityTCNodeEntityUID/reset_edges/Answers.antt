@@ -1,5 +1,5 @@
 -- Where nothing is kept beside the parents they alone are edges.
-use Rattle.cedar_entities.proofs.Uids.{edges_without}
+use Rattle.cedar_entities.proofs.UidLemmas.{edges_without}
 use Rattle.cedar_entities.proofs.nodes.EntityTCNodeEntityUID.reset_edges.Goals as goal
 
 pub returns-clause-reset : goal.returns-clause-reset

@@ -1,85 +1,25 @@
--- Sets of uids and the lists that hold them.
-use Rattle.std.proofs.Common.{◌≡◌, Bool, true, false, ◌||◌, ◌&&◌, not, cond, List, [], ◌∷◌, ◌++◌, IsTrue, ◌↔◌, refl, sym, ap, ◌∙◌, true≢false, filter}
-use Rattle.std.specs.declared.cmp.Ordering.{Ordering}
-use Rattle.std.specs.declared.cmp.Ordering.TheVariants.{Less, Equal, Greater}
-use Rattle.std.specs.Ordering.{is_eq, eq_by_cmp, ordering_then}
-use Rattle.std.specs.FinMap.{IsAntisymmetric}
+-- Sets of uids and the entities that hold them.
+use Rattle.std.proofs.Common.{◌≡◌, Bool, true, false, ◌||◌, ◌&&◌, not, cond, List, [], ◌∷◌, ◌++◌, IsTrue, ◌↔◌, refl, sym, ap, ◌∙◌, true≢false}
+use Rattle.std.specs.Ordering.{eq_by_cmp}
 use Rattle.std.specs.FinSet as set
 use Rattle.std.specs.List.{list_any, list_all}
-use Rattle.std.specs.Set.{is_member, IsUnion}
-use Rattle.std.proofs.lemmas.Map.Views.{any-filter_same}
+use Rattle.std.specs.Set.{is_member}
+use Rattle.std.proofs.lemmas.List.Folds.{list_any-append}
 use Rattle.cedar_language.specs.Uid.{Uid}
-use Rattle.cedar_language.specs.Order.{text_cmp, name_cmp, uid_cmp, same_uid}
-use Rattle.cedar_language.specs.OrderLaws.{text_cmp_same, name_cmp_same}
+use Rattle.cedar_language.specs.Order.{uid_cmp, same_uid}
 use Rattle.cedar_literals.specs.Laws.{uid_cmp_total, uid_cmp_ties, same_uid_equiv}
-use Rattle.std.specs.List.{IsDistinct}
 use Rattle.std.specs.Prelude.{if◌then◌else◌}
 use Rattle.cedar_closure.specs.Graph.{SameKeys}
-use Rattle.cedar_entities.specs.Data.{EntityData, UidSet, IsListOf, IsSameEntity, ancestors_of}
-
-first_equal : (r s : Ordering) → ordering_then r s ≡ Equal → r ≡ Equal
-first_equal Equal s e = refl
-first_equal Less s e = e
-first_equal Greater s e = e
-
-second_equal : (r s : Ordering) → ordering_then r s ≡ Equal → s ≡ Equal
-second_equal Equal s e = e
-second_equal Less s e = absurd (true≢false (sym (ap is_eq e)))
-second_equal Greater s e = absurd (true≢false (sym (ap is_eq e)))
-
--- uids that tie are one
-pub uid_cmp_same : IsAntisymmetric uid_cmp
-uid_cmp_same u v e =
-    let types = name_cmp_same u.type_name v.type_name (first_equal (name_cmp u.type_name v.type_name) (text_cmp u.id v.id) e) in
-    let ids = text_cmp_same u.id v.id (second_equal (name_cmp u.type_name v.type_name) (text_cmp u.id v.id) e) in
-    λ i. record { type_name = types i; id = ids i }
-
-pub list_any-ties : (q : Uid) (us : List Uid) → list_any (eq_by_cmp uid_cmp q) us ≡ list_any (same_uid q) us
-list_any-ties q [] = refl
-list_any-ties q (u ∷ us) = ap (λ b. b || list_any (eq_by_cmp uid_cmp q) us) (sym (uid_cmp_ties q u)) ∙ ap (λ b. same_uid q u || b) (list_any-ties q us)
-
--- what a set of listed uids holds
-pub contains-listed : (us : List Uid) (q : Uid) → set.contains (set.from_list {R = uid_cmp} us) q ≡ list_any (same_uid q) us
-contains-listed us q = set.contains-from_list uid_cmp_total us q ∙ list_any-ties q us
-
-pub contains-items : (s : UidSet) (q : Uid) → set.contains s q ≡ is_member same_uid (set.items s) q
-contains-items s q = set.contains-items s q ∙ list_any-ties q (set.items s)
-
-pub same_uids : (s t : UidSet) → ((q : Uid) → set.contains s q ≡ set.contains t q) → s ≡ t
-same_uids = set.same_set uid_cmp_total uid_cmp_same
-
--- ---- lists of sets after a change of one uid
-
-pub inserted : (us vs : List Uid) (k : Uid) → ((q : Uid) → list_any (same_uid q) vs ≡ cond (same_uid k q) true (list_any (same_uid q) us)) → set.from_list {R = uid_cmp} vs ≡ set.insert (set.from_list us) k
-inserted us vs k h = same_uids _ _ (λ q.
-    contains-listed vs q ∙ h q ∙ joined (same_uid k q) (list_any (same_uid q) us)
-    ∙ ap (λ b. b || list_any (same_uid q) us) (same_uid_equiv.symm k q ∙ uid_cmp_ties q k)
-    ∙ ap (λ b. eq_by_cmp uid_cmp q k || b) (sym (contains-listed us q))
-    ∙ sym (set.contains-insert uid_cmp_total (set.from_list us) k q))
-  where
-    joined : (b c : Bool) → cond b true c ≡ (b || c)
-    joined true c = refl
-    joined false c = refl
-
-pub removed : (us vs : List Uid) (k : Uid) → ((q : Uid) → list_any (same_uid q) vs ≡ cond (same_uid k q) false (list_any (same_uid q) us)) → set.from_list {R = uid_cmp} vs ≡ set.remove (set.from_list us) k
-removed us vs k h = same_uids _ _ (λ q.
-    contains-listed vs q ∙ h q ∙ cut (same_uid k q) (list_any (same_uid q) us)
-    ∙ ap (λ b. not b && list_any (same_uid q) us) (same_uid_equiv.symm k q ∙ uid_cmp_ties q k)
-    ∙ ap (λ b. not (eq_by_cmp uid_cmp q k) && b) (sym (contains-listed us q))
-    ∙ sym (set.contains-remove uid_cmp_total (set.from_list us) k q))
-  where
-    cut : (b c : Bool) → cond b false c ≡ (not b && c)
-    cut true c = refl
-    cut false c = refl
+use Rattle.cedar_uid_lists.specs.Lists.{AreRising, AreInTurn}
+use Rattle.cedar_uid_lists.proofs.Distinct.{rising_distinct, members_in_turn, distinct_in_turn}
+pub use Rattle.cedar_uid_lists.proofs.UidSets.{contains-listed, contains-items, same_uids, contains-both, uid_is, none_passes, difference_apart}
+use Rattle.cedar_entities.specs.Data.{EntityData, UidSet, IsListOf, IsSameEntity, ancestors_of, without}
 
 -- the same uids in another order
 pub reordered : (us vs : List Uid) → ((q : Uid) → list_any (same_uid q) vs ≡ list_any (same_uid q) us) → set.from_list {R = uid_cmp} vs ≡ set.from_list us
 reordered us vs h = same_uids _ _ (λ q. contains-listed vs q ∙ h q ∙ sym (contains-listed us q))
 
 -- ---- unions
-
-pub contains-both : (s t : UidSet) (q : Uid) → set.contains (set.union s t) q ≡ (set.contains s q || set.contains t q)
-contains-both = set.contains-union uid_cmp_total
 
 or-none : (b : Bool) → (b || false) ≡ b
 or-none true = refl
@@ -102,15 +42,6 @@ added_beside s t k q =
     ∙ ap (λ b. b || (set.contains s q || set.contains t q)) (sym (uid_cmp_ties q k))
     ∙ ap (λ b. same_uid q k || b) (sym (contains-both s t q))
 
--- uids that are equal by the test are one
-pub uid_is : (u v : Uid) → same_uid u v ≡ true → u ≡ v
-uid_is u v e = uid_cmp_same u v (by_tie (uid_cmp u v) (sym (uid_cmp_ties u v) ∙ e))
-  where
-    by_tie : (o : Ordering) → is_eq o ≡ true → o ≡ Equal
-    by_tie Equal h = refl
-    by_tie Less h = absurd (true≢false (sym h))
-    by_tie Greater h = absurd (true≢false (sym h))
-
 absorbed : (s t : UidSet) (k q : Uid) → set.contains s k ≡ true → (b : Bool) → same_uid q k ≡ b → (set.contains s q || set.contains t q) ≡ (b || (set.contains s q || set.contains t q))
 absorbed s t k q there true e = ap (λ u. set.contains s u || set.contains t q) (uid_is q k e) ∙ ap (λ b. b || set.contains t q) there
 absorbed s t k q there false e = refl
@@ -125,8 +56,11 @@ found_first a b r e t = t ∙ sym (ap (λ x. x || b) (sym e ∙ t))
 pub found_second : (a b r s : Bool) → r ≡ a → r ≡ false → s ≡ b → s ≡ (a || b)
 found_second a b r s e f h = h ∙ sym (ap (λ x. x || b) (sym e ∙ f))
 
-pub list_of : (us xs : List Uid) → xs ≡ us → IsDistinct same_uid us → IsListOf xs (set.from_list us)
-list_of us xs e d = rw e (record { members = λ q. sym (contains-listed us q); distinct = d })
+pub list_rising : (us : List Uid) (s : UidSet) → AreRising us → set.from_list us ≡ s → IsListOf us s
+list_rising us s rises is = record { members = λ q. sym (contains-listed us q) ∙ ap (λ x. set.contains x q) is; distinct = rising_distinct us rises }
+
+pub list_in_turn : (s t : UidSet) (us : List Uid) → AreInTurn s t us → IsListOf us (set.union s t)
+list_in_turn s t us turn = record { members = members_in_turn s t us turn; distinct = distinct_in_turn s t us turn }
 
 -- ---- entities with other parents or ancestors
 
@@ -160,6 +94,27 @@ edges_with k e n is q =
     ∙ more_edges k e q (set.contains e.parents k) refl
     ∙ ap (λ b. same_uid q k || b) (contains-items (ancestors_of e) q)
 
+beside_more : (p i u : Bool) → (p || (i || (u && not p))) ≡ (u || (p || i))
+beside_more true i true = refl
+beside_more true i false = refl
+beside_more false true true = refl
+beside_more false true false = refl
+beside_more false false true = refl
+beside_more false false false = refl
+
+-- so are many
+pub edges_with_all : (ks : List Uid) (e n : EntityData) → n ≡ record e { indirect = set.union e.indirect (set.difference (set.from_list ks) e.parents) } → SameKeys same_uid (ks ++ set.items (ancestors_of e)) (set.items (ancestors_of n))
+edges_with_all ks e n is q =
+    let us = set.from_list {R = uid_cmp} ks in
+    sym (contains-items (ancestors_of n) q) ∙ ap (λ (d : EntityData). set.contains (ancestors_of d) q) is
+    ∙ contains-both e.parents (set.union e.indirect (set.difference us e.parents)) q
+    ∙ ap (λ b. set.contains e.parents q || b) (contains-both e.indirect (set.difference us e.parents) q)
+    ∙ ap (λ b. set.contains e.parents q || (set.contains e.indirect q || b)) (set.contains-difference uid_cmp_total us e.parents q)
+    ∙ beside_more (set.contains e.parents q) (set.contains e.indirect q) (set.contains us q)
+    ∙ ap (λ b. b || (set.contains e.parents q || set.contains e.indirect q)) (contains-listed ks q)
+    ∙ ap (λ b. list_any (same_uid q) ks || b) (sym (contains-both e.parents e.indirect q) ∙ contains-items (ancestors_of e) q)
+    ∙ sym (list_any-append (same_uid q) ks (set.items (ancestors_of e)))
+
 -- nothing kept beside the parents: they alone are edges
 pub edges_without : (e n : EntityData) → n ≡ record e { indirect = set.empty } → SameKeys same_uid (set.items e.parents) (set.items (ancestors_of n))
 edges_without e n is q = ap (λ (s : UidSet). is_member same_uid (set.items s) q) (ap ancestors_of is ∙ union-empty e.parents)
@@ -167,15 +122,6 @@ edges_without e n is q = ap (λ (s : UidSet). is_member same_uid (set.items s) q
 -- a list of a set has the set's uids
 pub listed_edges : (us : List Uid) (s : UidSet) → ((q : Uid) → is_member same_uid us q ≡ set.contains s q) → SameKeys same_uid (set.items s) us
 listed_edges us s h q = h q ∙ contains-items s q
-
--- the keys of two lists, each once, are those of both sets
-pub list_of_both : (ps is us : List Uid) → IsUnion same_uid ps is us → IsDistinct same_uid us → IsListOf us (set.union (set.from_list ps) (set.from_list is))
-list_of_both ps is us union d = record {
-  members = λ q.
-      union q ∙ ap (λ b. b || list_any (same_uid q) is) (sym (contains-listed ps q)) ∙ ap (λ b. set.contains (set.from_list {R = uid_cmp} ps) q || b) (sym (contains-listed is q))
-      ∙ sym (contains-both (set.from_list ps) (set.from_list is) q);
-  distinct = d;
-}
 
 pub listed_all : (us rest all from : List Uid) (s : UidSet) → us ++ rest ≡ all → rest ≡ [] → all ≡ from → ((q : Uid) → is_member same_uid from q ≡ set.contains s q) → SameKeys same_uid (set.items s) us
 listed_all us rest all from s along none is h = listed_edges us s (λ q. ap (λ xs. is_member same_uid xs q) (sym (all_taken us rest none) ∙ along ∙ is) ∙ h q)
@@ -252,12 +198,20 @@ within_union s t u f = (λ q h. f q (contains-both s t q ∙ ap (λ b. b || set.
 
 -- ---- comparisons of entities
 
-pub shares_both : (ps is : List Uid) (t : UidSet) (r s : Bool) → r ≡ list_all (set.contains t) ps → r ≡ true → s ≡ list_all (set.contains t) is → IsTrue s ↔ IsWithin (set.union (set.from_list ps) (set.from_list is)) t
-shares_both ps is t r s e h k =
-    (λ h2. union_within _ _ t (all_listed ps t (sym e ∙ h)) (all_listed is t (sym k ∙ h2)), λ f. k ∙ listed_within is t (within_union _ _ t f).1)
+-- a list passes where its set lies within the other
+pub subset_listed : (us : List Uid) (s t : UidSet) → set.from_list us ≡ s → list_all (set.contains t) us ≡ set.is_subset s t
+subset_listed us s t is = equal_tests _ _
+    (λ h. set.contains-is_subset uid_cmp_total s t (λ q k. all_listed us t h q (ap (λ x. set.contains x q) is ∙ k)))
+    (λ h. listed_within us t (λ q k. set.is_subset-contains uid_cmp_total s t h q (ap (λ x. set.contains x q) (sym is) ∙ k)))
 
-pub shares_none : (ps is : List Uid) (t : UidSet) (r : Bool) → r ≡ list_all (set.contains t) ps → r ≡ false → IsTrue r ↔ IsWithin (set.union (set.from_list ps) (set.from_list is)) t
-shares_none ps is t r e h = (λ h2. absurd (true≢false (sym h2 ∙ h)), λ f. e ∙ listed_within ps t (within_union _ _ t f).0)
+pub shares_both : (p i t : UidSet) (r s : Bool) → r ≡ set.is_subset p t → r ≡ true → s ≡ set.is_subset i t → IsTrue s ↔ IsWithin (set.union p i) t
+shares_both p i t r s e h k = (
+  λ h2. union_within p i t (set.is_subset-contains uid_cmp_total p t (sym e ∙ h)) (set.is_subset-contains uid_cmp_total i t (sym k ∙ h2)),
+  λ f. k ∙ set.contains-is_subset uid_cmp_total i t (within_union p i t f).1,
+)
+
+pub shares_none : (p i t : UidSet) (r : Bool) → r ≡ set.is_subset p t → r ≡ false → IsTrue r ↔ IsWithin (set.union p i) t
+shares_none p i t r e h = (λ h2. absurd (true≢false (sym h2 ∙ h)), λ f. e ∙ set.contains-is_subset uid_cmp_total p t (within_union p i t f).0)
 
 pub same_both : (s t : UidSet) (r q : Bool) → IsTrue r ↔ IsWithin s t → r ≡ true → IsTrue q ↔ IsWithin t s → IsTrue q ↔ (t ≡ s)
 same_both s t r q f h g = (λ k. within_both s t (f.0 h) (g.0 k), λ e. g.1 (within_back s t e))
@@ -269,19 +223,46 @@ same_entity e f r s p h g =
 pub other_entity : (e f : EntityData) (r : Bool) → r ≡ same_uid e.uid f.uid → r ≡ false → IsTrue r ↔ IsSameEntity e f
 other_entity e f r p h = (λ k. absurd (true≢false (sym k ∙ h)), λ k. p ∙ ap (same_uid e.uid) k.uid ∙ same_uid_equiv.refl e.uid)
 
--- ---- lists without some uids
+-- ---- entities without some uids among their ancestors
 
-member-kept : (gone us : List Uid) (q : Uid) → list_any (same_uid q) (filter (λ u. not (list_any (same_uid u) gone)) us) ≡ (list_any (same_uid q) us && not (list_any (same_uid q) gone))
-member-kept gone us q =
-    any-filter_same (same_uid q) (λ u. not (list_any (same_uid u) gone)) (not (list_any (same_uid q) gone)) (λ u e. ap (λ x. not (list_any (same_uid x) gone)) (sym (uid_is q u e))) us ∙ turned (not (list_any (same_uid q) gone)) (list_any (same_uid q) us)
+-- one of the uids is an ancestor where it is a parent or is kept beside these
+pub one_of_both : (s t : UidSet) (ks : List Uid) → list_any (set.contains (set.union s t)) ks ≡ (list_any (set.contains s) ks || list_any (set.contains t) ks)
+one_of_both s t [] = refl
+one_of_both s t (k ∷ ks) = ap (λ b. b || list_any (set.contains (set.union s t)) ks) (contains-both s t k) ∙ ap (λ b. (set.contains s k || set.contains t k) || b) (one_of_both s t ks) ∙ four (set.contains s k) (set.contains t k) (list_any (set.contains s) ks) (list_any (set.contains t) ks)
   where
-    turned : (a b : Bool) → (a && b) ≡ (b && a)
-    turned true true = refl
-    turned true false = refl
-    turned false true = refl
-    turned false false = refl
+    four : (a b c d : Bool) → ((a || b) || (c || d)) ≡ ((a || c) || (b || d))
+    four true b c d = refl
+    four false true true d = refl
+    four false true false d = refl
+    four false false true d = refl
+    four false false false d = refl
 
-pub kept_listed : (gone us vs : List Uid) → vs ≡ filter (λ u. not (list_any (same_uid u) gone)) us → set.from_list {R = uid_cmp} vs ≡ set.difference (set.from_list us) (set.from_list gone)
-kept_listed gone us vs is = same_uids _ _ (λ q.
-    contains-listed vs q ∙ ap (λ xs. list_any (same_uid q) xs) is ∙ member-kept gone us q
-    ∙ ap (λ b. b && not (list_any (same_uid q) gone)) (sym (contains-listed us q)) ∙ ap (λ b. set.contains (set.from_list {R = uid_cmp} us) q && not b) (sym (contains-listed gone q)) ∙ sym (set.contains-difference uid_cmp_total (set.from_list us) (set.from_list gone) q))
+pub none_of_nothing : (ks : List Uid) → list_any (set.contains (set.empty {R = uid_cmp})) ks ≡ false
+none_of_nothing [] = refl
+none_of_nothing (k ∷ ks) = ap (λ b. b || list_any (set.contains (set.empty {R = uid_cmp})) ks) (set.contains-empty uid_cmp k) ∙ none_of_nothing ks
+
+pub apart_stays : (e : EntityData) (ks : List Uid) → list_any (set.contains (ancestors_of e)) ks ≡ false → without (set.from_list ks) e ≡ e
+apart_stays e ks h =
+    let parents = difference_apart e.parents ks (none_passes (set.contains (ancestors_of e)) (set.contains e.parents) (λ q k. contains-both e.parents e.indirect q ∙ ap (λ b. b || set.contains e.indirect q) k) ks h) in
+    let indirect = difference_apart e.indirect ks (none_passes (set.contains (ancestors_of e)) (set.contains e.indirect) (λ q k. contains-both e.parents e.indirect q ∙ last (set.contains e.parents q) (set.contains e.indirect q) k) ks h) in
+    λ i. record e { parents = parents i; indirect = indirect i }
+  where
+    last : (a b : Bool) → b ≡ true → (a || b) ≡ true
+    last true b k = refl
+    last false b k = k
+
+pub without_again : (g : UidSet) (e : EntityData) → without g (without g e) ≡ without g e
+without_again g e =
+    let parents = twice e.parents in
+    let indirect = twice e.indirect in
+    λ i. record e { parents = parents i; indirect = indirect i }
+  where
+    again : (a b : Bool) → ((a && not b) && not b) ≡ (a && not b)
+    again true true = refl
+    again true false = refl
+    again false b = refl
+
+    twice : (s : UidSet) → set.difference (set.difference s g) g ≡ set.difference s g
+    twice s = same_uids _ _ (λ q.
+        set.contains-difference uid_cmp_total (set.difference s g) g q ∙ ap (λ b. b && not (set.contains g q)) (set.contains-difference uid_cmp_total s g q)
+        ∙ again (set.contains s q) (set.contains g q) ∙ sym (set.contains-difference uid_cmp_total s g q))

@@ -1,0 +1,11 @@
+-- The uids touched are few, and the ancestors of all others are known to be whole.
+use Rattle.std.proofs.Common.{sym, subst}
+use Rattle.cedar_entities.specs.Kept.{Covers}
+use Rattle.cedar_entities.specs.Store.{found_in}
+use Rattle.cedar_entities.proofs.Whole.{kept_of_whole}
+use Rattle.cedar_entities.proofs.Untouched.{some_weaker}
+use Rattle.cedar_entities.proofs.store.Entities.stale.Goals as goal
+
+pub returns : goal.returns
+returns c =
+    some_weaker _ _ (λ some h. (kept_of_whole (found_in c.args.self.now) (c.args.self.now.closed h.0), subst (Covers (found_in c.args.self.now) c.args.edited.now.keys) (sym h.1) c.in_ok-uids.ensures)) c.few.result c.few.ensures
