@@ -1,5 +1,5 @@
 -- Nodes that are left their direct edges in turn, and what is left where that stops.
-use Rattle.std.proofs.Common.{◌≡◌, ◌⊎◌, inl, inr, Bool, true, false, ◌||◌, List, [], ◌∷◌, ◌↔◌, Option, None, Some, MatchOption, IsTrue, refl, sym, ap, ◌∙◌, true≢false}
+use Rattle.std.proofs.Common.{◌≡◌, ◌⊎◌, inl, inr, Bool, true, false, ◌||◌, List, [], ◌∷◌, Option, None, Some, MatchOption, IsTrue, refl, sym, ap, ◌∙◌, true≢false}
 use Rattle.std.specs.Option.{option_map_or, IsSomeAnd, is_some}
 use Rattle.std.specs.Cmp.{IsEquivalence}
 use Rattle.std.specs.Set.{is_member}

@@ -1,5 +1,5 @@
 -- Uids that an edit touches are gathered, and cut, in turn.
-use Rattle.std.proofs.Common.{◌≡◌, Bool, true, false, ◌||◌, List, [], ◌∷◌, ◌++◌, Option, None, Some, cond, option_map, is_some, refl, sym, ap, subst, ◌∙◌, true≢false}
+use Rattle.std.proofs.Common.{◌≡◌, Bool, true, false, ◌||◌, List, [], ◌∷◌, ◌++◌, Option, None, Some, cond, option_map, is_some, refl, sym, ap, ◌∙◌, true≢false}
 use Rattle.std.specs.Option.{option_map_or, IsSome}
 use Rattle.std.specs.FinSet as set
 use Rattle.std.specs.HashMap.{HashMap}
@@ -11,7 +11,7 @@ use Rattle.cedar_language.specs.Uid.{Uid}
 use Rattle.cedar_language.specs.Order.{same_uid}
 use Rattle.cedar_literals.specs.Laws.{same_uid_equiv}
 use Rattle.cedar_entities.specs.Data.{EntityData, UidSet, ancestors_of, without}
-use Rattle.cedar_entities.specs.Kept.{Lookup, in_map, kept_at, IsUntouched, Covers}
+use Rattle.cedar_entities.specs.Kept.{Lookup, in_map, kept_at, Covers}
 use Rattle.cedar_entities.proofs.UidLemmas.{uid_is, none_of_nothing, without_again}
 use Rattle.cedar_entities.proofs.Sameness.{IsUnderway, goes_on}
 use Rattle.cedar_entities.proofs.Untouched.{untouched_cut}

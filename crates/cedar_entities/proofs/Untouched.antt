@@ -1,14 +1,14 @@
 -- What an edit doesn't touch keeps its ancestors.
-use Rattle.std.proofs.Common.{◌≡◌, Bool, true, false, ◌||◌, List, [], ◌∷◌, Option, None, Some, cond, option_map, refl, sym, ap, ◌∙◌, IsTrue, true≢false, IfSome}
+use Rattle.std.proofs.Common.{◌≡◌, Bool, true, false, ◌||◌, List, [], ◌∷◌, Option, None, Some, cond, option_map, refl, sym, ap, ◌∙◌, true≢false, IfSome}
 use Rattle.std.specs.Option.{option_map_or}
 use Rattle.std.specs.FinSet as set
 use Rattle.std.specs.List.{list_any}
 use Rattle.cedar_language.specs.Uid.{Uid}
 use Rattle.cedar_language.specs.Facts.{Reaches, edge, further}
-use Rattle.cedar_language.specs.Order.{same_uid, uid_cmp}
+use Rattle.cedar_language.specs.Order.{same_uid}
 use Rattle.cedar_literals.specs.Laws.{same_uid_equiv}
-use Rattle.cedar_entities.specs.Data.{EntityData, UidSet, ancestors_of, without}
-use Rattle.cedar_entities.specs.Held.{held_of, parents_of, IsParent, IsAncestor}
+use Rattle.cedar_entities.specs.Data.{EntityData, ancestors_of, without}
+use Rattle.cedar_entities.specs.Held.{held_of, parents_of, IsParent}
 use Rattle.cedar_entities.specs.Edits.{last_by, first_by, or_first}
 use Rattle.cedar_entities.specs.Kept.{Lookup, held_in, kept_at, same, put_over, added_to, removed_from, KeepsAncestors, IsUntouched, Covers, KeepsBeside}
 use Rattle.cedar_entities.proofs.UidLemmas.{contains-listed, uid_is, none_passes, apart_stays}

@@ -1,7 +1,7 @@
 -- What is reached along the edges that are left by the reset is what is reached along direct ones.
 use Rattle.std.proofs.Common.{sym, ◌∙◌, ap}
 use Rattle.std.specs.Set.{is_member}
-use Rattle.cedar_closure.specs.Graph.{HasEdge, edges_at, SameKeys}
+use Rattle.cedar_closure.specs.Graph.{HasEdge, edges_at}
 use Rattle.cedar_language.specs.Facts.{Reaches}
 use Rattle.cedar_closure.proofs.Search.{Reaches-more}
 use Rattle.cedar_closure.proofs.Refusal.{IsTcRefusal-weaker, on_err}

@@ -1,5 +1,5 @@
 -- The uids of both lists, sorted, are those of both sets.
-use Rattle.std.proofs.Common.{◌≡◌, ◌++◌, sym, ap, ◌∙◌}
+use Rattle.std.proofs.Common.{◌≡◌, ◌++◌, ap, ◌∙◌}
 use Rattle.std.specs.FinSet as set
 use Rattle.std.proofs.lemmas.List.Elements.{same_from_all_zip}
 use Rattle.cedar_language.specs.Order.{uid_cmp}

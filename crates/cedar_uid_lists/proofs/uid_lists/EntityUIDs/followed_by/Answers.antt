@@ -1,9 +1,9 @@
 -- Of a list that rises those that another lacks rise too.
-use Rattle.std.proofs.Common.{◌≡◌, ◌<◌, ◌≤◌, ◌+◌, ◌^◌, ◌++◌, not, length, sym, ap, refl, subst, ◌∙◌, arith}
+use Rattle.std.proofs.Common.{◌<◌, ◌++◌, not, length, sym, ap, subst, ◌∙◌}
 use Rattle.std.specs.FinSet as set
 use Rattle.std.proofs.lemmas.List.Kept.{IsStrictlySortedBy-filter}
 use Rattle.cedar_language.specs.Order.{uid_cmp}
-use Rattle.cedar_uid_lists.specs.Lists.{beside, AreInTurn}
+use Rattle.cedar_uid_lists.specs.Lists.{beside}
 use Rattle.cedar_uid_lists.proofs.UidSets.{beside_set}
 use Rattle.cedar_uid_lists.proofs.Listed.{length-beside}
 use Rattle.cedar_uid_lists.proofs.uid_lists.EntityUIDs.followed_by.Goals as goal

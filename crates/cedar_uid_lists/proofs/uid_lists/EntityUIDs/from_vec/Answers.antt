@@ -1,10 +1,9 @@
 -- A sorted list without doubles rises, and holds what it held (Listed).
 use Rattle.std.proofs.Common.{◌≡◌, ◌∙◌}
 use Rattle.std.specs.FinSet as set
-use Rattle.std.specs.List.{dedup}
 use Rattle.std.proofs.lemmas.List.Filters.{dedup_is}
 use Rattle.std.proofs.lemmas.Result.{IfOk-weaker}
-use Rattle.cedar_language.specs.Order.{uid_cmp, same_uid}
+use Rattle.cedar_language.specs.Order.{same_uid}
 use Rattle.cedar_uid_lists.proofs.Listed.{sorted_set, sorted_rises}
 use Rattle.cedar_uid_lists.proofs.uid_lists.EntityUIDs.from_vec.Goals as goal
 

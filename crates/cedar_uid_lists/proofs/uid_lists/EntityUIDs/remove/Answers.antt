@@ -1,10 +1,9 @@
 -- Filtering a list that rises leaves one that rises; a uid that isn't there leaves all.
 use Rattle.std.proofs.Common.{rules, ◌≡◌, not, sym, ap, subst, ◌∙◌}
 use Rattle.std.specs.FinSet as set
-use Rattle.std.specs.List.{list_any, filter}
+use Rattle.std.specs.List.{filter}
 use Rattle.std.proofs.lemmas.Fn.{filter_same}
 use Rattle.std.proofs.lemmas.List.Kept.{IsStrictlySortedBy-filter}
-use Rattle.std.proofs.lemmas.Result.{IfOk-weaker}
 use Rattle.cedar_language.specs.Uid.{Uid}
 use Rattle.cedar_language.specs.Order.{uid_cmp, same_uid}
 use Rattle.cedar_uid_lists.specs.Lists.{AreRising}
