@@ -75,6 +75,7 @@ fn evaluated(alloc: Global, section: &str, step: &Step<'_>, held: &mut Held) -> 
     let exprs = &mut held.exprs;
     match section {
         "leaf" => trees::leaf(alloc, verb, one, other, exprs),
+        "ask" => trees::asked(alloc, verb, one, exprs),
         "unary" => trees::unary(alloc, verb, one, exprs),
         "binary" => trees::binary(alloc, verb, exprs),
         "ternary" => trees::ternary(alloc, verb, exprs),

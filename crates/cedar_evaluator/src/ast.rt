@@ -6,8 +6,9 @@ pub use cedar_literals::uids::{EntityType, EntityUID};
 pub use cedar_names::places::Loc;
 pub use cedar_policy_parts::PolicyID;
 pub use cedar_requests::{
-    Context, ContextCreationError, EntityUIDEntry, NotARecord, Request, RequestError,
-    RequestSchema, RequestSchemaAllPass, RequestType, ResidualEntries, UnwrapInfallible,
+    Context, ContextCreationError, ContextEntries, EntityUIDEntry, NotARecord, Request,
+    RequestError, RequestSchema, RequestSchemaAllPass, RequestType, ResidualEntries,
+    UnwrapInfallible,
 };
 pub use cedar_restricted::restricted::RestrictedExpr;
 pub use cedar_values::values::Value;

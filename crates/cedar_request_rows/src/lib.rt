@@ -3,5 +3,6 @@
 //! text that is to be printed.
 #![tactic(auto)]
 
+mod contexts;
 mod refusing;
 pub mod requests;

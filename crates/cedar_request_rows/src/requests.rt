@@ -1,4 +1,5 @@
 // Entries, contexts and requests.
+use crate::contexts;
 use crate::refusing::RefusesAll;
 use cedar_extensions::extensions::Extensions;
 use cedar_literals::uids::{EntityType, EntityUID};
@@ -23,10 +24,11 @@ use std::alloc::{AllocError, Global};
 use std::collections::HashMap;
 use std::rc::RcStr;
 
-/// What was made last: entries on a stack, a context and a request.
+/// What was made last: entries on a stack, a context, one that was put aside, and a request.
 pub struct Requests {
     entries: Vec<EntityUIDEntry>,
     context: Option<Context>,
+    aside: Option<Context>,
     request: Option<Request>,
 }
 
@@ -35,6 +37,7 @@ impl Drop for Requests {
         let Requests {
             entries: _,
             context: _,
+            aside: _,
             request: _,
         } = self;
     }
@@ -52,6 +55,7 @@ pub fn none(alloc: Global) -> Requests {
     Requests {
         entries: Vec::new(alloc),
         context: None,
+        aside: None,
         request: None,
     }
 }
@@ -387,6 +391,9 @@ pub fn answer(
         }
         "substitute" | "partial" | "restricted" | "copy" => {
             of_context(alloc, verb, depth, told, table, &mut state.context)
+        }
+        "aside" | "same" | "entries" => {
+            contexts::answer(alloc, verb, &mut state.context, &mut state.aside)
         }
         "unchecked" | "with-unknowns" | "refused" => of_entries(alloc, verb, table, state),
         "new" => accepted(alloc, None, table, state),

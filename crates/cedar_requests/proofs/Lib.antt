@@ -1,3 +1,4 @@
+mod EqualEntries
 mod Making
 mod Mistyping
 mod PutIn
@@ -7,3 +8,4 @@ mod ToldAnswers
 mod ToldRecords
 mod Unextended
 mod Untyped
+mod WrittenEntries

@@ -2,9 +2,11 @@ pub mod Answers
 pub mod Asking
 pub mod Contexts
 pub mod Creating
+pub mod Entries
 pub mod Holding
 pub mod Parts
 pub mod Refusals
 pub mod Residuals
+pub mod Sameness
 pub mod Telling
 pub mod ToldContexts

@@ -67,8 +67,8 @@ fn fields_of(value: &Value) -> Result<Rc<BTreeMap<RcStr, Value>>, AllocError>
     }
 }
 
-// The entries of the record that an expression is.
-fn entries_of(expr: &Expr) -> Result<Rc<BTreeMap<RcStr, Expr>>, AllocError>
+/// The entries of the record that an expression is.
+pub(crate) fn entries_of(expr: &Expr) -> Result<Rc<BTreeMap<RcStr, Expr>>, AllocError>
     requires { is_record (bare expr.now) ≡ true }
     ensures { IfOk result (λ entries. record_tree (bare_entries entries.value.entries) ≡ bare expr.now) }
 {

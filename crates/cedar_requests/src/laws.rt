@@ -1,7 +1,14 @@
 // Laws of contexts, as contracts of functions that do nothing.
+ghost use Rattle.cedar_requests.specs.Sameness.{ContextsAreTheirParts};
 ghost use Rattle.cedar_requests.specs.ToldContexts.{ToldContextsAreEvaluated};
 
 use cedar_restricted::partial_value_laws::written_values_are_restricted;
+
+/// `==` holds of contexts exactly where they hold the same values, or where the same is left of them; no
+/// place counts.
+pub fn equality_is_sameness()
+    ensures { ContextsAreTheirParts }
+{}
 
 /// A context that waits is, once values are told, what partial evaluation of its tree answers where these
 /// values are held.
