@@ -5,8 +5,10 @@
 
 mod evaluators;
 mod policies;
+mod responses;
 mod telling;
 
+use crate::responses::Found;
 use cedar_expressions::Extensions;
 use cedar_expressions::ast::{Expr, Value};
 use cedar_operator_rows::operators;
@@ -25,6 +27,7 @@ use std::rc::RcStr;
 struct Held {
     stores: Stores,
     policies: PolicySet,
+    found: Found,
     requests: Requests,
     exprs: Vec<Expr>,
     values: Vec<Value>,
@@ -37,6 +40,7 @@ impl Drop for Held {
         let Held {
             stores: _,
             policies: _,
+            found: _,
             requests: _,
             exprs: _,
             values: _,
@@ -46,15 +50,16 @@ impl Drop for Held {
     }
 }
 
-fn nothing(alloc: Global) -> Held {
+fn nothing(alloc: Global, table: Extensions<'static>) -> Held {
     Held {
         stores: stores::none(alloc),
         policies: PolicySet::new(alloc),
+        found: responses::none(alloc),
         requests: requests::none(alloc),
         exprs: Vec::new(alloc),
         values: Vec::new(alloc),
         told: HashMap::new(alloc),
-        table: Extensions::none(alloc),
+        table,
     }
 }
 
@@ -100,7 +105,7 @@ fn evaluated(alloc: Global, section: &str, step: &Step<'_>, held: &mut Held) -> 
     }
 }
 
-/// That of requests, and of the values that are told.
+/// That of requests, of the values that are told, and of responses that are made by hand.
 fn requested(alloc: Global, section: &str, step: &Step<'_>, held: &mut Held) -> Answer {
     let (verb, one, other) = (step.verb, step.one.as_str(), step.other.as_str());
     let exprs = &mut held.exprs;
@@ -108,14 +113,17 @@ fn requested(alloc: Global, section: &str, step: &Step<'_>, held: &mut Held) -> 
         "given" => partial_values::value(alloc, verb, one, &mut held.values),
         "tell" => substitution::tell_value(alloc, verb, &mut held.values, &mut held.told),
         "told" => {
-            let (told, set) = (&held.told, &held.policies);
+            let (requests, told, set) = (&held.requests, &held.told, &held.policies);
             let (store, table) = (&held.stores.store, &held.table);
-            telling::answer(alloc, verb, told, set, store, table)
+            telling::answer(alloc, verb, requests, told, set, store, table)
         }
         "request" => {
             let (told, table, state) = (&held.told, &held.table, &mut held.requests);
             requests::answer(alloc, verb, one, other, exprs, told, table, state)
         }
+        "found" => responses::find(alloc, verb, one, &mut held.found),
+        "open" => responses::open(alloc, verb, one, exprs, &mut held.found),
+        "made" => responses::made(alloc, verb, one, &mut held.found),
         _ => no_case(alloc),
     }
 }
@@ -138,7 +146,8 @@ fn last_answer(alloc: Global, line: &str, held: &mut Held) -> Answer {
 }
 
 fn main(rt: HostRuntime) -> io::Result<()> {
-    let mut held = nothing(rt.alloc());
+    let table = Extensions::all_available(rt.alloc())?;
+    let mut held = nothing(rt.alloc(), table);
     for line in rt.lines(rt.alloc()) {
         let line = line?;
         let answer = last_answer(rt.alloc(), line.as_str(), &mut held)?;

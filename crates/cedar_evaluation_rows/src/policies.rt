@@ -18,9 +18,19 @@ use cedar_rows::{Answer, explain, no_case, refused_for, said, separate, tell};
 use either::Either;
 use std::alloc::{AllocError, Global};
 
-/// Reads the text of policies in place of those that were read before, and answers how many there are.
-fn read(alloc: Global, text: &str, table: &Extensions<'_>, set: &mut PolicySet) -> Answer {
-    let styles = ExtStyles::for_policies(alloc, table)?;
+/// Reads the text of policies, which may call `unknown` if the verb lets them, in place of those that were
+/// read before, and answers how many there are.
+fn read(
+    alloc: Global,
+    verb: &str,
+    text: &str,
+    table: &Extensions<'_>,
+    set: &mut PolicySet,
+) -> Answer {
+    let styles = match verb {
+        "read" => ExtStyles::for_policies(alloc, table)?,
+        _ => ExtStyles::from_extensions(alloc, table)?,
+    };
     match parse_policyset_strict(alloc, text, &styles, 64) {
         Ok(policies) => {
             *set = policies;
@@ -86,7 +96,7 @@ pub(crate) fn responded(alloc: Global, response: &PartialResponse) -> Answer {
 }
 
 /// Whether the request is allowed, the reasons, and the errors.
-fn answered(alloc: Global, response: &Response) -> Answer {
+pub(crate) fn answered(alloc: Global, response: &Response) -> Answer {
     let mut text = tell(alloc, response.decision)?;
     for id in &response.diagnostics.reason {
         text.push(' ')?;
@@ -128,8 +138,8 @@ fn got(alloc: Global, response: &PartialResponse, id: &str) -> Answer {
     }
 }
 
-/// What a reader of the response for a question without a principal gives.
-fn read_response(alloc: Global, reader: &str, response: &PartialResponse) -> Answer {
+/// What a reader of the response gives.
+pub(crate) fn read_response(alloc: Global, reader: &str, response: &PartialResponse) -> Answer {
     match reader {
         "satisfied" => listed(alloc, response.definitely_satisfied(alloc)?.as_slice()),
         "must" => listed(alloc, response.must_be_determining(alloc)?.as_slice()),
@@ -154,7 +164,7 @@ pub(crate) fn answer(
     table: &Extensions<'_>,
 ) -> Answer {
     match verb {
-        "read" => read(alloc, one, table, set),
+        "read" | "read-open" => read(alloc, verb, one, table, set),
         "respond" => {
             let authorizer = Authorizer::new(table, word_depth(one));
             let request = question(alloc, missing)?;

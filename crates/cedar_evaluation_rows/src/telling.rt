@@ -6,22 +6,28 @@ use cedar_evaluator::authorizer::Authorizer;
 use cedar_expressions::Extensions;
 use cedar_expressions::ast::Value;
 use cedar_policy_set::sets::PolicySet;
+use cedar_request_rows::requests::Requests;
 use cedar_rows::{Answer, refused_for};
 use std::alloc::Global;
 use std::collections::HashMap;
 use std::rc::RcStr;
 
-/// What is decided for a question of which the variable of this name is missing, once the values are told.
+/// What is decided, once the values are told, for a question of which the variable of this name is missing, or
+/// for the request that was made last.
 pub(crate) fn answer(
     alloc: Global,
     missing: &str,
+    requests: &Requests,
     told: &HashMap<RcStr, Value>,
     set: &PolicySet,
     entities: &Entities,
     table: &Extensions<'_>,
 ) -> Answer {
     let authorizer = Authorizer::new(table, 9);
-    let request = question(alloc, missing)?;
+    let request = match (missing, requests.request()) {
+        ("request", Some(request)) => request.clone(alloc)?,
+        _ => question(alloc, missing)?,
+    };
     let first = authorizer.is_authorized_core(alloc, request, set, entities)?;
     match first.reauthorize(alloc, told, &authorizer, entities) {
         Ok(again) => responded(alloc, &again),
