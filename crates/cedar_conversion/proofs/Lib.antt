@@ -8,4 +8,5 @@ mod Rising
 mod Holding
 mod Fine
 mod Constructs
+mod Meant
 pub mod Written

@@ -1,15 +1,17 @@
 // Calls of functions and methods.
-ghost use Rattle.std.specs.Prelude.{◌≡◌, ⊤, [], ◌∷◌, length, cond, Option, Some, None, List, MatchOption};
+ghost use Rattle.std.specs.Prelude.{◌≡◌, ⊤, [], ◌∷◌, length, cond, Option, Some, None, List, IfOk, MatchOption};
 ghost use Rattle.cedar_language.specs.Tree as tree;
 ghost use Rattle.cedar_language.specs.Tree.{Tree};
 ghost use Rattle.cedar_literals.specs.Operators.{binary_operator_of};
 ghost use Rattle.cedar_grammar.specs.Build.{method, with_argument, without_argument, trees};
 ghost use Rattle.cedar_grammar.specs.Names.{is_among};
 ghost use Rattle.cedar_grammar.specs.Converting as converting;
+ghost use Rattle.cedar_grammar.specs.Converting.{name_variable};
 ghost use Rattle.cedar_cst.specs.LeafView.{shown_name};
 ghost use Rattle.cedar_conversion_leaves.specs.Reasons.{IsFault};
 ghost use Rattle.cedar_conversion_leaves.specs.Converts.{and_then};
 ghost use Rattle.cedar_conversion.specs.Building.{IsBuilt, MakesTree, AreBuilt, MakesTrees};
+ghost use Rattle.cedar_conversion.specs.Choices.{own_methods, IsNoFunction, IsNoMethod};
 ghost use Rattle.cedar_conversion.specs.Heads.{IsHead, MakesHead};
 
 use crate::building::{builder_at, taken};
@@ -25,7 +27,9 @@ use cedar_names::places::Loc;
 use std::alloc::{AllocError, Global};
 
 // Whether Cedar itself has a method that is so called. (Cedar language reference, "Operators and functions".)
-fn is_own_method(name: &str) -> bool {
+fn is_own_method(name: &str) -> bool
+    ensures { result ≡ is_among name.now own_methods }
+{
     matches!(
         name,
         "contains" | "containsAll" | "containsAny" | "getTag" | "hasTag" | "isEmpty"
@@ -48,12 +52,15 @@ fn no_function<E: Drop>(
     }
 }
 
+// Which fault it is.
 fn kind_of_no_function(
     alloc: Global,
     styles: &ExtStyles,
     name: &Node<Option<cst::Name>>,
     function: Name,
-) -> Result<ToASTErrorKind, AllocError> {
+) -> Result<ToASTErrorKind, AllocError>
+    ensures { IfOk result (λ kind. IsNoFunction styles.now (name_variable (shown_name name.now)) function kind) }
+{
     if let Some(var) = to_variable(name) {
         return Ok(ToASTErrorKind::VariableCall(var));
     }
@@ -81,11 +88,14 @@ fn no_method<E: Drop>(
     }
 }
 
+// Which fault it is.
 fn kind_of_no_method(
     alloc: Global,
     styles: &ExtStyles,
     id: UnreservedId,
-) -> Result<ToASTErrorKind, AllocError> {
+) -> Result<ToASTErrorKind, AllocError>
+    ensures { IfOk result (λ kind. IsNoMethod styles.now id kind) }
+{
     let function = Name::unqualified_name(alloc, id.clone(alloc)?, None)?;
     if styles.is_function(&function) {
         Ok(ToASTErrorKind::MethodCallOnFunction(id))

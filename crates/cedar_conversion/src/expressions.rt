@@ -1,7 +1,7 @@
 // Expressions.
 ghost use Rattle.std.specs.Prelude.{Option};
 ghost use Rattle.cedar_grammar.specs.Converting as converting;
-ghost use Rattle.cedar_grammar.specs.Converting.{expr_tree, or_tree, and_tree, relation_tree, add_tree, mult_tree, unary_tree, member_tree, access_head, primary_head, primary_tree, rec_init_tree};
+ghost use Rattle.cedar_grammar.specs.Converting.{expr_tree, or_tree, and_tree, relation_tree, add_tree, mult_tree, unary_tree, member_tree, access_head, primary_head, rec_init_tree};
 ghost use Rattle.cedar_cst.specs.View.{shown_expr, shown_or, shown_and, shown_relation, shown_add, shown_mult, shown_unary, shown_member, shown_mem_access, shown_primary, shown_rec_init};
 ghost use Rattle.cedar_conversion_leaves.specs.Reasons.{IsFault};
 ghost use Rattle.cedar_conversion_leaves.specs.Converts.{and_then};
@@ -29,9 +29,9 @@ use cedar_names::places::Loc;
 use std::alloc::{AllocError, Global};
 use std::rc::RcStr;
 
-// The expression.
+/// The expression; what the builder refuses of its parts is answered also where it has faults behind them.
 #[cycle(to_expr)]
-fn expr_to_expr<B: ExprBuilder>(
+pub(crate) fn expr_to_expr<B: ExprBuilder>(
     alloc: Global,
     styles: &ExtStyles,
     node: &Node<Option<Expr>>,
@@ -347,9 +347,9 @@ fn access_to_head<'a, B: ExprBuilder>(
     }
 }
 
-// An operand without signs and accesses.
+/// An operand without signs and accesses.
 #[cycle(to_expr)]
-fn primary_to_head<'a, B: ExprBuilder>(
+pub(crate) fn primary_to_head<'a, B: ExprBuilder>(
     alloc: Global,
     styles: &ExtStyles,
     node: &'a Node<Option<Primary>>,
@@ -414,31 +414,4 @@ fn entry_to_pair<B: ExprBuilder>(
             flatten_tuple_2(key, value)
         }
     }
-}
-
-/// The expression that a loose tree writes, built by `B`; `styles` says what may be called.
-///
-/// What is given has the builder's meaning of the tree that the loose tree converts to; faults stand exactly
-/// where it converts to none, one at least. The builder's own error, the first one where there are several,
-/// stands only where its operations refuse the tree, or for want of memory.
-pub fn to_expr<B: ExprBuilder>(
-    alloc: Global,
-    node: &Node<Option<Expr>>,
-    styles: &ExtStyles,
-) -> Result<B::Expr, ConversionError<B::BuildError>>
-    ensures { MakesTree B.operations B.meaning B.refusal result (expr_tree styles.now (shown_expr node.now)) }
-{
-    expr_to_expr::<B>(alloc, styles, node)
-}
-
-/// The expression that a primary writes, built by `B`, as [`to_expr`] builds those of whole expressions.
-pub fn primary_to_expr<B: ExprBuilder>(
-    alloc: Global,
-    node: &Node<Option<Primary>>,
-    styles: &ExtStyles,
-) -> Result<B::Expr, ConversionError<B::BuildError>>
-    ensures { MakesTree B.operations B.meaning B.refusal result (primary_tree styles.now (shown_primary node.now)) }
-{
-    let head = primary_to_head::<B>(alloc, styles, node);
-    head_to_expr::<B>(alloc, node.loc(), head)
 }

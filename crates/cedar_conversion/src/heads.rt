@@ -1,5 +1,5 @@
 // Operands, and what accesses make of them.
-ghost use Rattle.std.specs.Prelude.{List, Option, Some};
+ghost use Rattle.std.specs.Prelude.{List, Option, Some, IfOk};
 ghost use Rattle.std.specs.Rc.{rc_str_bytes};
 ghost use Rattle.cedar_language.specs.Tree as tree;
 ghost use Rattle.cedar_language.specs.Tree.{Tree};
@@ -12,6 +12,7 @@ ghost use Rattle.cedar_cst.specs.LeafView.{shown_name};
 ghost use Rattle.cedar_conversion_leaves.specs.Reasons.{IsFault};
 ghost use Rattle.cedar_conversion_leaves.specs.Converts.{and_then, Finds};
 ghost use Rattle.cedar_conversion.specs.Building.{IsBuilt, MakesTree, MakesTrees};
+ghost use Rattle.cedar_conversion.specs.Choices.{IsNoVariable};
 ghost use Rattle.cedar_conversion.specs.Heads.{MakesHead};
 
 use crate::building::{builder_at, taken};
@@ -40,7 +41,7 @@ pub enum Head<'a, E> {
     Attribute(E, UnreservedId),
 }
 
-/// A literal.
+/// A literal, or its faults.
 pub fn literal_to_head<'a, B: ExprBuilder>(
     alloc: Global,
     loc: Option<&Loc>,
@@ -54,7 +55,7 @@ pub fn literal_to_head<'a, B: ExprBuilder>(
     expr_to_head::<B>(taken::<B>(builder.val(literal)))
 }
 
-/// An entity.
+/// An entity, or the faults of how it is written.
 pub fn entity_to_head<'a, B: ExprBuilder>(
     alloc: Global,
     loc: Option<&Loc>,
@@ -144,11 +145,14 @@ fn no_variable<E: Drop>(
     }
 }
 
+// Which fault it is.
 fn kind_of_no_variable(
     alloc: Global,
     name: names::Name,
     used: Use<'_>,
-) -> Result<ToASTErrorKind, AllocError> {
+) -> Result<ToASTErrorKind, AllocError>
+    ensures { IfOk result (λ kind. IsNoVariable name used.entry kind) }
+{
     match used {
         Use::Alone => {
             let text = RcStr::from_string(name.to_string(alloc)?)?;

@@ -11,4 +11,4 @@ use Rattle.cedar_parser.proofs.expressions.converted.Goals as goal
 
 pub returns-in-Err-clause-tree : goal.returns-in-Err-clause-tree
 returns-in-Err-clause-tree c =
-    told_misses (IsRefused own_operations) _ (reason c.in-Err.error) (cause_of c.refused.result.0.head) (expr_tree c.args.styles.now (shown_expr c.args.tree.now)) c.refused.ensures.cause c.in-Err.ensures
+    told_misses (IsRefused own_operations) _ (reason c.in-Err.error) (cause_of c.refused.result.0.head) (expr_tree c.args.styles.now (shown_expr c.args.tree.now)) c.refused.ensures.cause c.in-Err.ensures.tree

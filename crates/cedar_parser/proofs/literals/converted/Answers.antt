@@ -11,8 +11,8 @@ use Rattle.cedar_parser.proofs.literals.converted.Goals as goal
 
 pub returns-in-Ok : goal.returns-in-Ok
 returns-in-Ok c =
-    operand_written c.trees_are_built.ensures c.args.styles.now (shown_primary c.args.tree.now) c.in-Ok.expr c.in-Ok.ensures
+    operand_written c.trees_are_built.ensures c.args.styles.now (shown_primary c.args.tree.now) c.in-Ok.expr c.in-Ok.ensures.tree
 
 pub returns-in-Err : goal.returns-in-Err
 returns-in-Err c =
-    told_misses (IsRefused own_operations) _ (reason c.in-Err.error) (cause_of c.refused.result.0.head) (primary_tree c.args.styles.now (shown_primary c.args.tree.now)) c.refused.ensures.cause c.in-Err.ensures
+    told_misses (IsRefused own_operations) _ (reason c.in-Err.error) (cause_of c.refused.result.0.head) (primary_tree c.args.styles.now (shown_primary c.args.tree.now)) c.refused.ensures.cause c.in-Err.ensures.tree

@@ -1,0 +1,17 @@
+-- As of whole expressions: the own builder shows whether there is a tree to refuse.
+use Rattle.cedar_grammar.specs.Converting.{primary_tree}
+use Rattle.cedar_cst.specs.View.{shown_primary}
+use Rattle.cedar_trees.specs.Bare.{bare}
+use Rattle.cedar_builders.specs.Own.{own_operations}
+use Rattle.cedar_conversion_leaves.specs.Reasons.{reason}
+use Rattle.cedar_conversion.specs.Building.{IsBuilt, IsRefused}
+use Rattle.cedar_conversion.proofs.Meant.{weighed_misses, weighed_meant}
+use Rattle.cedar_conversion.proofs.meanings.primary_to_expr.Goals as goal
+
+pub returns-in-Builder-clause-tree : goal.returns-in-Builder-clause-tree
+returns-in-Builder-clause-tree g c =
+    weighed_misses (IsBuilt own_operations bare) (IsRefused g.B.ExprBuilder.operations) (IsRefused own_operations) g.B.ExprBuilder.refusal _ (primary_tree c.args.styles.now (shown_primary c.args.node.now)) (reason c.in-Err.error) (reason c.weighed.result) c.primary_built-again.result c.weighed.ensures c.in-Err.ensures c.primary_built-again.ensures
+
+pub returns-in-Builder-clause-meant : goal.returns-in-Builder-clause-meant
+returns-in-Builder-clause-meant g c =
+    weighed_meant (IsBuilt own_operations bare) (IsRefused g.B.ExprBuilder.operations) (IsRefused own_operations) g.B.ExprBuilder.refusal _ (primary_tree c.args.styles.now (shown_primary c.args.node.now)) (reason c.in-Err.error) (reason c.weighed.result) c.primary_built-again.result c.weighed.ensures c.primary_built-again.ensures
