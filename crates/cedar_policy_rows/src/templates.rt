@@ -178,16 +178,27 @@ fn of_body(alloc: Global, verb: &str, body: &TemplateBody) -> Answer {
     }
 }
 
+fn show_static(alloc: Global, own: Result<StaticPolicy, AllocError>) -> Answer {
+    let own = own?;
+    Ok(format!(in alloc; "{}: {own}", own.id())?)
+}
+
 fn of_static(alloc: Global, verb: &str, own: &StaticPolicy) -> Answer {
     match verb {
+        "copied" => show_static(alloc, own.clone(alloc)),
+        "renamed" => {
+            let id = PolicyID::from_string(alloc, "z")?;
+            show_static(alloc, own.new_id(alloc, id))
+        }
+        "condition" => show(alloc, own.condition(alloc)),
         "principal" => show(alloc, own.principal_constraint_expr(alloc)),
         "action" => show(alloc, own.action_constraint_expr(alloc)),
         _ => show(alloc, own.resource_constraint_expr(alloc)),
     }
 }
 
-/// What the scope of the template asks of a variable, or that of the static policy where there is no
-/// template.
+/// What the scope of the template asks of a variable; or that of the static policy where there is no template,
+/// its condition, or a copy of it.
 pub fn asked(alloc: Global, verb: &str, held: &Policies) -> Answer {
     match (&held.template, &held.own) {
         (Some(template), _) => of_body(alloc, verb, template.body()),
@@ -228,6 +239,11 @@ pub fn ask(
         "rename" => {
             let id = PolicyID::from_string(alloc, case.one)?;
             keep(alloc, &mut held.second, template.new_id(alloc, id))
+        }
+        "copy" => keep(alloc, &mut held.second, template.clone(alloc)),
+        "of-body" => {
+            let body = template.body().clone(alloc)?;
+            keep(alloc, &mut held.second, Template::from_in(alloc, body))
         }
         _ => match &held.second {
             Some(second) => of_two(alloc, case.verb, template, second),
@@ -276,13 +292,14 @@ fn show_linked(alloc: Global, linked: Result<(Rc<Template>, Policy), AllocError>
     Ok(format!(in alloc; "{}: {policy}", template.id())?)
 }
 
-/// The static policy is made a policy.
+/// The static policy is made a policy, or a template.
 pub fn own(alloc: Global, verb: &str, held: &mut Policies) -> Answer {
     let Some(own) = held.own.take() else {
         return no_case(alloc);
     };
     match verb {
         "link" => show_linked(alloc, Template::link_static_policy(alloc, own)),
+        "template" => keep(alloc, &mut held.shared, Rc::from_in(alloc, own)),
         _ => keep(alloc, &mut held.policy, Policy::from_in(alloc, own)),
     }
 }
@@ -323,6 +340,7 @@ pub fn policy(alloc: Global, verb: &str, policy: Option<&Policy>) -> Answer {
         "is-static" => said(alloc, policy.is_static()),
         "condition" => show(alloc, policy.condition(alloc)),
         "principal" => show(alloc, policy.principal_constraint(alloc)),
+        "resource" => show(alloc, policy.resource_constraint(alloc)),
         _ => show_uids(alloc, policy.unknown_entities(alloc)),
     }
 }
