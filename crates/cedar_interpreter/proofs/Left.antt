@@ -2,11 +2,10 @@
 use Rattle.std.proofs.Common.{◌≡◌, ◌∙◌, refl, ap, sym, subst, ℕ, suc, List, [], ◌∷◌, map, length, Bool, true, false, BTreeMap, Global}
 use Rattle.std.specs.Prelude.{Option, Some, None, cond, is_some, IfOk, Result}
 use Rattle.std.specs.Map.{lookup}
-use Rattle.std.specs.Rc.{rc_str_bytes}
 use Rattle.std.specs.declared.rc.Rc.{Rc}
 use Rattle.std.specs.declared.rc.RcStr.{RcStr}
 use Rattle.cedar_language.specs.Uid.{Text, Name}
-use Rattle.cedar_language.specs.Tree.{Boolean, HasAttr, HasPath, Is, MakeRecord, Operator, Tree, Lit, Var, Slot, Unknown, If, And, Or, Apply, Trees, no_trees, a_tree, ValueType, EntityType}
+use Rattle.cedar_language.specs.Tree.{Boolean, HasAttr, Is, MakeRecord, Operator, Tree, Lit, Var, Slot, Unknown, If, And, Or, Apply, Trees, no_trees, a_tree, ValueType, EntityType}
 use Rattle.cedar_language.specs.Facts.{Facts}
 use Rattle.cedar_language.specs.Restricted.{is_projectable, are_projectable}
 use Rattle.cedar_language.specs.Value.{Plain}
@@ -20,8 +19,7 @@ use Rattle.cedar_literals.specs.declared.operators.BinaryOp.TheVariants as binar
 use Rattle.cedar_shapes.specs.Parts.{listed, parts}
 use Rattle.cedar_trees.specs.Bare.{bare, bare_kind, bare_entries, record_tree}
 use Rattle.cedar_trees.specs.declared.expr.ExprKind.TheVariants as kind
-use Rattle.cedar_trees.specs.declared.unknowns.NonEmpty.{NonEmpty}
-use Rattle.cedar_trees.proofs.Bares.{bare_is, bare-ExtHasAttr, bare-Record}
+use Rattle.cedar_trees.proofs.Bares.{bare_is, bare-Record}
 use Rattle.cedar_trees.specs.declared.expr.Expr.{Expr}
 use Rattle.cedar_restricted.proofs.Rising.{texts, keys_are}
 use Rattle.cedar_restricted.specs.PartialValues.{partial_of}
@@ -126,9 +124,6 @@ module _ (e : Expr (Unit {0})) (m : Rc (BTreeMap (RcStr Global) (Expr (Unit {0})
       let plain : are_projectable (record_trees es) ≡ true = sym (ap is_projectable record_is) ∙ p in
       ap Some (h ∙ sym (is_found es a))
       ∙ sym (ap (told_key a) record_is ∙ ap (λ c. cond c (Some (is_some (found_tree (keys (bare_entries es)) (record_trees es) a))) None) plain)
-
-pub chain_is : (e : Expr (Unit {0})) (x : Rc (Expr (Unit {0})) Global) (p : NonEmpty (RcStr Global)) → e.expr_kind ≡ kind.ExtHasAttr x p → bare e ≡ Apply (HasPath (rc_str_bytes p.head) (map rc_str_bytes p.tail.items)) (a_tree (bare x.value) no_trees)
-chain_is e x p is = bare_is (Unit {0}) e ∙ ap bare_kind is ∙ bare-ExtHasAttr (Unit {0}) x p
 
 -- ---- what is left of the construct of an expression
 

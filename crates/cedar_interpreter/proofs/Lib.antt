@@ -7,5 +7,7 @@ pub mod Projected
 pub mod Applied
 pub mod Told
 pub mod Serving
+pub mod Pairs
+pub mod Known
 pub mod Meant
 pub mod Asked

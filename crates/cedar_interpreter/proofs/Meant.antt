@@ -1,7 +1,7 @@
 -- A tree that mentions only what is known is answered by what it means.
-use Rattle.std.proofs.Common.{◌≡◌, ◌∙◌, ◌<◌, ℕ, refl, ap, sym, subst, Bool, true, false, true≢false, inl, inr}
+use Rattle.std.proofs.Common.{◌≡◌, ◌∙◌, ◌<◌, ℕ, refl, ap, sym, true, false, true≢false, inl, inr}
 use Rattle.std.specs.Prelude.{⊤, ◌⊎◌, Result, Ok, Err}
-use Rattle.cedar_language.specs.Tree.{Variable, SlotId, Tree}
+use Rattle.cedar_language.specs.Tree.{Tree}
 use Rattle.cedar_language.specs.Value.{Value, Kind, NonValue, Outcome, Gives, Fails}
 use Rattle.cedar_language.specs.Facts.{Facts}
 use Rattle.cedar_language.specs.Height.{height}

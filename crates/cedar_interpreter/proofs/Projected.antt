@@ -1,6 +1,6 @@
 -- An attribute of what a part is found to be.
 use Rattle.std.proofs.Common.{◌≡◌, ◌∙◌, refl, ap, sym, subst, true, false}
-use Rattle.std.specs.Prelude.{Option, Some, None, option_map, Result, Ok, Err}
+use Rattle.std.specs.Prelude.{Some, None, option_map, Result, Ok, Err}
 use Rattle.std.specs.Map.{lookup}
 use Rattle.either.specs.declared.Either.{Either}
 use Rattle.either.specs.declared.Either.TheVariants.{Left, Right}

@@ -2,41 +2,36 @@
 use Rattle.std.proofs.Common.{◌≡◌, ◌∙◌, ℕ, ◌<◌, ◌+◌, refl, ap, sym, subst, List, [], ◌∷◌, ◌++◌, append_assoc, length-append, length, suc, map, arith, Bool, true, false, true≢false}
 use Rattle.std.proofs.Common.{inl, inr}
 use Rattle.std.proofs.lemmas.List.{append-nil}
-use Rattle.std.specs.Prelude.{⊤, ◌⊎◌, ◌&&◌, ◌||◌, Result, Ok, Err}
+use Rattle.std.specs.Prelude.{⊤, ◌⊎◌, ◌&&◌, ◌||◌}
 use Rattle.either.specs.declared.Either.{Either}
 use Rattle.either.specs.declared.Either.TheVariants.{Left, Right}
-use Rattle.cedar_language.specs.Tree.{GetAttr, Operator, Tree, Lit, Var, Slot, Unknown, If, And, Or, Apply, Trees, no_trees, a_tree}
+use Rattle.cedar_language.specs.Tree.{Operator, Tree, Lit, Var, Slot, Unknown, If, And, Or, Apply, Trees, no_trees, a_tree}
 use Rattle.cedar_language.specs.Value.{Value, Kind}
 use Rattle.cedar_language.specs.Facts.{Facts}
 use Rattle.cedar_language.specs.Height.{height, heights}
 use Rattle.cedar_language.specs.Restricted.{is_projectable}
 use Rattle.cedar_partial_evaluation.specs.Alike.{Same, gathered}
-use Rattle.cedar_partial_evaluation.specs.Leaves.{is_left, AreKnown, KnownIsNeverLeft}
+use Rattle.cedar_partial_evaluation.specs.Leaves.{is_left, KnownIsNeverLeft}
 use Rattle.cedar_partial_evaluation.specs.Mentions.{mentions_only, all_mention_only}
 use Rattle.cedar_partial_evaluation.specs.Partial.{Answer, Evaluated, ResidualTree, Failed, SomeFailed, and_next, answer_of, LeafAnswers, apply_answer, partial_in, all_partial_in}
 use Rattle.cedar_language.specs.Meaning.{slot_outcome}
-use Rattle.cedar_language.specs.Value.{Outcome, Gives, Fails}
 use Rattle.std.specs.Prelude.{Option, Some, None}
 use Rattle.cedar_language.specs.Uid.{Uid}
 use Rattle.cedar_partial_evaluation.specs.ReadUnknowns.{calls_unknown, some_calls_unknown, is_unknown_call}
 use Rattle.cedar_constraints.specs.Bindings.{Bindings, binding_of}
 use Rattle.cedar_grammar.specs.Build.{trees}
 use Rattle.cedar_shapes.specs.Parts.{listed, parts}
-use Rattle.cedar_restricted.specs.PartialValues.{partial_of}
 use Rattle.cedar_restricted.specs.Splitting.{is_residual}
-use Rattle.cedar_restricted.specs.declared.partial_values.PartialValue.{PartialValue}
 use Rattle.cedar_extensions.specs.Failures.{Failure}
 use Rattle.cedar_extensions.specs.Giving.{FailsBy, fails_on}
 use Rattle.cedar_extensions.specs.Tables.{holds_unknown}
-use Rattle.cedar_extensions.specs.declared.evaluation_error.EvaluationError.{EvaluationError}
-use Rattle.cedar_interpreter.specs.Forms.{is_strict}
+use Rattle.cedar_interpreter.specs.Forms.{is_of_list}
 use Rattle.cedar_interpreter.specs.Holding.{held_by, variable_held, Serves, ServesEach, is_evaluated, is_held, Deep, DeepEach}
-use Rattle.cedar_interpreter.specs.Meeting.{part_answer, SameEach, MeetsAt, IsLimit}
+use Rattle.cedar_interpreter.specs.Meeting.{part_answer, SameEach}
 use Rattle.cedar_interpreter.specs.Operating.{NamesNothing, operated}
 use Rattle.cedar_interpreter.specs.declared.evaluator.Evaluator.{Evaluator}
 use Rattle.cedar_interpreter.proofs.Gathering.{fails_behind, gathered_all}
 use Rattle.cedar_interpreter.proofs.Projecting.{projectable_calls}
-use Rattle.cedar_interpreter.proofs.Steps.{meets_anyhow, never_limit}
 
 and_left : (a b : Bool) → (a && b) ≡ true → a ≡ true
 and_left true b h = refl
@@ -110,7 +105,7 @@ module _ (ev : Evaluator) (facts : Facts) where
   pub serves_operands : (op : Operator) (ts : Trees) → Serves ev facts (Apply op ts) → ServesEach ev facts (listed ts)
   serves_operands op ts s = serves_listed (Apply op ts) ts s (nothing_right (holds_unknown ev.extensions.now) (is_unknown_call op) (some_calls_unknown ts) s.names_nothing)
 
-  pub serves_parts : (t : Tree) → is_strict t ≡ true → Serves ev facts t → ServesEach ev facts (parts t)
+  pub serves_parts : (t : Tree) → is_of_list t ≡ true → Serves ev facts t → ServesEach ev facts (parts t)
   serves_parts (Apply op ts) k s = serves_operands op ts s
   serves_parts (Lit l) k s = cc
   serves_parts (Var v) k s = cc
@@ -148,6 +143,13 @@ module _ (ev : Evaluator) (depth : ℕ) where
 
   pub deep_operand : (op : Operator) (t : Tree) → Deep ev depth t → Deep ev (suc depth) (Apply op (a_tree t no_trees))
   deep_operand op t d facts has m = let h : depth < height t = d facts (serves_operands ev facts op (a_tree t no_trees) has).0 (and_left _ _ m) in omega (arith, h)
+
+  module _ (op : Operator) (l r : Tree) where
+    pub deep_left : Deep ev depth l → Deep ev (suc depth) (Apply op (a_tree l (a_tree r no_trees)))
+    deep_left d facts has m = let h : depth < height l = d facts (serves_operands ev facts op (a_tree l (a_tree r no_trees)) has).0 (and_left _ _ m) in omega (arith, h)
+
+    pub deep_right : Deep ev depth r → Deep ev (suc depth) (Apply op (a_tree l (a_tree r no_trees)))
+    deep_right d facts has m = let h : depth < height r = d facts (serves_operands ev facts op (a_tree l (a_tree r no_trees)) has).1.0 (and_left _ _ (and_right _ _ m)) in omega (arith, h)
 
   later_deep : (t : Tree) (ts : List Tree) → DeepEach ev depth ts → DeepEach ev depth (t ∷ ts)
   later_deep t ts d facts has m = let h : depth < heights (trees ts) = d facts has.1 (and_right _ _ m) in omega (arith, h)
@@ -191,45 +193,45 @@ never_left known ev slots facts t p m h s =
     true≢false (sym (residual_left facts p (partial_in facts (held_by ev slots) t) h s)
     ∙ known facts (is_held ev) true (held_by ev slots) (record { variable = λ v k. held_known (variable_held ev v) k; slot = λ i k. slot_known (binding_of slots i) }) t m)
 
--- ---- strict constructs
+-- ---- calls, sets and records
 
 listed_again : (ts : Trees) → trees (listed ts) ≡ ts
 listed_again no_trees = refl
 listed_again (a_tree t ts) = ap (a_tree t) (listed_again ts)
 
 module _ (facts : Facts) (holds : LeafAnswers) where
-  pub strict_is : (t : Tree) → is_strict t ≡ true → operated facts holds t (gathered facts (map (partial_in facts holds) (parts t))) ≡ partial_in facts holds t
-  strict_is (Apply op ts) s = ap (apply_answer facts holds op) (gathered_all facts holds (listed ts) ∙ ap (all_partial_in facts holds) (listed_again ts))
-  strict_is (Lit l) s = cc
-  strict_is (Var v) s = cc
-  strict_is (Slot i) s = cc
-  strict_is (Unknown n ty) s = cc
-  strict_is (If t y n) s = cc
-  strict_is (And l r) s = cc
-  strict_is (Or l r) s = cc
+  pub list_is : (t : Tree) → is_of_list t ≡ true → operated facts holds t (gathered facts (map (partial_in facts holds) (parts t))) ≡ partial_in facts holds t
+  list_is (Apply op ts) s = ap (apply_answer facts holds op) (gathered_all facts holds (listed ts) ∙ ap (all_partial_in facts holds) (listed_again ts))
+  list_is (Lit l) s = cc
+  list_is (Var v) s = cc
+  list_is (Slot i) s = cc
+  list_is (Unknown n ty) s = cc
+  list_is (If t y n) s = cc
+  list_is (And l r) s = cc
+  list_is (Or l r) s = cc
 
-  pub strict_fails : (t : Tree) (k : Kind) → is_strict t ≡ true → gathered facts (map (partial_in facts holds) (parts t)) ≡ SomeFailed k → partial_in facts holds t ≡ Failed k
-  strict_fails (Apply op ts) k s h = sym (strict_is (Apply op ts) s) ∙ ap (apply_answer facts holds op) h
-  strict_fails (Lit l) k s h = cc
-  strict_fails (Var v) k s h = cc
-  strict_fails (Slot i) k s h = cc
-  strict_fails (Unknown n ty) k s h = cc
-  strict_fails (If t y n) k s h = cc
-  strict_fails (And l r) k s h = cc
-  strict_fails (Or l r) k s h = cc
+  pub list_fails : (t : Tree) (k : Kind) → is_of_list t ≡ true → gathered facts (map (partial_in facts holds) (parts t)) ≡ SomeFailed k → partial_in facts holds t ≡ Failed k
+  list_fails (Apply op ts) k s h = sym (list_is (Apply op ts) s) ∙ ap (apply_answer facts holds op) h
+  list_fails (Lit l) k s h = cc
+  list_fails (Var v) k s h = cc
+  list_fails (Slot i) k s h = cc
+  list_fails (Unknown n ty) k s h = cc
+  list_fails (If t y n) k s h = cc
+  list_fails (And l r) k s h = cc
+  list_fails (Or l r) k s h = cc
 
-pub strict_deep : (ev : Evaluator) (depth : ℕ) (t : Tree) → is_strict t ≡ true → DeepEach ev depth (parts t) → Deep ev (suc depth) t
-strict_deep ev depth (Apply op ts) s d = λ facts has m.
+pub list_deep : (ev : Evaluator) (depth : ℕ) (t : Tree) → is_of_list t ≡ true → DeepEach ev depth (parts t) → Deep ev (suc depth) t
+list_deep ev depth (Apply op ts) s d = λ facts has m.
     let h : depth < heights (trees (listed ts)) = d facts (serves_operands ev facts op ts has) (subst (λ us. all_mention_only (is_held ev) true us ≡ true) (sym (listed_again ts)) m) in
     let k : depth < heights ts = subst (λ us. depth < heights us) (listed_again ts) h in
     omega (arith, k)
-strict_deep ev depth (Lit l) s d = cc
-strict_deep ev depth (Var v) s d = cc
-strict_deep ev depth (Slot j) s d = cc
-strict_deep ev depth (Unknown n ty) s d = cc
-strict_deep ev depth (If t y n) s d = cc
-strict_deep ev depth (And l q) s d = cc
-strict_deep ev depth (Or l q) s d = cc
+list_deep ev depth (Lit l) s d = cc
+list_deep ev depth (Var v) s d = cc
+list_deep ev depth (Slot j) s d = cc
+list_deep ev depth (Unknown n ty) s d = cc
+list_deep ev depth (If t y n) s d = cc
+list_deep ev depth (And l q) s d = cc
+list_deep ev depth (Or l q) s d = cc
 
 -- ---- parts one by one
 

@@ -1,4 +1,4 @@
--- What a strict construct is at the values of its parts, and what is left of it.
+-- What a construct is at the values of its parts, and what is left of it.
 use Rattle.std.specs.Prelude.{◌≡◌, Bool, true, false, cond, is_some, ◌&&◌, Option, Some, None}
 use Rattle.cedar_language.specs.Uid.{Text, Name}
 use Rattle.cedar_language.specs.Tree.{ValueType, EntityType, MakeRecord, Call, Tree, Trees, Unknown, Apply}

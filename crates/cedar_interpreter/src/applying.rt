@@ -1,5 +1,5 @@
 // Constructs at the values of their parts.
-ghost use Rattle.std.specs.Prelude.{◌≡◌, true, false, length, IfOk};
+ghost use Rattle.std.specs.Prelude.{◌≡◌, None, true, false, length, IfOk};
 ghost use Rattle.cedar_language.specs.Facts.{Facts};
 ghost use Rattle.cedar_language.specs.Operators.{applied};
 ghost use Rattle.cedar_language.specs.Order.{all_of};
@@ -10,13 +10,14 @@ ghost use Rattle.cedar_literals.specs.Operators.{binary_operator_of};
 ghost use Rattle.cedar_shapes.specs.Parts.{parts as parts_of};
 ghost use Rattle.cedar_trees.specs.Bare.{bare, bare_entries};
 ghost use Rattle.cedar_extensions.specs.Giving.{Gives};
-ghost use Rattle.cedar_operators.specs.Operands.{two};
+ghost use Rattle.cedar_operators.specs.Operands.{one, two};
 ghost use Rattle.cedar_operators.specs.Store.{HasFacts};
-ghost use Rattle.cedar_interpreter.specs.Forms.{is_strict};
+ghost use Rattle.cedar_interpreter.specs.Forms.{unary_operator, is_of_list};
 ghost use Rattle.cedar_interpreter.specs.Meeting.{MeetsAt};
 ghost use Rattle.cedar_interpreter.specs.Operating.{applied_in, is_call, NamesNothing, HasFunctions};
 
-use crate::parts::{both, only};
+use crate::operands::UnaryOperator;
+use crate::partial_stores::{open_has, open_pair, open_path};
 use cedar_entities::store::Entities;
 use cedar_extensions::evaluation_error::EvaluationError;
 use cedar_extensions::extensions::Extensions;
@@ -34,27 +35,6 @@ use std::alloc::{AllocError, Global};
 use std::collections::BTreeMap;
 use std::rc::{Rc, RcStr};
 
-/// What a construct that evaluates all its parts gives for their values.
-pub(crate) fn apply(
-    alloc: Global,
-    expr: &Expr,
-    values: Vec<Value>,
-    entities: &Entities,
-    extensions: &Extensions<'_>,
-) -> Result<PartialValue, EvaluationError>
-    requires strict { is_strict (bare expr.now) ≡ true }
-    requires count { length values.items ≡ length (parts_of (bare expr.now)) }
-    ensures { (facts : Facts) → HasFacts entities.now facts → HasFunctions extensions.now facts → NamesNothing extensions.now (bare expr.now) →
-        MeetsAt facts ⊥ (answer_of (applied_in facts (bare expr.now) (all_of values.items))) result }
-{
-    match &expr.expr_kind {
-        ExprKind::ExtensionFunctionApp { fn_name, .. } => {
-            call(alloc, fn_name, &values, None, extensions)
-        }
-        _ => known(apply_operator(alloc, expr, values, entities, extensions)),
-    }
-}
-
 /// A value as an answer.
 pub(crate) fn known(value: Result<Value, EvaluationError>) -> Result<PartialValue, EvaluationError>
     ensures { (facts : Facts) (o : Outcome) → Gives (λ v. v) ⊥ value o → MeetsAt facts ⊥ (answer_of o) result }
@@ -62,42 +42,117 @@ pub(crate) fn known(value: Result<Value, EvaluationError>) -> Result<PartialValu
     Ok(PartialValue::from(value?))
 }
 
-// What an operator of the language, a set or a record gives for the values of its parts.
-fn apply_operator(
+// What is left, if the store doesn't know what was looked up, and else what was found.
+fn open_or(
+    left: Option<PartialValue>,
+    found: Result<Value, EvaluationError>,
+) -> Result<PartialValue, EvaluationError>
+    ensures { (facts : Facts) (o : Outcome) → left ≡ None → Gives (λ v. v) ⊥ found o → MeetsAt facts ⊥ (answer_of o) result }
+{
+    match left {
+        Some(rest) => Ok(rest),
+        None => known(found),
+    }
+}
+
+/// What an operator of one operand gives for a value, or what is left of it where the store doesn't know
+/// what it looks up.
+pub(crate) fn apply_to_one(
+    alloc: Global,
+    op: UnaryOperator<'_>,
+    value: Value,
+    loc: Option<&Loc>,
+    entities: &Entities,
+) -> Result<PartialValue, EvaluationError>
+    ensures { (facts : Facts) → HasFacts entities.now facts → MeetsAt facts ⊥ (answer_of (applied facts (unary_operator op.entry) (one value))) result }
+{
+    match op {
+        UnaryOperator::Applied(op) => known(unary_app(alloc, op, value, loc)),
+        UnaryOperator::Has(attr) => {
+            let found = has_attr(alloc, entities, &value, attr);
+            let rest = open_has(alloc, &found, entities, &value, attr)?;
+            open_or(rest, found)
+        }
+        UnaryOperator::HasPath(attrs) => {
+            let found = has_path(alloc, entities, &value, attrs);
+            let rest = open_path(alloc, &found, entities, &value, attrs)?;
+            open_or(rest, found)
+        }
+        UnaryOperator::Like(pattern) => known(is_like(alloc, &value, pattern)),
+        UnaryOperator::Is(entity_type) => known(is_of_type(alloc, &value, entity_type)),
+    }
+}
+
+/// What an operator of two operands gives for values, or what is left of it where the store doesn't know
+/// what it looks up.
+pub(crate) fn apply_to_two(
+    alloc: Global,
+    op: BinaryOp,
+    left: Value,
+    right: Value,
+    loc: Option<&Loc>,
+    entities: &Entities,
+    extensions: &Extensions<'_>,
+) -> Result<PartialValue, EvaluationError>
+    ensures { (facts : Facts) → HasFacts entities.now facts → MeetsAt facts ⊥ (answer_of (applied facts (binary_operator_of op) (two left right))) result }
+{
+    match op {
+        BinaryOp::Eq => known(binary_relation(alloc, op, &left, &right, extensions)),
+        BinaryOp::Less => known(binary_relation(alloc, op, &left, &right, extensions)),
+        BinaryOp::LessEq => known(binary_relation(alloc, op, &left, &right, extensions)),
+        BinaryOp::Add => known(binary_arith(alloc, op, left, right, loc)),
+        BinaryOp::Sub => known(binary_arith(alloc, op, left, right, loc)),
+        BinaryOp::Mul => known(binary_arith(alloc, op, left, right, loc)),
+        BinaryOp::Contains => known(contains(alloc, &left, &right)),
+        BinaryOp::ContainsAll => known(contains_all(alloc, &left, &right)),
+        BinaryOp::ContainsAny => known(contains_any(alloc, &left, &right)),
+        BinaryOp::In => {
+            let found = is_in(alloc, entities, &left, &right);
+            let rest = open_pair(alloc, &found, entities, op, &left, right)?;
+            open_or(rest, found)
+        }
+        BinaryOp::GetTag => {
+            let found = get_tag(alloc, entities, &left, &right, loc);
+            let rest = open_pair(alloc, &found, entities, op, &left, right)?;
+            open_or(rest, found)
+        }
+        BinaryOp::HasTag => {
+            let found = has_tag(alloc, entities, &left, &right);
+            let rest = open_pair(alloc, &found, entities, op, &left, right)?;
+            open_or(rest, found)
+        }
+    }
+}
+
+/// What a call, a set or a record gives for the values of its parts.
+pub(crate) fn apply_to_list(
     alloc: Global,
     expr: &Expr,
     values: Vec<Value>,
-    entities: &Entities,
     extensions: &Extensions<'_>,
-) -> Result<Value, EvaluationError>
-    requires strict { is_strict (bare expr.now) ≡ true }
+) -> Result<PartialValue, EvaluationError>
+    requires list { is_of_list (bare expr.now) ≡ true }
+    requires count { length values.items ≡ length (parts_of (bare expr.now)) }
+    ensures { (facts : Facts) → HasFunctions extensions.now facts → NamesNothing extensions.now (bare expr.now) →
+        MeetsAt facts ⊥ (answer_of (applied_in facts (bare expr.now) (all_of values.items))) result }
+{
+    match &expr.expr_kind {
+        ExprKind::ExtensionFunctionApp { fn_name, .. } => {
+            call(alloc, fn_name, &values, None, extensions)
+        }
+        _ => known(collected(alloc, expr, values)),
+    }
+}
+
+// The set or the record of these values.
+#[tactic(auto, using(crate::proofs::Applied::unary_is_no_list, crate::proofs::Applied::binary_is_no_list))]
+fn collected(alloc: Global, expr: &Expr, values: Vec<Value>) -> Result<Value, EvaluationError>
+    requires list { is_of_list (bare expr.now) ≡ true }
     requires called { is_call (bare expr.now) ≡ false }
     requires count { length values.items ≡ length (parts_of (bare expr.now)) }
-    ensures { (facts : Facts) → HasFacts entities.now facts → Gives (λ v. v) ⊥ result (applied_in facts (bare expr.now) (all_of values.items)) }
+    ensures { (facts : Facts) → Gives (λ v. v) ⊥ result (applied_in facts (bare expr.now) (all_of values.items)) }
 {
-    let loc = expr.source_loc();
     match &expr.expr_kind {
-        ExprKind::UnaryApp { op, .. } => unary_app(alloc, *op, only(values), loc),
-        ExprKind::BinaryApp { op, .. } => {
-            let (left, right) = both(values);
-            apply_to_two(alloc, *op, left, right, loc, entities, extensions)
-        }
-        ExprKind::HasAttr { attr, .. } => {
-            let of = only(values);
-            has_attr(alloc, entities, &of, attr)
-        }
-        ExprKind::ExtHasAttr { attrs, .. } => {
-            let of = only(values);
-            has_path(alloc, entities, &of, attrs)
-        }
-        ExprKind::Like { pattern, .. } => {
-            let of = only(values);
-            is_like(alloc, &of, pattern)
-        }
-        ExprKind::Is { entity_type, .. } => {
-            let of = only(values);
-            is_of_type(alloc, &of, entity_type)
-        }
         ExprKind::Set(_) => Ok(Value::set(alloc, values, None)?),
         ExprKind::Record(entries) => Ok(record_of(alloc, entries, values)?),
         ExprKind::Lit(_) => unreachable!(),
@@ -107,35 +162,14 @@ fn apply_operator(
         ExprKind::If { .. } => unreachable!(),
         ExprKind::And { .. } => unreachable!(),
         ExprKind::Or { .. } => unreachable!(),
-        ExprKind::GetAttr { .. } => unreachable!(),
+        ExprKind::UnaryApp { .. } => unreachable!(),
+        ExprKind::BinaryApp { .. } => unreachable!(),
         ExprKind::ExtensionFunctionApp { .. } => unreachable!(),
-    }
-}
-
-fn apply_to_two(
-    alloc: Global,
-    op: BinaryOp,
-    left: Value,
-    right: Value,
-    loc: Option<&Loc>,
-    entities: &Entities,
-    extensions: &Extensions<'_>,
-) -> Result<Value, EvaluationError>
-    ensures { (facts : Facts) → HasFacts entities.now facts → Gives (λ v. v) ⊥ result (applied facts (binary_operator_of op) (two left right)) }
-{
-    match op {
-        BinaryOp::Eq => binary_relation(alloc, op, &left, &right, extensions),
-        BinaryOp::Less => binary_relation(alloc, op, &left, &right, extensions),
-        BinaryOp::LessEq => binary_relation(alloc, op, &left, &right, extensions),
-        BinaryOp::Add => binary_arith(alloc, op, left, right, loc),
-        BinaryOp::Sub => binary_arith(alloc, op, left, right, loc),
-        BinaryOp::Mul => binary_arith(alloc, op, left, right, loc),
-        BinaryOp::In => is_in(alloc, entities, &left, &right),
-        BinaryOp::Contains => contains(alloc, &left, &right),
-        BinaryOp::ContainsAll => contains_all(alloc, &left, &right),
-        BinaryOp::ContainsAny => contains_any(alloc, &left, &right),
-        BinaryOp::GetTag => get_tag(alloc, entities, &left, &right, loc),
-        BinaryOp::HasTag => has_tag(alloc, entities, &left, &right),
+        ExprKind::GetAttr { .. } => unreachable!(),
+        ExprKind::HasAttr { .. } => unreachable!(),
+        ExprKind::ExtHasAttr { .. } => unreachable!(),
+        ExprKind::Like { .. } => unreachable!(),
+        ExprKind::Is { .. } => unreachable!(),
     }
 }
 

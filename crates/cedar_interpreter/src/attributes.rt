@@ -4,18 +4,22 @@ ghost use Rattle.std.specs.Rc.{rc_str_bytes};
 ghost use Rattle.cedar_language.specs.Facts.{Facts};
 ghost use Rattle.cedar_language.specs.Tree as tree;
 ghost use Rattle.cedar_language.specs.Tree.{Tree};
-ghost use Rattle.cedar_language.specs.Value.{Value, no_values, RecordAttrDoesNotExist};
+ghost use Rattle.cedar_language.specs.Operators.{applied};
+ghost use Rattle.cedar_language.specs.Value as language;
+ghost use Rattle.cedar_language.specs.Value.{no_values, RecordAttrDoesNotExist};
 ghost use Rattle.cedar_partial_evaluation.specs.Alike.{Same};
-ghost use Rattle.cedar_partial_evaluation.specs.Partial.{Answer, AllEvaluated, LeafAnswers, and_next, apply_answer};
+ghost use Rattle.cedar_partial_evaluation.specs.Partial.{Answer, AllEvaluated, LeafAnswers, answer_of, and_next, apply_answer};
 ghost use Rattle.cedar_trees.specs.Bare.{bare};
 ghost use Rattle.cedar_restricted.specs.PartialValues.{partial_of};
 ghost use Rattle.cedar_extensions.specs.Failures.{OfKind, failure_of};
 ghost use Rattle.either.specs.declared.Either.{Either};
+ghost use Rattle.cedar_operators.specs.Operands.{one};
 ghost use Rattle.cedar_operators.specs.Store.{HasFacts};
 ghost use Rattle.cedar_interpreter.specs.Meeting.{MeetsAt, part_answer};
 ghost use Rattle.cedar_interpreter.specs.Projecting.{ProjectsAt, ProjectsOf, TakesOf};
 
 use crate::applying::known;
+use crate::partial_stores::open_attribute;
 use cedar_entities::store::Entities;
 use cedar_extensions::evaluation_error::EvaluationError;
 use cedar_names::places::Loc;
@@ -24,6 +28,7 @@ use cedar_partial_evaluation::{likeness_is_kept, projecting_is_evaluating};
 use cedar_restricted::partial_values::PartialValue;
 use cedar_shapes::readers::ExprReaders;
 use cedar_trees::expr::{Expr, ExprKind};
+use cedar_values::values::Value;
 use std::alloc::{AllocError, Global};
 use std::rc::RcStr;
 
@@ -32,7 +37,8 @@ use std::rc::RcStr;
 pub(crate) enum Projected {
     /// This.
     Done(PartialValue),
-    /// What this entry of a residual record is evaluated to.
+    /// What this is evaluated to: an entry of a residual record, or what is left of an attribute of an
+    /// entity.
     Entry(Expr),
 }
 
@@ -50,13 +56,31 @@ pub(crate) fn attribute(
     likeness_is_kept();
     projecting_is_evaluating();
     match part {
-        PartialValue::Value(value) => { done(known(get_attr(alloc, entities, &value, attr, loc))) }
+        PartialValue::Value(value) => attribute_of_value(alloc, value, attr, loc, entities),
         PartialValue::Residual(rest) => project(alloc, rest, attr, loc),
     }
 }
 
+// The attribute of a value, or what is left of it where the store doesn't know what is looked up.
+fn attribute_of_value(
+    alloc: Global,
+    value: Value,
+    attr: &RcStr,
+    loc: Option<&Loc>,
+    entities: &Entities,
+) -> Result<Projected, EvaluationError>
+    ensures { (facts : Facts) → HasFacts entities.now facts → (holds : LeafAnswers) (part : Either language.Value Tree) →
+        ProjectsAt facts holds part (answer_of (applied facts (tree.GetAttr (rc_str_bytes attr.now)) (one value))) result }
+{
+    let found = get_attr(alloc, entities, &value, attr, loc);
+    match open_attribute(alloc, &found, entities, &value, attr)? {
+        Some(left) => Ok(left),
+        None => done(known(found)),
+    }
+}
+
 fn done(answer: Result<PartialValue, EvaluationError>) -> Result<Projected, EvaluationError>
-    ensures { (facts : Facts) (holds : LeafAnswers) (part : Either Value Tree) (c : Answer) → MeetsAt facts ⊥ c answer → ProjectsAt facts holds part c result }
+    ensures { (facts : Facts) (holds : LeafAnswers) (part : Either language.Value Tree) (c : Answer) → MeetsAt facts ⊥ c answer → ProjectsAt facts holds part c result }
 {
     Ok(Projected::Done(answer?))
 }

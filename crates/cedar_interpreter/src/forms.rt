@@ -2,6 +2,7 @@
 ghost use Rattle.cedar_trees.specs.Bare.{bare};
 ghost use Rattle.cedar_interpreter.specs.Forms.{IsForm};
 
+use crate::operands::{Operands, UnaryOperator};
 use cedar_trees::expr::{Expr, ExprKind};
 use std::rc::{Rc, RcStr};
 
@@ -32,7 +33,7 @@ pub(crate) enum Form<'a> {
         attr: &'a RcStr,
     },
     /// All parts, from the left.
-    Strict,
+    Strict(Operands<'a>),
 }
 
 impl<'a> Form<'a> {
@@ -57,15 +58,27 @@ impl<'a> Form<'a> {
             ExprKind::And { left, right } => Form::And { left, right },
             ExprKind::Or { left, right } => Form::Or { left, right },
             ExprKind::GetAttr { expr, attr } => Form::GetAttr { of: expr, attr },
-            ExprKind::UnaryApp { .. } => Form::Strict,
-            ExprKind::BinaryApp { .. } => Form::Strict,
-            ExprKind::ExtensionFunctionApp { .. } => Form::Strict,
-            ExprKind::HasAttr { .. } => Form::Strict,
-            ExprKind::ExtHasAttr { .. } => Form::Strict,
-            ExprKind::Like { .. } => Form::Strict,
-            ExprKind::Is { .. } => Form::Strict,
-            ExprKind::Set(_) => Form::Strict,
-            ExprKind::Record(_) => Form::Strict,
+            ExprKind::UnaryApp { op, arg } => {
+                Form::Strict(Operands::One(UnaryOperator::Applied(*op), arg))
+            }
+            ExprKind::BinaryApp { op, arg1, arg2 } => {
+                Form::Strict(Operands::Two(*op, arg1, arg2))
+            }
+            ExprKind::HasAttr { expr, attr } => {
+                Form::Strict(Operands::One(UnaryOperator::Has(attr), expr))
+            }
+            ExprKind::ExtHasAttr { expr, attrs } => {
+                Form::Strict(Operands::One(UnaryOperator::HasPath(attrs), expr))
+            }
+            ExprKind::Like { expr, pattern } => {
+                Form::Strict(Operands::One(UnaryOperator::Like(pattern), expr))
+            }
+            ExprKind::Is { expr, entity_type } => {
+                Form::Strict(Operands::One(UnaryOperator::Is(entity_type), expr))
+            }
+            ExprKind::ExtensionFunctionApp { .. } => Form::Strict(Operands::List),
+            ExprKind::Set(_) => Form::Strict(Operands::List),
+            ExprKind::Record(_) => Form::Strict(Operands::List),
         }
     }
 }

@@ -6,7 +6,7 @@ ghost use Rattle.cedar_language.specs.Tree as tree;
 ghost use Rattle.cedar_partial_evaluation.specs.Partial.{partial_in};
 ghost use Rattle.cedar_grammar.specs.Build.{unary};
 ghost use Rattle.cedar_trees.specs.Bare.{bare};
-ghost use Rattle.cedar_interpreter.specs.Forms.{is_strict};
+ghost use Rattle.cedar_interpreter.specs.Forms.{IsOperands};
 ghost use Rattle.cedar_interpreter.specs.Holding.{held_by, Serves, ServesEach, Deep, DeepEach};
 ghost use Rattle.cedar_interpreter.specs.Meeting.{MeetsAt, MeetEachAt, IsLimit};
 
@@ -15,7 +15,8 @@ use crate::evaluator::Evaluator;
 use crate::forms::Form;
 use crate::lazy::{Tested, last_of_and, last_of_or, open_and, open_if, open_or, test_answer};
 use crate::nodes::truth;
-use crate::operating::operate;
+use crate::operands::Operands;
+use crate::operating::{operate_on_list, operate_on_one, operate_on_two};
 use crate::parts::listed;
 use crate::places::at_place;
 use cedar_constraints::bindings::SlotEnv;
@@ -72,7 +73,7 @@ impl<'s, 'e, 'f> Evaluator<'s, 'e, 'f> {
                 slots,
                 below,
             ),
-            Form::Strict => self.interpret_strict(alloc, expr, slots, below),
+            Form::Strict(operands) => { self.interpret_strict(alloc, expr, operands, slots, below) }
         }
     }
 
@@ -174,16 +175,31 @@ impl<'s, 'e, 'f> Evaluator<'s, 'e, 'f> {
         &self,
         alloc: Global,
         expr: &Expr,
+        operands: Operands<'_>,
         slots: &SlotEnv,
         depth: u32,
     ) -> Result<PartialValue, EvaluationError>
-        requires { is_strict (bare expr.now) ≡ true }
+        requires { IsOperands (bare expr.now) operands }
         ensures found { (facts : Facts) → Serves self.now facts (bare expr.now) → MeetsAt facts ⊤ (partial_in facts (held_by self.now slots.now) (bare expr.now)) result }
         ensures limit { IsLimit result → Deep self.now (suc depth) (bare expr.now) }
     {
-        let listed = listed(alloc, expr)?;
-        let parts = self.interpret_parts(alloc, &listed, slots, depth)?;
-        operate(alloc, expr, parts, self.entities, self.extensions)
+        match operands {
+            Operands::One(op, of) => {
+                let part = self.interpret_within(alloc, of, slots, depth)?;
+                operate_on_one(alloc, op, part, expr.source_loc(), self.entities)
+            }
+            Operands::Two(op, left, right) => {
+                let left = self.interpret_within(alloc, left, slots, depth)?;
+                let right = self.interpret_within(alloc, right, slots, depth)?;
+                let loc = expr.source_loc();
+                operate_on_two(alloc, op, left, right, loc, self.entities, self.extensions)
+            }
+            Operands::List => {
+                let listed = listed(alloc, expr)?;
+                let parts = self.interpret_parts(alloc, &listed, slots, depth)?;
+                operate_on_list(alloc, expr, parts, self.extensions)
+            }
+        }
     }
 
     #[cycle(interpret)]

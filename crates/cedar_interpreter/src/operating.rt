@@ -1,21 +1,28 @@
-// Constructs at the answers of their parts.
+// Constructs at the answers of their parts: what they give for the parts' values where all are values, and
+// else what is left of them.
 ghost use Rattle.std.specs.Prelude.{◌≡◌, true, List, map, length};
 ghost use Rattle.cedar_language.specs.Facts.{Facts};
-ghost use Rattle.cedar_partial_evaluation.specs.Alike.{gathered};
-ghost use Rattle.cedar_partial_evaluation.specs.Partial.{Answer, LeafAnswers};
+ghost use Rattle.cedar_language.specs.Value.{no_values};
+ghost use Rattle.cedar_partial_evaluation.specs.Alike.{Same, gathered};
+ghost use Rattle.cedar_partial_evaluation.specs.Partial.{Answer, AllEvaluated, LeafAnswers, and_next, apply_answer};
+ghost use Rattle.cedar_literals.specs.Operators.{binary_operator_of};
 ghost use Rattle.cedar_shapes.specs.Parts.{parts as parts_of};
 ghost use Rattle.cedar_trees.specs.Bare.{bare};
 ghost use Rattle.cedar_restricted.specs.PartialValues.{partial_of};
 ghost use Rattle.cedar_operators.specs.Store.{HasFacts};
-ghost use Rattle.cedar_interpreter.specs.Forms.{is_strict};
-ghost use Rattle.cedar_interpreter.specs.Meeting.{MeetsAt, SameEach};
+ghost use Rattle.cedar_interpreter.specs.Forms.{unary_operator, is_of_list};
+ghost use Rattle.cedar_interpreter.specs.Meeting.{MeetsAt, SameEach, part_answer};
 ghost use Rattle.cedar_interpreter.specs.Operating.{operated, NamesNothing, HasFunctions};
 
-use crate::applying::apply;
-use crate::waiting::wait;
+use crate::applying::{apply_to_list, apply_to_one, apply_to_two};
+use crate::operands::UnaryOperator;
+use crate::waiting::{wait_for_list, wait_for_one, wait_for_two};
 use cedar_entities::store::Entities;
 use cedar_extensions::evaluation_error::EvaluationError;
 use cedar_extensions::extensions::Extensions;
+use cedar_literals::operators::BinaryOp;
+use cedar_names::conversions::FromIn;
+use cedar_names::places::Loc;
 use cedar_partial_evaluation::{gathered_splits, likeness_is_kept};
 use cedar_restricted::partial_values::PartialValue;
 use cedar_restricted::split::split;
@@ -23,25 +30,73 @@ use cedar_trees::expr::Expr;
 use either::Either;
 use std::alloc::Global;
 
-/// The answer of a construct that evaluates all its parts, by their answers: what it gives for their
-/// values where all are values, and else what is left of it.
-pub(crate) fn operate(
+/// The answer of an operator of one operand, by that one's.
+pub(crate) fn operate_on_one(
     alloc: Global,
-    expr: &Expr,
-    parts: Vec<PartialValue>,
+    op: UnaryOperator<'_>,
+    part: PartialValue,
+    loc: Option<&Loc>,
+    entities: &Entities,
+) -> Result<PartialValue, EvaluationError>
+    ensures { (facts : Facts) → HasFacts entities.now facts → (holds : LeafAnswers) (b : Answer) → Same facts (part_answer (partial_of part)) b →
+        MeetsAt facts ⊥ (apply_answer facts holds (unary_operator op.entry) (and_next facts b (AllEvaluated no_values))) result }
+{
+    likeness_is_kept();
+    match part {
+        PartialValue::Value(value) => apply_to_one(alloc, op, value, loc, entities),
+        PartialValue::Residual(rest) => Ok(wait_for_one(alloc, op, rest)?),
+    }
+}
+
+/// The answer of an operator of two operands, by theirs.
+pub(crate) fn operate_on_two(
+    alloc: Global,
+    op: BinaryOp,
+    left: PartialValue,
+    right: PartialValue,
+    loc: Option<&Loc>,
     entities: &Entities,
     extensions: &Extensions<'_>,
 ) -> Result<PartialValue, EvaluationError>
-    requires strict { is_strict (bare expr.now) ≡ true }
+    ensures { (facts : Facts) → HasFacts entities.now facts → (holds : LeafAnswers) (b c : Answer) → Same facts (part_answer (partial_of left)) b → Same facts (part_answer (partial_of right)) c →
+        MeetsAt facts ⊥ (apply_answer facts holds (binary_operator_of op) (and_next facts b (and_next facts c (AllEvaluated no_values)))) result }
+{
+    gathered_splits();
+    likeness_is_kept();
+    match left {
+        PartialValue::Residual(left) => {
+            let right = Expr::from_in(alloc, right)?;
+            Ok(wait_for_two(alloc, op, left, right)?)
+        }
+        PartialValue::Value(left) => match right {
+            PartialValue::Residual(right) => {
+                let left = Expr::from_in(alloc, PartialValue::Value(left))?;
+                Ok(wait_for_two(alloc, op, left, right)?)
+            }
+            PartialValue::Value(right) => {
+                apply_to_two(alloc, op, left, right, loc, entities, extensions)
+            }
+        },
+    }
+}
+
+/// The answer of a call, a set or a record, by those of its parts.
+pub(crate) fn operate_on_list(
+    alloc: Global,
+    expr: &Expr,
+    parts: Vec<PartialValue>,
+    extensions: &Extensions<'_>,
+) -> Result<PartialValue, EvaluationError>
+    requires list { is_of_list (bare expr.now) ≡ true }
     requires count { length parts.items ≡ length (parts_of (bare expr.now)) }
-    ensures { (facts : Facts) → HasFacts entities.now facts → HasFunctions extensions.now facts → NamesNothing extensions.now (bare expr.now) →
+    ensures { (facts : Facts) → HasFunctions extensions.now facts → NamesNothing extensions.now (bare expr.now) →
         (holds : LeafAnswers) (bs : List Answer) → SameEach facts (map partial_of parts.items) bs →
         MeetsAt facts ⊥ (operated facts holds (bare expr.now) (gathered facts bs)) result }
 {
     gathered_splits();
     likeness_is_kept();
     match split(alloc, parts)? {
-        Either::Left(values) => apply(alloc, expr, values, entities, extensions),
-        Either::Right(exprs) => Ok(wait(alloc, expr, exprs)?),
+        Either::Left(values) => apply_to_list(alloc, expr, values, extensions),
+        Either::Right(exprs) => Ok(wait_for_list(alloc, expr, exprs)?),
     }
 }

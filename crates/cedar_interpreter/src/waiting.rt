@@ -9,12 +9,12 @@ ghost use Rattle.cedar_literals.specs.Operators.{unary_operator_of, binary_opera
 ghost use Rattle.cedar_shapes.specs.Parts.{parts as parts_of};
 ghost use Rattle.cedar_trees.specs.Bare.{bare, bare_entries};
 ghost use Rattle.cedar_restricted.specs.PartialValues.{partial_of};
-ghost use Rattle.cedar_interpreter.specs.Forms.{is_strict};
+ghost use Rattle.cedar_interpreter.specs.Forms.{unary_operator, is_of_list};
 ghost use Rattle.cedar_interpreter.specs.Meeting.{part_answer};
 ghost use Rattle.cedar_interpreter.specs.Operating.{left_in};
 
 use crate::nodes::{has_chain, truth};
-use crate::parts::{both, only};
+use crate::operands::UnaryOperator;
 use crate::stated::{is_decided, key_told, type_told};
 use cedar_literals::operators::{BinaryOp, UnaryOp};
 use cedar_literals::uids::EntityType;
@@ -26,31 +26,46 @@ use std::alloc::{AllocError, Global};
 use std::collections::BTreeMap;
 use std::rc::{Rc, RcStr};
 
-/// What is left of a construct that evaluates all its parts, by what is left of these: the construct of
-/// them, but for `has`, `is` and `==` where what is left decides. Refused for memory alone.
-pub(crate) fn wait(alloc: Global, expr: &Expr, parts: Vec<Expr>) -> Result<PartialValue, AllocError>
-    requires strict { is_strict (bare expr.now) ≡ true }
+/// What is left of an operator of one operand, by what is left of that: the operator of it, but for `has`
+/// and `is` where what is left decides. Refused for memory alone.
+pub(crate) fn wait_for_one(
+    alloc: Global,
+    op: UnaryOperator<'_>,
+    part: Expr,
+) -> Result<PartialValue, AllocError>
+    ensures { IfOk result (λ p. (facts : Facts) (holds : LeafAnswers) →
+        residual_answer facts holds (unary_operator op.entry) (trees (bare part ∷ [])) ≡ part_answer (partial_of p)) }
+{
+    match op {
+        UnaryOperator::Applied(op) => wait_for_applied(alloc, op, part),
+        UnaryOperator::Has(attr) => wait_for_has(alloc, part, attr),
+        UnaryOperator::HasPath(attrs) => wait_for_path(alloc, part, attrs),
+        UnaryOperator::Like(pattern) => {
+            let pattern = pattern.clone()?;
+            Ok(PartialValue::from(Expr::like(alloc, part, pattern)?))
+        }
+        UnaryOperator::Is(entity_type) => wait_for_is(alloc, part, entity_type),
+    }
+}
+
+/// What is left of a call, a set or a record, by what is left of its parts: the construct of these. Refused
+/// for memory alone.
+#[tactic(auto, using(crate::proofs::Applied::unary_is_no_list, crate::proofs::Applied::binary_is_no_list))]
+pub(crate) fn wait_for_list(
+    alloc: Global,
+    expr: &Expr,
+    parts: Vec<Expr>,
+) -> Result<PartialValue, AllocError>
+    requires list { is_of_list (bare expr.now) ≡ true }
     requires count { length parts.items ≡ length (parts_of (bare expr.now)) }
     ensures { IfOk result (λ p. (facts : Facts) (holds : LeafAnswers) →
         left_in facts holds (bare expr.now) (trees (map bare parts.items)) ≡ part_answer (partial_of p)) }
 {
     match &expr.expr_kind {
-        ExprKind::UnaryApp { op, .. } => wait_for_one(alloc, *op, only(parts)),
-        ExprKind::BinaryApp { op, .. } => {
-            let (left, right) = both(parts);
-            wait_for_two(alloc, *op, left, right)
-        }
         ExprKind::ExtensionFunctionApp { fn_name, .. } => {
             let name = fn_name.clone(alloc)?;
             Ok(PartialValue::from(Expr::call_extension_fn(alloc, name, parts)?))
         }
-        ExprKind::HasAttr { attr, .. } => wait_for_has(alloc, only(parts), attr),
-        ExprKind::ExtHasAttr { attrs, .. } => wait_for_path(alloc, only(parts), attrs),
-        ExprKind::Like { pattern, .. } => {
-            let pattern = pattern.clone()?;
-            Ok(PartialValue::from(Expr::like(alloc, only(parts), pattern)?))
-        }
-        ExprKind::Is { entity_type, .. } => wait_for_is(alloc, only(parts), entity_type),
         ExprKind::Set(_) => Ok(PartialValue::from(Expr::set(alloc, parts)?)),
         ExprKind::Record(entries) => wait_for_entries(alloc, entries, parts),
         ExprKind::Lit(_) => unreachable!(),
@@ -60,20 +75,28 @@ pub(crate) fn wait(alloc: Global, expr: &Expr, parts: Vec<Expr>) -> Result<Parti
         ExprKind::If { .. } => unreachable!(),
         ExprKind::And { .. } => unreachable!(),
         ExprKind::Or { .. } => unreachable!(),
+        ExprKind::UnaryApp { .. } => unreachable!(),
+        ExprKind::BinaryApp { .. } => unreachable!(),
         ExprKind::GetAttr { .. } => unreachable!(),
+        ExprKind::HasAttr { .. } => unreachable!(),
+        ExprKind::ExtHasAttr { .. } => unreachable!(),
+        ExprKind::Like { .. } => unreachable!(),
+        ExprKind::Is { .. } => unreachable!(),
     }
 }
 
 #[tactic(auto, using(crate::proofs::Left::one_left))]
-fn wait_for_one(alloc: Global, op: UnaryOp, part: Expr) -> Result<PartialValue, AllocError>
+fn wait_for_applied(alloc: Global, op: UnaryOp, part: Expr) -> Result<PartialValue, AllocError>
     ensures { IfOk result (λ p. (facts : Facts) (holds : LeafAnswers) →
         residual_answer facts holds (unary_operator_of op) (trees (bare part ∷ [])) ≡ part_answer (partial_of p)) }
 {
     Ok(PartialValue::from(Expr::unary_app(alloc, op, part)?))
 }
 
+/// What is left of an operator of two operands, by what is left of these: the operator of them, but for `==`
+/// where what is left decides. Refused for memory alone.
 #[tactic(auto, using(crate::proofs::Left::two_left))]
-fn wait_for_two(
+pub(crate) fn wait_for_two(
     alloc: Global,
     op: BinaryOp,
     left: Expr,

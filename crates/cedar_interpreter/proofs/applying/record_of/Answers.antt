@@ -1,5 +1,5 @@
 -- The values at the keys of the entries.
-use Rattle.std.proofs.Common.{◌≡◌, ◌∙◌, ap, BTreeMap, Global}
+use Rattle.std.proofs.Common.{◌∙◌, ap, BTreeMap, Global}
 use Rattle.std.specs.declared.rc.RcStr.{RcStr}
 use Rattle.cedar_language.specs.Value.{Value, RecordOf}
 use Rattle.cedar_values.specs.Kinds.{keys_of, values_of}

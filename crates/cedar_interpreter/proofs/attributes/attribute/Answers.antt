@@ -1,10 +1,6 @@
 -- Of a value its attribute, and of a residual what is projected of it.
-use Rattle.std.proofs.Common.{◌≡◌, ap}
+use Rattle.std.proofs.Common.{ap}
 use Rattle.std.specs.Rc.{rc_str_bytes}
-use Rattle.cedar_language.specs.Operators.{applied}
-use Rattle.cedar_language.specs.Tree.{GetAttr}
-use Rattle.cedar_language.specs.Value.{a_value, no_values}
-use Rattle.cedar_partial_evaluation.specs.Partial.{answer_of}
 use Rattle.cedar_trees.specs.Bare.{bare}
 use Rattle.cedar_restricted.specs.PartialValues.{partial_of}
 use Rattle.cedar_interpreter.proofs.Projected.{value_projects, residual_projects}
@@ -13,9 +9,7 @@ use Rattle.cedar_interpreter.proofs.attributes.attribute.Goals as goal
 pub returns-in-Value : goal.returns-in-Value
 returns-in-Value c =
     λ facts has holds b same.
-    let meant = applied facts (GetAttr (rc_str_bytes c.args.attr.now)) (a_value c.in-Value.value no_values) in
-    value_projects facts holds (rc_str_bytes c.args.attr.now) c.in-Value.value b (partial_of c.args.part) c.done.result (ap partial_of c.in-Value.is) same
-    (c.done.ensures facts holds (partial_of c.args.part) (answer_of meant) (c.known.ensures facts meant (c.get_attr.ensures facts has)))
+    value_projects facts holds (rc_str_bytes c.args.attr.now) c.in-Value.value b (partial_of c.args.part) c.attribute_of_value.result (ap partial_of c.in-Value.is) same (c.attribute_of_value.ensures facts has holds (partial_of c.args.part))
 
 pub returns-in-Residual : goal.returns-in-Residual
 returns-in-Residual c =

@@ -1,28 +1,30 @@
 -- The arms of the cycle: what is found of parts, and that the limit was met below.
-use Rattle.std.proofs.Common.{◌≡◌, ◌∙◌, ◌<◌, ◌+◌, ◌*◌, suc, refl, ap, sym, subst, List, [], ◌∷◌, ◌++◌, map, drop, length, arith, rules, true, false, Vec, Global, Bor}
+use Rattle.std.proofs.Common.{◌≡◌, ◌∙◌, ◌<◌, ◌+◌, refl, ap, sym, subst, List, [], ◌∷◌, ◌++◌, map, drop, length, arith, rules, true, false, Vec, Global, Bor}
 use Rattle.std.proofs.lemmas.Grind.{common_steps}
 use Rattle.std.proofs.lemmas.List.{map-append, length-map}
 use Rattle.cedar_restricted.proofs.Writing.{cut_items}
-use Rattle.std.specs.Prelude.{⊤, ◌⊎◌}
+use Rattle.std.specs.Prelude.{⊤}
 use Rattle.std.specs.Rc.{rc_str_bytes}
 use Rattle.cedar_language.specs.Tree as tree
 use Rattle.cedar_language.specs.Tree.{Boolean, no_trees, a_tree}
 use Rattle.cedar_language.specs.Value.{Plain, no_values}
 use Rattle.cedar_partial_evaluation.specs.Alike.{Same, gathered}
 use Rattle.cedar_partial_evaluation.specs.Partial.{Evaluated, ResidualTree, Failed, SomeFailed, AllEvaluated, and_next, apply_answer, partial_in}
-use Rattle.cedar_grammar.specs.Build.{unary}
+use Rattle.cedar_grammar.specs.Build.{unary, binary}
+use Rattle.cedar_literals.specs.Operators.{binary_operator_of}
 use Rattle.cedar_shapes.specs.Parts.{parts}
-use Rattle.cedar_shapes.specs.PartsLeft.{parts_left}
 use Rattle.cedar_trees.specs.Bare.{bare}
 use Rattle.cedar_trees.specs.declared.expr.Expr.{Expr}
 use Rattle.cedar_extensions.specs.Failures.{failure_of}
 use Rattle.cedar_extensions.specs.Giving.{FailsBy, fails_on}
 use Rattle.cedar_restricted.specs.PartialValues.{partial_of}
 use Rattle.cedar_restricted.specs.declared.partial_values.PartialValue.{PartialValue}
+use Rattle.cedar_interpreter.specs.Forms.{unary_operator, is_of_list, IsOperands}
 use Rattle.cedar_interpreter.specs.Holding.{held_by, Serves, ServesEach, Deep, DeepEach}
 use Rattle.cedar_interpreter.specs.Meeting.{part_answer, tested_answer, MeetsAt, SameEach, IsTested}
 use Rattle.cedar_interpreter.specs.Projecting.{IsProjected}
-use Rattle.cedar_interpreter.proofs.Serving.{serves_and_left, serves_and_right, serves_or_left, serves_or_right, serves_test, serves_yes, serves_no, serves_operands, serves_entry, serves_parts, deep_and_left, deep_and_right, deep_or_left, deep_or_right, deep_if_test, deep_if_yes, deep_if_no, deep_operand, either_deep, known_first, positive, lowered, never_left, strict_is, strict_fails, strict_deep, Goes, goes_first, goes_on, cut_fails, cut_deep, ends, ends_count}
+use Rattle.cedar_interpreter.proofs.Serving.{serves_and_left, serves_and_right, serves_or_left, serves_or_right, serves_test, serves_yes, serves_no, serves_operands, serves_entry, serves_parts, deep_and_left, deep_and_right, deep_or_left, deep_or_right, deep_if_test, deep_if_yes, deep_if_no, deep_operand, either_deep, known_first, positive, lowered, never_left, list_is, list_fails, list_deep, Goes, goes_first, goes_on, cut_fails, cut_deep, ends, ends_count}
+use Rattle.cedar_interpreter.proofs.Pairs.{one_serves, one_fails, one_deep, left_serves, right_serves, left_fails, right_fails, left_deep, right_deep}
 use Rattle.cedar_interpreter.proofs.Steps.{passed, limit_passed, meets_as, meets_anyhow, never_limit, and_as, or_as, if_as, boolean_same}
 use Rattle.cedar_interpreter.proofs.evaluator.Evaluator.+interpret.Goals as goal
 
@@ -342,32 +344,126 @@ interpret_attribute-returns-in-Entry-clause-limit t c =
     let found = subst (IsProjected facts (held_by c.args.self.now c.args.slots.now) (partial_of c.in_ok-part.part) (apply_answer facts (held_by c.args.self.now c.args.slots.now) (tree.GetAttr (rc_str_bytes c.args.attr.now)) (and_next facts (partial_in facts (held_by c.args.self.now c.args.slots.now) (bare c.args.of.now)) (AllEvaluated no_values)))) c.in-Entry.is (c.in_ok-answer.ensures facts has.entities (held_by c.args.self.now c.args.slots.now) (partial_in facts (held_by c.args.self.now c.args.slots.now) (bare c.args.of.now)) (c.in_ok-part.ensures.found facts (serves_operands c.args.self.now facts (tree.GetAttr (rc_str_bytes c.args.attr.now)) (a_tree (bare c.args.of.now) no_trees) has).0)) in
     absurd (never_left c.known_is_never_left.ensures c.args.self.now c.args.slots.now facts (bare c.args.of.now) (partial_of c.in_ok-part.part) (known_first _ _ m) found.1 (c.in_ok-part.ensures.found facts (serves_operands c.args.self.now facts (tree.GetAttr (rc_str_bytes c.args.attr.now)) (a_tree (bare c.args.of.now) no_trees) has).0))
 
+-- ---- operands
+
+pub interpret_strict-interpret_within-requires : goal.interpret_strict-interpret_within-requires
+interpret_strict-interpret_within-requires t c =
+    omega (arith, c.decreases)
+
+pub interpret_strict-interpret_within-requires-in-Two : goal.interpret_strict-interpret_within-requires-in-Two
+interpret_strict-interpret_within-requires-in-Two t c =
+    omega (arith, c.decreases)
+
+pub interpret_strict-interpret_within-requires-in-Two-2 : goal.interpret_strict-interpret_within-requires-in-Two-2
+interpret_strict-interpret_within-requires-in-Two-2 t c =
+    omega (arith, c.decreases)
+
+pub interpret_strict-returns-in_err-part-in-One-clause-found : goal.interpret_strict-returns-in_err-part-in-One-clause-found
+interpret_strict-returns-in_err-part-in-One-clause-found t c =
+    λ facts has.
+    let is : bare c.args.expr.now ≡ unary (unary_operator c.in-One.op) (bare c.in-One.of.now) = subst (IsOperands (bare c.args.expr.now)) c.in-One.is c.requires in
+    passed (λ (p : PartialValue). Same facts (part_answer (partial_of p)) (partial_in facts (held_by c.args.self.now c.args.slots.now) (bare c.args.expr.now))) (λ k. partial_in facts (held_by c.args.self.now c.args.slots.now) (bare c.args.expr.now) ≡ Failed k) ⊤ c.in_err-part-in-One.field-0.0 c.from_residual.result c.from_residual.ensures
+    (fails_on (failure_of c.in_err-part-in-One.field-0.0) (λ k h. one_fails (bare c.args.expr.now) (unary_operator c.in-One.op) (bare c.in-One.of.now) is facts (held_by c.args.self.now c.args.slots.now) k h) (λ d. d) (c.in_err-part-in-One.ensures.found facts (one_serves (bare c.args.expr.now) (unary_operator c.in-One.op) (bare c.in-One.of.now) is c.args.self.now facts has)))
+
+pub interpret_strict-returns-in_err-part-in-One-clause-limit : goal.interpret_strict-returns-in_err-part-in-One-clause-limit
+interpret_strict-returns-in_err-part-in-One-clause-limit t c =
+    let is : bare c.args.expr.now ≡ unary (unary_operator c.in-One.op) (bare c.in-One.of.now) = subst (IsOperands (bare c.args.expr.now)) c.in-One.is c.requires in
+    λ l. one_deep (bare c.args.expr.now) (unary_operator c.in-One.op) (bare c.in-One.of.now) is c.args.self.now c.args.depth (c.in_err-part-in-One.ensures.limit (limit_passed c.in_err-part-in-One.field-0.0 c.from_residual.result c.from_residual.ensures l))
+
+pub interpret_strict-returns-in_ok-part-in-One-clause-found : goal.interpret_strict-returns-in_ok-part-in-One-clause-found
+interpret_strict-returns-in_ok-part-in-One-clause-found t c =
+    λ facts has.
+    let is : bare c.args.expr.now ≡ unary (unary_operator c.in-One.op) (bare c.in-One.of.now) = subst (IsOperands (bare c.args.expr.now)) c.in-One.is c.requires in
+    meets_as facts c.operate_on_one.result _ _ (ap (partial_in facts (held_by c.args.self.now c.args.slots.now)) is) (meets_anyhow facts c.operate_on_one.result _
+    (c.operate_on_one.ensures facts has.entities (held_by c.args.self.now c.args.slots.now) (partial_in facts (held_by c.args.self.now c.args.slots.now) (bare c.in-One.of.now)) (c.in_ok-part-in-One.ensures.found facts (one_serves (bare c.args.expr.now) (unary_operator c.in-One.op) (bare c.in-One.of.now) is c.args.self.now facts has))))
+
+pub interpret_strict-returns-in_ok-part-in-One-clause-limit : goal.interpret_strict-returns-in_ok-part-in-One-clause-limit
+interpret_strict-returns-in_ok-part-in-One-clause-limit t c =
+    let is : bare c.args.expr.now ≡ unary (unary_operator c.in-One.op) (bare c.in-One.of.now) = subst (IsOperands (bare c.args.expr.now)) c.in-One.is c.requires in
+    λ l facts has m. absurd (never_limit facts _ c.operate_on_one.result
+    (c.operate_on_one.ensures facts has.entities (held_by c.args.self.now c.args.slots.now) (partial_in facts (held_by c.args.self.now c.args.slots.now) (bare c.in-One.of.now)) (c.in_ok-part-in-One.ensures.found facts (one_serves (bare c.args.expr.now) (unary_operator c.in-One.op) (bare c.in-One.of.now) is c.args.self.now facts has))) l)
+
+pub interpret_strict-returns-in_err-left-in-Two-clause-found : goal.interpret_strict-returns-in_err-left-in-Two-clause-found
+interpret_strict-returns-in_err-left-in-Two-clause-found t c =
+    λ facts has.
+    let is : bare c.args.expr.now ≡ binary (binary_operator_of c.in-Two.op) (bare c.in-Two.left.now) (bare c.in-Two.right.now) = subst (IsOperands (bare c.args.expr.now)) c.in-Two.is c.requires in
+    passed (λ (p : PartialValue). Same facts (part_answer (partial_of p)) (partial_in facts (held_by c.args.self.now c.args.slots.now) (bare c.args.expr.now))) (λ k. partial_in facts (held_by c.args.self.now c.args.slots.now) (bare c.args.expr.now) ≡ Failed k) ⊤ c.in_err-left-in-Two.field-0.0 c.from_residual-in_err-left-in-Two.result c.from_residual-in_err-left-in-Two.ensures
+    (fails_on (failure_of c.in_err-left-in-Two.field-0.0) (λ k h. left_fails (bare c.args.expr.now) (binary_operator_of c.in-Two.op) (bare c.in-Two.left.now) (bare c.in-Two.right.now) is facts (held_by c.args.self.now c.args.slots.now) k h) (λ d. d) (c.in_err-left-in-Two.ensures.found facts (left_serves (bare c.args.expr.now) (binary_operator_of c.in-Two.op) (bare c.in-Two.left.now) (bare c.in-Two.right.now) is c.args.self.now facts has)))
+
+pub interpret_strict-returns-in_err-left-in-Two-clause-limit : goal.interpret_strict-returns-in_err-left-in-Two-clause-limit
+interpret_strict-returns-in_err-left-in-Two-clause-limit t c =
+    let is : bare c.args.expr.now ≡ binary (binary_operator_of c.in-Two.op) (bare c.in-Two.left.now) (bare c.in-Two.right.now) = subst (IsOperands (bare c.args.expr.now)) c.in-Two.is c.requires in
+    λ l. left_deep (bare c.args.expr.now) (binary_operator_of c.in-Two.op) (bare c.in-Two.left.now) (bare c.in-Two.right.now) is c.args.self.now c.args.depth (c.in_err-left-in-Two.ensures.limit (limit_passed c.in_err-left-in-Two.field-0.0 c.from_residual-in_err-left-in-Two.result c.from_residual-in_err-left-in-Two.ensures l))
+
+pub interpret_strict-returns-in_err-right-in-Two-clause-found : goal.interpret_strict-returns-in_err-right-in-Two-clause-found
+interpret_strict-returns-in_err-right-in-Two-clause-found t c =
+    λ facts has.
+    let is : bare c.args.expr.now ≡ binary (binary_operator_of c.in-Two.op) (bare c.in-Two.left.now) (bare c.in-Two.right.now) = subst (IsOperands (bare c.args.expr.now)) c.in-Two.is c.requires in
+    let left = c.in_ok-left-in-Two.ensures.found facts (left_serves (bare c.args.expr.now) (binary_operator_of c.in-Two.op) (bare c.in-Two.left.now) (bare c.in-Two.right.now) is c.args.self.now facts has) in
+    passed (λ (p : PartialValue). Same facts (part_answer (partial_of p)) (partial_in facts (held_by c.args.self.now c.args.slots.now) (bare c.args.expr.now))) (λ k. partial_in facts (held_by c.args.self.now c.args.slots.now) (bare c.args.expr.now) ≡ Failed k) ⊤ c.in_err-right-in-Two.field-0.0 c.from_residual-in_err-right-in-Two.result c.from_residual-in_err-right-in-Two.ensures
+    (fails_on (failure_of c.in_err-right-in-Two.field-0.0) (λ k h. right_fails (bare c.args.expr.now) (binary_operator_of c.in-Two.op) (bare c.in-Two.left.now) (bare c.in-Two.right.now) is facts (held_by c.args.self.now c.args.slots.now) (partial_of c.in_ok-left-in-Two.left) k left h) (λ d. d) (c.in_err-right-in-Two.ensures.found facts (right_serves (bare c.args.expr.now) (binary_operator_of c.in-Two.op) (bare c.in-Two.left.now) (bare c.in-Two.right.now) is c.args.self.now facts has)))
+
+pub interpret_strict-returns-in_err-right-in-Two-clause-limit : goal.interpret_strict-returns-in_err-right-in-Two-clause-limit
+interpret_strict-returns-in_err-right-in-Two-clause-limit t c =
+    let is : bare c.args.expr.now ≡ binary (binary_operator_of c.in-Two.op) (bare c.in-Two.left.now) (bare c.in-Two.right.now) = subst (IsOperands (bare c.args.expr.now)) c.in-Two.is c.requires in
+    λ l. right_deep (bare c.args.expr.now) (binary_operator_of c.in-Two.op) (bare c.in-Two.left.now) (bare c.in-Two.right.now) is c.args.self.now c.args.depth (c.in_err-right-in-Two.ensures.limit (limit_passed c.in_err-right-in-Two.field-0.0 c.from_residual-in_err-right-in-Two.result c.from_residual-in_err-right-in-Two.ensures l))
+
+pub interpret_strict-returns-in_ok-right-in-Two-clause-found : goal.interpret_strict-returns-in_ok-right-in-Two-clause-found
+interpret_strict-returns-in_ok-right-in-Two-clause-found t c =
+    λ facts has.
+    let is : bare c.args.expr.now ≡ binary (binary_operator_of c.in-Two.op) (bare c.in-Two.left.now) (bare c.in-Two.right.now) = subst (IsOperands (bare c.args.expr.now)) c.in-Two.is c.requires in
+    let left = c.in_ok-left-in-Two.ensures.found facts (left_serves (bare c.args.expr.now) (binary_operator_of c.in-Two.op) (bare c.in-Two.left.now) (bare c.in-Two.right.now) is c.args.self.now facts has) in
+    let right = c.in_ok-right-in-Two.ensures.found facts (right_serves (bare c.args.expr.now) (binary_operator_of c.in-Two.op) (bare c.in-Two.left.now) (bare c.in-Two.right.now) is c.args.self.now facts has) in
+    meets_as facts c.operate_on_two.result _ _ (ap (partial_in facts (held_by c.args.self.now c.args.slots.now)) is) (meets_anyhow facts c.operate_on_two.result _
+    (c.operate_on_two.ensures facts has.entities (held_by c.args.self.now c.args.slots.now) (partial_in facts (held_by c.args.self.now c.args.slots.now) (bare c.in-Two.left.now)) (partial_in facts (held_by c.args.self.now c.args.slots.now) (bare c.in-Two.right.now)) left right))
+
+pub interpret_strict-returns-in_ok-right-in-Two-clause-limit : goal.interpret_strict-returns-in_ok-right-in-Two-clause-limit
+interpret_strict-returns-in_ok-right-in-Two-clause-limit t c =
+    let is : bare c.args.expr.now ≡ binary (binary_operator_of c.in-Two.op) (bare c.in-Two.left.now) (bare c.in-Two.right.now) = subst (IsOperands (bare c.args.expr.now)) c.in-Two.is c.requires in
+    λ l facts has m.
+    let left = c.in_ok-left-in-Two.ensures.found facts (left_serves (bare c.args.expr.now) (binary_operator_of c.in-Two.op) (bare c.in-Two.left.now) (bare c.in-Two.right.now) is c.args.self.now facts has) in
+    let right = c.in_ok-right-in-Two.ensures.found facts (right_serves (bare c.args.expr.now) (binary_operator_of c.in-Two.op) (bare c.in-Two.left.now) (bare c.in-Two.right.now) is c.args.self.now facts has) in
+    absurd (never_limit facts _ c.operate_on_two.result
+    (c.operate_on_two.ensures facts has.entities (held_by c.args.self.now c.args.slots.now) (partial_in facts (held_by c.args.self.now c.args.slots.now) (bare c.in-Two.left.now)) (partial_in facts (held_by c.args.self.now c.args.slots.now) (bare c.in-Two.right.now)) left right) l)
+
 pub interpret_strict-interpret_parts-requires : goal.interpret_strict-interpret_parts-requires
 interpret_strict-interpret_parts-requires t c =
     omega (arith, c.decreases)
 
-pub interpret_strict-returns-in_err-parts-clause-found : goal.interpret_strict-returns-in_err-parts-clause-found
-interpret_strict-returns-in_err-parts-clause-found t c =
-    λ facts has. passed (λ (p : PartialValue). Same facts (part_answer (partial_of p)) (partial_in facts (held_by c.args.self.now c.args.slots.now) (bare c.args.expr.now))) (λ k. partial_in facts (held_by c.args.self.now c.args.slots.now) (bare c.args.expr.now) ≡ Failed k) ⊤ c.in_err-parts.field-0.0 c.from_residual-in_err-parts.result c.from_residual-in_err-parts.ensures
-    (fails_on (failure_of c.in_err-parts.field-0.0) (λ k h. strict_fails facts (held_by c.args.self.now c.args.slots.now) (bare c.args.expr.now) k c.requires (subst (λ ts. gathered facts (map (partial_in facts (held_by c.args.self.now c.args.slots.now)) ts) ≡ SomeFailed k) (ap (map (λ (e : Bor (Expr (Unit {0}))). bare e.now)) c.deref.ensures.value ∙ c.in_ok-listed.ensures) h)) (λ d. d) (c.in_err-parts.ensures.found facts (subst (ServesEach c.args.self.now facts) (sym (ap (map (λ (e : Bor (Expr (Unit {0}))). bare e.now)) c.deref.ensures.value ∙ c.in_ok-listed.ensures)) (serves_parts c.args.self.now facts (bare c.args.expr.now) c.requires has))))
+pub interpret_strict-returns-in_err-parts-in-List-clause-found : goal.interpret_strict-returns-in_err-parts-in-List-clause-found
+interpret_strict-returns-in_err-parts-in-List-clause-found t c =
+    let list : is_of_list (bare c.args.expr.now) ≡ true = subst (IsOperands (bare c.args.expr.now)) c.in-List.is c.requires in
+    let same = (ap (map (λ (e : Bor (Expr (Unit {0}))). bare e.now)) c.deref.ensures.value ∙ c.in_ok-listed-in-List.ensures) in
+    λ facts has. passed (λ (p : PartialValue). Same facts (part_answer (partial_of p)) (partial_in facts (held_by c.args.self.now c.args.slots.now) (bare c.args.expr.now))) (λ k. partial_in facts (held_by c.args.self.now c.args.slots.now) (bare c.args.expr.now) ≡ Failed k) ⊤ c.in_err-parts-in-List.field-0.0 c.from_residual-in_err-parts-in-List.result c.from_residual-in_err-parts-in-List.ensures
+    (fails_on (failure_of c.in_err-parts-in-List.field-0.0) (λ k h. list_fails facts (held_by c.args.self.now c.args.slots.now) (bare c.args.expr.now) k list (subst (λ ts. gathered facts (map (partial_in facts (held_by c.args.self.now c.args.slots.now)) ts) ≡ SomeFailed k) same h)) (λ d. d)
+    (c.in_err-parts-in-List.ensures.found facts (subst (ServesEach c.args.self.now facts) (sym same) (serves_parts c.args.self.now facts (bare c.args.expr.now) list has))))
 
-pub interpret_strict-returns-in_err-parts-clause-limit : goal.interpret_strict-returns-in_err-parts-clause-limit
-interpret_strict-returns-in_err-parts-clause-limit t c =
-    λ l. strict_deep c.args.self.now c.args.depth (bare c.args.expr.now) c.requires (subst (λ ts. DeepEach c.args.self.now c.args.depth ts) (ap (map (λ (e : Bor (Expr (Unit {0}))). bare e.now)) c.deref.ensures.value ∙ c.in_ok-listed.ensures) (c.in_err-parts.ensures.limit (limit_passed c.in_err-parts.field-0.0 c.from_residual-in_err-parts.result c.from_residual-in_err-parts.ensures l)))
+pub interpret_strict-returns-in_err-parts-in-List-clause-limit : goal.interpret_strict-returns-in_err-parts-in-List-clause-limit
+interpret_strict-returns-in_err-parts-in-List-clause-limit t c =
+    let list : is_of_list (bare c.args.expr.now) ≡ true = subst (IsOperands (bare c.args.expr.now)) c.in-List.is c.requires in
+    λ l. list_deep c.args.self.now c.args.depth (bare c.args.expr.now) list (subst (λ ts. DeepEach c.args.self.now c.args.depth ts) (ap (map (λ (e : Bor (Expr (Unit {0}))). bare e.now)) c.deref.ensures.value ∙ c.in_ok-listed-in-List.ensures) (c.in_err-parts-in-List.ensures.limit (limit_passed c.in_err-parts-in-List.field-0.0 c.from_residual-in_err-parts-in-List.result c.from_residual-in_err-parts-in-List.ensures l)))
 
-pub interpret_strict-operate-requires-clause-strict : goal.interpret_strict-operate-requires-clause-strict
-interpret_strict-operate-requires-clause-strict t c = c.requires
+pub interpret_strict-operate_on_list-requires-clause-list : goal.interpret_strict-operate_on_list-requires-clause-list
+interpret_strict-operate_on_list-requires-clause-list t c = subst (IsOperands (bare c.args.expr.now)) c.in-List.is c.requires
 
-pub interpret_strict-operate-requires-clause-count : goal.interpret_strict-operate-requires-clause-count
-interpret_strict-operate-requires-clause-count t c = c.in_ok-parts.ensures.count ∙ ap length (ap (map (λ (e : Bor (Expr (Unit {0}))). bare e.now)) c.deref.ensures.value ∙ c.in_ok-listed.ensures)
+pub interpret_strict-operate_on_list-requires-clause-count : goal.interpret_strict-operate_on_list-requires-clause-count
+interpret_strict-operate_on_list-requires-clause-count t c = c.in_ok-parts-in-List.ensures.count ∙ ap length (ap (map (λ (e : Bor (Expr (Unit {0}))). bare e.now)) c.deref.ensures.value ∙ c.in_ok-listed-in-List.ensures)
 
-pub interpret_strict-returns-clause-found : goal.interpret_strict-returns-clause-found
-interpret_strict-returns-clause-found t c =
-    λ facts has. meets_anyhow facts c.operate.result _ (subst (λ b. MeetsAt facts ⊥ b c.operate.result) (strict_is facts (held_by c.args.self.now c.args.slots.now) (bare c.args.expr.now) c.requires) (c.operate.ensures facts has.entities has.functions has.names_nothing (held_by c.args.self.now c.args.slots.now) (map (partial_in facts (held_by c.args.self.now c.args.slots.now)) (parts (bare c.args.expr.now))) (subst (λ ts. SameEach facts (map partial_of c.in_ok-parts.parts.items) (map (partial_in facts (held_by c.args.self.now c.args.slots.now)) ts)) (ap (map (λ (e : Bor (Expr (Unit {0}))). bare e.now)) c.deref.ensures.value ∙ c.in_ok-listed.ensures) (c.in_ok-parts.ensures.found facts (subst (ServesEach c.args.self.now facts) (sym (ap (map (λ (e : Bor (Expr (Unit {0}))). bare e.now)) c.deref.ensures.value ∙ c.in_ok-listed.ensures)) (serves_parts c.args.self.now facts (bare c.args.expr.now) c.requires has))))))
+pub interpret_strict-returns-in_ok-parts-in-List-clause-found : goal.interpret_strict-returns-in_ok-parts-in-List-clause-found
+interpret_strict-returns-in_ok-parts-in-List-clause-found t c =
+    let list : is_of_list (bare c.args.expr.now) ≡ true = subst (IsOperands (bare c.args.expr.now)) c.in-List.is c.requires in
+    let same = (ap (map (λ (e : Bor (Expr (Unit {0}))). bare e.now)) c.deref.ensures.value ∙ c.in_ok-listed-in-List.ensures) in
+    λ facts has. meets_anyhow facts c.operate_on_list.result _ (subst (λ b. MeetsAt facts ⊥ b c.operate_on_list.result) (list_is facts (held_by c.args.self.now c.args.slots.now) (bare c.args.expr.now) list)
+    (c.operate_on_list.ensures facts has.functions has.names_nothing (held_by c.args.self.now c.args.slots.now) (map (partial_in facts (held_by c.args.self.now c.args.slots.now)) (parts (bare c.args.expr.now))) (subst (λ ts. SameEach facts (map partial_of c.in_ok-parts-in-List.parts.items) (map (partial_in facts (held_by c.args.self.now c.args.slots.now)) ts)) same
+    (c.in_ok-parts-in-List.ensures.found facts (subst (ServesEach c.args.self.now facts) (sym same) (serves_parts c.args.self.now facts (bare c.args.expr.now) list has))))))
 
-pub interpret_strict-returns-clause-limit : goal.interpret_strict-returns-clause-limit
-interpret_strict-returns-clause-limit t c =
-    λ l facts has m. absurd (never_limit facts _ c.operate.result (c.operate.ensures facts has.entities has.functions has.names_nothing (held_by c.args.self.now c.args.slots.now) (map (partial_in facts (held_by c.args.self.now c.args.slots.now)) (parts (bare c.args.expr.now))) (subst (λ ts. SameEach facts (map partial_of c.in_ok-parts.parts.items) (map (partial_in facts (held_by c.args.self.now c.args.slots.now)) ts)) (ap (map (λ (e : Bor (Expr (Unit {0}))). bare e.now)) c.deref.ensures.value ∙ c.in_ok-listed.ensures) (c.in_ok-parts.ensures.found facts (subst (ServesEach c.args.self.now facts) (sym (ap (map (λ (e : Bor (Expr (Unit {0}))). bare e.now)) c.deref.ensures.value ∙ c.in_ok-listed.ensures)) (serves_parts c.args.self.now facts (bare c.args.expr.now) c.requires has))))) l)
+pub interpret_strict-returns-in_ok-parts-in-List-clause-limit : goal.interpret_strict-returns-in_ok-parts-in-List-clause-limit
+interpret_strict-returns-in_ok-parts-in-List-clause-limit t c =
+    let list : is_of_list (bare c.args.expr.now) ≡ true = subst (IsOperands (bare c.args.expr.now)) c.in-List.is c.requires in
+    let same = (ap (map (λ (e : Bor (Expr (Unit {0}))). bare e.now)) c.deref.ensures.value ∙ c.in_ok-listed-in-List.ensures) in
+    λ l facts has m. absurd (never_limit facts _ c.operate_on_list.result
+    (c.operate_on_list.ensures facts has.functions has.names_nothing (held_by c.args.self.now c.args.slots.now) (map (partial_in facts (held_by c.args.self.now c.args.slots.now)) (parts (bare c.args.expr.now))) (subst (λ ts. SameEach facts (map partial_of c.in_ok-parts-in-List.parts.items) (map (partial_in facts (held_by c.args.self.now c.args.slots.now)) ts)) same
+    (c.in_ok-parts-in-List.ensures.found facts (subst (ServesEach c.args.self.now facts) (sym same) (serves_parts c.args.self.now facts (bare c.args.expr.now) list has))))) l)
 
 -- ---- parts one by one
 

@@ -1,5 +1,4 @@
 -- What is answered of a tree that mentions only what is known is what it means.
-use Rattle.std.proofs.Common.{◌≡◌}
 use Rattle.cedar_trees.specs.Bare.{bare}
 use Rattle.cedar_interpreter.specs.Holding.{depth_of}
 use Rattle.cedar_interpreter.proofs.Meant.{means_tree}

@@ -1,5 +1,5 @@
 -- All values: what the construct gives for them. Else what is left of it, by what is left of its parts.
-use Rattle.std.proofs.Common.{◌≡◌, ◌∙◌, ap, sym, subst, map, true}
+use Rattle.std.proofs.Common.{◌≡◌, ◌∙◌, subst, map, true}
 use Rattle.std.proofs.lemmas.List.{length-map}
 use Rattle.std.specs.List.{list_any}
 use Rattle.either.specs.declared.Either.TheVariants.{Left}
@@ -8,30 +8,30 @@ use Rattle.cedar_restricted.specs.PartialValues.{partial_of}
 use Rattle.cedar_restricted.specs.Splitting.{IsSplitOf, ExpressEach, is_residual}
 use Rattle.cedar_interpreter.specs.Meeting.{part_answer}
 use Rattle.cedar_interpreter.proofs.Operated.{of_values, of_left, values_count, exprs_count}
-use Rattle.cedar_interpreter.proofs.operating.operate.Goals as goal
+use Rattle.cedar_interpreter.proofs.operating.operate_on_list.Goals as goal
 
-pub apply-requires-clause-count : goal.apply-requires-clause-count
-apply-requires-clause-count c =
+pub apply_to_list-requires-clause-count : goal.apply_to_list-requires-clause-count
+apply_to_list-requires-clause-count c =
     let parts = map partial_of c.args.parts.items in
     let values : parts ≡ map Left c.in-Left.values.items = subst (IsSplitOf parts) c.in-Left.is c.in_ok-values.ensures in
     values_count parts c.in-Left.values.items values ∙ length-map c.args.parts.items partial_of ∙ c.requires.count
 
-pub wait-requires-clause-count : goal.wait-requires-clause-count
-wait-requires-clause-count c =
+pub wait_for_list-requires-clause-count : goal.wait_for_list-requires-clause-count
+wait_for_list-requires-clause-count c =
     let parts = map partial_of c.args.parts.items in
     let exprs : (list_any is_residual parts ≡ true) × ExpressEach parts (map bare c.in-Right.exprs.items) = subst (IsSplitOf parts) c.in-Right.is c.in_ok-values.ensures in
     exprs_count parts c.in-Right.exprs.items exprs.1 ∙ length-map c.args.parts.items partial_of ∙ c.requires.count
 
 pub returns-in-Left : goal.returns-in-Left
 returns-in-Left c =
-    λ facts has functions names holds bs each.
+    λ facts functions names holds bs each.
     let parts = map partial_of c.args.parts.items in
     let values : parts ≡ map Left c.in-Left.values.items = subst (IsSplitOf parts) c.in-Left.is c.in_ok-values.ensures in
-    of_values facts holds (bare c.args.expr.now) c.requires.strict parts bs each c.in-Left.values.items c.apply.result values (c.apply.ensures facts has functions names)
+    of_values facts holds (bare c.args.expr.now) c.requires.list parts bs each c.in-Left.values.items c.apply_to_list.result values (c.apply_to_list.ensures facts functions names)
 
-pub returns-in_ok-wait-in-Right : goal.returns-in_ok-wait-in-Right
-returns-in_ok-wait-in-Right c =
-    λ facts has functions names holds bs each.
+pub returns-in_ok-wait_for_list-in-Right : goal.returns-in_ok-wait_for_list-in-Right
+returns-in_ok-wait_for_list-in-Right c =
+    λ facts functions names holds bs each.
     let parts = map partial_of c.args.parts.items in
     let exprs : (list_any is_residual parts ≡ true) × ExpressEach parts (map bare c.in-Right.exprs.items) = subst (IsSplitOf parts) c.in-Right.is c.in_ok-values.ensures in
-    of_left facts holds (bare c.args.expr.now) c.requires.strict parts bs each (c.likeness_is_kept.ensures facts) (c.gathered_splits.ensures facts) (map bare c.in-Right.exprs.items) (part_answer (partial_of c.in_ok-wait-in-Right.field-0)) exprs (c.in_ok-wait-in-Right.ensures facts holds)
+    of_left facts holds (bare c.args.expr.now) c.requires.list parts bs each (c.likeness_is_kept.ensures facts) (c.gathered_splits.ensures facts) (map bare c.in-Right.exprs.items) (part_answer (partial_of c.in_ok-wait_for_list-in-Right.field-0)) exprs (c.in_ok-wait_for_list-in-Right.ensures facts holds)

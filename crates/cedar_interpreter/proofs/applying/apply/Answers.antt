@@ -1,8 +1,0 @@
--- What the operator gives, as an answer.
-use Rattle.cedar_language.specs.Order.{all_of}
-use Rattle.cedar_trees.specs.Bare.{bare}
-use Rattle.cedar_interpreter.specs.Operating.{applied_in}
-use Rattle.cedar_interpreter.proofs.applying.apply.Goals as goal
-
-pub returns-in_default : goal.returns-in_default
-returns-in_default c = λ facts has functions names. c.known.ensures facts (applied_in facts (bare c.args.expr.now) (all_of c.args.values.items)) (c.apply_operator.ensures facts has)

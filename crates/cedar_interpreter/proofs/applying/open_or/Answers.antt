@@ -1,0 +1,8 @@
+-- Nothing is left, so it is what was found.
+use Rattle.cedar_interpreter.proofs.applying.open_or.Goals as goal
+
+pub returns-in-Some : goal.returns-in-Some
+returns-in-Some c = λ facts o none given. cc
+
+pub returns-in-None : goal.returns-in-None
+returns-in-None c = λ facts o none given. c.known.ensures facts o given
