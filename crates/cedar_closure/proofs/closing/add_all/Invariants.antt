@@ -1,3 +1,4 @@
+-- What was found of the keys still to come, and the edges so far, are all that was found and the edges before.
 use Rattle.std.proofs.Common.{◌≡◌, ◌||◌, ◌&&◌}
 use Rattle.std.specs.Option.{is_some}
 use Rattle.std.specs.Set.{is_member}

@@ -1,3 +1,4 @@
+-- The keys listed and those still to come are the map's.
 use Rattle.std.proofs.Common.{◌++◌}
 use Rattle.std.specs.HashMap.{keys}
 use Rattle.cedar_closure.specs.Graph.{SameKeys}

@@ -1,3 +1,4 @@
+-- No key that was passed has an edge to itself, so one that has is still to come.
 use Rattle.std.proofs.Common.{IsTrue}
 use Rattle.std.specs.Set.{is_member}
 use Rattle.cedar_closure.specs.Graph.{HasEdge}

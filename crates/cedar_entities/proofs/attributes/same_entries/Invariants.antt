@@ -1,3 +1,4 @@
+-- What is left of both is equal exactly where both are.
 use Rattle.std.proofs.Common.{◌≡◌, ◌↔◌}
 use Rattle.cedar_entities.specs.Attributes.{seen_entries}
 use Rattle.cedar_entities.proofs.attributes.same_entries.Given as goal

@@ -1,3 +1,4 @@
+-- Putting the entities still to come over the map so far is putting all over the map before.
 use Rattle.std.proofs.Common.{◌≡◌}
 use Rattle.cedar_language.specs.Uid.{Uid}
 use Rattle.cedar_entities.specs.Kept.{in_map, put_over}

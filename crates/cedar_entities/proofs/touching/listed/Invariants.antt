@@ -1,3 +1,4 @@
+-- The uids listed and those still to come are the set's.
 use Rattle.std.proofs.Common.{◌≡◌, ◌++◌}
 use Rattle.std.specs.List.{list_any}
 use Rattle.cedar_language.specs.Uid.{Uid}

@@ -1,3 +1,4 @@
+-- Each uid that was taken is one of those passed over, so what is left beside these stays.
 use Rattle.std.proofs.Common.{◌≡◌, length}
 use Rattle.std.specs.Slice.Iter.{iter_rest}
 use Rattle.cedar_uid_lists.specs.Lists.{beside}

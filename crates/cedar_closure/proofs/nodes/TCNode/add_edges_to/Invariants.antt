@@ -1,3 +1,4 @@
+-- The keys still to come and the edges so far lead where all keys and the edges before do; no edge is lost.
 use Rattle.std.proofs.Common.{◌++◌, IsTrue}
 use Rattle.std.specs.Set.{is_member}
 use Rattle.cedar_closure.specs.Graph.{SameKeys}

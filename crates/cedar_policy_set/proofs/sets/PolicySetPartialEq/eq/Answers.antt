@@ -1,3 +1,4 @@
+-- Equal maps of things that stand under their own ids are equal sets, which the views are.
 use Rattle.std.proofs.Common.{◌∙◌}
 use Rattle.cedar_policy_set.specs.SameSets.{same_sets}
 use Rattle.cedar_policy_set.proofs.SameBound.{maps_same}
