@@ -178,6 +178,11 @@ impl fmt::Display for ToASTErrorKind {
                 write!(f, "duplicate annotation: @{key}")
             }
             ToASTErrorKind::SlotsInConditionClause(error) => write!(f, "{error}"),
+            ToASTErrorKind::InvalidSlot(slot) => {
+                write!(f, "`{slot}` is not a valid template slot")
+            }
+            ToASTErrorKind::InvalidActionType(error) => write!(f, "{error}"),
+            ToASTErrorKind::WrongEntityArgument(error) => write!(f, "{error}"),
             ToASTErrorKind::InvalidEffect(word) => write!(f, "invalid policy effect: {word}"),
             ToASTErrorKind::InvalidCondition(word) => {
                 write!(f, "invalid policy condition: {word}")
@@ -234,7 +239,9 @@ impl ToASTErrorKind {
     }
 
     /// A static policy stands where a template should.
-    pub fn expected_template() -> ToASTErrorKind {
+    pub fn expected_template() -> ToASTErrorKind
+        ensures { result ≡ ToASTErrorKind.ExpectedTemplate (record {}) }
+    {
         ToASTErrorKind::ExpectedTemplate(ExpectedTemplate)
     }
 
@@ -280,22 +287,14 @@ impl ToASTErrorKind {
                 f,
                 "invalid operator in the policy scope for the action: {op}"
             ),
-            ToASTErrorKind::IsInActionScope => {
-                write!(
-                    f,
-                    "`is` cannot appear in the scope's constraint of the action"
-                )
-            }
+            ToASTErrorKind::IsInActionScope => write!(
+                f,
+                "`is` cannot appear in the scope's constraint of the action"
+            ),
             ToASTErrorKind::IsWithEq => write!(f, "`is` cannot be used together with `==`"),
-            ToASTErrorKind::InvalidActionType(error) => write!(f, "{error}"),
             ToASTErrorKind::TypeConstraints => write!(
                 f,
                 "type constraints using `:` are not supported"
-            ),
-            ToASTErrorKind::WrongEntityArgument(error) => write!(f, "{error}"),
-            ToASTErrorKind::InvertedIsIn => write!(
-                f,
-                "when `is` and `in` are used together, `is` must come first"
             ),
             _ => self.fmt_word(f),
         }
@@ -307,9 +306,11 @@ impl ToASTErrorKind {
             ToASTErrorKind::ReservedIdentifier(word) => {
                 write!(f, "this identifier is reserved and cannot be used: {word}")
             }
+            ToASTErrorKind::ReservedNamespace(error) => write!(f, "{error}"),
             ToASTErrorKind::InvalidIdentifier(text) => write!(f, "invalid identifier: {text}"),
             ToASTErrorKind::InvalidSingleEq => write!(f, "'=' is not a valid operator in Cedar"),
             ToASTErrorKind::InvalidString(text) => write!(f, "invalid string literal: {text}"),
+            ToASTErrorKind::Unescape(error) => write!(f, "{error}"),
             ToASTErrorKind::ArbitraryVariable(name) => write!(f, "invalid variable: {name}"),
             ToASTErrorKind::InvalidAttribute(text) => write!(f, "invalid attribute name: {text}"),
             ToASTErrorKind::InvalidHasRHS(text) => {
@@ -325,6 +326,8 @@ impl ToASTErrorKind {
             ToASTErrorKind::MethodCallOnFunction(id) => {
                 write!(f, "`{id}` is a function, not a method")
             }
+            ToASTErrorKind::UnknownMethod { id } => write!(f, "`{id}` is not a valid method"),
+            ToASTErrorKind::UnknownFunction { id } => write!(f, "`{id}` is not a valid function"),
             _ => self.fmt_operator(f),
         }
     }
@@ -345,6 +348,10 @@ impl ToASTErrorKind {
             ToASTErrorKind::AmbiguousOperators => write!(
                 f,
                 "multiple relational operators must be used with parentheses"
+            ),
+            ToASTErrorKind::InvertedIsIn => write!(
+                f,
+                "when `is` and `in` are used together, `is` must come first"
             ),
             ToASTErrorKind::UnsupportedDivision => write!(f, "division is not supported"),
             ToASTErrorKind::UnsupportedModulo => write!(f, "remainder/modulo is not supported"),
@@ -371,8 +378,6 @@ impl ToASTErrorKind {
                 f,
                 "attempted to call `{name}.{id}(...)`, but `{name}` does not have any methods"
             ),
-            ToASTErrorKind::UnknownMethod { id } => write!(f, "`{id}` is not a valid method"),
-            ToASTErrorKind::UnknownFunction { id } => write!(f, "`{id}` is not a valid function"),
             ToASTErrorKind::UnsupportedEntityLiterals => {
                 write!(f, "entity literals are not supported")
             }
@@ -396,11 +401,6 @@ impl ToASTErrorKind {
                 f,
                 "call to `{name}` requires {expected} argument(s), but got {got}"
             ),
-            ToASTErrorKind::Unescape(error) => write!(f, "{error}"),
-            ToASTErrorKind::InvalidSlot(slot) => {
-                write!(f, "`{slot}` is not a valid template slot")
-            }
-            ToASTErrorKind::ReservedNamespace(error) => write!(f, "{error}"),
             ToASTErrorKind::MembershipInvariantViolation => {
                 write!(f, "a member is accessed in an unknown way")
             }

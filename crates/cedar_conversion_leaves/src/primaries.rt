@@ -107,7 +107,8 @@ fn primary_to_key<E: Drop>(
     }
 }
 
-/// The key of an entry.
+/// The key of an entry: an identifier that stands alone, or the text of a string; faults where anything else
+/// stands there, the identifier is reserved, or the string stands for no text.
 pub fn to_key<E: Drop>(
     alloc: Global,
     node: &Node<Option<Expr>>,
