@@ -17,7 +17,8 @@ pub(crate) struct Number {
 pub(crate) type Graph = HashMap<u32, Number>;
 
 impl TCNode<u32> for Number {
-    ghost use Rattle.std.specs.Prelude.{◌≡◌, refl};
+    ghost use Rattle.std.specs.Prelude.{◌≡◌, ◌++◌, ℕ, IsTrue, OnOk, OnErr, nat_eq, refl};
+    ghost use Rattle.std.specs.Set.{is_member};
     ghost use Rattle.std.proofs.Common.{◌∙◌};
 
     ghost key = { λ n. n.key };
@@ -34,6 +35,18 @@ impl TCNode<u32> for Number {
 
     fn add_edge_to(&mut self, k: u32) -> Result<(), AllocError> {
         self.edges.insert(k)?;
+        Ok(())
+    }
+
+    fn add_edges_to(&mut self, keys: Vec<u32>) -> Result<(), AllocError>
+        ensures added { OnOk result ((q : ℕ) → is_member nat_eq self.new.edges.keys q ≡ is_member nat_eq (keys.items ++ self.old.edges.keys) q) }
+        ensures kept { OnErr result ((q : ℕ) → IsTrue (is_member nat_eq self.old.edges.keys q) → IsTrue (is_member nat_eq self.new.edges.keys q)) }
+        ensures only { OnErr result ((q : ℕ) → IsTrue (is_member nat_eq self.new.edges.keys q) → IsTrue (is_member nat_eq (keys.items ++ self.old.edges.keys) q)) }
+        ensures same { (self.new.key ≡ self.old.key) × (self.new.direct.keys ≡ self.old.direct.keys) }
+    {
+        for key in keys {
+            self.add_edge_to(key)?;
+        }
         Ok(())
     }
 
