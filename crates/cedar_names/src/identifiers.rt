@@ -6,6 +6,7 @@ ghost use Rattle.cedar_language.specs.Words.{begins_word, is_in_word};
 ghost use Rattle.cedar_names.specs.Identifiers as identifiers;
 ghost use Rattle.cedar_names.specs.Identifiers.{IsId, IsAnyId, IsUnreservedId, reserved};
 
+use crate::comparing::is_same;
 use crate::texts::SharedText;
 use std::alloc::{AllocError, Global};
 use std::convert::AsStr;
@@ -61,10 +62,15 @@ fn is_in_word(byte: u8) -> bool
 fn is_keyword(text: &str) -> bool
     ensures { result ≡ identifiers.is_keyword text.now }
 {
-    matches!(
-        text,
-        "true" | "false" | "if" | "then" | "else" | "in" | "like" | "has" | "is"
-    )
+    is_same(text, "true")
+        || is_same(text, "false")
+        || is_same(text, "if")
+        || is_same(text, "then")
+        || is_same(text, "else")
+        || is_same(text, "in")
+        || is_same(text, "like")
+        || is_same(text, "has")
+        || is_same(text, "is")
 }
 
 /// An identifier that is no keyword of the language: an ASCII letter or `_`, then letters, digits or

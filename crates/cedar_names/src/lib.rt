@@ -2,6 +2,7 @@
 //! are resolved.
 #![tactic(auto)]
 
+pub mod comparing;
 pub mod conversions;
 pub mod errors;
 pub mod identifiers;

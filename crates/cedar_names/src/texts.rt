@@ -2,6 +2,7 @@
 ghost use Rattle.std.specs.Prelude.{◌≡◌};
 ghost use Rattle.std.specs.Rc.{rc_str_bytes};
 
+use crate::comparing::{compare, is_same};
 use std::alloc::AllocError;
 use std::cmp::Ordering;
 use std::fmt;
@@ -67,7 +68,7 @@ impl PartialEq for SharedText {
     ghost laws = { partial_equiv_from_equiv nat_list_eq_equiv };
 
     fn eq(&self, other: &SharedText) -> bool {
-        self.text == other.text
+        is_same(self.as_str(), other.as_str())
     }
 }
 
@@ -105,7 +106,7 @@ impl Ord for SharedText {
     ghost matches_eq = { texts_ties };
 
     fn cmp(&self, other: &SharedText) -> Ordering {
-        self.text.cmp(&other.text)
+        compare(self.as_str(), other.as_str())
     }
 }
 

@@ -1,5 +1,6 @@
 -- Words.
 use Rattle.std.proofs.Common.{◌≡◌, ℕ, Bool, true, false, List, [], ◌∷◌, refl, sym}
+use Rattle.std.specs.Prelude.{MatchBool}
 use Rattle.std.specs.Str.{bytes_eq}
 use Rattle.std.specs.List.{AllByRecursion}
 use Rattle.std.proofs.lemmas.Slice.Eq.{bytes_eq-Decides}
@@ -16,3 +17,7 @@ differ xs ys f = by (bytes_eq xs ys) refl
 pub other_word : (ws : List Word) (s : List ℕ) → AllByRecursion (λ w. s ≡ spelled w → ⊥) ws → word_among ws s ≡ Other s
 other_word [] s h = refl
 other_word (w ∷ ws) s h = rw (differ (spelled w) s h.0) (other_word ws s h.1)
+
+pub unless_written : (s w : List ℕ) (b : Bool) → MatchBool b (s ≡ w) (s ≡ w → ⊥) → b ≡ false → s ≡ w → ⊥
+unless_written s w true h e = absurd (cc e)
+unless_written s w false h e = h

@@ -1,10 +1,11 @@
 -- Where a text is cut.
-use Rattle.std.proofs.Common.{◌≡◌, ℕ, ◌+◌, ◌-◌, ◌<◌, ◌≤◌, List, [], ◌∷◌, ◌++◌, length, take, drop, refl, sym, ap, ◌∙◌, subst, arith, append_assoc, length-append}
+use Rattle.std.proofs.Common.{◌≡◌, ℕ, ◌+◌, ◌-◌, ◌<◌, ◌≤◌, List, [], ◌∷◌, ◌++◌, length, take, drop, Some, refl, sym, ap, ◌∙◌, subst, arith, append_assoc, length-append}
 use Rattle.std.proofs.Math.Seq.{drop-append_seam, take-append_seam}
 use Rattle.std.proofs.lemmas.List.{take-append-drop, append_cancel_right}
 use Rattle.std.specs.Prelude.{encode_utf8, encode_utf8_all}
+use Rattle.std.specs.List.{slice_get}
 use Rattle.std.specs.Str.{chars, IsUtf8, IsCharBoundary}
-use Rattle.std.proofs.lemmas.Str.{chars_past_char, IsUtf8-past_char, length-encode, len_utf8_bounds, IsCharBoundary-from_drop, IsUtf8-take, chars-append, chars-nil, encodes-chars}
+use Rattle.std.proofs.lemmas.Str.{chars_past_char, IsUtf8-past_char, length-encode, len_utf8_bounds, IsCharBoundary-from_drop, IsUtf8-take, chars-append, chars-nil, encodes-chars, encode_ascii, IsCharBoundary-after_ascii}
 use Rattle.cedar_tokens.specs.Rest.{StartsWith, IsRest}
 
 pub starts : (bs rest : List ℕ) (c : ℕ) → IsUtf8 bs → bs ≡ encode_utf8 c ++ rest → StartsWith bs c rest
@@ -13,6 +14,21 @@ starts bs rest c u e =
     let one = length-encode c in
     let some = len_utf8_bounds c in
     record { bytes = e; characters = chars_past_char bs rest c u e; shorter = omega (arith, some.0); utf8 = IsUtf8-past_char bs rest c u e }
+
+-- a first byte below 128 is the first character
+pub starts-ascii : (bs : List ℕ) (b : ℕ) → IsUtf8 bs → Some b ≡ slice_get bs 0 → b < 128 → StartsWith bs b (drop 1 bs)
+starts-ascii [] b u e a = absurd (cc e)
+starts-ascii (x ∷ bs) b u e a =
+    let same : b ≡ x = cc e in
+    let small : x < 128 = omega (arith, a, same) in
+    subst (λ y. StartsWith (x ∷ bs) y bs) (sym same) (starts (x ∷ bs) bs x u (sym (ap (λ l. l ++ bs) (encode_ascii x small))))
+
+pub past-ascii : (bs : List ℕ) (b : ℕ) → IsUtf8 bs → Some b ≡ slice_get bs 0 → b < 128 → IsCharBoundary bs 1
+past-ascii [] b u e a = absurd (cc e)
+past-ascii (x ∷ bs) b u e a =
+    let same : b ≡ x = cc e in
+    let small : x < 128 = omega (arith, a, same) in
+    IsCharBoundary-after_ascii (x ∷ bs) 0 u (omega arith) small
 
 -- the part before the rest
 abbrev pub front_of : List ℕ → List ℕ → List ℕ

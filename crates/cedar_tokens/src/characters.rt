@@ -32,6 +32,16 @@ impl Class {
 pub fn next_char(text: &str) -> Option<(char, &str)>
     ensures { MatchOption result (chars text.now ≡ []) (λ x. StartsWith text.now x.0 x.1.now) }
 {
+    match text.as_bytes().first() {
+        Some(first) if first.is_ascii() => Some((char::from(*first), &text[1..])),
+        _ => next_decoded(text),
+    }
+}
+
+/// The same for any character; [`next_char`] is quicker for ASCII.
+fn next_decoded(text: &str) -> Option<(char, &str)>
+    ensures { MatchOption result (chars text.now ≡ []) (λ x. StartsWith text.now x.0 x.1.now) }
+{
     let mut characters = text.chars();
     let first = characters.next()?;
     Some((first, characters.as_str()))

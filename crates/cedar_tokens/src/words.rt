@@ -1,5 +1,5 @@
 // The words of Cedar.
-ghost use Rattle.std.specs.Prelude.{◌≡◌, true, MatchOption, IfSome};
+ghost use Rattle.std.specs.Prelude.{◌≡◌, ◌≢◌, true, MatchBool, MatchOption, IfSome};
 ghost use Rattle.std.specs.Str.{chars};
 ghost use Rattle.cedar_grammar.specs.Token.{word_of};
 ghost use Rattle.cedar_grammar.specs.Tokens.{Stops, begins_word};
@@ -10,31 +10,47 @@ ghost use Rattle.cedar_tokens.specs.Spelling.{is_word, IsSpelledWord};
 use crate::characters::{Class, next_char, split_run};
 use crate::tokens::Word;
 
+/// Whether a text is this word. The first byte that differs decides, mostly the first of all.
+fn is_written(text: &str, word: &str) -> bool
+    ensures { MatchBool result (text.now ≡ word.now) (text.now ≢ word.now) }
+{
+    let (bytes, expected) = (text.as_bytes(), word.as_bytes());
+    if bytes.len() != expected.len() {
+        return false;
+    }
+    for at in 0..bytes.len() {
+        if bytes[at] != expected[at] {
+            return false;
+        }
+    }
+    true
+}
+
 /// The word that is so written.
 pub fn read_word(text: &str) -> Word<'_>
     ensures word { word_view result ≡ word_of text.now }
     ensures spelled { is_word text.now ≡ true → IsSpelledWord result }
 {
     match text {
-        "true" => Word::True,
-        "false" => Word::False,
-        "if" => Word::If,
-        "then" => Word::Then,
-        "else" => Word::Else,
-        "in" => Word::In,
-        "like" => Word::Like,
-        "has" => Word::Has,
-        "is" => Word::Is,
-        "__cedar" => Word::Cedar,
-        "permit" => Word::Permit,
-        "forbid" => Word::Forbid,
-        "when" => Word::When,
-        "unless" => Word::Unless,
-        "principal" => Word::Principal,
-        "action" => Word::Action,
-        "resource" => Word::Resource,
-        "context" => Word::Context,
-        other => Word::Other(other),
+        _ if is_written(text, "true") => Word::True,
+        _ if is_written(text, "false") => Word::False,
+        _ if is_written(text, "if") => Word::If,
+        _ if is_written(text, "then") => Word::Then,
+        _ if is_written(text, "else") => Word::Else,
+        _ if is_written(text, "in") => Word::In,
+        _ if is_written(text, "like") => Word::Like,
+        _ if is_written(text, "has") => Word::Has,
+        _ if is_written(text, "is") => Word::Is,
+        _ if is_written(text, "__cedar") => Word::Cedar,
+        _ if is_written(text, "permit") => Word::Permit,
+        _ if is_written(text, "forbid") => Word::Forbid,
+        _ if is_written(text, "when") => Word::When,
+        _ if is_written(text, "unless") => Word::Unless,
+        _ if is_written(text, "principal") => Word::Principal,
+        _ if is_written(text, "action") => Word::Action,
+        _ if is_written(text, "resource") => Word::Resource,
+        _ if is_written(text, "context") => Word::Context,
+        _ => Word::Other(text),
     }
 }
 

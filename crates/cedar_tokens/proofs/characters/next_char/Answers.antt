@@ -1,10 +1,21 @@
--- The bytes of a text are those of its first character, and then those of the others.
-use Rattle.std.proofs.Common.{sym, ◌∙◌, ap, ◌++◌}
-use Rattle.std.specs.Prelude.{encode_utf8}
-use Rattle.cedar_tokens.proofs.Rests.{starts}
+-- A first byte below 128 is the first character; any other character is decoded.
+use Rattle.std.proofs.Common.{◌≡◌, ◌<◌, Some, true, sym, ap, ◌∙◌, arith}
+use Rattle.std.specs.Char.{is_ascii}
+use Rattle.std.specs.List.{slice_get}
+use Rattle.std.proofs.lemmas.Bool.Decides.{nat_tests}
+use Rattle.cedar_tokens.proofs.Rests.{starts-ascii, past-ascii}
 use Rattle.cedar_tokens.proofs.characters.next_char.Goals as goal
 
-pub returns : goal.returns
-returns c =
-    starts c.args.text.now c.as_str.result.now c.in_ok-first.first c.utf8.text
-    (sym c.chars-characters.ensures.rest ∙ c.in_ok-first.ensures.steps.0 ∙ ap (λ r. encode_utf8 c.in_ok-first.first ++ r) (sym c.as_str.ensures))
+pub range_from-requires : goal.range_from-requires
+range_from-requires c =
+    let read : Some c.in-Some.first.now ≡ slice_get c.args.text.now 0 = c.in-Some.ensures.value ∙ ap (λ l. slice_get l 0) c.as_bytes.ensures.value in
+    let ascii : is_ascii c.in-Some.first.now ≡ true = sym c.is_ascii.ensures ∙ c.if-is_ascii.true in
+    let small : c.in-Some.first.now < 128 = grind (arith, nat_tests) in
+    λ _. past-ascii c.args.text.now c.in-Some.first.now c.utf8.text read small
+
+pub returns-in-Some : goal.returns-in-Some
+returns-in-Some c =
+    let read : Some c.in-Some.first.now ≡ slice_get c.args.text.now 0 = c.in-Some.ensures.value ∙ ap (λ l. slice_get l 0) c.as_bytes.ensures.value in
+    let ascii : is_ascii c.in-Some.first.now ≡ true = sym c.is_ascii.ensures ∙ c.if-is_ascii.true in
+    let small : c.in-Some.first.now < 128 = grind (arith, nat_tests) in
+    rw (c.from.ensures, c.range_from.ensures.value) (starts-ascii c.args.text.now c.in-Some.first.now c.utf8.text read small)
