@@ -6,10 +6,12 @@ use Rattle.std.proofs.lemmas.Bool.Decides.{nat_tests}
 use Rattle.cedar_grammar.specs.Reading.{◌>>=◌}
 use Rattle.cedar_grammar.specs.Loose as loose
 use Rattle.cedar_grammar.specs.Converting.{lone_member, without_accesses, lone_primary, lone_add, alone, lone_number, member_fields, fields, primary_key, primary_text}
+use Rattle.cedar_conversion_leaves.specs.declared.kinds.ToASTErrorKind.{ToASTErrorKind}
 use Rattle.cedar_conversion_leaves.specs.declared.errors.ConversionError.{ConversionError}
 use Rattle.cedar_conversion_leaves.specs.declared.errors.ConversionError.TheVariants as error
 use Rattle.cedar_conversion_leaves.specs.Reasons.{IsFault, reason}
 use Rattle.cedar_conversion_leaves.specs.Converts.{Lacks}
+use Rattle.cedar_conversion_leaves.specs.Shown.{IsNoAttributes, string_shows, member_attributes_show}
 use Rattle.cedar_conversion_leaves.specs.Alone.{only_or, only_and, only_relation, only_add, only_mult, only_unary, unsigned, only_literal, only_name, number_of}
 
 pub lone_member_is : (a : loose.Add) → lone_member a ≡ (only_mult a >>= only_unary >>= unsigned)
@@ -145,7 +147,7 @@ key_fields (loose.name [] i) xs = refl
 key_fields (loose.name (j ∷ js) i) loose.no_accesses = refl
 key_fields (loose.name (j ∷ js) i) (loose.an_access x xs) = refl
 
-name_is : (p : loose.Primary) (n : loose.Name) → only_name p ≡ Some n → p ≡ loose.named n
+pub name_is : (p : loose.Primary) (n : loose.Name) → only_name p ≡ Some n → p ≡ loose.named n
 name_is loose.missing_primary n h = cc
 name_is (loose.literal l) n h = cc
 name_is (loose.entity r) n h = cc
@@ -185,6 +187,27 @@ none_more xs e = length_none xs (eqb-true (length xs) 0 e)
     length_none : {A : Type 0} (xs : List A) → length xs ≡ 0 → xs ≡ []
     length_none [] e = refl
     length_none (x ∷ xs) e = absurd (omega arith)
+
+pub text_shown : (p : loose.Primary) → only_name p ≡ None → (k : ToASTErrorKind) → string_shows p k → member_attributes_show (loose.member p loose.no_accesses) k
+text_shown loose.missing_primary h k s = s
+text_shown (loose.literal l) h k s = s
+text_shown (loose.entity r) h k s = s
+text_shown (loose.named n) h k s = cc
+text_shown (loose.slot t) h k s = s
+text_shown (loose.expr e) h k s = s
+text_shown (loose.e_list es) h k s = s
+text_shown (loose.r_inits rs) h k s = s
+
+pub nothing_shown : {A : Type 0} (p : loose.Primary) (f : A → loose.MemAccess) (xs : List A) → only_name p ≡ None → 0 < length xs → (k : ToASTErrorKind) → IsNoAttributes k → member_attributes_show (loose.member p (loose.accesses (map f xs))) k
+nothing_shown p f [] e h k s = absurd (omega arith)
+nothing_shown loose.missing_primary f (x ∷ xs) e h k s = s
+nothing_shown (loose.literal l) f (x ∷ xs) e h k s = s
+nothing_shown (loose.entity r) f (x ∷ xs) e h k s = s
+nothing_shown (loose.named n) f (x ∷ xs) e h k s = cc
+nothing_shown (loose.slot t) f (x ∷ xs) e h k s = s
+nothing_shown (loose.expr y) f (x ∷ xs) e h k s = s
+nothing_shown (loose.e_list es) f (x ∷ xs) e h k s = s
+nothing_shown (loose.r_inits rs) f (x ∷ xs) e h k s = s
 
 -- faults where there is nothing
 pub lacking : {B W : Type 0} (e : ConversionError B) (want : Option W) → IsFault e → want ≡ None → Lacks (reason e) want

@@ -156,6 +156,16 @@ none_valid s none = by (is_identifier s) refl (is_keyword s) refl none
     by true i true k none = unless_keyword s i ∙ ap (λ b. cond b None (Some s)) k
     by false i k e none = ap (λ o. o >>= λ t. cond (is_keyword t) None (Some t)) (none_written s (λ t. cc (i, t)))
 
+-- ---- words that are no identifiers
+
+pub no_spelling : (i : loose.Ident) → ident_spelling i ≡ None → ident_text i ≡ None
+no_spelling loose.missing_ident e = refl
+no_spelling (loose.ident w) e = cc
+no_spelling (loose.invalid_ident s) e = refl
+
+pub no_valid_text : (s : Text) → valid_text (written_ident s) ≡ None → ident_text (written_ident s) ≡ None
+no_valid_text s none = written_not s (λ h. let some : valid_text (written_ident s) ≡ Some s = valid_written s h.0 in absurd (cc (none, some)))
+
 -- ---- variables
 
 pub no_variable : (s : Text) → (s ≡ spelled token.Principal → ⊥) → (s ≡ spelled token.Action → ⊥) → (s ≡ spelled token.Resource → ⊥) → (s ≡ spelled token.Context → ⊥) → ident_variable (written_ident s) ≡ None

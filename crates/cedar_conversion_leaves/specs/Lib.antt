@@ -1,4 +1,6 @@
 pub mod Reasons
+pub mod Telling
+pub mod Shown
 pub mod Flat
 pub mod Converts
 pub mod Words

@@ -1,10 +1,12 @@
 // Literals and entities.
-ghost use Rattle.std.specs.Prelude.{◌≡◌};
+ghost use Rattle.std.specs.Prelude.{◌≡◌, IfErr};
 ghost use Rattle.cedar_language.specs.Tree as tree;
 ghost use Rattle.cedar_literals.specs.Literals.{literal_of};
 ghost use Rattle.cedar_grammar.specs.Converting.{literal_tree, ref_entity};
 ghost use Rattle.cedar_cst.specs.LeafView.{shown_literal, shown_ref};
 ghost use Rattle.cedar_conversion_leaves.specs.Converts.{Finds};
+ghost use Rattle.cedar_conversion_leaves.specs.Telling.{TellsOnly};
+ghost use Rattle.cedar_conversion_leaves.specs.Shown.{literal_shows, ref_shows};
 
 use crate::names::to_name;
 use crate::strings::to_text;
@@ -21,7 +23,8 @@ pub fn to_literal<E: Drop>(
     alloc: Global,
     node: &Node<Option<cst::Literal>>,
 ) -> Result<Literal, ConversionError<E>>
-    ensures { Finds (λ literal. tree.Lit (literal_of literal)) result (literal_tree (shown_literal node.now)) }
+    ensures literal { Finds (λ literal. tree.Lit (literal_of literal)) result (literal_tree (shown_literal node.now)) }
+    ensures shown { IfErr result (λ error. TellsOnly error (literal_shows (shown_literal node.now))) }
 {
     match &node.node {
         None => Err(ConversionError::missing(alloc, node.loc())),
@@ -44,7 +47,8 @@ pub fn to_ref<E: Drop>(
     alloc: Global,
     node: &Node<Option<Ref>>,
 ) -> Result<EntityUID, ConversionError<E>>
-    ensures { Finds (λ uid. uid) result (ref_entity (shown_ref node.now)) }
+    ensures uid { Finds (λ uid. uid) result (ref_entity (shown_ref node.now)) }
+    ensures shown { IfErr result (λ error. TellsOnly error (ref_shows (shown_ref node.now))) }
 {
     match &node.node {
         None => Err(ConversionError::missing(alloc, node.loc())),

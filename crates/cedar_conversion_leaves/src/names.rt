@@ -1,11 +1,13 @@
 // Words and names.
-ghost use Rattle.std.specs.Prelude.{◌≡◌, MatchOption, IfOk, None, map, false};
+ghost use Rattle.std.specs.Prelude.{◌≡◌, MatchOption, IfOk, IfErr, None, map, false};
 ghost use Rattle.cedar_grammar.specs.Converting.{ident_text, ident_spelling, name_path, each};
 ghost use Rattle.cedar_cst.specs.LeafView.{view_ident, shown_ident, shown_name, written_ident};
 ghost use Rattle.cedar_conversion_leaves.specs.Reasons.{IsFault};
 ghost use Rattle.cedar_names.specs.Names.{is_reserved_name};
 ghost use Rattle.cedar_conversion_leaves.specs.Converts.{Finds};
 ghost use Rattle.cedar_conversion_leaves.specs.Words.{valid_text};
+ghost use Rattle.cedar_conversion_leaves.specs.Telling.{TellsOnly};
+ghost use Rattle.cedar_conversion_leaves.specs.Shown.{ident_shows, idents_show, name_shows};
 
 use crate::{ConversionError, ToASTErrorKind};
 use cedar_cst::cst;
@@ -49,7 +51,8 @@ pub fn spelling(ident: &Ident) -> Option<&str>
 
 // The fault of a word that is no identifier.
 fn no_identifier<E: Drop>(alloc: Global, ident: &Ident, loc: Option<&Loc>) -> ConversionError<E>
-    ensures { IsFault result }
+    ensures fault { IsFault result }
+    ensures shown { ident_text (view_ident ident.now) ≡ None → TellsOnly result (ident_shows (view_ident ident.now)) }
 {
     match kind_of_no_identifier(alloc, ident) {
         Ok(kind) => ConversionError::fault(alloc, kind, loc),
@@ -57,7 +60,9 @@ fn no_identifier<E: Drop>(alloc: Global, ident: &Ident, loc: Option<&Loc>) -> Co
     }
 }
 
-fn kind_of_no_identifier(alloc: Global, ident: &Ident) -> Result<ToASTErrorKind, AllocError> {
+fn kind_of_no_identifier(alloc: Global, ident: &Ident) -> Result<ToASTErrorKind, AllocError>
+    ensures { IfOk result (λ kind. ident_text (view_ident ident.now) ≡ None → ident_shows (view_ident ident.now) kind) }
+{
     match ident {
         Ident::Invalid(text) => Ok(ToASTErrorKind::InvalidIdentifier(RcStr::from_str(
             alloc,
@@ -93,7 +98,8 @@ pub fn to_unreserved_ident<E: Drop>(
     alloc: Global,
     node: &Node<Option<Ident>>,
 ) -> Result<UnreservedId, ConversionError<E>>
-    ensures { Finds (λ id. id) result (ident_text (shown_ident node.now)) }
+    ensures id { Finds (λ id. id) result (ident_text (shown_ident node.now)) }
+    ensures shown { IfErr result (λ error. TellsOnly error (ident_shows (shown_ident node.now))) }
 {
     let Some(ident) = &node.node else {
         return Err(ConversionError::missing(alloc, node.loc()));
@@ -121,11 +127,13 @@ fn valid_identifier(alloc: Global, text: &str) -> Result<Option<Id>, AllocError>
 }
 
 /// The identifier of a word, which may be `__cedar`; faults where the word is missing, invalid or a keyword.
+#[tactic(auto, using(crate::proofs::Words::no_valid_text))]
 pub fn to_valid_ident<E: Drop>(
     alloc: Global,
     node: &Node<Option<Ident>>,
 ) -> Result<Id, ConversionError<E>>
-    ensures { Finds (λ id. id) result (valid_text (shown_ident node.now)) }
+    ensures id { Finds (λ id. id) result (valid_text (shown_ident node.now)) }
+    ensures shown { IfErr result (λ error. TellsOnly error (ident_shows (shown_ident node.now))) }
 {
     let Some(ident) = &node.node else {
         return Err(ConversionError::missing(alloc, node.loc()));
@@ -154,11 +162,13 @@ fn any_identifier(alloc: Global, text: &str) -> Result<Option<AnyId>, AllocError
 
 /// The identifier of a word, which may be reserved, as the key of an annotation may; faults where the word
 /// is missing or invalid.
+#[tactic(auto, using(crate::proofs::Words::no_spelling))]
 pub fn to_any_ident<E: Drop>(
     alloc: Global,
     node: &Node<Option<Ident>>,
 ) -> Result<AnyId, ConversionError<E>>
-    ensures { Finds (λ id. id) result (ident_spelling (shown_ident node.now)) }
+    ensures id { Finds (λ id. id) result (ident_spelling (shown_ident node.now)) }
+    ensures shown { IfErr result (λ error. TellsOnly error (ident_shows (shown_ident node.now))) }
 {
     let Some(ident) = &node.node else {
         return Err(ConversionError::missing(alloc, node.loc()));
@@ -179,6 +189,7 @@ fn to_path<E: Drop>(
 ) -> Result<Vec<Id>, ConversionError<E>>
     ensures path { Finds (λ ids. ids.items) result (each ident_text (map shown_ident words.now.items)) }
     ensures unreserved { IfOk result (λ ids. is_reserved_name ids.items ≡ false) }
+    ensures shown { IfErr result (λ error. TellsOnly error (idents_show (map shown_ident words.now.items))) }
 {
     let mut path = Vec::new(alloc);
     'words: for word in words {
@@ -193,7 +204,8 @@ pub fn to_name<E: Drop>(
     alloc: Global,
     node: &Node<Option<cst::Name>>,
 ) -> Result<Name, ConversionError<E>>
-    ensures { Finds (λ name. name) result (name_path (shown_name node.now)) }
+    ensures name { Finds (λ name. name) result (name_path (shown_name node.now)) }
+    ensures shown { IfErr result (λ error. TellsOnly error (name_shows (shown_name node.now))) }
 {
     let Some(name) = &node.node else {
         return Err(ConversionError::missing(alloc, node.loc()));

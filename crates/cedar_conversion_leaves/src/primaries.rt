@@ -1,5 +1,5 @@
 // What is asked of a primary that stands alone: a string, a key, a name, a pattern, or attributes.
-ghost use Rattle.std.specs.Prelude.{◌≡◌, [], ◌∷◌, Some, map};
+ghost use Rattle.std.specs.Prelude.{◌≡◌, ◌⊎◌, [], ◌∷◌, Some, map, IfErr};
 ghost use Rattle.std.specs.Option.{option_map};
 ghost use Rattle.std.specs.Str.{chars};
 ghost use Rattle.std.specs.Rc.{rc_str_bytes};
@@ -12,6 +12,8 @@ ghost use Rattle.cedar_conversion_leaves.specs.Reasons.{IsFault};
 ghost use Rattle.cedar_conversion_leaves.specs.Converts.{and_then, Finds};
 ghost use Rattle.cedar_conversion_leaves.specs.Fields.{path_texts};
 ghost use Rattle.cedar_conversion_leaves.specs.Alone.{access_word};
+ghost use Rattle.cedar_conversion_leaves.specs.Telling.{TellsOnly};
+ghost use Rattle.cedar_conversion_leaves.specs.Shown.{IsNoKey, IsNoAttributes, text_shows, string_shows, word_shows, word_or_string_shows, key_shows, index_shows, path_shows, type_shows, elems_show, pattern_shows, field_shows, fields_show, member_attributes_show, attributes_show};
 
 use crate::lookahead::{only_literal, only_name};
 use crate::{
@@ -37,7 +39,8 @@ fn printed<T: fmt::Display>(alloc: Global, node: &Node<Option<T>>) -> Result<RcS
 
 // The fault of what stands where a key should.
 fn no_key<E: Drop>(alloc: Global, node: &Node<Option<Primary>>) -> ConversionError<E>
-    ensures { IsFault result }
+    ensures fault { IsFault result }
+    ensures kind { TellsOnly result IsNoKey }
 {
     match printed(alloc, node) {
         Ok(text) => {
@@ -53,7 +56,8 @@ fn literal_to_text<E: Drop>(
     literal: &Node<Option<Literal>>,
     loc: Option<&Loc>,
 ) -> Result<RcStr, ConversionError<E>>
-    ensures { Finds rc_str_bytes result (primary_text (loose.literal (shown_literal literal.now))) }
+    ensures text { Finds rc_str_bytes result (primary_text (loose.literal (shown_literal literal.now))) }
+    ensures shown { IfErr result (λ error. TellsOnly error (text_shows (shown_literal literal.now))) }
 {
     match &literal.node {
         Some(Literal::Str(text)) => to_text(alloc, text),
@@ -66,7 +70,8 @@ pub fn to_string_literal<E: Drop>(
     alloc: Global,
     node: &Node<Option<Primary>>,
 ) -> Result<RcStr, ConversionError<E>>
-    ensures { Finds rc_str_bytes result (primary_text (shown_primary node.now)) }
+    ensures text { Finds rc_str_bytes result (primary_text (shown_primary node.now)) }
+    ensures shown { IfErr result (λ error. TellsOnly error (string_shows (shown_primary node.now))) }
 {
     match only_literal(node) {
         Some(literal) => literal_to_text(alloc, literal, node.loc()),
@@ -80,7 +85,8 @@ fn name_to_key<E: Drop>(
     name: &Node<Option<Name>>,
     loc: Option<&Loc>,
 ) -> Result<RcStr, ConversionError<E>>
-    ensures { Finds rc_str_bytes result (primary_key (loose.named (shown_name name.now))) }
+    ensures key { Finds rc_str_bytes result (primary_key (loose.named (shown_name name.now))) }
+    ensures shown { IfErr result (λ error. TellsOnly error (word_shows (shown_name name.now))) }
 {
     let Some(inner) = &name.node else {
         return Err(ConversionError::missing(alloc, loc));
@@ -99,7 +105,8 @@ fn primary_to_key<E: Drop>(
     alloc: Global,
     node: &Node<Option<Primary>>,
 ) -> Result<RcStr, ConversionError<E>>
-    ensures { Finds rc_str_bytes result (primary_key (shown_primary node.now)) }
+    ensures key { Finds rc_str_bytes result (primary_key (shown_primary node.now)) }
+    ensures shown { IfErr result (λ error. TellsOnly error (word_or_string_shows (shown_primary node.now))) }
 {
     match only_name(node) {
         Some(name) => name_to_key(alloc, name, node.loc()),
@@ -113,7 +120,8 @@ pub fn to_key<E: Drop>(
     alloc: Global,
     node: &Node<Option<Expr>>,
 ) -> Result<RcStr, ConversionError<E>>
-    ensures { Finds rc_str_bytes result (and_then (alone (shown_expr node.now)) primary_key) }
+    ensures key { Finds rc_str_bytes result (and_then (alone (shown_expr node.now)) primary_key) }
+    ensures shown { IfErr result (λ error. TellsOnly error (key_shows (shown_expr node.now))) }
 {
     match lookahead::alone(node) {
         Some(primary) => primary_to_key(alloc, primary),
@@ -129,7 +137,8 @@ pub fn to_index<E: Drop>(
     alloc: Global,
     node: &Node<Option<Expr>>,
 ) -> Result<RcStr, ConversionError<E>>
-    ensures { Finds rc_str_bytes result (and_then (alone (shown_expr node.now)) primary_text) }
+    ensures text { Finds rc_str_bytes result (and_then (alone (shown_expr node.now)) primary_text) }
+    ensures shown { IfErr result (λ error. TellsOnly error (index_shows (shown_expr node.now))) }
 {
     match lookahead::alone(node) {
         Some(primary) => to_string_literal(alloc, primary),
@@ -145,7 +154,8 @@ fn primary_to_path<E: Drop>(
     alloc: Global,
     node: &Node<Option<Primary>>,
 ) -> Result<names::Name, ConversionError<E>>
-    ensures { Finds (λ name. name) result (primary_path (shown_primary node.now)) }
+    ensures path { Finds (λ name. name) result (primary_path (shown_primary node.now)) }
+    ensures shown { IfErr result (λ error. TellsOnly error (path_shows (shown_primary node.now))) }
 {
     match only_name(node) {
         Some(name) => to_name(alloc, name),
@@ -161,7 +171,8 @@ pub fn to_entity_type<E: Drop>(
     alloc: Global,
     node: &Node<Option<Add>>,
 ) -> Result<names::Name, ConversionError<E>>
-    ensures { Finds (λ name. name) result (and_then (lone_primary (shown_add node.now)) primary_path) }
+    ensures path { Finds (λ name. name) result (and_then (lone_primary (shown_add node.now)) primary_path) }
+    ensures shown { IfErr result (λ error. TellsOnly error (type_shows (shown_add node.now))) }
 {
     match lookahead::lone_primary(node) {
         Some(primary) => primary_to_path(alloc, primary),
@@ -200,7 +211,8 @@ fn primary_to_pattern<E: Drop>(
     alloc: Global,
     node: &Node<Option<Primary>>,
 ) -> Result<Pattern, ConversionError<E>>
-    ensures { Finds (λ pattern. pattern) result (and_then (primary_raw (shown_primary node.now)) pattern_of) }
+    ensures pattern { Finds (λ pattern. pattern) result (and_then (primary_raw (shown_primary node.now)) pattern_of) }
+    ensures shown { IfErr result (λ error. TellsOnly error (elems_show (shown_primary node.now))) }
 {
     match raw_of(node) {
         Some(raw) => to_pattern(alloc, raw, node.loc()),
@@ -216,7 +228,8 @@ pub fn to_like_pattern<E: Drop>(
     alloc: Global,
     node: &Node<Option<Add>>,
 ) -> Result<Pattern, ConversionError<E>>
-    ensures { Finds (λ pattern. pattern) result (and_then (and_then (lone_primary (shown_add node.now)) primary_raw) pattern_of) }
+    ensures pattern { Finds (λ pattern. pattern) result (and_then (and_then (lone_primary (shown_add node.now)) primary_raw) pattern_of) }
+    ensures shown { IfErr result (λ error. TellsOnly error (pattern_shows (shown_add node.now))) }
 {
     match lookahead::lone_primary(node) {
         Some(primary) => primary_to_pattern(alloc, primary),
@@ -232,7 +245,8 @@ fn to_words<E: Drop>(
     alloc: Global,
     accesses: &Vec<Node<Option<MemAccess>>>,
 ) -> Result<Vec<RcStr>, ConversionError<E>>
-    ensures { Finds (λ words. map rc_str_bytes words.items) result (fields (loose.accesses (map shown_mem_access accesses.now.items))) }
+    ensures words { Finds (λ words. map rc_str_bytes words.items) result (fields (loose.accesses (map shown_mem_access accesses.now.items))) }
+    ensures shown { IfErr result (λ error. TellsOnly error (fields_show (loose.accesses (map shown_mem_access accesses.now.items)))) }
 {
     let mut words = Vec::new(alloc);
     'accesses: for access in accesses {
@@ -246,7 +260,8 @@ fn access_to_word<E: Drop>(
     alloc: Global,
     node: &Node<Option<MemAccess>>,
 ) -> Result<RcStr, ConversionError<E>>
-    ensures { Finds rc_str_bytes result (access_word (shown_mem_access node.now)) }
+    ensures word { Finds rc_str_bytes result (access_word (shown_mem_access node.now)) }
+    ensures shown { IfErr result (λ error. TellsOnly error (field_shows (shown_mem_access node.now))) }
 {
     match &node.node {
         Some(MemAccess::Field(id)) => Ok(to_unreserved_ident(alloc, id)?.into_smolstr()),
@@ -256,7 +271,8 @@ fn access_to_word<E: Drop>(
 
 // The fault of what stands behind `has`.
 fn no_fields<T: fmt::Display, E: Drop>(alloc: Global, node: &Node<Option<T>>) -> ConversionError<E>
-    ensures { IsFault result }
+    ensures fault { IsFault result }
+    ensures kind { TellsOnly result IsNoAttributes }
 {
     match printed(alloc, node) {
         Ok(text) => ConversionError::fault(alloc, ToASTErrorKind::InvalidHasRHS(text), node.loc()),
@@ -271,8 +287,9 @@ fn words_to_fields<E: Drop>(
     accesses: &Vec<Node<Option<MemAccess>>>,
     loc: Option<&Loc>,
 ) -> Result<NonEmpty<RcStr>, ConversionError<E>>
-    ensures { Finds path_texts result (and_then (primary_key (loose.named (shown_name name.now)))
+    ensures fields { Finds path_texts result (and_then (primary_key (loose.named (shown_name name.now)))
         (λ s. and_then (fields (loose.accesses (map shown_mem_access accesses.now.items))) (λ ss. Some (s ∷ ss)))) }
+    ensures shown { IfErr result (λ error. TellsOnly error (λ kind. word_shows (shown_name name.now) kind ⊎ fields_show (loose.accesses (map shown_mem_access accesses.now.items)) kind)) }
 {
     let head = name_to_key(alloc, name, loc)?;
     let tail = to_words(alloc, accesses)?;
@@ -284,7 +301,8 @@ fn text_to_field<E: Drop>(
     alloc: Global,
     node: &Node<Option<Primary>>,
 ) -> Result<NonEmpty<RcStr>, ConversionError<E>>
-    ensures { Finds path_texts result (and_then (primary_text (shown_primary node.now)) (λ s. Some (s ∷ []))) }
+    ensures fields { Finds path_texts result (and_then (primary_text (shown_primary node.now)) (λ s. Some (s ∷ []))) }
+    ensures shown { IfErr result (λ error. TellsOnly error (string_shows (shown_primary node.now))) }
 {
     let head = to_string_literal(alloc, node)?;
     Ok(NonEmpty {
@@ -298,7 +316,8 @@ fn member_to_fields<E: Drop>(
     alloc: Global,
     node: &Node<Option<Member>>,
 ) -> Result<NonEmpty<RcStr>, ConversionError<E>>
-    ensures { Finds path_texts result (member_fields (shown_member node.now)) }
+    ensures fields { Finds path_texts result (member_fields (shown_member node.now)) }
+    ensures shown { IfErr result (λ error. TellsOnly error (member_attributes_show (shown_member node.now))) }
 {
     match &node.node {
         None => Err(no_fields(alloc, node)),
@@ -320,7 +339,8 @@ pub fn to_fields<E: Drop>(
     alloc: Global,
     node: &Node<Option<Add>>,
 ) -> Result<NonEmpty<RcStr>, ConversionError<E>>
-    ensures { Finds path_texts result (and_then (lone_member (shown_add node.now)) member_fields) }
+    ensures fields { Finds path_texts result (and_then (lone_member (shown_add node.now)) member_fields) }
+    ensures shown { IfErr result (λ error. TellsOnly error (attributes_show (shown_add node.now))) }
 {
     match lookahead::lone_member(node) {
         Some(member) => member_to_fields(alloc, member),

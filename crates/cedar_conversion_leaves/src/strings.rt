@@ -1,5 +1,5 @@
 // Strings and patterns.
-ghost use Rattle.std.specs.Prelude.{◌≡◌, Some, map};
+ghost use Rattle.std.specs.Prelude.{◌≡◌, Some, map, IfErr};
 ghost use Rattle.std.specs.Rc.{rc_str_bytes};
 ghost use Rattle.std.specs.Str.{chars};
 ghost use Rattle.cedar_grammar.specs.Escape.{pattern_of, pattern_elem};
@@ -9,6 +9,8 @@ ghost use Rattle.cedar_grammar.specs.Converting.{str_text};
 ghost use Rattle.cedar_cst.specs.LeafView.{shown_str};
 ghost use Rattle.cedar_conversion_leaves.specs.Refusing.{Refuses};
 ghost use Rattle.cedar_conversion_leaves.specs.Converts.{Finds};
+ghost use Rattle.cedar_conversion_leaves.specs.Telling.{TellsOnly};
+ghost use Rattle.cedar_conversion_leaves.specs.Shown.{str_shows, raw_shows};
 
 use crate::{ConversionError, ToASTErrorKind};
 use cedar_cst::cst::Str;
@@ -26,7 +28,8 @@ pub fn to_text<E: Drop>(
     alloc: Global,
     node: &Node<Option<Str>>,
 ) -> Result<RcStr, ConversionError<E>>
-    ensures { Finds rc_str_bytes result (str_text (shown_str node.now)) }
+    ensures text { Finds rc_str_bytes result (str_text (shown_str node.now)) }
+    ensures shown { IfErr result (λ error. TellsOnly error (str_shows (shown_str node.now))) }
 {
     match &node.node {
         None => Err(ConversionError::missing(alloc, node.loc())),
@@ -43,7 +46,8 @@ pub fn to_text<E: Drop>(
 
 // What a string that stands for nothing is refused by.
 fn no_text<E: Drop>(alloc: Global, error: UnescapeError, loc: Option<&Loc>) -> ConversionError<E>
-    ensures { Refuses error result }
+    ensures refused { Refuses error result }
+    ensures kind { TellsOnly result (λ kind. kind ≡ ToASTErrorKind.Unescape error) }
 {
     match error {
         UnescapeError::Invalid { .. } => {
@@ -61,7 +65,8 @@ pub fn to_pattern<E: Drop>(
     raw: &str,
     loc: Option<&Loc>,
 ) -> Result<Pattern, ConversionError<E>>
-    ensures { Finds (λ pattern. pattern) result (pattern_of (chars raw.now)) }
+    ensures pattern { Finds (λ pattern. pattern) result (pattern_of (chars raw.now)) }
+    ensures shown { IfErr result (λ error. TellsOnly error (raw_shows (chars raw.now))) }
 {
     match unescape_parts(alloc, raw) {
         Ok(parts) => pattern_of_parts(alloc, &parts),

@@ -18,6 +18,6 @@ returns g c xs hxs =
     let refusal = g.B.ExprBuilder.refusal in
     let f = c.in_ok-function.function in
     let names = c.args.styles.now in
-    let is = then_some (name_path (shown_name c.args.name.now)) f (λ p. cond (is_function names p) (Some (tree.Apply (tree.Call p) (trees xs))) None) c.in_ok-function.ensures
+    let is = then_some (name_path (shown_name c.args.name.now)) f (λ p. cond (is_function names p) (Some (tree.Apply (tree.Call p) (trees xs))) None) c.in_ok-function.ensures.name
     ∙ ap (λ b. cond b (Some (tree.Apply (tree.Call f) (trees xs))) None) (sym c.is_function.ensures ∙ c.if-not-is_function.false) in
     took_some o m refusal c.taken.result _ (tree.Apply (tree.Call f) (trees xs)) _ is (built_apply o (tree.Call f) xs _ hxs) (c.taken.ensures _ c.call_extension_fn.ensures)

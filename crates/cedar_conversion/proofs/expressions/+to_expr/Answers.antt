@@ -177,19 +177,19 @@ relation_to_expr-returns-else-is_empty g t c =
 
 pub relation_to_expr-returns-in-Has : goal.relation_to_expr-returns-in-Has
 relation_to_expr-returns-in-Has g t c =
-    same_as g.B.ExprBuilder.refusal (IsBuilt g.B.ExprBuilder.operations g.B.ExprBuilder.meaning) (IsRefused g.B.ExprBuilder.operations) c.has.result _ _ (relation_has c.args.styles.now c.args.node.now c.in-Some.relation c.in-Has.target c.in-Has.field c.deref-holder.result.now c.deref-path.result.now c.in-Some.is c.in-Has.is c.deref-holder.ensures c.deref-path.ensures) (c.has.ensures _ _ c.add_to_expr-held.ensures c.to_fields-attrs.ensures)
+    same_as g.B.ExprBuilder.refusal (IsBuilt g.B.ExprBuilder.operations g.B.ExprBuilder.meaning) (IsRefused g.B.ExprBuilder.operations) c.has.result _ _ (relation_has c.args.styles.now c.args.node.now c.in-Some.relation c.in-Has.target c.in-Has.field c.deref-holder.result.now c.deref-path.result.now c.in-Some.is c.in-Has.is c.deref-holder.ensures c.deref-path.ensures) (c.has.ensures _ _ c.add_to_expr-held.ensures c.to_fields-attrs.ensures.fields)
 
 pub relation_to_expr-returns-in-Like : goal.relation_to_expr-returns-in-Like
 relation_to_expr-returns-in-Like g t c =
-    same_as g.B.ExprBuilder.refusal (IsBuilt g.B.ExprBuilder.operations g.B.ExprBuilder.meaning) (IsRefused g.B.ExprBuilder.operations) c.like.result _ _ (relation_like c.args.styles.now c.args.node.now c.in-Some.relation c.in-Like.target c.in-Like.pattern c.deref-matched.result.now c.deref-text.result.now c.in-Some.is c.in-Like.is c.deref-matched.ensures c.deref-text.ensures) (c.like.ensures _ _ c.add_to_expr-subject.ensures c.to_like_pattern-elems.ensures)
+    same_as g.B.ExprBuilder.refusal (IsBuilt g.B.ExprBuilder.operations g.B.ExprBuilder.meaning) (IsRefused g.B.ExprBuilder.operations) c.like.result _ _ (relation_like c.args.styles.now c.args.node.now c.in-Some.relation c.in-Like.target c.in-Like.pattern c.deref-matched.result.now c.deref-text.result.now c.in-Some.is c.in-Like.is c.deref-matched.ensures c.deref-text.ensures) (c.like.ensures _ _ c.add_to_expr-subject.ensures c.to_like_pattern-elems.ensures.pattern)
 
 pub relation_to_expr-returns-in-None-in_entity : goal.relation_to_expr-returns-in-None-in_entity
 relation_to_expr-returns-in-None-in_entity g t c =
-    same_as g.B.ExprBuilder.refusal (IsBuilt g.B.ExprBuilder.operations g.B.ExprBuilder.meaning) (IsRefused g.B.ExprBuilder.operations) c.is_type.result _ _ (relation_is c.args.styles.now c.args.node.now c.in-Some.relation c.in-IsIn.target c.in-IsIn.entity_type c.in-IsIn.in_entity c.deref-typed.result.now c.deref-named.result.now c.in-Some.is c.in-IsIn.is c.in-None-in_entity.is c.deref-typed.ensures c.deref-named.ensures) (c.is_type.ensures _ _ c.add_to_expr-value.ensures c.to_entity_type-name.ensures)
+    same_as g.B.ExprBuilder.refusal (IsBuilt g.B.ExprBuilder.operations g.B.ExprBuilder.meaning) (IsRefused g.B.ExprBuilder.operations) c.is_type.result _ _ (relation_is c.args.styles.now c.args.node.now c.in-Some.relation c.in-IsIn.target c.in-IsIn.entity_type c.in-IsIn.in_entity c.deref-typed.result.now c.deref-named.result.now c.in-Some.is c.in-IsIn.is c.in-None-in_entity.is c.deref-typed.ensures c.deref-named.ensures) (c.is_type.ensures _ _ c.add_to_expr-value.ensures c.to_entity_type-name.ensures.path)
 
 pub relation_to_expr-returns-in-Some-in_entity : goal.relation_to_expr-returns-in-Some-in_entity
 relation_to_expr-returns-in-Some-in_entity g t c =
-    same_as g.B.ExprBuilder.refusal (IsBuilt g.B.ExprBuilder.operations g.B.ExprBuilder.meaning) (IsRefused g.B.ExprBuilder.operations) c.is_type_in.result _ _ (relation_is_in c.args.styles.now c.args.node.now c.in-Some.relation c.in-IsIn.target c.in-IsIn.entity_type c.in-IsIn.in_entity c.in-Some-in_entity.entity c.deref-typed.result.now c.deref-named.result.now c.deref-among.result.now c.in-Some.is c.in-IsIn.is c.in-Some-in_entity.is c.deref-typed.ensures c.deref-named.ensures c.deref-among.ensures) (c.is_type_in.ensures _ _ _ c.add_to_expr-value.ensures c.to_entity_type-name.ensures c.add_to_expr-within.ensures)
+    same_as g.B.ExprBuilder.refusal (IsBuilt g.B.ExprBuilder.operations g.B.ExprBuilder.meaning) (IsRefused g.B.ExprBuilder.operations) c.is_type_in.result _ _ (relation_is_in c.args.styles.now c.args.node.now c.in-Some.relation c.in-IsIn.target c.in-IsIn.entity_type c.in-IsIn.in_entity c.in-Some-in_entity.entity c.deref-typed.result.now c.deref-named.result.now c.deref-among.result.now c.in-Some.is c.in-IsIn.is c.in-Some-in_entity.is c.deref-typed.ensures c.deref-named.ensures c.deref-among.ensures) (c.is_type_in.ensures _ _ _ c.add_to_expr-value.ensures c.to_entity_type-name.ensures.path c.add_to_expr-within.ensures)
 
 pub unary_to_expr-returns-in-None-op : goal.unary_to_expr-returns-in-None-op
 unary_to_expr-returns-in-None-op g t c =
@@ -223,19 +223,19 @@ access_to_head-returns-in-None g t c v hv = faulty g.B.ExprBuilder.refusal (IsHe
 
 pub access_to_head-returns-in-Field : goal.access_to_head-returns-in-Field
 access_to_head-returns-in-Field g t c v hv =
-    same_as g.B.ExprBuilder.refusal (IsHead g.B.ExprBuilder.operations g.B.ExprBuilder.meaning) (IsHeadRefused g.B.ExprBuilder.operations) c.attribute.result _ _ (access_field c.args.styles.now c.args.node.now c.in-Some.access c.in-Field.id v c.in-Some.is c.in-Field.is) (c.attribute.ensures v _ hv c.to_unreserved_ident-word.ensures)
+    same_as g.B.ExprBuilder.refusal (IsHead g.B.ExprBuilder.operations g.B.ExprBuilder.meaning) (IsHeadRefused g.B.ExprBuilder.operations) c.attribute.result _ _ (access_field c.args.styles.now c.args.node.now c.in-Some.access c.in-Field.id v c.in-Some.is c.in-Field.is) (c.attribute.ensures v _ hv c.to_unreserved_ident-word.ensures.id)
 
 pub access_to_head-returns : goal.access_to_head-returns
 access_to_head-returns g t c v hv =
-    same_as g.B.ExprBuilder.refusal (IsHead g.B.ExprBuilder.operations g.B.ExprBuilder.meaning) (IsHeadRefused g.B.ExprBuilder.operations) c.index.result _ _ (access_index c.args.styles.now c.args.node.now c.in-Some.access c.in-Index.text v c.in-Some.is c.in-Index.is) (c.index.ensures v _ hv c.to_index-key.ensures)
+    same_as g.B.ExprBuilder.refusal (IsHead g.B.ExprBuilder.operations g.B.ExprBuilder.meaning) (IsHeadRefused g.B.ExprBuilder.operations) c.index.result _ _ (access_index c.args.styles.now c.args.node.now c.in-Some.access c.in-Index.text v c.in-Some.is c.in-Index.is) (c.index.ensures v _ hv c.to_index-key.ensures.text)
 
 pub primary_to_head-returns-in-Literal : goal.primary_to_head-returns-in-Literal
 primary_to_head-returns-in-Literal g t c =
-    same_as g.B.ExprBuilder.refusal (IsHead g.B.ExprBuilder.operations g.B.ExprBuilder.meaning) (IsHeadRefused g.B.ExprBuilder.operations) c.literal_to_head.result _ _ (primary_literal c.args.styles.now c.args.node.now c.in-Some.primary c.in-Literal.literal c.in-Some.is c.in-Literal.is) (c.literal_to_head.ensures _ c.to_literal-value.ensures)
+    same_as g.B.ExprBuilder.refusal (IsHead g.B.ExprBuilder.operations g.B.ExprBuilder.meaning) (IsHeadRefused g.B.ExprBuilder.operations) c.literal_to_head.result _ _ (primary_literal c.args.styles.now c.args.node.now c.in-Some.primary c.in-Literal.literal c.in-Some.is c.in-Literal.is) (c.literal_to_head.ensures _ c.to_literal-value.ensures.literal)
 
 pub primary_to_head-returns-in-Ref : goal.primary_to_head-returns-in-Ref
 primary_to_head-returns-in-Ref g t c =
-    same_as g.B.ExprBuilder.refusal (IsHead g.B.ExprBuilder.operations g.B.ExprBuilder.meaning) (IsHeadRefused g.B.ExprBuilder.operations) c.entity_to_head.result _ _ (primary_ref c.args.styles.now c.args.node.now c.in-Some.primary c.in-Ref.entity c.deref-reference.result.now c.in-Some.is c.in-Ref.is c.deref-reference.ensures) (c.entity_to_head.ensures _ c.to_ref-uid.ensures)
+    same_as g.B.ExprBuilder.refusal (IsHead g.B.ExprBuilder.operations g.B.ExprBuilder.meaning) (IsHeadRefused g.B.ExprBuilder.operations) c.entity_to_head.result _ _ (primary_ref c.args.styles.now c.args.node.now c.in-Some.primary c.in-Ref.entity c.deref-reference.result.now c.in-Some.is c.in-Ref.is c.deref-reference.ensures) (c.entity_to_head.ensures _ c.to_ref-uid.ensures.uid)
 
 pub primary_to_head-returns-in-Name : goal.primary_to_head-returns-in-Name
 primary_to_head-returns-in-Name g t c = record {
@@ -255,7 +255,7 @@ pub entry_to_pair-returns-in-Some : goal.entry_to_pair-returns-in-Some
 entry_to_pair-returns-in-Some g t c =
     same_as g.B.ExprBuilder.refusal (IsEntry g.B.ExprBuilder.operations g.B.ExprBuilder.meaning) (IsEntryRefused g.B.ExprBuilder.operations) c.flatten_tuple_2.result _ _ (entry_seen c.args.styles.now c.args.node.now c.in-Some.entry c.in-Some.is) (flat_pair g.B.ExprBuilder.refusal (λ e s. rc_str_bytes e ≡ s) (λ s. ⊥) (IsBuilt g.B.ExprBuilder.operations g.B.ExprBuilder.meaning) (IsRefused g.B.ExprBuilder.operations) (IsEntryRefused g.B.ExprBuilder.operations)
     ((λ x y z e h. absurd h), (λ x y z e h. let same : (x, y) ≡ z = cc e in subst (IsEntryRefused g.B.ExprBuilder.operations) same h))
-    c.to_key-key.result c.expr_to_expr-value.result c.flatten_tuple_2.result _ _ c.flatten_tuple_2.ensures (found g.B.ExprBuilder.refusal rc_str_bytes c.to_key-key.result _ c.to_key-key.ensures) c.expr_to_expr-value.ensures)
+    c.to_key-key.result c.expr_to_expr-value.result c.flatten_tuple_2.result _ _ c.flatten_tuple_2.ensures (found g.B.ExprBuilder.refusal rc_str_bytes c.to_key-key.result _ c.to_key-key.ensures.key) c.expr_to_expr-value.ensures)
 
 pub primary_to_head-items-init : goal.primary_to_head-items-init
 primary_to_head-items-init g t c =

@@ -8,4 +8,4 @@ use Rattle.cedar_parser.proofs.leaves.converted.Goals as goal
 
 pub returns-in-Err : goal.returns-in-Err
 returns-in-Err c =
-    told_lacks (reason c.in-Err.error) (cause_of c.refused.result.0.head) (ref_entity (shown_ref c.args.tree.now)) c.refused.ensures.cause c.in-Err.ensures
+    told_lacks (reason c.in-Err.error) (cause_of c.refused.result.0.head) (ref_entity (shown_ref c.args.tree.now)) c.refused.ensures.cause c.in-Err.ensures.uid
