@@ -42,6 +42,10 @@ pub boolean_behind : (facts : Facts) (b : Answer) (s : Bool) → Finds facts b (
 boolean_behind facts b true h = ap (last_answer (And (Lit (Boolean true)))) h
 boolean_behind facts b false h = ap (last_answer (And (Lit (Boolean true)))) h
 
+pub told_finds : (facts : Facts) (b : Answer) (s : Bool) → b ≡ Evaluated (Plain (Boolean s)) → Finds facts b (found_by (Left s))
+told_finds facts b true h = h
+told_finds facts b false h = h
+
 pub open_behind : (facts : Facts) (b : Answer) (rest made : Tree) → made ≡ And (Lit (Boolean true)) rest → Finds facts b (Open rest) → Finds facts (last_answer (And (Lit (Boolean true))) b) (Open made)
 open_behind facts b rest made is (t, left, alike) = (
   And (Lit (Boolean true)) t,

@@ -49,7 +49,7 @@ pub(crate) fn evaluated(
     }
 }
 
-// The same of a policy whose scope holds: by its clauses.
+// The same of a policy whose scope holds: by its clauses, at a glance where that tells them.
 fn in_scope(
     alloc: Global,
     evaluator: &Evaluator<'_, '_, '_>,
@@ -61,6 +61,9 @@ fn in_scope(
     match policy.non_scope_constraints() {
         None => Ok(Either::Left(true)),
         Some(clauses) => {
+            if let Some(satisfied) = evaluator.glance(clauses) {
+                return Ok(Either::Left(satisfied));
+            }
             let answer = evaluator.partial_interpret(alloc, clauses, policy.env());
             behind_scope(alloc, judged(alloc, answer))
         }

@@ -74,7 +74,7 @@ fn mapped<V: Drop>(
 ) -> Result<IndexMap<PolicyID, V>, AllocError>
     ensures { IfOk result (λ map. map.entries ≡ gathered entries.items) }
 {
-    let mut map = IndexMap::new(alloc);
+    let mut map = IndexMap::with_capacity(alloc, entries.len())?;
     for (id, value) in entries {
         map.insert(id, value)?;
     }

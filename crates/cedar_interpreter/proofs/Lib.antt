@@ -11,3 +11,4 @@ pub mod Pairs
 pub mod Known
 pub mod Meant
 pub mod Asked
+pub mod Glanced

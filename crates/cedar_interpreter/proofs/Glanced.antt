@@ -1,0 +1,150 @@
+-- What is told of a tree by what is lent of its parts.
+use Rattle.std.proofs.Common.{◌≡◌, ◌∙◌, ◌≤◌, ◌+◌, ℕ, suc, max, refl, sym, ap, subst, Bool, true, false, Option, Some, None, IfSome, arith}
+use Rattle.std.specs.Bool.{Decides, one_answer}
+use Rattle.std.specs.Cmp.Lexicographic.{bytes_decides}
+use Rattle.either.specs.declared.Either.{Either}
+use Rattle.either.specs.declared.Either.TheVariants.{Left}
+use Rattle.cedar_language.specs.Uid.{Text, Uid}
+use Rattle.cedar_language.specs.Tree.{Boolean, String, Entity, Literal, Operator, GetAttr, Tree, Lit, Var, Variable, If, And, Or}
+use Rattle.cedar_language.specs.Value.{Value, Plain, no_values, Gives}
+use Rattle.cedar_language.specs.Facts.{Facts}
+use Rattle.cedar_language.specs.Order.{same, same_text, same_uid, value_cmp}
+use Rattle.cedar_language.specs.OrderLaws.{value_cmp_total, value_cmp_same}
+use Rattle.cedar_language.specs.Operators.{applied, truth, attribute}
+use Rattle.cedar_partial_evaluation.specs.Partial.{Evaluated, AllEvaluated, answer_of, last_answer, and_answer, or_answer, if_answer, and_next, apply_answer, partial_in}
+use Rattle.cedar_grammar.specs.Build.{unary, binary}
+use Rattle.cedar_literals.specs.Heads.{order_decides}
+use Rattle.cedar_literals.proofs.Sameness.{uids_same}
+use Rattle.cedar_operators.specs.Operands.{one, two}
+use Rattle.cedar_operators.specs.Store.{HasFacts}
+use Rattle.cedar_interpreter.specs.Glancing.{value_lent, least_depth, Tells}
+use Rattle.cedar_interpreter.specs.Holding.{held_by, variable_held}
+use Rattle.cedar_interpreter.specs.declared.evaluator.Evaluator.{Evaluator}
+use Rattle.cedar_interpreter.specs.declared.lent.Lent.{Lent}
+
+-- ---- `==` of two literals is any test that decides whether they are one
+
+plain_inj : (l m : Literal) → Plain l ≡ Plain m → l ≡ m
+plain_inj l m e = cc
+
+literals_tie : (l m : Literal) (b : Bool) → Decides b (l ≡ m) → same (Plain l) (Plain m) ≡ b
+literals_tie l m b d =
+    let values = order_decides value_cmp_total value_cmp_same (Plain l) (Plain m) in
+    let literals : Decides (same (Plain l) (Plain m)) (l ≡ m) = (λ h. plain_inj l m (values.0 h), λ e. values.1 (ap Plain e)) in
+    one_answer (same (Plain l) (Plain m)) b literals d
+
+string_inj : (s t : Text) → String s ≡ String t → s ≡ t
+string_inj s t e = cc
+
+entity_inj : (a b : Uid) → Entity a ≡ Entity b → a ≡ b
+entity_inj a b e = cc
+
+pub texts_tie : (s t : Text) → same (Plain (String s)) (Plain (String t)) ≡ same_text s t
+texts_tie s t = literals_tie (String s) (String t) (same_text s t) (λ h. ap String ((bytes_decides s t).0 h), λ e. (bytes_decides s t).1 (string_inj s t e))
+
+pub uids_tie : (a b : Uid) → same (Plain (Entity a)) (Plain (Entity b)) ≡ same_uid a b
+uids_tie a b = literals_tie (Entity a) (Entity b) (same_uid a b) (λ h. ap Entity ((uids_same a b).0 h), λ e. (uids_same a b).1 (entity_inj a b e))
+
+-- ---- trees by their parts
+
+module _ (ev : Evaluator) where
+  -- the same tree, at the same limit
+  pub tells_as : (d e : ℕ) (t u : Tree) (found : Option Lent) → d ≡ e → t ≡ u → IfSome found (λ l. Tells ev e u (value_lent l)) → IfSome found (λ l. Tells ev d t (value_lent l))
+  tells_as d e t u found is same h =
+      subst (λ s. IfSome found (λ l. Tells ev d s (value_lent l))) (sym same) (subst (λ n. IfSome found (λ l. Tells ev n u (value_lent l))) (sym is) h)
+
+  -- the same value
+  pub tells_same : (d : ℕ) (t : Tree) (v w : Value) → v ≡ w → Tells ev d t v → Tells ev d t w
+  tells_same d t v w is h = subst (Tells ev d t) is h
+
+  pub leaf_tells : (d e : ℕ) (t : Tree) (found : Option Lent) → d ≡ e + 1 → IfSome found (λ l. Tells ev 1 t (value_lent l)) → IfSome found (λ l. Tells ev d t (value_lent l))
+  leaf_tells d e t None is h = tt
+  leaf_tells d e t (Some l) is h = record { value = h.value; within = omega (arith, h.within, is) }
+
+  pub literal_tells : (t : Tree) (l : Literal) (v : Value) → t ≡ Lit l → v ≡ Plain l → Tells ev 1 t v
+  literal_tells t l v is also = record {
+    value = λ facts slots has. ap (partial_in facts (held_by ev slots)) is ∙ ap Evaluated (sym also);
+    within = let h : least_depth t ≡ 1 = ap least_depth is in omega (arith, h);
+  }
+
+  pub variable_tells : (t : Tree) (x : Variable) (v : Value) → t ≡ Var x → variable_held ev x ≡ Evaluated v → Tells ev 1 t v
+  variable_tells t x v is held = record {
+    value = λ facts slots has. ap (partial_in facts (held_by ev slots)) is ∙ held;
+    within = let h : least_depth t ≡ 1 = ap least_depth is in omega (arith, h);
+  }
+
+  module _ (d : ℕ) where
+    pub and_stops : (l r : Tree) (b : Bool) → b ≡ false → Tells ev d l (Plain (Boolean b)) → Tells ev (d + 1) (And l r) (Plain (Boolean false))
+    and_stops l r b is h = record {
+      value = λ facts slots has.
+          let holds = held_by ev slots in
+          ap (λ x. and_answer facts x (partial_in facts holds r) r) (h.value facts slots has ∙ ap (λ c. Evaluated (Plain (Boolean c))) is);
+      within = omega (arith, h.within);
+    }
+
+    pub and_goes_on : (l r : Tree) (b c : Bool) → b ≡ true → Tells ev d l (Plain (Boolean b)) → Tells ev d r (Plain (Boolean c)) → Tells ev (d + 1) (And l r) (Plain (Boolean c))
+    and_goes_on l r b c is h k = record {
+      value = λ facts slots has.
+          let holds = held_by ev slots in
+          ap (λ x. and_answer facts x (partial_in facts holds r) r) (h.value facts slots has ∙ ap (λ c. Evaluated (Plain (Boolean c))) is)
+          ∙ ap (last_answer (And (Lit (Boolean true)))) (k.value facts slots has);
+      within = omega (arith, h.within);
+    }
+
+    pub or_stops : (l r : Tree) (b : Bool) → b ≡ true → Tells ev d l (Plain (Boolean b)) → Tells ev (d + 1) (Or l r) (Plain (Boolean true))
+    or_stops l r b is h = record {
+      value = λ facts slots has.
+          let holds = held_by ev slots in
+          ap (λ x. or_answer facts x (partial_in facts holds r) r) (h.value facts slots has ∙ ap (λ c. Evaluated (Plain (Boolean c))) is);
+      within = omega (arith, h.within);
+    }
+
+    pub or_goes_on : (l r : Tree) (b c : Bool) → b ≡ false → Tells ev d l (Plain (Boolean b)) → Tells ev d r (Plain (Boolean c)) → Tells ev (d + 1) (Or l r) (Plain (Boolean c))
+    or_goes_on l r b c is h k = record {
+      value = λ facts slots has.
+          let holds = held_by ev slots in
+          ap (λ x. or_answer facts x (partial_in facts holds r) r) (h.value facts slots has ∙ ap (λ c. Evaluated (Plain (Boolean c))) is)
+          ∙ ap (last_answer (Or (Lit (Boolean false)))) (k.value facts slots has);
+      within = omega (arith, h.within);
+    }
+
+    pub if_yes : (t y n : Tree) (b : Bool) (found : Option Lent) → b ≡ true → Tells ev d t (Plain (Boolean b)) → IfSome found (λ l. Tells ev d y (value_lent l)) → IfSome found (λ l. Tells ev (d + 1) (If t y n) (value_lent l))
+    if_yes t y n b None is h k = tt
+    if_yes t y n b (Some l) is h k = record {
+      value = λ facts slots has.
+          let holds = held_by ev slots in
+          ap (λ x. if_answer facts x (partial_in facts holds y) (partial_in facts holds n) y n) (h.value facts slots has ∙ ap (λ c. Evaluated (Plain (Boolean c))) is) ∙ k.value facts slots has;
+      within = omega (arith, h.within);
+    }
+
+    pub if_no : (t y n : Tree) (b : Bool) (found : Option Lent) → b ≡ false → Tells ev d t (Plain (Boolean b)) → IfSome found (λ l. Tells ev d n (value_lent l)) → IfSome found (λ l. Tells ev (d + 1) (If t y n) (value_lent l))
+    if_no t y n b None is h k = tt
+    if_no t y n b (Some l) is h k = record {
+      value = λ facts slots has.
+          let holds = held_by ev slots in
+          ap (λ x. if_answer facts x (partial_in facts holds y) (partial_in facts holds n) y n) (h.value facts slots has ∙ ap (λ c. Evaluated (Plain (Boolean c))) is) ∙ k.value facts slots has;
+      within = omega (arith, h.within);
+    }
+
+    pub one_tells : (op : Operator) (t : Tree) (v w : Value) → Tells ev d t v → ((facts : Facts) → HasFacts ev.entities.now facts → applied facts op (one v) ≡ Gives w) → Tells ev (d + 1) (unary op t) w
+    one_tells op t v w h k = record {
+      value = λ facts slots has.
+          let holds = held_by ev slots in
+          ap (λ b. apply_answer facts holds op (and_next facts b (AllEvaluated no_values))) (h.value facts slots has) ∙ ap answer_of (k facts has);
+      within = omega (arith, h.within);
+    }
+
+    pub attribute_tells : (a b : Text) (t : Tree) (v : Value) (found : Option Lent) → b ≡ a → Tells ev d t v → ((facts : Facts) → HasFacts ev.entities.now facts → IfSome found (λ l. attribute facts b v ≡ Gives (value_lent l))) →
+        IfSome found (λ l. Tells ev (d + 1) (unary (GetAttr a) t) (value_lent l))
+    attribute_tells a b t v None is h k = tt
+    attribute_tells a b t v (Some l) is h k = one_tells (GetAttr a) t v (value_lent l) h (λ facts has. subst (λ x. attribute facts x v ≡ Gives (value_lent l)) is (k facts has))
+
+    pub two_tells : (op : Operator) (s t : Tree) (u v w : Value) → Tells ev d s u → Tells ev d t v → ((facts : Facts) → HasFacts ev.entities.now facts → applied facts op (two u v) ≡ Gives w) → Tells ev (d + 1) (binary op s t) w
+    two_tells op s t u v w h g k = record {
+      value = λ facts slots has.
+          let holds = held_by ev slots in
+          ap (λ b. apply_answer facts holds op (and_next facts b (and_next facts (partial_in facts holds t) (AllEvaluated no_values)))) (h.value facts slots has)
+          ∙ ap (λ b. apply_answer facts holds op (and_next facts (Evaluated u) (and_next facts b (AllEvaluated no_values)))) (g.value facts slots has)
+          ∙ ap answer_of (k facts has);
+      within = omega (arith, h.within, g.within);
+    }
