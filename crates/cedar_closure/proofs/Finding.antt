@@ -1,5 +1,5 @@
 -- What is found from each listed key in turn.
-use Rattle.std.proofs.Common.{◌≡◌, Bool, true, false, ◌||◌, ◌&&◌, List, [], ◌∷◌, ◌++◌, IsTrue, refl, sym, ap, ◌∙◌, inl, inr, ℕ, slice_get, Some, ◌↔◌}
+use Rattle.std.proofs.Common.{◌≡◌, Bool, true, false, ◌||◌, ◌&&◌, List, [], ◌∷◌, ◌++◌, IsTrue, refl, sym, ap, ◌∙◌, inl, inr, ℕ, slice_get, Some, ◌↔◌, true≢false}
 use Rattle.std.specs.Cmp.{IsEquivalence}
 use Rattle.std.specs.Set.{is_member}
 use Rattle.std.proofs.lemmas.Bool.{or_cases, and_parts}
@@ -91,6 +91,16 @@ module _ {K : Type 0} (eq : K → K → Bool) (E F : K → List K) where
       | inr k ↦ (sound a q (and_parts (has_node a) (finds eq all a q) k).1).1
     ];
   }
+
+  -- nothing was found from a key that isn't listed
+  pub others_stay : (has_node : K → Bool) (listed : List K) (all : List (Reached K)) → FindsNoMore eq E listed all → IsBetween (IsEdge eq E) (λ a q. IsTrue (is_member eq (E a) q || (has_node a && finds eq all a q))) (IsEdge eq F) → (a b : K) → is_member eq listed a ≡ false → IsEdge eq F a b ↔ IsEdge eq E a b
+  others_stay has_node listed all sound between a b none = (
+    λ h. elim (or_cases (is_member eq (E a) b) (has_node a && finds eq all a b) (between.most a b h)) [
+      | inl k ↦ k
+      | inr k ↦ let both : true ≡ false = sym (sound a b (and_parts (has_node a) (finds eq all a b) k).1).0 ∙ none in absurd (true≢false both)
+    ],
+    between.least a b,
+  )
 
 -- adding what was found: F has the edges of E, and those that were found at each key with a node
 module _ {K : Type 0} (eq : K → K → Bool) (E F : K → List K) (has_node : K → Bool) (listed : List K) (all : List (Reached K))

@@ -144,7 +144,8 @@ pub fn compute_tc<K: Eq + Hash + Clone + Drop, V: TCNode<K>>(
 /// Where `enforce_dag`, it is refused if one of `keys_to_fix` is on a cycle.
 ///
 /// `HasCycle` names such a key; refused otherwise only where memory runs out.
-/// A refused call leaves the nodes with all their edges, and perhaps some of those that were to be added.
+/// A refused call leaves the nodes with all their edges, and perhaps some of those that were to be added; the nodes at
+/// other keys it leaves as they were.
 pub fn repair_tc<K: Eq + Hash + Clone + Drop, V: TCNode<K>>(
     alloc: Global,
     nodes: &mut HashMap<K, V>,
@@ -162,6 +163,8 @@ pub fn repair_tc<K: Eq + Hash + Clone + Drop, V: TCNode<K>>(
         (a : K) → IsTrue (is_member K.eq keys_to_fix.now a) → ¬ (Reaches (HasEdge K.eq V.edges nodes.old) a a)) }
     ensures left { OnErr result (IsBetween (HasEdge K.eq V.edges nodes.old)
         (Reaches (HasEdge K.eq V.edges nodes.old)) (HasEdge K.eq V.edges nodes.new)) }
+    ensures others_left { OnErr result ((a b : K) → is_member K.eq keys_to_fix.now a ≡ false →
+        HasEdge K.eq V.edges nodes.new a b ↔ HasEdge K.eq V.edges nodes.old a b) }
     ensures refused { IfErr result (IsTcRefusal enforce_dag
         (λ k. IsTrue (is_member K.eq keys_to_fix.now k) × Reaches (HasEdge K.eq V.edges nodes.old) k k)) }
     ensures same { SameNodes K.eq V.is_same nodes.old nodes.new }

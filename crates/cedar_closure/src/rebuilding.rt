@@ -86,7 +86,7 @@ pub fn rebuild_tc<K: Eq + Hash + Clone + Drop, V: TCNode<K>>(
 ///
 /// `HasCycle` names such a key; refused otherwise only where memory runs out.
 /// A refused call leaves the nodes with the direct ones of their edges, and perhaps some of the others and of those
-/// that were to be added.
+/// that were to be added; the nodes at other keys it leaves as they were.
 pub fn rebuild_tc_at<K: Eq + Hash + Clone + Drop, V: TCNode<K>>(
     alloc: Global,
     nodes: &mut HashMap<K, V>,
@@ -103,6 +103,8 @@ pub fn rebuild_tc_at<K: Eq + Hash + Clone + Drop, V: TCNode<K>>(
         (λ a b. HasEdge K.eq V.direct nodes.old a b × HasEdge K.eq V.edges nodes.old a b)
         (λ a b. HasEdge K.eq V.edges nodes.old a b ⊎ Reaches (HasEdge K.eq V.direct nodes.old) a b)
         (HasEdge K.eq V.edges nodes.new)) }
+    ensures others_left { OnErr result ((a b : K) → is_member K.eq keys.now a ≡ false →
+        HasEdge K.eq V.edges nodes.new a b ↔ HasEdge K.eq V.edges nodes.old a b) }
     ensures refused { IfErr result (IsTcRefusal enforce_dag
         (λ k. IsTrue (is_member K.eq keys.now k) × Reaches (HasEdge K.eq V.direct nodes.old) k k)) }
     ensures same { SameNodes K.eq V.is_same nodes.old nodes.new }

@@ -1,6 +1,6 @@
 -- The graph of a map of entities.
 use Rattle.std.proofs.Common.{◌≡◌, ◌↔◌, true, false, List, [], Option, None, Some, option_map, refl, sym, ap, subst, ◌∙◌, IsTrue, true≢false}
-use Rattle.std.specs.Option.{option_map_or, MatchOption, IsSomeAnd}
+use Rattle.std.specs.Option.{option_map_or, MatchOption, IsSome, IsSomeAnd}
 use Rattle.std.specs.FinSet as set
 use Rattle.std.specs.HashMap.{HashMap, get}
 use Rattle.std.specs.Set.{is_member}
@@ -17,6 +17,7 @@ use Rattle.cedar_literals.specs.Laws.{same_uid_equiv}
 use Rattle.cedar_entities.proofs.UidLemmas.{contains-items}
 use Rattle.cedar_entities.specs.Held.{held_of, parents_of, IsParent, IsAncestor}
 use Rattle.cedar_entities.specs.Kept.{Lookup, in_map, held_in, IsKept, KeepsAncestors, KeepsBeside, IsByUid}
+use Rattle.cedar_entities.specs.Beside.{among, IsSameBeside}
 use Rattle.cedar_entities.specs.Refusals.{from_closure}
 use Rattle.cedar_entities.specs.Modes.{IsComputed, IsEnforced, IsClosureRefusal}
 use Rattle.cedar_entities.specs.declared.closing.TCComputation.TheVariants.{ComputeNow, EnforceAlreadyComputed}
@@ -40,6 +41,11 @@ same_held : (a b : Option EntityData) → MatchOption a (b ≡ None) (λ v. IsSo
 same_held None b h = ap (option_map held_of) h
 same_held (Some e) None h = absurd h
 same_held (Some e) (Some f) h = λ i. Some (record { attributes = h.attributes i; tags = h.tags i; parents = h.parents i })
+
+there_at : (o p : Option EntityData) → MatchOption o (p ≡ None) (λ v. IsSomeAnd p (IsSameBesideAncestors v)) → IsSome o → IsSome p
+there_at None p h k = absurd (true≢false (sym k))
+there_at (Some e) None h k = absurd h
+there_at (Some e) (Some f) h k = refl
 
 module _ {S : Type 0} where
   to_kept : (m : HashMap Uid EntityData S) (a b : Uid) → HasEdge same_uid kept_edges m a b → IsKept (in_map m) a b
@@ -100,6 +106,16 @@ module _ {S : Type 0} where
 
   pub by_uid_same : (m n : HashMap Uid EntityData S) → SameNodes same_uid IsSameBesideAncestors m n → IsByUid (in_map m) → IsByUid (in_map n)
   by_uid_same m n same by uid e is = by_uid_at m n uid e by is (get same_uid m uid) refl (same uid)
+
+  -- where a closure isn't rebuilt, what stands at other uids stays
+  pub left_beside : (m n : HashMap Uid EntityData S) (uids : List Uid) → SameNodes same_uid IsSameBesideAncestors m n
+      → ((a b : Uid) → is_member same_uid uids a ≡ false → HasEdge same_uid kept_edges n a b ↔ HasEdge same_uid kept_edges m a b) → IsSameBeside (among uids) (in_map m) (in_map n)
+  left_beside m n uids same edges = record {
+    held = λ uid l. held_same m n same uid;
+    kept = λ a b l. (λ h. to_kept m a b ((edges a b l).0 (from_kept n a b h)), λ h. to_kept n a b ((edges a b l).1 (from_kept m a b h)));
+    there = λ uid. there_at (get same_uid m uid) (get same_uid n uid) (same uid);
+    by_uid = by_uid_same m n same;
+  }
 
   pub enforced : (m : HashMap Uid EntityData S) → IsTransitive (HasEdge same_uid kept_edges m) → ((a : Uid) → ¬ (HasEdge same_uid kept_edges m a a)) → IsEnforced (in_map m) (in_map m)
   enforced m closed acyclic = record {

@@ -1,17 +1,21 @@
 -- Uids that an edit touches are gathered, and cut, in turn.
-use Rattle.std.proofs.Common.{◌≡◌, Bool, true, false, ◌||◌, List, [], ◌∷◌, ◌++◌, Option, None, Some, cond, option_map, is_some, refl, sym, ap, ◌∙◌, true≢false}
+use Rattle.std.proofs.Common.{◌≡◌, Bool, true, false, ◌||◌, List, [], ◌∷◌, ◌++◌, Option, None, Some, cond, option_map, is_some, refl, sym, ap, subst, ◌∙◌, true≢false, Result, Ok, Err, OnOk, OnErr}
 use Rattle.std.specs.Option.{option_map_or, IsSome}
 use Rattle.std.specs.FinSet as set
 use Rattle.std.specs.HashMap.{HashMap}
-use Rattle.std.specs.List.{list_any}
-use Rattle.std.specs.Map.{lookup, set_value}
+use Rattle.std.specs.List.{All, list_any}
+use Rattle.std.specs.Map.{lookup, set_value, keys_of}
 use Rattle.std.proofs.lemmas.List.Folds.{list_any-append}
+use Rattle.std.proofs.lemmas.List.Elements.{All-head, All-tail}
 use Rattle.std.proofs.lemmas.Map.{lookup-set_value}
+use Rattle.std.proofs.lemmas.Map.Made.{is_some-lookup}
 use Rattle.cedar_language.specs.Uid.{Uid}
+use Rattle.cedar_language.specs.Facts.{Reaches, edge, further}
 use Rattle.cedar_language.specs.Order.{same_uid}
 use Rattle.cedar_literals.specs.Laws.{same_uid_equiv}
 use Rattle.cedar_entities.specs.Data.{EntityData, UidSet, ancestors_of, without}
-use Rattle.cedar_entities.specs.Kept.{Lookup, in_map, kept_at, Covers}
+use Rattle.cedar_entities.specs.Held.{held_of, parents_of}
+use Rattle.cedar_entities.specs.Kept.{Lookup, in_map, held_in, kept_at, KeepsAncestors, HaveNoChildren, Covers}
 use Rattle.cedar_entities.proofs.UidLemmas.{uid_is, none_of_nothing, without_again}
 use Rattle.cedar_entities.proofs.Sameness.{IsUnderway, goes_on}
 use Rattle.cedar_entities.proofs.Untouched.{untouched_cut}
@@ -22,6 +26,14 @@ or_more a b h = ap (λ c. c || b) h
 or_else : (a b : Bool) → b ≡ true → (a || b) ≡ true
 or_else true b h = refl
 or_else false b h = h
+
+-- a listed uid that passes a test
+one_listed : (p : Uid → Bool) (x : Uid) (us : List Uid) → list_any (same_uid x) us ≡ true → p x ≡ true → list_any p us ≡ true
+one_listed p x [] h k = absurd (true≢false (sym h))
+one_listed p x (u ∷ us) h k = elim (same_uid x u) as (λ b. same_uid x u ≡ b → (b || list_any (same_uid x) us) ≡ true → (p u || list_any p us) ≡ true) [
+  | true ↦ λ e r. or_more (p u) (list_any p us) (ap p (sym (uid_is x u e)) ∙ k)
+  | false ↦ λ e r. or_else (p u) (list_any p us) (one_listed p x us r k)
+] refl h
 
 -- ---- gathering
 
@@ -89,6 +101,90 @@ module _ (found : Lookup) (edited : List Uid) where
       by_test true e = g.underway.holds uid (ap (λ us. list_any (same_uid uid) us) none) e h
       by_test false e = nothing_kept found edited uid (found uid) (λ has. true≢false (sym has ∙ e))
 
+-- ---- walking over entries
+
+-- these entries stand in the map
+abbrev pub AreStanding : Lookup → List (Uid × EntityData) → Type 0
+AreStanding found entries = All (λ (e : Uid × EntityData). found e.0 ≡ Some e.1) entries
+
+-- the same, with the entries that are left
+abbrev pub IsWalking : Lookup → List Uid → List Uid → List (Uid × EntityData) → Type 0
+IsWalking found edited uids left = IsGathering found edited uids (keys_of left) × AreStanding found left
+
+pub walk_begins : {S : Type 0} (m : HashMap Uid EntityData S) (edited uids : List Uid) → ((q : Uid) → list_any (same_uid q) uids ≡ list_any (same_uid q) edited) → AreStanding (in_map m) m.entries → IsWalking (in_map m) edited uids m.entries
+walk_begins m edited uids are standing = (gathering_begins (in_map m) edited uids (keys_of m.entries) are (λ q. sym (is_some-lookup (same_uid q) m.entries)), standing)
+
+module _ (found : Lookup) (edited uids : List Uid) (left more : List (Uid × EntityData)) (k : Uid) (e : EntityData) (step : left ≡ (k, e) ∷ more) (walking : IsWalking found edited uids left) where
+  standing : AreStanding found ((k, e) ∷ more)
+  standing = subst (AreStanding found) step walking.1
+
+  pub walks_on : IsWalking found edited (uids ++ k ∷ []) more
+  walks_on = (gathers found edited uids (keys_of left) (keys_of more) k (ap keys_of step) walking.0, All-tail (λ (x : Uid × EntityData). found x.0 ≡ Some x.1) (k, e) more standing)
+
+  pub walks_past : list_any (set.contains (ancestors_of e)) edited ≡ false → IsWalking found edited uids more
+  walks_past apart =
+      let here : found k ≡ Some e = All-head (λ (x : Uid × EntityData). found x.0 ≡ Some x.1) (k, e) more standing in (
+        passes found edited uids (keys_of left) (keys_of more) k (ap keys_of step) (ap (λ o. list_any (set.contains (option_map_or ancestors_of o set.empty)) edited) here ∙ apart) walking.0,
+        All-tail (λ (x : Uid × EntityData). found x.0 ≡ Some x.1) (k, e) more standing,
+      )
+
+pub walked : (found : Lookup) (edited uids : List Uid) (left : List (Uid × EntityData)) → left ≡ [] → IsWalking found edited uids left → Covers found edited uids
+walked found edited uids left none walking = gathered found edited uids (keys_of left) (ap keys_of none) walking.0
+
+-- ---- parents
+
+-- none of the edited is a parent of what stands at the uid
+abbrev pub IsNoChild : Lookup → List Uid → Uid → Type 0
+IsNoChild found edited uid = list_any (set.contains (parents_of (held_in found uid))) edited ≡ false
+
+-- this holds at the uids walked over
+abbrev pub IsLooking : Lookup → List Uid → List (Uid × EntityData) → Type 0
+IsLooking found edited left = IsUnderway found (IsNoChild found edited) (keys_of left) × AreStanding found left
+
+pub look_begins : {S : Type 0} (m : HashMap Uid EntityData S) (edited : List Uid) → AreStanding (in_map m) m.entries → IsLooking (in_map m) edited m.entries
+look_begins m edited standing =
+    let held : (q : Uid) → list_any (same_uid q) (keys_of m.entries) ≡ is_some (in_map m q) = λ q. sym (is_some-lookup (same_uid q) m.entries) in
+    (record { holds = λ uid gone has. absurd (true≢false (sym has ∙ sym (held uid) ∙ gone)); here = λ uid there. sym (held uid) ∙ there }, standing)
+
+pub looks_on : (found : Lookup) (edited : List Uid) (left more : List (Uid × EntityData)) (k : Uid) (e : EntityData) → left ≡ (k, e) ∷ more → list_any (set.contains e.parents) edited ≡ false → IsLooking found edited left → IsLooking found edited more
+looks_on found edited left more k e step apart looking =
+    let all : AreStanding found ((k, e) ∷ more) = subst (AreStanding found) step looking.1 in
+    let here : found k ≡ Some e = All-head (λ (x : Uid × EntityData). found x.0 ≡ Some x.1) (k, e) more all in (
+      goes_on found (IsNoChild found edited) (keys_of left) (keys_of more) k looking.0 (ap keys_of step) (ap (λ o. list_any (set.contains (parents_of (option_map held_of o))) edited) here ∙ apart),
+      All-tail (λ (x : Uid × EntityData). found x.0 ≡ Some x.1) (k, e) more all,
+    )
+
+pub looked : (found : Lookup) (edited : List Uid) (left : List (Uid × EntityData)) → left ≡ [] → IsLooking found edited left → HaveNoChildren found edited
+looked found edited left none looking uid = by_test (is_some (found uid)) refl
+  where
+    nothing : (o : Option EntityData) → is_some o ≡ false → list_any (set.contains (parents_of (option_map held_of o))) edited ≡ false
+    nothing None h = none_of_nothing edited
+    nothing (Some e) h = absurd (true≢false h)
+
+    by_test : (b : Bool) → is_some (found uid) ≡ b → IsNoChild found edited uid
+    by_test true e = looking.0.holds uid (ap (λ es. list_any (same_uid uid) (keys_of es)) none) e
+    by_test false e = nothing (found uid) e
+
+last_parent : {R : Uid → Uid → Type 0} {a b : Uid} → Reaches R a b → (m : Uid) × R m b
+last_parent (edge {a = a} h) = (a, h)
+last_parent (further h r) = last_parent r
+
+-- what is nobody's parent is nobody's ancestor
+pub covered : (found : Lookup) (edited uids : List Uid) → KeepsAncestors found → HaveNoChildren found edited → ((q : Uid) → list_any (same_uid q) uids ≡ list_any (same_uid q) edited) → Covers found edited uids
+covered found edited uids keeps childless are uid n = record { stays = sym (are uid) ∙ n; apart = none edited (λ q l. l) }
+  where
+    never : (q : Uid) → list_any (same_uid q) edited ≡ true → (b : Bool) → set.contains (kept_at found uid) q ≡ b → b ≡ false
+    never q l true k =
+        let last = last_parent ((keeps.ancestors uid q).0 k) in
+        absurd (true≢false (sym (one_listed (set.contains (parents_of (held_in found last.0))) q edited l last.1) ∙ childless last.0))
+    never q l false k = refl
+
+    none : (us : List Uid) → ((q : Uid) → list_any (same_uid q) us ≡ true → list_any (same_uid q) edited ≡ true) → list_any (set.contains (kept_at found uid)) us ≡ false
+    none [] on = refl
+    none (u ∷ us) on =
+        ap (λ b. b || list_any (set.contains (kept_at found uid)) us) (never u (on u (or_more (same_uid u u) (list_any (same_uid u) us) (same_uid_equiv.refl u))) (set.contains (kept_at found uid) u) refl)
+        ∙ none us (λ q h. on q (or_else (same_uid q u) (list_any (same_uid q) us) h))
+
 -- ---- cutting
 
 -- what stands at the uids passed lost the edited from its ancestors, and the others have none to lose
@@ -155,12 +251,20 @@ uids_added all left us none underway q = sym (or_none (list_any (same_uid q) us)
 
 -- ---- one value of a map is cut
 
-module _ {S : Type 0} (m n : HashMap Uid EntityData S) (at : Uid) (g : UidSet) where
-  pub cut_there : (e w : EntityData) → n.entries ≡ set_value (same_uid at) m.entries w → Some e ≡ in_map m at → w ≡ without g e → (uid : Uid) → in_map n uid ≡ cond (same_uid at uid) (option_map (without g) (in_map m uid)) (in_map m uid)
-  cut_there e w is here cut uid =
+module _ {S : Type 0} (m n : HashMap Uid EntityData S) (at : Uid) where
+  pub written_there : (e w : EntityData) → n.entries ≡ set_value (same_uid at) m.entries w → Some e ≡ in_map m at → (uid : Uid) → in_map n uid ≡ cond (same_uid at uid) (Some w) (in_map m uid)
+  written_there e w is here uid =
       ap (λ es. lookup (same_uid uid) es) is
       ∙ lookup-set_value same_uid_equiv (same_uid at) (λ x y t. ap (λ u. same_uid u y) (uid_is at x t)) uid w m.entries (ap is_some (sym here))
-      ∙ by_test (same_uid at uid) refl
+
+-- the entity keeps its uid, whether it is cut or not
+pub uid_stays : {E : Type 0} (g : UidSet) (e w : EntityData) (r : Result (Unit {0}) E) → OnOk r (w ≡ without g e) → OnErr r (w ≡ e) → w.uid ≡ e.uid
+uid_stays g e w (Ok done) h k = ap (λ (x : EntityData). x.uid) h
+uid_stays g e w (Err error) h k = ap (λ (x : EntityData). x.uid) k
+
+module _ {S : Type 0} (m n : HashMap Uid EntityData S) (at : Uid) (g : UidSet) where
+  pub cut_there : (e w : EntityData) → n.entries ≡ set_value (same_uid at) m.entries w → Some e ≡ in_map m at → w ≡ without g e → (uid : Uid) → in_map n uid ≡ cond (same_uid at uid) (option_map (without g) (in_map m uid)) (in_map m uid)
+  cut_there e w is here cut uid = written_there m n at e w is here uid ∙ by_test (same_uid at uid) refl
     where
       by_test : (b : Bool) → same_uid at uid ≡ b → cond b (Some w) (in_map m uid) ≡ cond b (option_map (without g) (in_map m uid)) (in_map m uid)
       by_test true t = ap Some cut ∙ ap (option_map (without g)) (here ∙ ap (in_map m) (uid_is at uid t))

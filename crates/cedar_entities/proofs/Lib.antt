@@ -16,5 +16,8 @@ pub mod Shown
 mod EditedWorlds
 mod Fitting
 pub mod Untouched
+mod Beside
 pub mod Gathering
 pub mod Whole
+mod Dropping
+mod InPlace

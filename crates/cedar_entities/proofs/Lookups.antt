@@ -7,7 +7,7 @@ use Rattle.cedar_language.specs.Order.{same_uid}
 use Rattle.cedar_entities.specs.Data.{UidSet, EntityData, without}
 use Rattle.cedar_entities.specs.Held.{Held, held_of, parents_of, IsAncestor}
 use Rattle.cedar_entities.specs.Edits.{last_by, first_by, or_first, without_parents}
-use Rattle.cedar_entities.specs.Kept.{Lookup, held_in, same, added_to, removed_from}
+use Rattle.cedar_entities.specs.Kept.{Lookup, held_in, same, put_over, added_to, removed_from}
 
 held-cond : (b : Bool) (e : EntityData) (o : Option EntityData) → option_map held_of (cond b (Some e) o) ≡ cond b (Some (held_of e)) (option_map held_of o)
 held-cond true e o = refl
@@ -35,6 +35,14 @@ cut_or_gone uids false (Some e) = refl
 
 pub held-removed : (found : Lookup) (uids : UidSet) (uid : Uid) → held_in (removed_from found uids) uid ≡ cond (set.contains uids uid) None (option_map (without_parents uids) (held_in found uid))
 held-removed found uids uid = cut_or_gone uids (set.contains uids uid) (found uid)
+
+-- one more entity is put, and those still to come leave what all of them do
+pub puts_on : (before now next : Lookup) (all rest more : List EntityData) (e : EntityData) (k : Uid) → rest ≡ e ∷ more → k ≡ e.uid → ((uid : Uid) → next uid ≡ cond (same_uid k uid) (Some e) (now uid))
+    → ((uid : Uid) → put_over now rest uid ≡ put_over before all uid) → (uid : Uid) → put_over next more uid ≡ put_over before all uid
+puts_on before now next all rest more e k step is puts p uid =
+    ap (last_by same more uid) (puts uid ∙ ap (λ u. cond (same_uid u uid) (Some e) (now uid)) is)
+    ∙ ap (λ es. put_over now es uid) (sym step)
+    ∙ p uid
 
 -- ---- paths
 

@@ -1,28 +1,33 @@
--- Look-ups after entries are dropped or changed.
-use Rattle.std.proofs.Common.{◌≡◌, Bool, true, false, not, cond, List, map, filter, None, option_map, refl, sym, ap, ◌∙◌}
+-- Entities are taken away in turn.
+use Rattle.std.proofs.Common.{◌≡◌, Bool, true, false, ◌||◌, cond, List, [], ◌∷◌, Option, None, refl, sym, ap, ◌∙◌}
 use Rattle.std.specs.FinSet as set
-use Rattle.std.specs.HashMap.{HashMap}
 use Rattle.std.specs.List.{list_any}
-use Rattle.std.specs.Map.{lookup}
-use Rattle.std.proofs.lemmas.Map.Entries.{lookup-filter-keys}
-use Rattle.std.proofs.lemmas.Map.Made.{lookup-map_values}
 use Rattle.cedar_language.specs.Uid.{Uid}
 use Rattle.cedar_language.specs.Order.{same_uid, uid_cmp}
-use Rattle.cedar_entities.specs.Data.{EntityData, without}
-use Rattle.cedar_entities.proofs.UidLemmas.{contains-listed, uid_is}
-use Rattle.cedar_entities.specs.Kept.{in_map}
+use Rattle.cedar_literals.specs.Laws.{same_uid_equiv}
+use Rattle.cedar_entities.specs.Data.{EntityData}
+use Rattle.cedar_entities.specs.Kept.{Lookup}
+use Rattle.cedar_entities.proofs.UidLemmas.{contains-listed}
 
-turned : {A : Type 0} (b : Bool) (x y : A) → cond (not b) x y ≡ cond b y x
-turned true x y = refl
-turned false x y = refl
+-- without those still to come there is what there was without all of them
+abbrev pub IsDropping : Lookup → Lookup → List Uid → List Uid → Type 0
+IsDropping before now all rest = (uid : Uid) → cond (list_any (same_uid uid) rest) None (now uid) ≡ cond (list_any (same_uid uid) all) None (before uid)
 
-module _ {S : Type 0} where
-  pub dropped : (gone : List Uid) (m n : HashMap Uid EntityData S) → n.entries ≡ filter (λ e. not (list_any (same_uid e.0) gone)) m.entries → (uid : Uid) → in_map n uid ≡ cond (set.contains (set.from_list {R = uid_cmp} gone) uid) None (in_map m uid)
-  dropped gone m n is uid =
-      ap (λ es. lookup (same_uid uid) es) is
-      ∙ lookup-filter-keys (same_uid uid) (λ u. not (list_any (same_uid u) gone)) (not (list_any (same_uid uid) gone)) (λ u e. ap (λ x. not (list_any (same_uid x) gone)) (sym (uid_is uid u e))) m.entries
-      ∙ turned (list_any (same_uid uid) gone) (in_map m uid) None
-      ∙ ap (λ b. cond b None (in_map m uid)) (sym (contains-listed gone uid))
+both : (a r : Bool) (o : Option EntityData) → cond r None (cond a None o) ≡ cond (a || r) None o
+both true true o = refl
+both true false o = refl
+both false r o = refl
 
-  pub cut : (gone : List Uid) (m n : HashMap Uid EntityData S) → n.entries ≡ map (λ e. (e.0, without (set.from_list {R = uid_cmp} gone) e.1)) m.entries → (uid : Uid) → in_map n uid ≡ option_map (without (set.from_list {R = uid_cmp} gone)) (in_map m uid)
-  cut gone m n is uid = ap (λ es. lookup (same_uid uid) es) is ∙ lookup-map_values (without (set.from_list {R = uid_cmp} gone)) (same_uid uid) m.entries
+pub drops_on : (before now next : Lookup) (all rest more : List Uid) (k : Uid) → rest ≡ k ∷ more → ((q : Uid) → next q ≡ cond (same_uid k q) None (now q)) → IsDropping before now all rest → IsDropping before next all more
+drops_on before now next all rest more k step drops p uid =
+    ap (cond (list_any (same_uid uid) more) None) (drops uid)
+    ∙ both (same_uid k uid) (list_any (same_uid uid) more) (now uid)
+    ∙ ap (λ b. cond (b || list_any (same_uid uid) more) None (now uid)) (same_uid_equiv.symm k uid)
+    ∙ ap (λ us. cond (list_any (same_uid uid) us) None (now uid)) (sym step)
+    ∙ p uid
+
+pub all_dropped : (before now : Lookup) (all rest : List Uid) → rest ≡ [] → IsDropping before now all rest → (uid : Uid) → now uid ≡ cond (set.contains (set.from_list {R = uid_cmp} all) uid) None (before uid)
+all_dropped before now all rest none p uid =
+    sym (ap (λ us. cond (list_any (same_uid uid) us) None (now uid)) none)
+    ∙ p uid
+    ∙ ap (λ b. cond b None (before uid)) (sym (contains-listed all uid))

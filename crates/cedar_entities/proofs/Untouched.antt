@@ -11,6 +11,7 @@ use Rattle.cedar_entities.specs.Data.{EntityData, ancestors_of, without}
 use Rattle.cedar_entities.specs.Held.{held_of, parents_of, IsParent}
 use Rattle.cedar_entities.specs.Edits.{last_by, first_by, or_first}
 use Rattle.cedar_entities.specs.Kept.{Lookup, held_in, kept_at, same, put_over, added_to, removed_from, KeepsAncestors, IsUntouched, Covers, KeepsBeside}
+use Rattle.cedar_entities.specs.Beside.{among, among_entities, CoversEntities, cut_from}
 use Rattle.cedar_entities.proofs.UidLemmas.{contains-listed, uid_is, none_passes, apart_stays}
 
 module _ (old new : Lookup) (edited : List Uid) (keeps : KeepsAncestors old) (agrees : (uid : Uid) → IsUntouched old edited uid → new uid ≡ old uid) where
@@ -54,19 +55,16 @@ right_false : (a b : Bool) → (a || b) ≡ false → b ≡ false
 right_false true b h = absurd (true≢false h)
 right_false false b h = h
 
-abbrev among : List EntityData → Uid → Bool
-among es uid = list_any (λ e. same_uid uid e.uid) es
+other : (e : EntityData) (es : List EntityData) (uid : Uid) → among_entities (e ∷ es) uid ≡ false → same_uid e.uid uid ≡ false
+other e es uid h = same_uid_equiv.symm e.uid uid ∙ left_false (same_uid uid e.uid) (among_entities es uid) h
 
-other : (e : EntityData) (es : List EntityData) (uid : Uid) → among (e ∷ es) uid ≡ false → same_uid e.uid uid ≡ false
-other e es uid h = same_uid_equiv.symm e.uid uid ∙ left_false (same_uid uid e.uid) (among es uid) h
-
-last_apart : (es : List EntityData) (uid : Uid) (o : Option EntityData) → among es uid ≡ false → last_by same es uid o ≡ o
+last_apart : (es : List EntityData) (uid : Uid) (o : Option EntityData) → among_entities es uid ≡ false → last_by same es uid o ≡ o
 last_apart [] uid o h = refl
-last_apart (e ∷ es) uid o h = ap (λ b. last_by same es uid (cond b (Some e) o)) (other e es uid h) ∙ last_apart es uid o (right_false (same_uid uid e.uid) (among es uid) h)
+last_apart (e ∷ es) uid o h = ap (λ b. last_by same es uid (cond b (Some e) o)) (other e es uid h) ∙ last_apart es uid o (right_false (same_uid uid e.uid) (among_entities es uid) h)
 
-first_apart : (es : List EntityData) (uid : Uid) → among es uid ≡ false → first_by same es uid ≡ None
+first_apart : (es : List EntityData) (uid : Uid) → among_entities es uid ≡ false → first_by same es uid ≡ None
 first_apart [] uid h = refl
-first_apart (e ∷ es) uid h = ap (λ b. cond b (Some e) (first_by same es uid)) (other e es uid h) ∙ first_apart es uid (right_false (same_uid uid e.uid) (among es uid) h)
+first_apart (e ∷ es) uid h = ap (λ b. cond b (Some e) (first_by same es uid)) (other e es uid h) ∙ first_apart es uid (right_false (same_uid uid e.uid) (among_entities es uid) h)
 
 or_nothing : (o : Option EntityData) → or_first o None ≡ o
 or_nothing None = refl
@@ -95,23 +93,29 @@ remove_agrees old edited uid u = ap (λ b. cond b None (option_map (without (set
 
 -- ---- what is stale once an edit is made
 
--- the ancestors are whole, and but for these all is untouched
-abbrev IsStale : Lookup → List Uid → List Uid → Type 0
-IsStale old edited uids = KeepsAncestors old × Covers old edited uids
-
 pub some_weaker : {X : Type 0} (P Q : X → Type 0) → ((x : X) → P x → Q x) → (o : Option X) → IfSome o P → IfSome o Q
 some_weaker P Q on None h = tt
 some_weaker P Q on (Some x) h = on x h
 
-module _ {S : Type 0} (uids_of : S → List Uid) (old new : Lookup) (edited : List Uid) (stale : Option S) (is : IfSome stale (λ s. KeepsAncestors old × Covers old edited (uids_of s))) where
-  agreeing : ((uid : Uid) → IsUntouched old edited uid → new uid ≡ old uid) → IfSome stale (λ s. KeepsBeside (uids_of s) new)
-  agreeing agrees = some_weaker _ _ (λ s h. keeps_beside old new edited h.0 agrees (uids_of s) h.1) stale is
+pub put_beside : (old new : Lookup) (es : List EntityData) (uids : List Uid) → KeepsAncestors old → CoversEntities old es uids → ((uid : Uid) → new uid ≡ put_over old es uid) → KeepsBeside uids new
+put_beside old new es uids keeps covers puts = keeps_beside old new covers.0 keeps (λ uid u. puts uid ∙ put_agrees old es covers.0 covers.1 uid u) uids covers.2
 
-  pub put_stale : (es : List EntityData) → AreUidsOf es edited → ((uid : Uid) → new uid ≡ put_over old es uid) → IfSome stale (λ s. KeepsBeside (uids_of s) new)
-  put_stale es are puts = agreeing (λ uid u. puts uid ∙ put_agrees old es edited are uid u)
+pub add_beside : (old new : Lookup) (es : List EntityData) (uids : List Uid) → KeepsAncestors old → CoversEntities old es uids → ((uid : Uid) → new uid ≡ added_to old es uid) → KeepsBeside uids new
+add_beside old new es uids keeps covers adds = keeps_beside old new covers.0 keeps (λ uid u. adds uid ∙ add_agrees old es covers.0 covers.1 uid u) uids covers.2
 
-  pub add_stale : (es : List EntityData) → AreUidsOf es edited → ((uid : Uid) → new uid ≡ added_to old es uid) → IfSome stale (λ s. KeepsBeside (uids_of s) new)
-  add_stale es are adds = agreeing (λ uid u. adds uid ∙ add_agrees old es edited are uid u)
+pub cut_beside : (old new : Lookup) (gone uids : List Uid) → KeepsAncestors old → Covers old gone uids → ((uid : Uid) → new uid ≡ cut_from old (set.from_list gone) uid) → KeepsBeside uids new
+cut_beside old new gone uids keeps covers cuts = keeps_beside old new gone keeps (λ uid u. cuts uid ∙ untouched_cut old gone uid u) uids covers
 
-  pub remove_stale : ((uid : Uid) → new uid ≡ removed_from old (set.from_list edited) uid) → IfSome stale (λ s. KeepsBeside (uids_of s) new)
-  remove_stale removes = agreeing (λ uid u. removes uid ∙ remove_agrees old edited uid u)
+-- the entities of an edit are among those that it touches
+pub covers_listed : (old : Lookup) (es : List EntityData) (uids : List Uid) → CoversEntities old es uids → (q : Uid) → among uids q ≡ false → among_entities es q ≡ false
+covers_listed old es uids covers q n = sym (covers.1 q) ∙ (covers.2 q n).stays
+
+module _ {S : Type 0} (uids_of : S → List Uid) (old new : Lookup) (stale : Option S) where
+  pub put_stale : (es : List EntityData) → IfSome stale (λ s. KeepsAncestors old × CoversEntities old es (uids_of s)) → ((uid : Uid) → new uid ≡ put_over old es uid) → IfSome stale (λ s. KeepsBeside (uids_of s) new)
+  put_stale es is puts = some_weaker _ _ (λ s h. put_beside old new es (uids_of s) h.0 h.1 puts) stale is
+
+  pub add_stale : (es : List EntityData) → IfSome stale (λ s. KeepsAncestors old × CoversEntities old es (uids_of s)) → ((uid : Uid) → new uid ≡ added_to old es uid) → IfSome stale (λ s. KeepsBeside (uids_of s) new)
+  add_stale es is adds = some_weaker _ _ (λ s h. add_beside old new es (uids_of s) h.0 h.1 adds) stale is
+
+  pub remove_stale : (gone : List Uid) → IfSome stale (λ s. KeepsAncestors old × Covers old gone (uids_of s)) → ((uid : Uid) → new uid ≡ removed_from old (set.from_list gone) uid) → IfSome stale (λ s. KeepsBeside (uids_of s) new)
+  remove_stale gone is removes = some_weaker _ _ (λ s h. keeps_beside old new gone h.0 (λ uid u. removes uid ∙ remove_agrees old gone uid u) (uids_of s) h.1) stale is

@@ -5,9 +5,11 @@ pub mod Sameness
 pub mod Held
 pub mod Edits
 pub mod Kept
+pub mod Beside
 pub mod Refusals
 pub mod Modes
 pub mod Store
+pub mod InPlace
 pub mod Evaluated
 pub mod Refused
 pub mod Calls

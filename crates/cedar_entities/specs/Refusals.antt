@@ -4,7 +4,8 @@ use Rattle.cedar_language.specs.Uid.{Uid}
 use Rattle.cedar_closure.specs.declared.errors.TcError.{TcError}
 use Rattle.cedar_closure.specs.declared.errors.TcError.TheVariants as closure
 use Rattle.cedar_entities.specs.Data.{EntityData}
-use Rattle.cedar_entities.specs.Kept.{Lookup, added_to, IsOtherVersion}
+use Rattle.cedar_entities.specs.Held.{IsAncestor}
+use Rattle.cedar_entities.specs.Kept.{Lookup, held_in, added_to, AreVersions, IsOtherVersion}
 use Rattle.cedar_entities.specs.declared.errors.EntitiesError.{EntitiesError}
 use Rattle.cedar_entities.specs.declared.errors.EntitiesError.TheVariants.{Duplicate, TransitiveClosureError, Memory}
 
@@ -42,3 +43,9 @@ abbrev pub IsMemory : EntitiesError → Type 0
 IsMemory (Duplicate e) = ⊥
 IsMemory (TransitiveClosureError e) = ⊥
 IsMemory (Memory e) = ⊤
+
+-- a refusal of the entities that are added to these and then closed: a cycle comes where each fits
+abbrev pub IsAdditionRefusal : Lookup → List EntityData → EntitiesError → Type 0
+IsAdditionRefusal found es (Duplicate e) = IsOtherVersion (added_to found es) es e.euid
+IsAdditionRefusal found es (TransitiveClosureError e) = AreVersions (added_to found es) es × IsCycle (IsAncestor (held_in (added_to found es))) e
+IsAdditionRefusal found es (Memory e) = ⊤

@@ -19,8 +19,9 @@ pub enum TCComputation {
 }
 
 impl TCComputation {
-    ghost use Rattle.std.specs.Prelude.{OnOk, IfOk, IfErr, IfSome, IsTrue};
+    ghost use Rattle.std.specs.Prelude.{OnOk, OnErr, IfOk, IfErr, IfSome, IsTrue};
     ghost use Rattle.cedar_entities.specs.Kept.{in_map, IsByUid, IsWhole, KeepsBeside};
+    ghost use Rattle.cedar_entities.specs.Beside.{among, IsSameBeside};
     ghost use Rattle.cedar_entities.specs.Modes.{IsComputed, IsEnforced, IsClosedAs, IsClosureRefusal};
     ghost use Rattle.cedar_entities.specs.declared.closing.TCComputation.TheVariants.{ComputeNow, EnforceAlreadyComputed};
 
@@ -37,8 +38,8 @@ impl TCComputation {
         Ok(())
     }
 
-    // The same, where it is done for all but these uids.
-    fn compute_at(
+    /// Keeps beside the parents what they reach, where this is done for all but these uids.
+    pub(crate) fn compute_at(
         alloc: Global,
         entities: &mut HashMap<EntityUID, Entity>,
         stale: &[EntityUID],
@@ -47,12 +48,13 @@ impl TCComputation {
         ensures computed { OnOk result (IsComputed (in_map entities.old) (in_map entities.new)) }
         ensures by_uid { IsByUid (in_map entities.old) → IsByUid (in_map entities.new) }
         ensures refused { IfErr result (IsClosureRefusal ComputeNow (in_map entities.old)) }
+        ensures beside { OnErr result (IsSameBeside (among stale.now) (in_map entities.old) (in_map entities.new)) }
     {
         rebuild_tc_at(alloc, entities, stale, true)?;
         Ok(())
     }
 
-    // The same, for all or for those that are stale.
+    // Keeps beside the parents what they reach, for all or for those that are stale.
     fn compute_stale(
         alloc: Global,
         entities: &mut HashMap<EntityUID, Entity>,

@@ -8,6 +8,7 @@ ghost use Rattle.cedar_language.specs.Order.{same_uid, uid_cmp};
 ghost use Rattle.cedar_entities.specs.Data.{IsSameEntity, without};
 ghost use Rattle.cedar_entities.specs.Edits.{or_first};
 ghost use Rattle.cedar_entities.specs.Kept.{in_map, put_over, added_to, removed_from, AreVersions, Covers};
+ghost use Rattle.cedar_entities.specs.Beside.{IsSameBeside, among, among_entities};
 ghost use Rattle.cedar_entities.specs.Refusals.{IsAddRefusal, IsOneRefusal};
 
 use crate::entity::Entity;
@@ -22,7 +23,8 @@ pub(crate) fn put_all(
     map: &mut HashMap<EntityUID, Entity>,
     entities: Vec<Entity>,
 ) -> Result<(), AllocError>
-    ensures { OnOk result ((uid : Uid) → in_map map.new uid ≡ put_over (in_map map.old) entities.items uid) }
+    ensures put { OnOk result ((uid : Uid) → in_map map.new uid ≡ put_over (in_map map.old) entities.items uid) }
+    ensures beside { IsSameBeside (among_entities entities.items) (in_map map.old) (in_map map.new) }
 {
     for entity in entities {
         let key = entity.uid().clone(alloc)?;
@@ -39,6 +41,7 @@ fn add_one(
 ) -> Result<(), EntitiesError>
     ensures added { OnOk result ((uid : Uid) → in_map map.new uid ≡ or_first (in_map map.old uid) (cond (same_uid entity.uid uid) (Some entity) None)) }
     ensures same { OnOk result (IsSomeAnd (or_first (in_map map.old entity.uid) (Some entity)) (λ kept. IsSameEntity kept entity)) }
+    ensures beside { IsSameBeside (λ q. same_uid q entity.uid) (in_map map.old) (in_map map.new) }
     ensures refused { IfErr result (IsOneRefusal entity.uid (¬ (IsSomeAnd (or_first (in_map map.old entity.uid) (Some entity)) (λ kept. IsSameEntity kept entity)))) }
 {
     match map.get(entity.uid()) {
@@ -67,6 +70,7 @@ pub(crate) fn add_all(
 ) -> Result<(), EntitiesError>
     ensures added { OnOk result ((uid : Uid) → in_map map.new uid ≡ added_to (in_map map.old) entities.items uid) }
     ensures versions { OnOk result (AreVersions (added_to (in_map map.old) entities.items) entities.items) }
+    ensures beside { IsSameBeside (among_entities entities.items) (in_map map.old) (in_map map.new) }
     ensures refused { IfErr result (IsAddRefusal (in_map map.old) entities.items) }
 {
     for entity in entities {
@@ -86,11 +90,13 @@ pub(crate) fn uids_of(alloc: Global, entities: &[Entity]) -> Result<HashSet<Enti
     Ok(uids)
 }
 
-// Takes the entities of these uids away.
-fn drop_all(map: &mut HashMap<EntityUID, Entity>, uids: &HashSet<EntityUID>)
+/// Takes the entities of these uids away.
+pub(crate) fn drop_all(map: &mut HashMap<EntityUID, Entity>, uids: &HashSet<EntityUID>)
     ensures { (uid : Uid) → in_map map.new uid ≡ cond (set.contains (set.from_list {R = uid_cmp} uids.now.keys) uid) None (in_map map.old uid) }
 {
-    map.retain(|uid, _entity| !uids.contains(uid));
+    for uid in uids {
+        map.remove(uid);
+    }
 }
 
 // Takes the uids away from the ancestors of the entity at one uid.
@@ -99,7 +105,8 @@ fn cut_one(
     at: &EntityUID,
     uids: &HashSet<EntityUID>,
 ) -> Result<(), AllocError>
-    ensures { OnOk result ((uid : Uid) → in_map map.new uid
+    ensures beside { IsSameBeside (λ q. same_uid q at.now) (in_map map.old) (in_map map.new) }
+    ensures cut { OnOk result ((uid : Uid) → in_map map.new uid
         ≡ cond (same_uid at.now uid) (option_map (without (set.from_list {R = uid_cmp} uids.now.keys)) (in_map map.old uid)) (in_map map.old uid)) }
 {
     match map.get_mut(at) {
@@ -108,14 +115,15 @@ fn cut_one(
     }
 }
 
-// Takes the uids away from the ancestors of each entity, none of the others having one of them.
-fn cut_all(
+/// Takes the uids away from the ancestors of each entity, none of the others having one of them.
+pub(crate) fn cut_all(
     map: &mut HashMap<EntityUID, Entity>,
     touched: &[EntityUID],
     uids: &HashSet<EntityUID>,
 ) -> Result<(), AllocError>
     requires { Covers (in_map map.old) uids.now.keys touched.now }
-    ensures { OnOk result ((uid : Uid) → in_map map.new uid ≡ option_map (without (set.from_list {R = uid_cmp} uids.now.keys)) (in_map map.old uid)) }
+    ensures beside { IsSameBeside (among touched.now) (in_map map.old) (in_map map.new) }
+    ensures cut { OnOk result ((uid : Uid) → in_map map.new uid ≡ option_map (without (set.from_list {R = uid_cmp} uids.now.keys)) (in_map map.old uid)) }
 {
     for at in touched {
         cut_one(map, at, uids)?;

@@ -6,6 +6,7 @@ ghost use Rattle.cedar_language.specs.Order.{uid_cmp};
 ghost use Rattle.cedar_language.specs.Tree as tree;
 ghost use Rattle.cedar_trees.specs.Bare.{bare};
 ghost use Rattle.cedar_literals.specs.Escapes.{uid_text};
+ghost use Rattle.cedar_entities.specs.Beside.{CoversEntities};
 ghost use Rattle.cedar_entities.specs.Kept.{in_map, IsByUid, IsWhole, KeepsBeside, Covers};
 
 use crate::closing::TCComputation;
@@ -13,7 +14,7 @@ use crate::comparing::{agree_where_held, has_uids_of};
 use crate::edits::{add_all, put_all, remove_all, uids_of};
 use crate::entity::Entity;
 use crate::errors::EntitiesError;
-use crate::touching::{are_few, few, touched};
+use crate::touching::{are_few, few, touched, touched_in_closed};
 use cedar_literals::types::Type;
 use cedar_literals::uids::EntityUID;
 use cedar_trees::expr::Expr;
@@ -32,10 +33,10 @@ enum Mode {
 /// The entities of a request, by their uids. Each stands under its own uid.
 /// (Cedar language reference, "Entities".)
 pub struct Entities {
-    entities: HashMap<EntityUID, Entity>,
+    pub(crate) entities: HashMap<EntityUID, Entity>,
     mode: Mode,
     // whether the ancestors kept are known to be those that the parents reach
-    is_closed: bool,
+    pub(crate) is_closed: bool,
     pub ghost by_uid: { IsByUid (in_map entities) },
     pub ghost closed: { IsTrue is_closed → IsWhole (in_map entities) },
 }
@@ -217,20 +218,39 @@ impl Entities {
         })
     }
 
-    // The uids of the entities that an edit of these uids touches, where they are few and the ancestors of all others
-    // are known to be whole: where ancestors are to be computed, those of these entities alone are then stale.
-    fn stale(
+    // The uids of the entities that an edit of these uids touches.
+    pub(crate) fn touched(
         &self,
         alloc: Global,
-        edited: &HashSet<EntityUID>,
+        uids: &HashSet<EntityUID>,
+    ) -> Result<Vec<EntityUID>, AllocError>
+        ensures { IfOk result (λ touched. Covers (found_in self.now) uids.now.keys touched.items) }
+    {
+        if self.is_closed {
+            touched_in_closed(alloc, &self.entities, uids)
+        } else {
+            touched(alloc, &self.entities, uids)
+        }
+    }
+
+    // The uids of the entities that an edit of these entities touches, where they are few and the ancestors of all
+    // others are known to be whole: where ancestors are to be computed, those of these entities alone are then stale.
+    pub(crate) fn stale(
+        &self,
+        alloc: Global,
+        entities: &[Entity],
         tc_computation: TCComputation,
     ) -> Result<Option<Vec<EntityUID>>, AllocError>
-        ensures { IfOk result (λ stale. IfSome stale (λ uids. IsClosed self.now × Covers (found_in self.now) edited.now.keys uids.items)) }
+        ensures { IfOk result (λ stale. IfSome stale (λ uids. IsClosed self.now × CoversEntities (found_in self.now) entities.now uids.items)) }
     {
-        if tc_computation != TCComputation::ComputeNow || !are_few(edited.len(), self.len()) {
+        if tc_computation != TCComputation::ComputeNow
+            || !self.is_closed
+            || !are_few(entities.len(), self.len())
+        {
             return Ok(None);
         }
-        let uids = touched(alloc, &self.entities, edited)?;
+        let edited = uids_of(alloc, entities)?;
+        let uids = touched_in_closed(alloc, &self.entities, &edited)?;
         Ok(few(self.is_closed, uids, self.len()))
     }
 
@@ -268,7 +288,7 @@ impl Entities {
     /// Refused `Duplicate` with the uid of a version that differs from the one held, or else from the first one
     /// listed. Ancestors are then closed or looked at, and refused, as `from_entities` says of
     /// `tc_computation`. Also refused where memory runs out. The store is consumed: a refused call leaves nothing
-    /// of it, so a caller that goes on with it adds to a clone.
+    /// of it, so a caller that goes on with it calls `add_in_place`.
     ///
     /// With `ComputeNow` it looks once at each entity for those listed among its ancestors, and closes again
     /// these entities and those listed, where they are few; else it goes over the whole store, at the cost told
@@ -283,7 +303,7 @@ impl Entities {
         ensures added { tc_computation ≡ ComputeNow → IsClosed self → ArePlain entities.items → Adds (held_at self) entities.items result }
         ensures partial { IfOk result (λ store. is_partial_store store ≡ is_partial_store self) }
     {
-        let stale = self.stale(alloc, &uids_of(alloc, &entities)?, tc_computation)?;
+        let stale = self.stale(alloc, &entities, tc_computation)?;
         let Entities {
             entities: mut map,
             mode,
@@ -298,7 +318,7 @@ impl Entities {
     ///
     /// Never refused `Duplicate`. Ancestors are closed or looked at, and refused, as `from_entities` says of
     /// `tc_computation`, at the cost told at `add_entities`. Also refused where memory runs out. The store is
-    /// consumed: a refused call leaves nothing of it, so a caller that goes on with it puts into a clone.
+    /// consumed: a refused call leaves nothing of it, so a caller that goes on with it calls `upsert_in_place`.
     pub fn upsert_entities(
         self,
         alloc: Global,
@@ -309,7 +329,7 @@ impl Entities {
         ensures put { tc_computation ≡ ComputeNow → Leaves (put (held_at self) entities.items) result }
         ensures partial { IfOk result (λ store. is_partial_store store ≡ is_partial_store self) }
     {
-        let stale = self.stale(alloc, &uids_of(alloc, &entities)?, tc_computation)?;
+        let stale = self.stale(alloc, &entities, tc_computation)?;
         let Entities {
             entities: mut map,
             mode,
@@ -327,7 +347,7 @@ impl Entities {
     /// Ancestors are closed or looked at, and refused, as `from_entities` says of `tc_computation`, but a closed
     /// store is never refused with `ComputeNow`, memory aside; at the cost told at `add_entities`, where in each
     /// mode each entity is looked at once for `uids` among its ancestors. The store is consumed: a refused call
-    /// leaves nothing of it, so a caller that goes on with it removes from a clone.
+    /// leaves nothing of it, so a caller that goes on with it calls `remove_in_place`.
     pub fn remove_entities(
         self,
         alloc: Global,
@@ -339,12 +359,12 @@ impl Entities {
         ensures only_memory { tc_computation ≡ ComputeNow → IsClosed self → IfErr result IsMemory }
         ensures partial { IfOk result (λ store. is_partial_store store ≡ is_partial_store self) }
     {
+        let touched = self.touched(alloc, uids)?;
         let Entities {
             entities: mut map,
             mode,
             is_closed,
         } = self;
-        let touched = touched(alloc, &map, uids)?;
         remove_all(&mut map, &touched, uids)?;
         let stale = few(is_closed, touched, map.len());
         Entities::closed(alloc, map, mode, tc_computation, stale)

@@ -1,25 +1,14 @@
 //! Which entities an edit touches: those edited, and those that have one of these among their ancestors.
-ghost use Rattle.std.specs.Prelude.{◌≡◌, IfOk, IfSome, IsTrue};
-ghost use Rattle.std.specs.FinSet as set;
+ghost use Rattle.std.specs.Prelude.{◌≡◌, false, IfOk, IfSome, IsTrue};
 ghost use Rattle.std.specs.List.{list_any};
 ghost use Rattle.cedar_language.specs.Uid.{Uid};
 ghost use Rattle.cedar_language.specs.Order.{same_uid};
-ghost use Rattle.cedar_entities.specs.Kept.{in_map, kept_at, Covers};
+ghost use Rattle.cedar_entities.specs.Kept.{in_map, KeepsAncestors, HaveNoChildren, Covers};
 
 use crate::entity::Entity;
 use cedar_literals::uids::EntityUID;
 use std::alloc::{AllocError, Global};
 use std::collections::{HashMap, HashSet};
-
-// Whether what stands at a uid has one of the edited ones among its ancestors.
-fn is_below(map: &HashMap<EntityUID, Entity>, uid: &EntityUID, edited: &HashSet<EntityUID>) -> bool
-    ensures { result ≡ list_any (set.contains (kept_at (in_map map.now) uid.now)) edited.now.keys }
-{
-    match map.get(uid) {
-        Some(entity) => entity.is_descendant_of_one(edited),
-        None => false,
-    }
-}
 
 // The uids of a set as a list.
 fn listed(alloc: Global, uids: &HashSet<EntityUID>) -> Result<Vec<EntityUID>, AllocError>
@@ -42,12 +31,41 @@ pub(crate) fn touched(
     ensures { IfOk result (λ uids. Covers (in_map map.now) edited.now.keys uids.items) }
 {
     let mut uids = listed(alloc, edited)?;
-    for uid in map.keys() {
-        if is_below(map, uid, edited) {
+    for (uid, entity) in map.iter() {
+        if entity.is_descendant_of_one(edited) {
             uids.push(uid.clone(alloc)?)?;
         }
     }
     Ok(uids)
+}
+
+// Whether one of the edited is a parent of an entity.
+fn have_children(map: &HashMap<EntityUID, Entity>, edited: &HashSet<EntityUID>) -> bool
+    ensures { result ≡ false → HaveNoChildren (in_map map.now) edited.now.keys }
+{
+    for (_, entity) in map.iter() {
+        if entity.is_child_of_one(edited) {
+            return true;
+        }
+    }
+    false
+}
+
+/// The same as `touched`, where ancestors are those that the parents reach: what is nobody's parent is nobody's
+/// ancestor, so that for edited ones without children it looks at the parents alone.
+pub(crate) fn touched_in_closed(
+    alloc: Global,
+    map: &HashMap<EntityUID, Entity>,
+    edited: &HashSet<EntityUID>,
+) -> Result<Vec<EntityUID>, AllocError>
+    requires { KeepsAncestors (in_map map.now) }
+    ensures { IfOk result (λ uids. Covers (in_map map.now) edited.now.keys uids.items) }
+{
+    if have_children(map, edited) {
+        touched(alloc, map, edited)
+    } else {
+        listed(alloc, edited)
+    }
 }
 
 /// Whether an edit that touches so many entities is one of few among these: then their ancestors alone are closed

@@ -1,14 +1,12 @@
--- Edits of a copy of a store.
-use Rattle.std.proofs.Common.{◌≡◌, ◌∙◌, refl, sym, ap, subst, option_map, Result, Err, List, [], ◌∷◌}
+-- Edits of a store.
+use Rattle.std.proofs.Common.{◌≡◌, refl, sym, subst, Result, Err, List, [], ◌∷◌}
 use Rattle.cedar_world.specs.Orders.{UidSet}
 use Rattle.cedar_world.specs.World as world
 use Rattle.cedar_world.specs.EntityEdits.{Version}
 use Rattle.cedar_entities.specs.Data.{EntityData}
-use Rattle.cedar_entities.specs.Held.{held_of}
 use Rattle.cedar_entities.specs.Edits.{put, remove, ArePlain}
-use Rattle.cedar_entities.specs.Kept.{KeepsAncestors}
 use Rattle.cedar_entities.specs.Refusals.{IsMemory}
-use Rattle.cedar_entities.specs.Store.{found_in, held_at, IsCopy, IsClosed, Leaves, Adds}
+use Rattle.cedar_entities.specs.Store.{held_at, IsClosed, Leaves, Adds}
 use Rattle.cedar_entities.specs.declared.errors.EntitiesError.{EntitiesError}
 use Rattle.cedar_entities.specs.declared.errors.EntitiesError.TheVariants.{Duplicate, TransitiveClosureError, Memory}
 use Rattle.cedar_entities.specs.declared.store.Entities.{Entities}
@@ -22,25 +20,18 @@ are_plain : (vs : List Version) → ArePlain (as_entities vs)
 are_plain [] = tt
 are_plain (v ∷ vs) = (refl, are_plain vs)
 
-module _ (s copy : Entities) (is_copy : IsCopy s copy) where
-  pub copy_closed : IsClosed s → IsClosed copy
-  copy_closed closed = let same : found_in s ≡ found_in copy = λ i uid. sym (is_copy.found uid) i in subst KeepsAncestors same closed
+module _ (s : Entities) (old : world.Entities) (shows : Shows (held_at s) old) where
+  module _ (es : List EntityData) (vs : List Version) (same : es ≡ as_entities vs) (r : Result Entities EntitiesError) where
+    pub puts : PutsAreTheWorlds → Leaves (put (held_at s) es) r → IsPut old vs r
+    puts law left = law (held_at s) old vs r shows (subst (λ xs. Leaves (put (held_at s) xs) r) same left)
 
-  module _ (old : world.Entities) (shows : Shows (held_at s) old) where
-    copy_shows : Shows (held_at copy) old
-    copy_shows uid = ap (option_map held_of) (is_copy.found uid) ∙ shows uid
+    pub adds : AddsAreTheWorlds → IsClosed s → (IsClosed s → ArePlain es → Adds (held_at s) es r) → IsAdded old vs r
+    adds law closed left =
+        let added = left closed (subst ArePlain (sym same) (are_plain vs)) in
+        law (held_at s) old vs r shows (subst (λ xs. Adds (held_at s) xs r) same added)
 
-    module _ (es : List EntityData) (vs : List Version) (same : es ≡ as_entities vs) (r : Result Entities EntitiesError) where
-      pub puts : PutsAreTheWorlds → Leaves (put (held_at copy) es) r → IsPut old vs r
-      puts law left = law (held_at copy) old vs r copy_shows (subst (λ xs. Leaves (put (held_at copy) xs) r) same left)
-
-      pub adds : AddsAreTheWorlds → IsClosed s → (IsClosed copy → ArePlain es → Adds (held_at copy) es r) → IsAdded old vs r
-      adds law closed left =
-          let added = left (copy_closed closed) (subst ArePlain (sym same) (are_plain vs)) in
-          law (held_at copy) old vs r copy_shows (subst (λ xs. Adds (held_at copy) xs r) same added)
-
-    pub removes : (uids : UidSet) (r : Result Entities EntitiesError) → RemovesAreTheWorlds → Leaves (remove (held_at copy) uids) r → IsRemoved old uids r
-    removes uids r law left = law (held_at copy) old uids r copy_shows left
+  pub removes : (uids : UidSet) (r : Result Entities EntitiesError) → RemovesAreTheWorlds → Leaves (remove (held_at s) uids) r → IsRemoved old uids r
+  removes uids r law left = law (held_at s) old uids r shows left
 
 -- ---- refusals
 

@@ -11,7 +11,7 @@ ghost use Rattle.cedar_bodies.specs.Fields.{Serves};
 ghost use Rattle.cedar_held.specs.EntityEdits.{PutsBody, AddsBody, RemovesBody};
 ghost use Rattle.cedar_held.specs.HoldingEntities.{IsShown, IsWhole, ShowsBuilt, shown_prop};
 
-use crate::stores::{with_added, with_put, without};
+use crate::stores::{add_to, put_into, remove_from};
 use cedar_bodies::{listed_entities, set_of, uids_of};
 use cedar_entities::store::Entities;
 use cedar_extensions::extensions::Extensions;
@@ -84,9 +84,7 @@ impl HeldEntities {
         ensures { (by : Setting) → Serves extensions.now by (holds_call (borrowed_tree body.entry)) → PutsBody by depth (borrowed_tree body.entry) self.old result self.new }
     {
         let versions = listed_entities(alloc, body, extensions, depth)?;
-        let store = with_put(alloc, &self.store, versions)?;
-        *self = HeldEntities::from_store(store);
-        Ok(())
+        put_into(alloc, &mut self.store, versions)
     }
 
     /// Adds the entities that a body lists. One that is held stays as it is.
@@ -104,9 +102,7 @@ impl HeldEntities {
         ensures { (by : Setting) → Serves extensions.now by (holds_call (borrowed_tree body.entry)) → AddsBody by depth (borrowed_tree body.entry) self.old result self.new }
     {
         let versions = listed_entities(alloc, body, extensions, depth)?;
-        let store = with_added(alloc, &self.store, versions)?;
-        *self = HeldEntities::from_store(store);
-        Ok(())
+        add_to(alloc, &mut self.store, versions)
     }
 
     /// Takes the entities away whose uids a body lists, with all edges from and to them.
@@ -120,8 +116,6 @@ impl HeldEntities {
             return Err(Refusal::Shape);
         };
         let uids = set_of(alloc, &uids)?;
-        let store = without(alloc, &self.store, &uids)?;
-        *self = HeldEntities::from_store(store);
-        Ok(())
+        remove_from(alloc, &mut self.store, &uids)
     }
 }

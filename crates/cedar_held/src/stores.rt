@@ -1,16 +1,17 @@
-// Edits of a whole store, on a copy of it.
-ghost use Rattle.std.specs.Prelude.{◌≡◌, IfOk, List};
+// Edits of a whole store, which leave it as it was where they are refused.
+ghost use Rattle.std.specs.Prelude.{◌≡◌, OnErr, List};
 ghost use Rattle.std.specs.FinSet as set;
 ghost use Rattle.cedar_language.specs.Order.{uid_cmp};
+ghost use Rattle.cedar_language.specs.Uid.{Uid};
 ghost use Rattle.cedar_world.specs.EntityEdits.{Version};
 ghost use Rattle.cedar_world.specs.World as world;
+ghost use Rattle.cedar_entities.specs.InPlace.{left_by};
 ghost use Rattle.cedar_entities.specs.Store.{held_at};
 ghost use Rattle.cedar_entities.specs.Shown.{as_entities, Shows};
 ghost use Rattle.cedar_held.specs.HoldingEntities.{IsWhole};
 ghost use Rattle.cedar_held.specs.Refusals.{refusal_of};
 ghost use Rattle.cedar_held.specs.Stores.{PutsVersions, AddsVersions, RemovesUids};
 
-use cedar_entities::closing::TCComputation;
 use cedar_entities::entity::Entity;
 use cedar_entities::errors::EntitiesError;
 use cedar_entities::store::Entities;
@@ -31,52 +32,48 @@ fn refusal(error: EntitiesError) -> Refusal
     }
 }
 
-// The store that putting these versions leaves.
-pub fn with_put(alloc: Global, store: &Entities, versions: Vec<Entity>) -> Result<Entities, Refusal>
-    requires { IsWhole store.now }
-    ensures edited { (old : world.Entities) (vs : List Version) → Shows (held_at store.now) old → versions.items ≡ as_entities vs → PutsVersions old vs result }
-    ensures whole { IfOk result IsWhole }
+// Puts these versions into the store.
+pub fn put_into(alloc: Global, store: &mut Entities, versions: Vec<Entity>) -> Result<(), Refusal>
+    requires { IsWhole store.old }
+    ensures edited { (old : world.Entities) (vs : List Version) → Shows (held_at store.old) old → versions.items ≡ as_entities vs → PutsVersions old vs (left_by result store.new) }
+    ensures left { OnErr result ((uid : Uid) → held_at store.new uid ≡ held_at store.old uid) }
+    ensures whole { IsWhole store.new }
 {
     puts_are_the_worlds();
-    let copy = store.clone(alloc)?;
-    match copy.upsert_entities(alloc, versions, TCComputation::ComputeNow) {
-        Ok(store) => Ok(store),
+    match store.upsert_in_place(alloc, versions) {
+        Ok(()) => Ok(()),
         Err(error) => Err(refusal(error)),
     }
 }
 
-// The store that adding these versions leaves.
-pub fn with_added(
-    alloc: Global,
-    store: &Entities,
-    versions: Vec<Entity>,
-) -> Result<Entities, Refusal>
-    requires { IsWhole store.now }
-    ensures edited { (old : world.Entities) (vs : List Version) → Shows (held_at store.now) old → versions.items ≡ as_entities vs → AddsVersions old vs result }
-    ensures whole { IfOk result IsWhole }
+// Adds these versions to the store.
+pub fn add_to(alloc: Global, store: &mut Entities, versions: Vec<Entity>) -> Result<(), Refusal>
+    requires { IsWhole store.old }
+    ensures edited { (old : world.Entities) (vs : List Version) → Shows (held_at store.old) old → versions.items ≡ as_entities vs → AddsVersions old vs (left_by result store.new) }
+    ensures left { OnErr result ((uid : Uid) → held_at store.new uid ≡ held_at store.old uid) }
+    ensures whole { IsWhole store.new }
 {
     adds_are_the_worlds();
-    let copy = store.clone(alloc)?;
-    match copy.add_entities(alloc, versions, TCComputation::ComputeNow) {
-        Ok(store) => Ok(store),
+    match store.add_in_place(alloc, versions) {
+        Ok(()) => Ok(()),
         Err(error) => Err(refusal(error)),
     }
 }
 
-// The store that removing these uids leaves.
-pub fn without(
+// Removes these uids from the store.
+pub fn remove_from(
     alloc: Global,
-    store: &Entities,
+    store: &mut Entities,
     uids: &HashSet<EntityUID>,
-) -> Result<Entities, Refusal>
-    requires { IsWhole store.now }
-    ensures edited { (old : world.Entities) → Shows (held_at store.now) old → RemovesUids old (set.from_list {R = uid_cmp} uids.now.keys) result }
-    ensures whole { IfOk result IsWhole }
+) -> Result<(), Refusal>
+    requires { IsWhole store.old }
+    ensures edited { (old : world.Entities) → Shows (held_at store.old) old → RemovesUids old (set.from_list {R = uid_cmp} uids.now.keys) (left_by result store.new) }
+    ensures left { OnErr result ((uid : Uid) → held_at store.new uid ≡ held_at store.old uid) }
+    ensures whole { IsWhole store.new }
 {
     removes_are_the_worlds();
-    let copy = store.clone(alloc)?;
-    match copy.remove_entities(alloc, uids, TCComputation::ComputeNow) {
-        Ok(store) => Ok(store),
+    match store.remove_in_place(alloc, uids) {
+        Ok(()) => Ok(()),
         Err(error) => Err(refusal(error)),
     }
 }

@@ -6,7 +6,7 @@ use Rattle.cedar_closure.specs.Found.{finds}
 use Rattle.cedar_closure.specs.Graph.{edges_at}
 use Rattle.cedar_closure.proofs.Members.{member_alike}
 use Rattle.cedar_closure.proofs.NodeLemmas.{edges_alike, edge_from_node}
-use Rattle.cedar_closure.proofs.Finding.{Reaches-alike, Reaches-to, unchanged, only_found, fixes, closes}
+use Rattle.cedar_closure.proofs.Finding.{Reaches-alike, Reaches-to, unchanged, only_found, others_stay, fixes, closes}
 use Rattle.cedar_closure.proofs.Refusal.{on_err}
 use Rattle.cedar_closure.proofs.closing.repair_tc.Goals as goal
 
@@ -67,3 +67,20 @@ returns-in_err-add_all-clause-left g c =
     let m = c.args.nodes.now in
     on_err c.from_residual-in_err-add_all.result
     (only_found eq (edges_at eq edges m) (edges_at eq edges c.add_all.new.nodes) (λ a. is_some (get eq m a)) c.args.keys_to_fix.now c.in_ok-all.all.items c.in_ok-all.ensures.sound c.in_err-add_all.ensures.left)
+
+pub returns-in_err-all-clause-others_left : goal.returns-in_err-all-clause-others_left
+returns-in_err-all-clause-others_left g c = on_err c.from_residual.result (λ a b none. (λ h. h, λ h. h))
+
+pub returns-in_err-clone-clause-others_left : goal.returns-in_err-clone-clause-others_left
+returns-in_err-clone-clause-others_left g c = on_err c.from_residual-in_err-clone.result (λ a b none. (λ h. h, λ h. h))
+
+pub returns-in-Some-clause-others_left : goal.returns-in-Some-clause-others_left
+returns-in-Some-clause-others_left g c = λ a b none. (λ h. h, λ h. h)
+
+pub returns-in_err-add_all-clause-others_left : goal.returns-in_err-add_all-clause-others_left
+returns-in_err-add_all-clause-others_left g c =
+    let eq = g.K.PartialEq.eq in
+    let edges = g.V.TCNode.edges in
+    let m = c.args.nodes.now in
+    on_err c.from_residual-in_err-add_all.result
+    (others_stay eq (edges_at eq edges m) (edges_at eq edges c.add_all.new.nodes) (λ a. is_some (get eq m a)) c.args.keys_to_fix.now c.in_ok-all.all.items c.in_ok-all.ensures.sound c.in_err-add_all.ensures.left)

@@ -1,5 +1,5 @@
 -- The edges that are left by the reset lead where direct ones do, and are closed beside the keys (Resetting).
-use Rattle.std.proofs.Common.{IsTrue}
+use Rattle.std.proofs.Common.{IsTrue, sym, ap, ◌∙◌}
 use Rattle.std.specs.Set.{is_member}
 use Rattle.cedar_closure.specs.Graph.{HasEdge, edges_at}
 use Rattle.cedar_language.specs.Facts.{Reaches}
@@ -44,3 +44,16 @@ returns-in-Err-clause-left g c =
     let node = g.V.TCNode in
     let m = c.args.nodes.now in
     partly_repaired eq (edges_at eq node.direct m) (edges_at eq node.edges m) (edges_at eq node.edges c.reset_all.new.nodes) c.args.keys.now c.requires.beside c.in_ok-reset_all.ensures.reset c.in_ok-reset_all.ensures.others (edges_at eq node.edges c.repair_tc.new.nodes) c.in-Err.ensures.left
+
+pub returns-in_err-reset_all-clause-others_left : goal.returns-in_err-reset_all-clause-others_left
+returns-in_err-reset_all-clause-others_left g c =
+    let eq = g.K.PartialEq.eq in
+    on_err c.from_residual.result
+    (λ a b none. let same = ap (λ ys. is_member eq ys b) (c.in_err-reset_all.ensures.others a none) in (λ h. sym same ∙ h, λ h. same ∙ h))
+
+pub returns-in-Err-clause-others_left : goal.returns-in-Err-clause-others_left
+returns-in-Err-clause-others_left g c = λ a b none.
+    let eq = g.K.PartialEq.eq in
+    let same = ap (λ ys. is_member eq ys b) (c.in_ok-reset_all.ensures.others a none) in
+    let is = c.in-Err.ensures.others_left a b none in
+    (λ h. sym same ∙ is.0 h, λ h. is.1 (same ∙ h))

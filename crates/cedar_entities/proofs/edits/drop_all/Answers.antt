@@ -1,12 +1,15 @@
--- Retaining by a test of the uid filters the pairs.
-use Rattle.std.proofs.Common.{rules, not}
-use Rattle.std.specs.List.{list_any}
-use Rattle.std.proofs.lemmas.Map.Made.{filter_same_pairs}
-use Rattle.cedar_language.specs.Order.{same_uid}
-use Rattle.cedar_entities.proofs.Removing.{dropped}
+-- What stands without the uids still to come is what stood without them all (Removing).
+use Rattle.cedar_entities.specs.Kept.{in_map}
+use Rattle.cedar_entities.proofs.Removing.{drops_on, all_dropped}
 use Rattle.cedar_entities.proofs.edits.drop_all.Goals as goal
 
+pub loop-uid-preserved : goal.loop-uid-preserved
+loop-uid-preserved c =
+    drops_on (in_map c.args.map.now) (in_map c.loop-uid.map) (in_map c.remove.new.self) c.args.uids.now.keys c.loop-uid.uid-iterator c.next.new.self c.in-Some.uid.now c.in-Some.ensures.steps c.remove.ensures.updates.0 c.loop-uid.invariant
+
+pub loop-uid-preserved-in-Some : goal.loop-uid-preserved-in-Some
+loop-uid-preserved-in-Some c =
+    drops_on (in_map c.args.map.now) (in_map c.loop-uid.map) (in_map c.remove.new.self) c.args.uids.now.keys c.loop-uid.uid-iterator c.next.new.self c.in-Some.uid.now c.in-Some.ensures.steps c.remove.ensures.updates.0 c.loop-uid.invariant
+
 pub returns : goal.returns
-returns c =
-    let gone = c.args.uids.now.keys in
-    dropped gone c.args.map.now c.retain.new.self (filter_same_pairs _ (λ e. not (list_any (same_uid e.0) gone)) _ (λ k v b w f' t. search rules) c.args.map.now.entries c.retain.new.self.entries c.retain.ensures.filtered)
+returns c = all_dropped (in_map c.args.map.now) (in_map c.loop-uid.map) c.args.uids.now.keys c.loop-uid.uid-iterator c.in-None.ensures.steps.0 c.loop-uid.invariant

@@ -1,11 +1,10 @@
 -- The entities added stand under their own uids; what was added and then closed is the edit in each mode (Edited).
 use Rattle.cedar_entities.specs.Refusals.{IsAddRefusal}
-use Rattle.std.proofs.Common.{sym, ap, subst, ◌∙◌, Err}
-use Rattle.std.specs.List.{list_any}
-use Rattle.cedar_language.specs.Order.{same_uid}
+use Rattle.std.proofs.Common.{sym, subst, Err, IfSome}
 use Rattle.cedar_entities.specs.Kept.{in_map, held_in}
 use Rattle.cedar_entities.specs.declared.closing.TCComputation.TheVariants.{ComputeNow}
-use Rattle.cedar_entities.specs.Store.{found_in, Edits, AddsAs, Adds}
+use Rattle.cedar_entities.specs.Store.{found_in, IsClosed, Edits, AddsAs, Adds}
+use Rattle.cedar_entities.specs.Beside.{CoversEntities}
 use Rattle.cedar_entities.proofs.ByUid.{added_by_uid, by_uid_along}
 use Rattle.cedar_entities.proofs.Untouched.{add_stale}
 use Rattle.cedar_entities.proofs.Edited.{adds, added_as, adding_refused}
@@ -24,9 +23,8 @@ closed-requires-clause-by_uid c = by_uid_along _ (in_map c.add_all.new.map) c.in
 
 pub closed-requires-clause-stale : goal.closed-requires-clause-stale
 closed-requires-clause-stale c =
-    let es = c.args.entities.items in
-    add_stale (λ v. v.items) (found_in c.args.self) (in_map c.add_all.new.map) c.in_ok-uids_of.field-0.keys c.in_ok-stale.stale c.in_ok-stale.ensures es
-    (λ q. c.in_ok-uids_of.ensures q ∙ ap (λ fs. list_any (λ e. same_uid q e.uid) fs) c.deref.ensures.value) c.in_ok-add_all.ensures.added
+    add_stale (λ v. v.items) (found_in c.args.self) (in_map c.add_all.new.map) c.in_ok-stale.stale c.args.entities.items
+    (subst (λ es. IfSome c.in_ok-stale.stale (λ uids. IsClosed c.args.self × CoversEntities (found_in c.args.self) es uids.items)) c.deref.ensures.value c.in_ok-stale.ensures) c.in_ok-add_all.ensures.added
 
 pub returns-clause-edited : goal.returns-clause-edited
 returns-clause-edited c =

@@ -21,7 +21,7 @@ pub closed-requires-clause-stale : goal.closed-requires-clause-stale
 closed-requires-clause-stale c =
     let found = found_in c.args.self in
     let gone = c.args.uids.now.keys in
-    remove_stale (λ v. v.items) found (in_map c.remove_all.new.map) gone c.few-stale.result
+    remove_stale (λ v. v.items) found (in_map c.remove_all.new.map) c.few-stale.result gone
     (some_weaker _ _ (λ some h. (kept_of_whole found (c.args.self.closed h.0), subst (Covers found gone) (sym h.1) c.in_ok-touched.ensures)) c.few-stale.result c.few-stale.ensures)
     c.in_ok-remove_all.ensures
 

@@ -1,9 +1,8 @@
 -- The entities put stand under their own uids; the last version of each is what is held (Lookups).
-use Rattle.std.proofs.Common.{ap, subst, ◌∙◌}
-use Rattle.std.specs.List.{list_any}
-use Rattle.cedar_language.specs.Order.{same_uid}
+use Rattle.std.proofs.Common.{subst, IfSome}
 use Rattle.cedar_entities.specs.Kept.{in_map, put_over}
-use Rattle.cedar_entities.specs.Store.{found_in, held_at, Edits}
+use Rattle.cedar_entities.specs.Store.{found_in, held_at, IsClosed, Edits}
+use Rattle.cedar_entities.specs.Beside.{CoversEntities}
 use Rattle.cedar_entities.specs.Edits.{put}
 use Rattle.cedar_entities.proofs.Lookups.{held-last}
 use Rattle.cedar_entities.proofs.ByUid.{put_by_uid, by_uid_along}
@@ -12,16 +11,15 @@ use Rattle.cedar_entities.proofs.Edited.{leaves}
 use Rattle.cedar_entities.proofs.store.Entities.upsert_entities.Goals as goal
 
 pub closed-requires-clause-by_uid : goal.closed-requires-clause-by_uid
-closed-requires-clause-by_uid c = by_uid_along _ (in_map c.put_all.new.map) c.in_ok-put_all.ensures (put_by_uid (found_in c.args.self) c.args.entities.items c.args.self.by_uid)
+closed-requires-clause-by_uid c = by_uid_along _ (in_map c.put_all.new.map) c.in_ok-put_all.ensures.put (put_by_uid (found_in c.args.self) c.args.entities.items c.args.self.by_uid)
 
 pub closed-requires-clause-stale : goal.closed-requires-clause-stale
 closed-requires-clause-stale c =
-    let es = c.args.entities.items in
-    put_stale (λ v. v.items) (found_in c.args.self) (in_map c.put_all.new.map) c.in_ok-uids_of.field-0.keys c.in_ok-stale.stale c.in_ok-stale.ensures es
-    (λ q. c.in_ok-uids_of.ensures q ∙ ap (λ fs. list_any (λ e. same_uid q e.uid) fs) c.deref.ensures.value) c.in_ok-put_all.ensures
+    put_stale (λ v. v.items) (found_in c.args.self) (in_map c.put_all.new.map) c.in_ok-stale.stale c.args.entities.items
+    (subst (λ es. IfSome c.in_ok-stale.stale (λ uids. IsClosed c.args.self × CoversEntities (found_in c.args.self) es uids.items)) c.deref.ensures.value c.in_ok-stale.ensures) c.in_ok-put_all.ensures.put
 
 pub returns-clause-edited : goal.returns-clause-edited
-returns-clause-edited c = subst (λ f. Edits c.args.tc_computation f c.closed.result) (λ i uid. c.in_ok-put_all.ensures uid i) c.closed.ensures.edited
+returns-clause-edited c = subst (λ f. Edits c.args.tc_computation f c.closed.result) (λ i uid. c.in_ok-put_all.ensures.put uid i) c.closed.ensures.edited
 
 pub returns-clause-put : goal.returns-clause-put
 returns-clause-put c = λ now.

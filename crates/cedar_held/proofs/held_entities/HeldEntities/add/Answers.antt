@@ -1,7 +1,10 @@
 -- As `put` does, by the world's addition, which may also be refused for a duplicate.
+use Rattle.std.proofs.Common.{rules}
 use Rattle.std.proofs.lemmas.Result.{err_from_is_err_and}
 use Rattle.cedar_restricted.specs.Views.{borrowed_tree}
-use Rattle.cedar_held.proofs.EditedBodies.{shows_as, left_shown, left_built, add_unread, add_refused, add_done}
+use Rattle.cedar_world.specs.EntityEdits.{Adds, add}
+use Rattle.cedar_held.specs.Stores.{AddsVersions}
+use Rattle.cedar_held.proofs.EditedBodies.{shows_as, either_shown, either_built, add_unread, add_answered}
 use Rattle.cedar_held.proofs.BuiltEdits.{add_built}
 use Rattle.cedar_held.proofs.held_entities.HeldEntities.add.Goals as goal
 
@@ -10,29 +13,32 @@ returns-in_err-versions c =
     let p = err_from_is_err_and c.from_residual.result c.from_residual.ensures.1 in
     rw (p.1, p.2) (λ by serves. add_unread by c.args.depth (borrowed_tree c.args.body) c.args.self.now c.in_err-versions.field-0.0 (c.in_err-versions.ensures.listed by serves))
 
-pub returns-in_err-store : goal.returns-in_err-store
-returns-in_err-store c =
-    let p = err_from_is_err_and c.from_residual-in_err-store.result c.from_residual-in_err-store.ensures.1 in
-    let shows = shows_as c.self.inside.store c.self.inside.shown c.args.self.now c.self.view_is in
-    rw (p.1, p.2) (λ by serves.
-    add_refused by c.args.depth (borrowed_tree c.args.body) c.args.self.now c.in_ok-versions.versions (c.in_ok-versions.ensures.listed by serves) c.in_err-store.field-0.0
-    (λ vs same. c.in_err-store.ensures.edited c.args.self.now vs shows same))
-
-pub from_store-requires-clause-shown : goal.from_store-requires-clause-shown
-from_store-requires-clause-shown c =
+pub invariant_of-self-inside : goal.invariant_of-self-inside
+invariant_of-self-inside c =
+    let old = c.args.self.now in
     let versions = c.in_ok-versions.ensures.versions in
-    let shows = shows_as c.self.inside.store c.self.inside.shown c.args.self.now c.self.view_is in
-    left_shown _ _ c.in_ok-store.store (c.in_ok-store.ensures.edited c.args.self.now versions.0 shows versions.1)
+    let shows = shows_as c.self.inside.store c.self.inside.shown old c.self.view_is in (
+      either_shown (Adds old versions.0) (add old versions.0) old c.self.inside.store c.add_to.new.store (AddsVersions old versions.0) (λ h. h) shows
+          c.add_to.result (c.add_to.ensures.edited old versions.0 shows versions.1) c.add_to.ensures.left,
+      tt,
+    )
 
-pub from_store-requires-clause-built : goal.from_store-requires-clause-built
-from_store-requires-clause-built c =
+pub invariant_of-self : goal.invariant_of-self
+invariant_of-self c =
+    let old = c.args.self.now in
     let versions = c.in_ok-versions.ensures.versions in
-    let shows = shows_as c.self.inside.store c.self.inside.shown c.args.self.now c.self.view_is in
-    left_built _ _ c.in_ok-store.store (c.in_ok-store.ensures.edited c.args.self.now versions.0 shows versions.1) (add_built c.args.self.now (c.self.invariant.built c.args.self.now shows) versions.0 versions.2)
+    let shows = shows_as c.self.inside.store c.self.inside.shown old c.self.view_is in
+    let was = c.self.invariant.built old shows in
+    record {
+      whole = c.add_to.ensures.whole;
+      built = either_built (Adds old versions.0) (add old versions.0) old c.self.inside.store c.add_to.new.store (AddsVersions old versions.0) (λ h. h) shows was (add_built old was versions.0 versions.2)
+          c.add_to.result (c.add_to.ensures.edited old versions.0 shows versions.1) c.add_to.ensures.left;
+    }
 
 pub returns : goal.returns
 returns c =
-    let shows = shows_as c.self.inside.store c.self.inside.shown c.args.self.now c.self.view_is in
-    rw c.drop.view_is (λ by serves.
-    add_done by c.args.depth (borrowed_tree c.args.body) c.args.self.now c.in_ok-versions.versions (c.in_ok-versions.ensures.listed by serves) c.in_ok-store.store c.from_store.result c.from_store.ensures
-    (λ vs same. c.in_ok-store.ensures.edited c.args.self.now vs shows same))
+    let old = c.args.self.now in
+    let shows = shows_as c.self.inside.store c.self.inside.shown old c.self.view_is in
+    λ by serves.
+    add_answered by c.args.depth (borrowed_tree c.args.body) old c.in_ok-versions.versions (c.in_ok-versions.ensures.listed by serves) c.self.inside.store c.add_to.new.store shows _ (search rules)
+    c.add_to.result (λ vs same. c.add_to.ensures.edited old vs shows same) c.add_to.ensures.left

@@ -1,0 +1,185 @@
+//! Edits of a store in place: a refused one leaves the store as it was.
+ghost use Rattle.std.specs.Prelude.{◌≡◌, OnErr, IfErr};
+ghost use Rattle.std.specs.FinSet as set;
+ghost use Rattle.cedar_language.specs.Order.{uid_cmp};
+ghost use Rattle.cedar_entities.specs.Edits.{put, remove, ArePlain};
+ghost use Rattle.cedar_entities.specs.Beside.{CoversEntities};
+ghost use Rattle.cedar_entities.specs.InPlace.{left_by, IsLeft};
+ghost use Rattle.cedar_entities.specs.Kept.{Covers};
+ghost use Rattle.cedar_entities.specs.Refusals.{IsMemory};
+ghost use Rattle.cedar_entities.specs.Store.{found_in, held_at, IsClosed, is_partial_store, Leaves, AddsAs, Adds};
+ghost use Rattle.cedar_entities.specs.declared.closing.TCComputation.TheVariants.{ComputeNow};
+
+use crate::closing::TCComputation;
+use crate::entity::Entity;
+use crate::errors::EntitiesError;
+use crate::in_place::{add_in_place, put_in_place, remove_in_place};
+use crate::store::Entities;
+use crate::touching::few;
+use cedar_literals::uids::EntityUID;
+use std::alloc::Global;
+use std::collections::HashSet;
+
+// ---- puts
+
+impl Entities {
+    /// Puts these entities in the place of those of the same uids, as `upsert_entities` does with `ComputeNow`, but
+    /// in the store itself: a refused call leaves what was held, with its ancestors.
+    ///
+    /// Refused `TransitiveClosureError` for a cycle of parents, and where memory runs out. It looks once at each
+    /// entity, and closes again those that it touches; where these aren't few, or the store isn't known to be
+    /// closed, it edits a copy.
+    pub fn upsert_in_place(
+        &mut self,
+        alloc: Global,
+        entities: Vec<Entity>,
+    ) -> Result<(), EntitiesError>
+        ensures put { Leaves (put (held_at self.old) entities.items) (left_by result self.new) }
+        ensures left { OnErr result (IsLeft self.old self.new) }
+        ensures partial { is_partial_store self.new ≡ is_partial_store self.old }
+    {
+        match self.stale(alloc, &entities, TCComputation::ComputeNow)? {
+            Some(stale) => self.upsert_at(alloc, entities, &stale),
+            None => self.upsert_copied(alloc, entities),
+        }
+    }
+
+    // The same, where those that are stale then are known.
+    fn upsert_at(
+        &mut self,
+        alloc: Global,
+        entities: Vec<Entity>,
+        stale: &[EntityUID],
+    ) -> Result<(), EntitiesError>
+        requires closed { IsClosed self.old }
+        requires covers { CoversEntities (found_in self.old) entities.items stale.now }
+        ensures put { Leaves (put (held_at self.old) entities.items) (left_by result self.new) }
+        ensures left { OnErr result (IsLeft self.old self.new) }
+        ensures partial { is_partial_store self.new ≡ is_partial_store self.old }
+    {
+        put_in_place(alloc, &mut self.entities, entities, stale)
+    }
+
+    // The same, on a copy that takes the store's place.
+    fn upsert_copied(&mut self, alloc: Global, entities: Vec<Entity>) -> Result<(), EntitiesError>
+        ensures put { Leaves (put (held_at self.old) entities.items) (left_by result self.new) }
+        ensures left { OnErr result (IsLeft self.old self.new) }
+        ensures partial { is_partial_store self.new ≡ is_partial_store self.old }
+    {
+        let copy = self.clone(alloc)?;
+        *self = copy.upsert_entities(alloc, entities, TCComputation::ComputeNow)?;
+        Ok(())
+    }
+}
+
+// ---- additions
+
+impl Entities {
+    /// Adds these entities, as `add_entities` does with `ComputeNow`, but to the store itself: a refused call leaves
+    /// what was held, with its ancestors.
+    ///
+    /// Refused as `add_entities` is, at the cost told at `upsert_in_place`.
+    pub fn add_in_place(
+        &mut self,
+        alloc: Global,
+        entities: Vec<Entity>,
+    ) -> Result<(), EntitiesError>
+        ensures edited { AddsAs ComputeNow (found_in self.old) entities.items (left_by result self.new) }
+        ensures added { IsClosed self.old → ArePlain entities.items → Adds (held_at self.old) entities.items (left_by result self.new) }
+        ensures left { OnErr result (IsLeft self.old self.new) }
+        ensures partial { is_partial_store self.new ≡ is_partial_store self.old }
+    {
+        match self.stale(alloc, &entities, TCComputation::ComputeNow)? {
+            Some(stale) => self.add_at(alloc, entities, &stale),
+            None => self.add_copied(alloc, entities),
+        }
+    }
+
+    // The same, where those that are stale then are known.
+    fn add_at(
+        &mut self,
+        alloc: Global,
+        entities: Vec<Entity>,
+        stale: &[EntityUID],
+    ) -> Result<(), EntitiesError>
+        requires closed { IsClosed self.old }
+        requires covers { CoversEntities (found_in self.old) entities.items stale.now }
+        ensures edited { AddsAs ComputeNow (found_in self.old) entities.items (left_by result self.new) }
+        ensures added { ArePlain entities.items → Adds (held_at self.old) entities.items (left_by result self.new) }
+        ensures left { OnErr result (IsLeft self.old self.new) }
+        ensures partial { is_partial_store self.new ≡ is_partial_store self.old }
+    {
+        add_in_place(alloc, &mut self.entities, entities, stale)
+    }
+
+    // The same, on a copy that takes the store's place.
+    fn add_copied(&mut self, alloc: Global, entities: Vec<Entity>) -> Result<(), EntitiesError>
+        ensures edited { AddsAs ComputeNow (found_in self.old) entities.items (left_by result self.new) }
+        ensures added { IsClosed self.old → ArePlain entities.items → Adds (held_at self.old) entities.items (left_by result self.new) }
+        ensures left { OnErr result (IsLeft self.old self.new) }
+        ensures partial { is_partial_store self.new ≡ is_partial_store self.old }
+    {
+        let copy = self.clone(alloc)?;
+        *self = copy.add_entities(alloc, entities, TCComputation::ComputeNow)?;
+        Ok(())
+    }
+}
+
+// ---- removals
+
+impl Entities {
+    /// Removes the entities of these uids with all parent edges from and to them, as `remove_entities` does with
+    /// `ComputeNow`, but from the store itself: a refused call leaves what was held, with its ancestors.
+    ///
+    /// A closed store is refused for memory alone, and any other one for a cycle of parents too; at the cost told at
+    /// `upsert_in_place`.
+    pub fn remove_in_place(
+        &mut self,
+        alloc: Global,
+        uids: &HashSet<EntityUID>,
+    ) -> Result<(), EntitiesError>
+        ensures removed { Leaves (remove (held_at self.old) (set.from_list {R = uid_cmp} uids.now.keys)) (left_by result self.new) }
+        ensures only_memory { IsClosed self.old → IfErr result IsMemory }
+        ensures left { OnErr result (IsLeft self.old self.new) }
+        ensures partial { is_partial_store self.new ≡ is_partial_store self.old }
+    {
+        let touched = self.touched(alloc, uids)?;
+        match few(self.is_closed, touched, self.len()) {
+            Some(touched) => self.remove_at(alloc, uids, &touched),
+            None => self.remove_copied(alloc, uids),
+        }
+    }
+
+    // The same, where those that it touches are known.
+    fn remove_at(
+        &mut self,
+        alloc: Global,
+        uids: &HashSet<EntityUID>,
+        touched: &[EntityUID],
+    ) -> Result<(), EntitiesError>
+        requires closed { IsClosed self.old }
+        requires covers { Covers (found_in self.old) uids.now.keys touched.now }
+        ensures removed { Leaves (remove (held_at self.old) (set.from_list {R = uid_cmp} uids.now.keys)) (left_by result self.new) }
+        ensures only_memory { IfErr result IsMemory }
+        ensures left { OnErr result (IsLeft self.old self.new) }
+        ensures partial { is_partial_store self.new ≡ is_partial_store self.old }
+    {
+        remove_in_place(alloc, &mut self.entities, touched, uids)
+    }
+
+    // The same, on a copy that takes the store's place.
+    fn remove_copied(
+        &mut self,
+        alloc: Global,
+        uids: &HashSet<EntityUID>,
+    ) -> Result<(), EntitiesError>
+        ensures removed { Leaves (remove (held_at self.old) (set.from_list {R = uid_cmp} uids.now.keys)) (left_by result self.new) }
+        ensures only_memory { IsClosed self.old → IfErr result IsMemory }
+        ensures left { OnErr result (IsLeft self.old self.new) }
+        ensures partial { is_partial_store self.new ≡ is_partial_store self.old }
+    {
+        let copy = self.clone(alloc)?;
+        *self = copy.remove_entities(alloc, uids, TCComputation::ComputeNow)?;
+        Ok(())
+    }
+}
