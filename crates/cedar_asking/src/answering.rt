@@ -1,12 +1,13 @@
 // The answer to a request, and the one once more is told.
 ghost use Rattle.std.specs.declared.rc.RcStr.{RcStr as Name};
 ghost use Rattle.std.specs.declared.alloc.Global.{Global as Memory};
-ghost use Rattle.std.specs.Prelude.{List};
+ghost use Rattle.std.specs.Prelude.{◌≡◌, List, IfOk};
 ghost use Rattle.cedar_language.specs.Value.{Value as Valued};
 ghost use Rattle.cedar_partial_evaluation.specs.Question.{Extends};
 ghost use Rattle.cedar_policy_set.specs.Entries.{Entries};
 ghost use Rattle.cedar_replies.specs.Replies.{answer_of};
 ghost use Rattle.cedar_requests.specs.Holding.{request_parts};
+ghost use Rattle.cedar_world.specs.Answer.{ids_of};
 ghost use Rattle.cedar_world.specs.Asking.{Question};
 ghost use Rattle.cedar_world.specs.Setting.{Setting};
 ghost use Rattle.cedar_world.specs.World.{World};
@@ -28,13 +29,29 @@ use cedar_evaluator::authorizer::Authorizer;
 use cedar_evaluator::errors::{ConcretizationError, ReauthorizationError};
 use cedar_evaluator::partial_response::PartialResponse;
 use cedar_extensions::extensions::Extensions;
+use cedar_policy_parts::PolicyID;
 use cedar_policy_set::sets::PolicySet;
 use cedar_replies::{Answer, Erring, PolicyIds, Refusal};
 use cedar_requests::Request;
 use cedar_values::values::Value;
-use std::alloc::Global;
+use std::alloc::{AllocError, Global};
 use std::collections::HashMap;
 use std::rc::RcStr;
+
+// The sets of two lists of ids; where they are the same list, it is sorted once.
+fn both_sets(
+    first: Vec<PolicyID>,
+    second: Vec<PolicyID>,
+) -> Result<(PolicyIds, PolicyIds), AllocError>
+    ensures { IfOk result (λ sets. (sets.0 ≡ ids_of first.items) × (sets.1 ≡ ids_of second.items)) }
+{
+    if first == second {
+        let ids = PolicyIds::new(first);
+        let copy = ids.clone()?;
+        return Ok((ids, copy));
+    }
+    Ok((PolicyIds::new(first), PolicyIds::new(second)))
+}
 
 // What a response says, as an answer tells it. It is refused `Depth` where some error is a limit that was
 // met, and `Memory`.
@@ -44,10 +61,11 @@ fn answer_by(alloc: Global, response: &PartialResponse) -> Result<Answer, Refusa
     let listed = listed_errors(alloc, response.errors.as_slice())?;
     let must = response.must_be_determining_ids(alloc)?;
     let may = response.may_be_determining_ids(alloc)?;
+    let (must, may) = both_sets(must, may)?;
     Ok(Answer {
         decision: response.decision(),
-        must: PolicyIds::new(must),
-        may: PolicyIds::new(may),
+        must,
+        may,
         erring: Erring::new(listed)?,
     })
 }

@@ -23,8 +23,8 @@ returns c = (
     kinds = c.in_ok-listed.ensures.0;
     errors = c.in_ok-listed.ensures.1 ∙ ap (map error_seen) c.as_slice.ensures.value;
     decided = c.decision.ensures;
-    must = c.new.ensures ∙ ap ids_of c.in_ok-must.ensures;
-    may = c.new-2.ensures ∙ ap ids_of c.in_ok-may.ensures;
+    must = c.in_ok-must-2.ensures.0 ∙ ap ids_of c.in_ok-must.ensures;
+    may = c.in_ok-must-2.ensures.1 ∙ ap ids_of c.in_ok-may.ensures;
     erring = c.in_ok-new.ensures;
   },
 )
