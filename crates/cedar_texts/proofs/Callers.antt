@@ -27,6 +27,10 @@ module _ (found : (functions : Functions) → NamesAreFound functions) (function
 
 -- ---- calls that pass one test pass a weaker one
 
+pub left_of : (a b : Bool) → (a && b) ≡ true → a ≡ true
+left_of true b h = refl
+left_of false b h = h
+
 pub right_of : (a b : Bool) → (a && b) ≡ true → b ≡ true
 right_of true b h = h
 right_of false b h = absurd (true≢false (sym h))

@@ -1,3 +1,4 @@
 mod Bodies
 mod Callers
 mod Readings
+mod Unknowns

@@ -8,7 +8,9 @@ ghost use Rattle.cedar_parser.specs.Settings.{setting_with};
 
 use crate::refusals::of_body;
 use cedar_conversion_leaves::ExtStyles;
+use cedar_data::read_data;
 use cedar_extensions::extensions::Extensions;
+use cedar_grammar::texts_call_the_table;
 use cedar_parser::prelude::StylesOfExtensions;
 use cedar_parser::strict::parse_restrictedexpr;
 use cedar_replies::Refusal;
@@ -17,7 +19,8 @@ use cedar_world::{names_are_found, texts_are_one};
 use std::alloc::Global;
 
 /// The body that a text is, where it may call the functions of the table. No `unknown` is called in it
-/// where the table lacks that function.
+/// where the table lacks that function. Most bodies are read straight from their text (`read_data`); the
+/// parser reads the others, and finds why a text is refused.
 ///
 /// It is refused `Text` where the text is no expression within any nesting; `Depth` where its nesting
 /// or the height of its tree is more than `depth`; `NotRestricted` where it holds more than literals,
@@ -34,8 +37,13 @@ pub fn read_body(
     // These run no code: their contracts are laws of texts and names.
     texts_are_one();
     names_are_found();
+    texts_call_the_table();
 
     let styles = ExtStyles::from_extensions(alloc, extensions)?;
+    let found = read_data(alloc, text, &styles, depth)?;
+    if let Some(body) = found {
+        return Ok(body);
+    }
     match parse_restrictedexpr(alloc, text, &styles, depth) {
         Ok(body) => Ok(body),
         Err(error) => Err(of_body(&error)),

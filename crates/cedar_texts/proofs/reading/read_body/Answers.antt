@@ -1,13 +1,32 @@
--- A text is one body at most, so the parser's error tells its refusal; where `unknown` is lacking, none is called.
-use Rattle.std.proofs.Common.{subst, sym, ◌≡◌, false, Ok, Err}
+-- Data that are read straight are a body, and call what stands in the table. A text is one body at most, so the parser's error tells
+-- its refusal; where `unknown` is lacking, none is called.
+use Rattle.std.proofs.Common.{subst, sym, refl, ◌≡◌, false, Ok, Err}
+use Rattle.std.specs.Prelude.{IfSome}
+use Rattle.cedar_data.specs.Data.{IsDataText}
 use Rattle.cedar_world.specs.Bodies.{holds_call}
+use Rattle.cedar_world.specs.Functions.{body_names}
 use Rattle.cedar_restricted.specs.Views.{restricted_tree}
 use Rattle.cedar_parser.specs.Settings.{setting_with, functions_of}
 use Rattle.cedar_parser.specs.Strict.{LacksUnknown, ReadsRestricted}
 use Rattle.cedar_texts.specs.Reading.{ReadsBody}
 use Rattle.cedar_texts.proofs.Bodies.{body_refused}
 use Rattle.cedar_texts.proofs.Callers.{lacks_unknown}
+use Rattle.cedar_texts.proofs.Unknowns.{calls_apart}
 use Rattle.cedar_texts.proofs.reading.read_body.Goals as goal
+
+pub returns-in-Some-clause-body : goal.returns-in-Some-clause-body
+returns-in-Some-clause-body c =
+    let some = subst (λ o. IfSome o (IsDataText c.in_ok-styles.styles c.args.depth c.args.text.now)) c.in-Some.is c.in_ok-found.ensures in
+    let body = subst (λ names. IsDataText names c.args.depth c.args.text.now c.in-Some.body) c.in_ok-styles.ensures some in
+    (restricted_tree c.in-Some.body, body.reads, body.low, refl)
+
+pub returns-in-Some-clause-calls : goal.returns-in-Some-clause-calls
+returns-in-Some-clause-calls c = λ lacks.
+    let functions = functions_of c.args.extensions.now in
+    let some = subst (λ o. IfSome o (IsDataText c.in_ok-styles.styles c.args.depth c.args.text.now)) c.in-Some.is c.in_ok-found.ensures in
+    let body = subst (λ names. IsDataText names c.args.depth c.args.text.now c.in-Some.body) c.in_ok-styles.ensures some in
+    calls_apart (body_names functions) (lacks_unknown c.names_are_found.ensures functions lacks) (restricted_tree c.in-Some.body)
+    (c.texts_call_the_table.ensures.expressions (body_names functions) c.args.depth body.reads.0 (restricted_tree c.in-Some.body) body.reads.2)
 
 pub returns-in-Ok-clause-body : goal.returns-in-Ok-clause-body
 returns-in-Ok-clause-body c =

@@ -1,0 +1,4 @@
+pub mod Runs
+pub mod Classes
+pub mod Takes
+pub mod Data

@@ -1,0 +1,187 @@
+// Numbers, names and entities.
+ghost use Rattle.std.specs.Prelude.{◌≡◌, ◌<◌, ◌≤◌, ◌^◌, ◌++◌, [], ◌∷◌, ℕ, suc, IfOk, IfSome, codes, cond, pos, neg_ℤ};
+ghost use Rattle.cedar_language.specs.Tree as tree;
+ghost use Rattle.cedar_grammar.specs.Build.{long};
+ghost use Rattle.cedar_literals.specs.Literals.{literal_of};
+ghost use Rattle.cedar_grammar.specs.Grammar.{Unary, inner};
+ghost use Rattle.cedar_grammar.specs.Names.{Names};
+ghost use Rattle.cedar_grammar.specs.Token.{number, word, word_of};
+ghost use Rattle.cedar_names.specs.Identifiers.{IsUnreservedId};
+ghost use Rattle.cedar_trees.specs.Bare.{bare};
+ghost use Rattle.cedar_data.specs.Data.{ReadsData, ReadsPathTo, ReadsKey};
+ghost use Rattle.cedar_data.specs.Takes.{Takes};
+
+use crate::reader::Reader;
+use crate::texts::Sign;
+use crate::unread::Unread;
+use cedar_literals::literals::Literal;
+use cedar_literals::uids::{Eid, EntityType, EntityUID};
+use cedar_names::identifiers::{Id, is_normalized_ident};
+use cedar_names::names::{InternalName, Name};
+use cedar_trees::expr::Expr;
+use std::alloc::{AllocError, Global};
+use std::rc::{Rc, RcStr};
+
+/// A path in an expression, by what follows it.
+#[derive(Debug, Drop)]
+pub enum Path {
+    /// The type of an entity, whose string follows.
+    EntityType(Name),
+    /// Any other path: a function, where it is called.
+    Called(Name),
+}
+
+/// The least number that is no long.
+const TOO_LARGE: u64 = 0x8000_0000_0000_0000;
+
+/// The entity of this type and id; refused for memory alone.
+pub fn entity(alloc: Global, entity_type: Name, id: &str) -> Result<Expr, AllocError>
+    ensures { IfOk result (λ made. bare made ≡ tree.Lit (tree.Entity (record { type_name = entity_type; id = id.now }))) }
+{
+    let eid = Eid::new(RcStr::from_str(alloc, id)?);
+    let uid = EntityUID::from_components(EntityType::from(entity_type), eid, None);
+    Ok(Expr::val(Literal::EntityUID(Rc::new(alloc, uid)?)))
+}
+
+// The number, where it is a long.
+fn plus(number: u64) -> Option<Literal>
+    ensures { IfSome result (λ literal. (tree.Lit (literal_of literal) ≡ long (pos number)) × (number < 2 ^ 63)) }
+{
+    if number < TOO_LARGE {
+        Some(Literal::Long(number as i64))
+    } else {
+        None
+    }
+}
+
+// The number under a minus, where that is a long.
+fn minus(number: u64) -> Option<Literal>
+    ensures { IfSome result (λ literal. (tree.Lit (literal_of literal) ≡ long (neg_ℤ (pos number))) × (number ≤ 2 ^ 63)) }
+{
+    if number < TOO_LARGE {
+        Some(Literal::Long(-(number as i64)))
+    } else if number == TOO_LARGE {
+        Some(Literal::Long(i64::MIN))
+    } else {
+        None
+    }
+}
+
+// The identifier of this text; refused for memory alone.
+fn id_of(alloc: Global, text: &str) -> Result<Id, AllocError>
+    requires { IsUnreservedId text.now }
+    ensures { IfOk result (λ id. id ≡ text.now) }
+{
+    Ok(Id::new_unchecked(RcStr::from_str(alloc, text)?))
+}
+
+// The name of these identifiers, none of which is reserved.
+fn name_of(alloc: Global, namespace: Vec<Id>, basename: Id) -> Result<Name, Unread>
+    ensures { IfOk result (λ name. name ≡ namespace.items ++ basename ∷ []) }
+{
+    match Name::try_from(InternalName::new(alloc, basename, namespace, None)?) {
+        Ok(name) => Ok(name),
+        Err(_) => Err(Unread::Other),
+    }
+}
+
+/// The Boolean that is so written.
+pub fn boolean(word: &str) -> Option<bool>
+    ensures { IfSome result (λ value. word.now ≡ cond value (codes "true") (codes "false")) }
+{
+    match word {
+        "true" => Some(true),
+        "false" => Some(false),
+        _ => None,
+    }
+}
+
+impl<'t> Reader<'t> {
+    /// Takes a string, which has to be next.
+    pub fn string_literal(&mut self, alloc: Global) -> Result<Expr, Unread>
+        ensures { IfOk result (λ e. (names : Names) (n : ℕ) → ReadsData (Unary (inner names n)) (suc n) self.old e self.new) }
+    {
+        let text = self.string()?;
+        Ok(Expr::val(Literal::String(RcStr::from_str(alloc, text)?)))
+    }
+
+    // Takes a number, which has to be next.
+    fn number(&mut self) -> Result<u64, Unread>
+        ensures { IfOk result (λ n. Takes (number n) self.old self.new) }
+    {
+        let digits = self.digits()?;
+        match digits.parse::<u64>() {
+            Ok(number) => Ok(number),
+            Err(_) => Err(Unread::Other),
+        }
+    }
+
+    /// Takes a long without a sign, which has to be next.
+    pub fn positive(&mut self) -> Result<Expr, Unread>
+        ensures { IfOk result (λ e. (names : Names) (n : ℕ) → ReadsData (Unary (inner names n)) (suc n) self.old e self.new) }
+    {
+        let number = self.number()?;
+        match plus(number) {
+            Some(long) => Ok(Expr::val(long)),
+            None => Err(Unread::Other),
+        }
+    }
+
+    /// Takes a long with a minus, which has to be next.
+    pub fn negative(&mut self) -> Result<Expr, Unread>
+        ensures { IfOk result (λ e. (names : Names) (n : ℕ) → ReadsData (Unary (inner names n)) (suc n) self.old e self.new) }
+    {
+        self.expect(Sign::Minus)?;
+        let number = self.number()?;
+        match minus(number) {
+            Some(long) => Ok(Expr::val(long)),
+            None => Err(Unread::Other),
+        }
+    }
+
+    // Takes an identifier that isn't reserved, which has to be next.
+    fn identifier(&mut self) -> Result<&'t str, Unread>
+        ensures taken { IfOk result (λ id. Takes (word (word_of id.now)) self.old self.new) }
+        ensures unreserved { IfOk result (λ id. IsUnreservedId id.now) }
+    {
+        let word = self.word()?;
+        if is_normalized_ident(word) {
+            Ok(word)
+        } else {
+            Err(Unread::Other)
+        }
+    }
+
+    /// Takes the key of an entry, which has to be next: an identifier or a string.
+    pub fn key(&mut self) -> Result<&'t str, Unread>
+        ensures { IfOk result (λ key. ReadsKey self.old key.now self.new) }
+    {
+        if self.next_byte() == b'"' {
+            let raw = self.string()?;
+            Ok(raw)
+        } else {
+            let id = self.identifier()?;
+            Ok(id)
+        }
+    }
+
+    /// Takes what follows the first identifier of a path, with the separator before the string of an
+    /// entity.
+    pub fn path(&mut self, alloc: Global, first: &str) -> Result<Path, Unread>
+        requires { IsUnreservedId first.now }
+        ensures { IfOk result (λ path. ReadsPathTo first.now self.old path self.new) }
+    {
+        let mut namespace = Vec::new(alloc);
+        let mut last = id_of(alloc, first)?;
+        'path: while self.eat_separator() {
+            if self.next_byte() == b'"' {
+                return Ok(Path::EntityType(name_of(alloc, namespace, last)?));
+            }
+            namespace.push(last)?;
+            let next = self.identifier()?;
+            let id = id_of(alloc, next)?;
+            last = id;
+        }
+        Ok(Path::Called(name_of(alloc, namespace, last)?))
+    }
+}
