@@ -1,11 +1,12 @@
 #!/usr/bin/env python3
-"""Times the built loose parser, and prints for each text the time and the most memory that a run takes,
-and for each nested construct the stack that it takes.
+"""Times loose parsing by a built program of rows, and prints for each text the time and the most memory
+that a run takes, and for each nested construct the stack that it takes.
 
-    python3 bench/measure_parser.py --program crates/cedar_parser_bench/out/cedar_parser_bench [--repeat 5]
+    python3 bench/measure_parser.py --program crates/cedar_parser_rows/out/cedar_parser_rows [--repeat 5]
 
-Each figure is of a run over standard input: the fastest of the repeats in seconds, and the greatest
-resident set in MiB. The stack is the smallest limit with which the text is read, in KiB.
+Each run is given one line, which holds the text. The time is that of the fastest of the repeats less that of a
+run that takes the same text and does not read it, in seconds; the memory is the greatest resident set in MiB,
+in which the line and its text stand too. The stack is the smallest limit with which the text is read, in KiB.
 """
 import argparse
 import os
@@ -17,6 +18,9 @@ import time
 MIB = 1 << 20
 POLICY = ('@id("p") permit(principal == User::"someone", action in [Action::"view"], resource is Photo)\n'
           'when { context.size + 1 < 20 && resource.tags.contains("a") };\n')
+EXPRESSION = 'loose reads-expression/256'
+POLICIES = 'loose reads-policies/256'
+UNREAD = 'repeat 1'
 
 
 def filled(start, part, end, size):
@@ -25,7 +29,7 @@ def filled(start, part, end, size):
 
 
 def texts(size):
-    """Each text with what it is, and the program's arguments."""
+    """Each text with what it is, and the step that reads it."""
     expressions = [
         ('a chain of `1+`', filled('', '1+', '1', size)),
         ('a chain of `.b`', filled('a', '.b', '', size)),
@@ -35,10 +39,10 @@ def texts(size):
         ('`[` past the limit', filled('', '[', '', size)),
         ('`(` past the limit', filled('', '(', '', size)),
     ]
-    yield 'policies', filled('', POLICY, '', size), []
-    yield 'a comment', filled('//', 'a', '', size), []
+    yield 'policies', filled('', POLICY, '', size), POLICIES
+    yield 'a comment', filled('//', 'a', '', size), POLICIES
     for name, text in expressions:
-        yield name, text, ['expr']
+        yield name, text, EXPRESSION
 
 
 NESTED = [('`(`', '(', ')'), ('`[`', '[', ']'), ('a call', 'f(', ')'), ('an index', 'a[', ']'),
@@ -46,10 +50,15 @@ NESTED = [('`(`', '(', ')'), ('`[`', '[', ']'), ('a call', 'f(', ')'), ('an inde
 LEVELS = (55, 255)
 
 
+def rows(step, text):
+    """The lines that have the step take the text, in which a caret and `J` write a line feed."""
+    return ('%s %s\n' % (step, text.replace('\n', '^J'))).encode()
+
+
 def reads(program, text, kibibytes):
     """Whether the program ends by itself over this text, with a stack of so many KiB."""
     limit = 1024 * kibibytes
-    done = subprocess.run([program, 'expr'], input=text.encode(), stdout=subprocess.DEVNULL,
+    done = subprocess.run([program], input=rows(EXPRESSION, text), stdout=subprocess.DEVNULL,
                           preexec_fn=lambda: resource.setrlimit(resource.RLIMIT_STACK, (limit, limit)))
     return done.returncode == 0
 
@@ -66,17 +75,23 @@ def stack(program, text):
     return great
 
 
-def timed(program, arguments, data):
-    """Seconds, greatest resident set in MiB, and what the program says."""
-    with tempfile.TemporaryFile() as text, tempfile.TemporaryFile() as said:
-        text.write(data)
-        text.seek(0)
+def timed(program, data):
+    """Seconds, greatest resident set in MiB, and what the last line is answered."""
+    with tempfile.TemporaryFile() as given, tempfile.TemporaryFile() as said:
+        given.write(data)
+        given.seek(0)
         start = time.perf_counter()
-        child = subprocess.Popen([program, *arguments], stdin=text, stdout=said)
+        child = subprocess.Popen([program], stdin=given, stdout=said)
         _, _, usage = os.wait4(child.pid, 0)
         seconds = time.perf_counter() - start
         said.seek(0)
-        return seconds, usage.ru_maxrss / 1024, said.read().decode().strip()
+        return seconds, usage.ru_maxrss / 1024, said.read().decode().rpartition(' => ')[2].strip()
+
+
+def fastest(program, data, repeat):
+    """The least seconds of the repeats, their greatest memory, and what the last line is answered."""
+    runs = [timed(program, data) for _ in range(repeat)]
+    return min(run[0] for run in runs), max(run[1] for run in runs), runs[0][2]
 
 
 def main():
@@ -87,11 +102,10 @@ def main():
     print('| text | bytes | seconds | MiB | answer |')
     print('|---|---|---|---|---|')
     for size in (MIB // 4, MIB // 2, MIB):
-        for name, text, arguments in texts(size):
-            runs = [timed(options.program, arguments, text.encode()) for _ in range(options.repeat)]
-            seconds = min(run[0] for run in runs)
-            memory = max(run[1] for run in runs)
-            print(f'| {name} | {len(text):,} | {seconds:.3f} | {memory:.0f} | {runs[0][2]} |')
+        for name, text, step in texts(size):
+            unread, _, _ = fastest(options.program, rows(UNREAD, text), options.repeat)
+            seconds, memory, answer = fastest(options.program, rows(step, text), options.repeat)
+            print(f'| {name} | {len(text):,} | {seconds - unread:.3f} | {memory:.0f} | {answer} |')
     few, many = LEVELS
     print(f'\n| nested | KiB of stack for {few} levels | for {many} | a level |')
     print('|---|---|---|---|')

@@ -27,7 +27,17 @@ pub(crate) fn read(alloc: Global, verb: &str, text: &str, errors: &mut Told) -> 
         "primary" => shown(alloc, parse_primary(alloc, text, depth), errors),
         "entity" => shown(alloc, parse_ref(alloc, text), errors),
         "name" => shown(alloc, parse_name(alloc, text), errors),
+        "reads-expression" => readable(alloc, parse_expr(alloc, text, depth)),
+        "reads-policies" => readable(alloc, parse_policies(alloc, text, depth)),
         _ => shown(alloc, parse_ident(alloc, text), errors),
+    }
+}
+
+/// That there is a tree, which may be too large to be shown, or the errors.
+fn readable<T: Drop>(alloc: Global, read: Result<Node<Option<T>>, ParseErrors>) -> Answer {
+    match read {
+        Ok(_tree) => String::from_str(alloc, "read"),
+        Err(errors) => errors.to_string(alloc),
     }
 }
 

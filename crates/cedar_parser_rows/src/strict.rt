@@ -1,6 +1,7 @@
 // Texts that are read by the strict grammar, with no function of an extension but `unknown` in bodies.
 use crate::words::Answer;
 use cedar_conversion_leaves::ExtStyles;
+use cedar_data::read_data;
 use cedar_extensions::extensions::Extensions;
 use cedar_literals::literals::Literal;
 use cedar_loose::{ParseError, ParseErrors};
@@ -25,6 +26,10 @@ pub(crate) fn read(alloc: Global, verb: &str, text: &str) -> Answer {
             alloc,
             parse_restrictedexpr(alloc, text, &bodies(alloc, &extensions)?, DEPTH),
         ),
+        "data" => data(
+            alloc,
+            read_data(alloc, text, &bodies(alloc, &extensions)?, DEPTH)?,
+        ),
         "entity" => told(alloc, parse_euid_strict(alloc, text)),
         "literal" => literal(
             alloc,
@@ -38,6 +43,14 @@ pub(crate) fn read(alloc: Global, verb: &str, text: &str) -> Answer {
             alloc,
             parse_expr_strict(alloc, text, &policies(alloc, &extensions)?, DEPTH),
         ),
+    }
+}
+
+/// What was read straight, or that it is left to the parser.
+fn data(alloc: Global, read: Option<RestrictedExpr>) -> Answer {
+    match read {
+        Some(body) => body.to_string(alloc),
+        None => String::from_str(alloc, "left to the parser"),
     }
 }
 

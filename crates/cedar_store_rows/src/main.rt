@@ -4,6 +4,7 @@
 
 mod entities;
 mod graphs;
+mod nesting;
 mod stores;
 
 use crate::entities::Made;
@@ -69,6 +70,7 @@ fn answer(alloc: Global, case: &Case<'_>, table: &Extensions<'_>, held: &mut Hel
         "part" => entities::part(alloc, case, &mut held.stack, &mut held.made),
         "make" => entities::make(alloc, case, table, &mut held.made),
         "bare" => entities::bare(alloc, case, entities),
+        "nested" => nesting::put_users(alloc, case.verb, entities),
         "edit" => entities::edit(alloc, case, entities),
         "entity" => entities::ask(alloc, case, entities),
         "take" => entities::take(alloc, case.verb, table, entities),

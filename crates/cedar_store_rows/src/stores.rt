@@ -130,6 +130,16 @@ fn reaches(alloc: Global, case: &Case<'_>, store: &Entities) -> Answer {
     }
 }
 
+/// How many entities there are, and how many ancestors all of them have together.
+fn counted(alloc: Global, store: &Entities) -> Answer {
+    let mut ancestors: u64 = 0;
+    for entity in store {
+        ancestors = ancestors.saturating_add(entity.ancestors().count() as u64);
+    }
+    let entities = store.len();
+    Ok(format!(in alloc; "{entities} entities, {ancestors} ancestors")?)
+}
+
 /// How many entities a store gives up.
 fn given_up(alloc: Global, store: Result<Entities, AllocError>) -> Answer {
     let mut count: usize = 0;
@@ -154,6 +164,7 @@ pub(crate) fn ask(
         "at" => found(alloc, store.entity(alloc, &uid(alloc, case.one)?)),
         "get" => shown(alloc, store.get(&uid(alloc, case.one)?)),
         "reaches" => reaches(alloc, case, store),
+        "counted" => counted(alloc, store),
         "uids" => sorted(alloc, store.iter().map(Entity::uid).collect(alloc)),
         "lent" => told(alloc, &store.into_iter().count()),
         "given-up" => given_up(alloc, store.clone(alloc)),
