@@ -2,8 +2,13 @@ pub mod Converting
 pub mod Made
 pub mod Ordering
 pub mod Refusing
+mod Seen
 mod Trees
 mod Nodes
+mod Told
+mod Behind
+mod Twice
+mod Chains
 mod Rising
 mod Holding
 mod Fine

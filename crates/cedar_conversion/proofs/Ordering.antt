@@ -1,5 +1,5 @@
 -- Entries, put in one by one, each in the place of its key.
-use Rattle.std.proofs.Common.{◌≡◌, refl, sym, ap, ◌∙◌, List, [], ◌∷◌, ◌++◌, map, Bool, true, false, Global, Option, Some, None, Result, Ok, Err}
+use Rattle.std.proofs.Common.{◌≡◌, refl, sym, ap, ◌∙◌, List, [], ◌∷◌, ◌++◌, map, Bool, true, false, Global, Option, Some, None, Ok}
 use Rattle.std.specs.Prelude.{cond, not, ◌&&◌, ◌||◌, is_some}
 use Rattle.std.specs.declared.cmp.Ordering.{Ordering}
 use Rattle.std.specs.declared.cmp.Ordering.TheVariants.{Less, Equal, Greater}
@@ -22,6 +22,7 @@ use Rattle.cedar_conversion_leaves.specs.declared.errors.ConversionError.{Conver
 use Rattle.cedar_conversion_leaves.specs.declared.errors.ConversionError.TheVariants as error
 use Rattle.cedar_conversion_leaves.specs.Reasons.{IsFault, reason}
 use Rattle.cedar_conversion.specs.Entries.{keyed, ordered, meant, EachIsBuilt, PutsNot}
+pub use Rattle.cedar_conversion.specs.Heads.{given}
 use Rattle.cedar_conversion.proofs.Made.{built_none, built_more, built_apply}
 
 abbrev order : Text → Text → Ordering
@@ -113,10 +114,6 @@ repeated_apart seen (k ∷ ks) =
 nothing_seen : (ks : List Text) → apart [] ks ≡ true
 nothing_seen [] = refl
 nothing_seen (k ∷ ks) = nothing_seen ks
-
-abbrev pub given : {A R : Type 0} → Result A R → Option A
-given (Ok x) = Some x
-given (Err r) = None
 
 unless : {A : Type 0} (r : Option Text) (x : A) → given (unless_repeated r x) ≡ cond (none r) (Some x) None
 unless None x = refl

@@ -24,14 +24,14 @@ use Rattle.cedar_cst.specs.declared.cst.Member.{Member, out-Member}
 use Rattle.cedar_cst.specs.declared.cst.MemAccess.{MemAccess}
 use Rattle.cedar_cst.specs.declared.cst.RecInit.{RecInit}
 use Rattle.cedar_cst.specs.declared.cst.Primary.{Primary}
-use Rattle.cedar_cst.specs.View.{view_or, view_and, view_add, view_mult, view_member, shown_expr, shown_or, shown_and, shown_relation, shown_add, shown_mult, shown_unary, shown_member, shown_mem_access, shown_primary, shown_rec_init}
-use Rattle.cedar_cst.proofs.Views.{seen, view_or_out, view_and_out, view_add_out, view_mult_out, view_member_out}
+use Rattle.cedar_cst.specs.View.{shown_expr, shown_or, shown_and, shown_relation, shown_add, shown_mult, shown_unary, shown_member, shown_mem_access, shown_primary, shown_rec_init}
 use Rattle.cedar_conversion_leaves.specs.declared.errors.ConversionError.{ConversionError}
 use Rattle.cedar_conversion_leaves.specs.Converts.{Converts}
 use Rattle.cedar_conversion.specs.SoFar.{SoFar}
 use Rattle.cedar_conversion.specs.Joints.{joined}
 use Rattle.cedar_conversion.specs.declared.applying.Joint.TheVariants as joint
 use Rattle.cedar_conversion.proofs.Converting.{same_as, step_so, more_so, all_so}
+use Rattle.cedar_conversion.proofs.Seen.{or_seen, and_seen, add_seen, mult_seen, member_seen}
 
 pub empty : {A V : Type 0} {B : Type 0} (missing : B) (view : A → B) (f : B → Option V) (n : Node (Option A)) → n.node ≡ None → f missing ≡ None → f (shown missing view n) ≡ None
 empty missing view f n is h = ap (λ o. f (unwrap_or (option_map view o) missing)) is ∙ h
@@ -43,7 +43,7 @@ module _ (names : Names) {E B R : Type 0} (s : E → Tree → Type 0) (is_refuse
   or_start n t whole xs is given same = record {
     value = and_tree names (shown_and (out-Or t).initial);
     is = given;
-    same = ap (or_tree names) (seen loose.missing_or view_or n t is ∙ view_or_out t) ∙ ap (λ ys. and_tree names (shown_and (out-Or t).initial) >>= λ x. ands_tree names x (loose.ands (map shown_and ys))) (sym same);
+    same = ap (or_tree names) (or_seen n t xs is same);
   }
 
   pub or_more : (whole next whole' : Result E (ConversionError B)) (want : Option Tree) (p : Node (Option And)) (xs ys : List (Node (Option And))) → SoFar s is_refused refusal whole want (λ x. ands_tree names x (loose.ands (map shown_and xs))) → xs ≡ p ∷ ys
@@ -63,7 +63,7 @@ module _ (names : Names) {E B R : Type 0} (s : E → Tree → Type 0) (is_refuse
   and_start n t whole xs is given same = record {
     value = relation_tree names (shown_relation (out-And t).initial);
     is = given;
-    same = ap (and_tree names) (seen loose.missing_and view_and n t is ∙ view_and_out t) ∙ ap (λ ys. relation_tree names (shown_relation (out-And t).initial) >>= λ x. relations_tree names x (loose.relations (map shown_relation ys))) (sym same);
+    same = ap (and_tree names) (and_seen n t xs is same);
   }
 
   pub and_more : (whole next whole' : Result E (ConversionError B)) (want : Option Tree) (p : Node (Option Relation)) (xs ys : List (Node (Option Relation))) → SoFar s is_refused refusal whole want (λ x. relations_tree names x (loose.relations (map shown_relation xs))) → xs ≡ p ∷ ys
@@ -83,7 +83,7 @@ module _ (names : Names) {E B R : Type 0} (s : E → Tree → Type 0) (is_refuse
   add_start n t whole xs is given same = record {
     value = mult_tree names (shown_mult (out-Add t).initial);
     is = given;
-    same = ap (add_tree names) (seen loose.missing_add view_add n t is ∙ view_add_out t) ∙ ap (λ ys. mult_tree names (shown_mult (out-Add t).initial) >>= λ x. mults_tree names x (loose.mults (map {B = loose.AddOp × loose.Mult} (λ x. (view_add_op x.0, shown_mult x.1)) ys))) (sym same);
+    same = ap (add_tree names) (add_seen n t xs is same);
   }
 
   pub add_more : (whole next whole' : Result E (ConversionError B)) (want : Option Tree) (p : AddOp × Node (Option Mult)) (xs ys : List (AddOp × Node (Option Mult))) → SoFar s is_refused refusal whole want (λ x. mults_tree names x (loose.mults (map {B = loose.AddOp × loose.Mult} (λ x. (view_add_op x.0, shown_mult x.1)) xs))) → xs ≡ p ∷ ys
@@ -103,7 +103,7 @@ module _ (names : Names) {E B R : Type 0} (s : E → Tree → Type 0) (is_refuse
   mult_start n t whole xs is given same = record {
     value = unary_tree names (shown_unary (out-Mult t).initial);
     is = given;
-    same = ap (mult_tree names) (seen loose.missing_mult view_mult n t is ∙ view_mult_out t) ∙ ap (λ ys. unary_tree names (shown_unary (out-Mult t).initial) >>= λ x. unaries_tree names x (loose.unaries (map {B = loose.MultOp × loose.Unary} (λ x. (view_mult_op x.0, shown_unary x.1)) ys))) (sym same);
+    same = ap (mult_tree names) (mult_seen n t xs is same);
   }
 
   pub mult_more : (whole next whole' : Result E (ConversionError B)) (want : Option Tree) (p : MultOp × Node (Option Unary)) (xs ys : List (MultOp × Node (Option Unary))) → SoFar s is_refused refusal whole want (λ x. unaries_tree names x (loose.unaries (map {B = loose.MultOp × loose.Unary} (λ x. (view_mult_op x.0, shown_unary x.1)) xs))) → xs ≡ p ∷ ys
@@ -124,7 +124,7 @@ module _ (names : Names) {E B R : Type 0} (s : E → converting.Head → Type 0)
   member_start n t p whole xs is item given same = record {
     value = primary_head names (shown_primary p);
     is = given;
-    same = ap (member_tree names) (seen loose.missing_member view_member n t is ∙ view_member_out t ∙ ap (λ q. loose.member (shown_primary q) (loose.accesses (map shown_mem_access (out-Member t).access.items))) (sym item)) ∙ ap (λ ys. primary_head names (shown_primary p) >>= λ h. accesses_tree names h (loose.accesses (map shown_mem_access ys))) (sym same);
+    same = ap (member_tree names) (member_seen n t p xs is item same);
   }
 
   pub member_more : (whole whole' : Result E (ConversionError B)) (want : Option Tree) (p : Node (Option MemAccess)) (xs ys : List (Node (Option MemAccess))) → SoFar s is_refused refusal whole want (λ h. accesses_tree names h (loose.accesses (map shown_mem_access xs))) → xs ≡ p ∷ ys

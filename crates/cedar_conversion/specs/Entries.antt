@@ -1,11 +1,18 @@
 -- The entries of a record.
-use Rattle.std.specs.Prelude.{◌≡◌, ⊤, List, [], ◌∷◌, map, cond, Bool, true, false, Option, Some, None, Result, Ok, Err, Vec}
+use Rattle.std.specs.Prelude.{◌≡◌, ◌⊎◌, ⊤, List, [], ◌∷◌, map, cond, Bool, true, false, Option, Some, None, MatchOption, Result, Ok, Err, Vec}
 use Rattle.std.specs.Global.{Global}
 use Rattle.std.specs.Rc.{rc_str_bytes}
 use Rattle.std.specs.declared.rc.RcStr.{RcStr}
+use Rattle.cedar_language.specs.Uid.{Text}
 use Rattle.cedar_language.specs.Tree.{Tree}
 use Rattle.cedar_grammar.specs.Names.{are_distinct, is_among}
 use Rattle.cedar_grammar.specs.Build.{Keyed, keys, put, by_key}
+use Rattle.cedar_grammar.specs.Reading.{◌>>=◌}
+use Rattle.cedar_grammar.specs.Loose as loose
+use Rattle.cedar_grammar.specs.Converting.{alone, primary_key}
+use Rattle.cedar_trees.specs.declared.errors.ExpressionConstructionError.TheVariants.{DuplicateKey}
+use Rattle.cedar_conversion_leaves.specs.declared.kinds.ToASTErrorKind.{ToASTErrorKind}
+use Rattle.cedar_conversion_leaves.specs.declared.kinds.ToASTErrorKind.TheVariants as kinds
 use Rattle.cedar_conversion_leaves.specs.declared.errors.ConversionError.{ConversionError}
 use Rattle.cedar_conversion_leaves.specs.Reasons.{Reason, means_nothing, refused, out_of_memory, reason}
 use Rattle.cedar_conversion_leaves.specs.Converts.{Converts}
@@ -58,3 +65,29 @@ PutsNot out_of_memory b = ⊤
 abbrev pub Puts : {A B : Type 0} → Keyed A → List (Keyed A) → List (Keyed A) → Result Unit (ConversionError B) → Type 0
 Puts e old new (Ok u) = (is_among e.0 (keys old) ≡ false) × (new ≡ put e old)
 Puts e old new (Err f) = PutsNot (reason f) (is_among e.0 (keys old))
+
+-- ---- keys that stand twice
+
+-- the keys that the entries of a record write, where each writes one
+abbrev pub record_keys : loose.RecInits → Option (List Text)
+record_keys loose.no_rec_inits = Some []
+record_keys (loose.a_rec_init loose.missing_rec_init rs) = None
+record_keys (loose.a_rec_init (loose.rec_init k e) rs) = alone k >>= primary_key >>= λ s. record_keys rs >>= λ ss. Some (s ∷ ss)
+
+-- stands there, and once more behind
+abbrev pub StandsTwice : Text → List Text → Type 0
+StandsTwice s [] = ⊥
+StandsTwice s (t ∷ ts) = ((t ≡ s) × (is_among s ts ≡ true)) ⊎ StandsTwice s ts
+
+-- the key of which a fault says that it stands twice
+abbrev pub repeated_key : ToASTErrorKind → Option Text
+repeated_key (kinds.ExpressionConstructionError (DuplicateKey e)) = Some (rc_str_bytes e.key)
+repeated_key kind = None
+
+abbrev pub IsRepeated : List Text → ToASTErrorKind → Type 0
+IsRepeated ss kind = MatchOption (repeated_key kind) ⊥ (λ s. StandsTwice s ss)
+
+-- of entries that are there
+abbrev pub entries_show : {E B : Type 0} → Result (Vec (RcStr Global × E) Global) (ConversionError B) → ToASTErrorKind → Type 0
+entries_show (Ok es) kind = IsRepeated (keys (keyed es.items)) kind
+entries_show (Err e) kind = ⊥

@@ -1,6 +1,7 @@
 pub mod Building
 pub mod Choices
 pub mod Entries
+pub mod Shows
 pub mod Heads
 pub mod Joints
 pub mod Meanings

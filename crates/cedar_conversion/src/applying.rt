@@ -1,9 +1,11 @@
 // Operators of two operands.
-ghost use Rattle.std.specs.Prelude.{Option, Some};
+ghost use Rattle.std.specs.Prelude.{◌⊎◌, Option, Some, IfErr};
 ghost use Rattle.cedar_language.specs.Tree.{Tree};
 ghost use Rattle.cedar_conversion_leaves.specs.Converts.{and_then};
+ghost use Rattle.cedar_conversion_leaves.specs.Telling.{Told, TellsOnly};
 ghost use Rattle.cedar_conversion.specs.Building.{IsBuilt, MakesTree};
 ghost use Rattle.cedar_conversion.specs.Joints.{joined};
+ghost use Rattle.cedar_conversion.specs.Shows.{joint_shows};
 
 use crate::building::{builder_at, taken};
 use cedar_builders::expr_builder::ExprBuilder;
@@ -31,8 +33,9 @@ fn compared<B: ExprBuilder>(
     left: B::Expr,
     right: B::Expr,
 ) -> Result<B::Expr, ConversionError<B::BuildError>>
-    ensures { (x y : Tree) → IsBuilt B.operations B.meaning left x → IsBuilt B.operations B.meaning right y →
+    ensures tree { (x y : Tree) → IsBuilt B.operations B.meaning left x → IsBuilt B.operations B.meaning right y →
         MakesTree B.operations B.meaning B.refusal result (joined (Joint.Relation op) x y) }
+    ensures shown { IfErr result (λ error. TellsOnly error (joint_shows (Joint.Relation op))) }
 {
     match op {
         RelOp::Less => taken::<B>(builder.less(left, right)),
@@ -58,8 +61,9 @@ fn multiplied<B: ExprBuilder>(
     left: B::Expr,
     right: B::Expr,
 ) -> Result<B::Expr, ConversionError<B::BuildError>>
-    ensures { (x y : Tree) → IsBuilt B.operations B.meaning left x → IsBuilt B.operations B.meaning right y →
+    ensures tree { (x y : Tree) → IsBuilt B.operations B.meaning left x → IsBuilt B.operations B.meaning right y →
         MakesTree B.operations B.meaning B.refusal result (joined (Joint.Product op) x y) }
+    ensures shown { IfErr result (λ error. TellsOnly error (joint_shows (Joint.Product op))) }
 {
     match op {
         MultOp::Times => taken::<B>(builder.mul(left, right)),
@@ -81,8 +85,9 @@ fn added<B: ExprBuilder>(
     left: B::Expr,
     right: B::Expr,
 ) -> Result<B::Expr, ConversionError<B::BuildError>>
-    ensures { (x y : Tree) → IsBuilt B.operations B.meaning left x → IsBuilt B.operations B.meaning right y →
+    ensures tree { (x y : Tree) → IsBuilt B.operations B.meaning left x → IsBuilt B.operations B.meaning right y →
         MakesTree B.operations B.meaning B.refusal result (joined (Joint.Sum op) x y) }
+    ensures shown { IfErr result (λ error. TellsOnly error (λ kind. ⊥)) }
 {
     match op {
         AddOp::Plus => taken::<B>(builder.add(left, right)),
@@ -98,8 +103,9 @@ fn applied<B: ExprBuilder>(
     left: B::Expr,
     right: B::Expr,
 ) -> Result<B::Expr, ConversionError<B::BuildError>>
-    ensures { (x y : Tree) → IsBuilt B.operations B.meaning left x → IsBuilt B.operations B.meaning right y →
+    ensures tree { (x y : Tree) → IsBuilt B.operations B.meaning left x → IsBuilt B.operations B.meaning right y →
         MakesTree B.operations B.meaning B.refusal result (joined joint x y) }
+    ensures shown { IfErr result (λ error. TellsOnly error (joint_shows joint)) }
 {
     let builder = builder_at::<B>(alloc, loc)?;
     match joint {
@@ -119,8 +125,9 @@ pub fn join<B: ExprBuilder>(
     left: Result<B::Expr, ConversionError<B::BuildError>>,
     right: Result<B::Expr, ConversionError<B::BuildError>>,
 ) -> Result<B::Expr, ConversionError<B::BuildError>>
-    ensures { (v w : Option Tree) → MakesTree B.operations B.meaning B.refusal left v → MakesTree B.operations B.meaning B.refusal right w →
+    ensures tree { (v w : Option Tree) → MakesTree B.operations B.meaning B.refusal left v → MakesTree B.operations B.meaning B.refusal right w →
         MakesTree B.operations B.meaning B.refusal result (and_then v (λ x. and_then w (λ y. joined joint x y))) }
+    ensures shown { IfErr result (λ error. TellsOnly error (λ kind. Told left kind ⊎ Told right kind ⊎ joint_shows joint kind)) }
 {
     let (left, right) = flatten_tuple_2(left, right)?;
     applied::<B>(alloc, loc, joint, left, right)

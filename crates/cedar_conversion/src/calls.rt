@@ -1,5 +1,5 @@
 // Calls of functions and methods.
-ghost use Rattle.std.specs.Prelude.{◌≡◌, ⊤, [], ◌∷◌, length, cond, Option, Some, None, List, IfOk, MatchOption};
+ghost use Rattle.std.specs.Prelude.{◌≡◌, ◌⊎◌, ⊤, false, [], ◌∷◌, length, cond, codes, Option, Some, None, List, IfOk, IfErr, MatchOption};
 ghost use Rattle.cedar_language.specs.Tree as tree;
 ghost use Rattle.cedar_language.specs.Tree.{Tree};
 ghost use Rattle.cedar_literals.specs.Operators.{binary_operator_of};
@@ -10,9 +10,11 @@ ghost use Rattle.cedar_grammar.specs.Converting.{name_variable};
 ghost use Rattle.cedar_cst.specs.LeafView.{shown_name};
 ghost use Rattle.cedar_conversion_leaves.specs.Reasons.{IsFault};
 ghost use Rattle.cedar_conversion_leaves.specs.Converts.{and_then};
+ghost use Rattle.cedar_conversion_leaves.specs.Telling.{Told, TellsOnly};
 ghost use Rattle.cedar_conversion.specs.Building.{IsBuilt, MakesTree, AreBuilt, MakesTrees};
-ghost use Rattle.cedar_conversion.specs.Choices.{own_methods, IsNoFunction, IsNoMethod};
-ghost use Rattle.cedar_conversion.specs.Heads.{IsHead, MakesHead};
+ghost use Rattle.cedar_conversion.specs.Choices.{own_methods, IsNoFunction, IsNoMethod, IsWrongArity, function_shows, method_shows};
+ghost use Rattle.cedar_conversion.specs.Heads.{IsHead, MakesHead, before_of, called_shows};
+ghost use Rattle.cedar_conversion.specs.Shows.{call_shows};
 
 use crate::building::{builder_at, taken};
 use crate::heads::{Head, expr_to_head};
@@ -44,7 +46,8 @@ fn no_function<E: Drop>(
     name: &Node<Option<cst::Name>>,
     function: Name,
 ) -> ConversionError<E>
-    ensures { IsFault result }
+    ensures fault { IsFault result }
+    ensures kind { TellsOnly result (IsNoFunction styles.now (name_variable (shown_name name.now)) function) }
 {
     match kind_of_no_function(alloc, styles, name, function) {
         Ok(kind) => ConversionError::fault(alloc, kind, loc),
@@ -80,7 +83,8 @@ fn no_method<E: Drop>(
     loc: Option<&Loc>,
     id: UnreservedId,
 ) -> ConversionError<E>
-    ensures { IsFault result }
+    ensures fault { IsFault result }
+    ensures kind { TellsOnly result (IsNoMethod styles.now id) }
 {
     match kind_of_no_method(alloc, styles, id) {
         Ok(kind) => ConversionError::fault(alloc, kind, loc),
@@ -112,8 +116,9 @@ fn call_function<B: ExprBuilder>(
     name: &Node<Option<cst::Name>>,
     args: Vec<B::Expr>,
 ) -> Result<B::Expr, ConversionError<B::BuildError>>
-    ensures { (xs : List Tree) → AreBuilt B.operations B.meaning args xs →
+    ensures tree { (xs : List Tree) → AreBuilt B.operations B.meaning args xs →
         MakesTree B.operations B.meaning B.refusal result (converting.called styles.now (converting.a_name (shown_name name.now)) xs) }
+    ensures shown { IfErr result (λ error. TellsOnly error (function_shows styles.now (shown_name name.now))) }
 {
     let function = to_name(alloc, name)?;
     if !styles.is_function(&function) {
@@ -140,8 +145,9 @@ fn with_argument<B: ExprBuilder>(
     expr: B::Expr,
     args: Vec<B::Expr>,
 ) -> Result<B::Expr, ConversionError<B::BuildError>>
-    ensures { (t : Tree) (xs : List Tree) → IsBuilt B.operations B.meaning expr t → AreBuilt B.operations B.meaning args xs →
+    ensures tree { (t : Tree) (xs : List Tree) → IsBuilt B.operations B.meaning expr t → AreBuilt B.operations B.meaning args xs →
         MakesTree B.operations B.meaning B.refusal result (with_argument (binary_operator_of op) t xs) }
+    ensures shown { IfErr result (λ error. TellsOnly error (IsWrongArity name.entry.now 1 (length args.items))) }
 {
     let got = args.len();
     match only(args) {
@@ -167,8 +173,9 @@ fn is_empty<B: ExprBuilder>(
     expr: B::Expr,
     args: Vec<B::Expr>,
 ) -> Result<B::Expr, ConversionError<B::BuildError>>
-    ensures { (t : Tree) (xs : List Tree) → IsBuilt B.operations B.meaning expr t → AreBuilt B.operations B.meaning args xs →
+    ensures tree { (t : Tree) (xs : List Tree) → IsBuilt B.operations B.meaning expr t → AreBuilt B.operations B.meaning args xs →
         MakesTree B.operations B.meaning B.refusal result (without_argument tree.IsEmpty t xs) }
+    ensures shown { IfErr result (λ error. TellsOnly error (IsWrongArity (codes "isEmpty") 0 (length args.items))) }
 {
     if args.is_empty() {
         let builder = builder_at::<B>(alloc, loc)?;
@@ -191,9 +198,10 @@ fn call_table_method<B: ExprBuilder>(
     id: UnreservedId,
     args: Vec<B::Expr>,
 ) -> Result<B::Expr, ConversionError<B::BuildError>>
-    ensures { (t : Tree) (xs : List Tree) → IsBuilt B.operations B.meaning expr t → AreBuilt B.operations B.meaning args xs →
+    ensures tree { (t : Tree) (xs : List Tree) → IsBuilt B.operations B.meaning expr t → AreBuilt B.operations B.meaning args xs →
         MakesTree B.operations B.meaning B.refusal result
         (cond (is_among id styles.now.methods) (Some (tree.Apply (tree.Call (id ∷ [])) (trees (t ∷ xs)))) None) }
+    ensures shown { IfErr result (λ error. TellsOnly error (λ kind. (is_among id styles.now.methods ≡ false) × IsNoMethod styles.now id kind)) }
 {
     if !styles.is_method(&id) {
         return Err(no_method(alloc, styles, loc, id));
@@ -214,8 +222,9 @@ fn call_method<B: ExprBuilder>(
     id: UnreservedId,
     args: Vec<B::Expr>,
 ) -> Result<B::Expr, ConversionError<B::BuildError>>
-    ensures { (t : Tree) (xs : List Tree) → IsBuilt B.operations B.meaning expr t → AreBuilt B.operations B.meaning args xs →
+    ensures tree { (t : Tree) (xs : List Tree) → IsBuilt B.operations B.meaning expr t → AreBuilt B.operations B.meaning args xs →
         MakesTree B.operations B.meaning B.refusal result (method styles.now id t xs) }
+    ensures shown { IfErr result (λ error. TellsOnly error (method_shows styles.now id (length args.items))) }
 {
     match id.as_str() {
         "contains" => with_argument::<B>(alloc, loc, "contains", BinaryOp::Contains, expr, args),
@@ -240,8 +249,9 @@ fn called<B: ExprBuilder>(
     head: Head<'_, B::Expr>,
     args: Vec<B::Expr>,
 ) -> Result<B::Expr, ConversionError<B::BuildError>>
-    ensures { (h : converting.Head) (xs : List Tree) → IsHead B.operations B.meaning head.entry h → AreBuilt B.operations B.meaning args xs →
+    ensures tree { (h : converting.Head) (xs : List Tree) → IsHead B.operations B.meaning head.entry h → AreBuilt B.operations B.meaning args xs →
         MakesTree B.operations B.meaning B.refusal result (converting.called styles.now h xs) }
+    ensures shown { IfErr result (λ error. TellsOnly error (call_shows styles.now (before_of head.entry) (length args.items))) }
 {
     match head {
         Head::Expr(_) => {
@@ -261,8 +271,9 @@ pub fn call<'a, B: ExprBuilder>(
     head: Result<Head<'_, B::Expr>, ConversionError<B::BuildError>>,
     args: Result<Vec<B::Expr>, ConversionError<B::BuildError>>,
 ) -> Result<Head<'a, B::Expr>, ConversionError<B::BuildError>>
-    ensures { (v : Option converting.Head) (w : Option (List Tree)) → MakesHead B.operations B.meaning B.refusal head.entry v → MakesTrees B.operations B.meaning B.refusal args w →
+    ensures head { (v : Option converting.Head) (w : Option (List Tree)) → MakesHead B.operations B.meaning B.refusal head.entry v → MakesTrees B.operations B.meaning B.refusal args w →
         MakesHead B.operations B.meaning B.refusal result (and_then v (λ h. and_then w (λ xs. and_then (converting.called styles.now h xs) (λ t. Some (converting.a_tree t))))) }
+    ensures shown { IfErr result (λ error. TellsOnly error (λ kind. Told head.entry kind ⊎ Told args kind ⊎ called_shows styles.now head.entry args kind)) }
 {
     match head {
         Ok(head) => match args {

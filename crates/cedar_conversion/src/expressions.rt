@@ -1,13 +1,16 @@
 // Expressions.
-ghost use Rattle.std.specs.Prelude.{Option};
+ghost use Rattle.std.specs.Prelude.{◌≡◌, ◌⊎◌, map, Option, IfErr};
+ghost use Rattle.cedar_grammar.specs.Loose as loose;
 ghost use Rattle.cedar_grammar.specs.Converting as converting;
 ghost use Rattle.cedar_grammar.specs.Converting.{expr_tree, or_tree, and_tree, relation_tree, add_tree, mult_tree, unary_tree, member_tree, access_head, primary_head, rec_init_tree};
 ghost use Rattle.cedar_cst.specs.View.{shown_expr, shown_or, shown_and, shown_relation, shown_add, shown_mult, shown_unary, shown_member, shown_mem_access, shown_primary, shown_rec_init};
 ghost use Rattle.cedar_conversion_leaves.specs.Reasons.{IsFault};
 ghost use Rattle.cedar_conversion_leaves.specs.Converts.{and_then};
+ghost use Rattle.cedar_conversion_leaves.specs.Telling.{Told, TellsOnly};
 ghost use Rattle.cedar_conversion.specs.Building.{MakesTree};
 ghost use Rattle.cedar_conversion.specs.Entries.{MakesEntry};
-ghost use Rattle.cedar_conversion.specs.Heads.{MakesHead};
+ghost use Rattle.cedar_conversion.specs.Heads.{MakesHead, IsBefore};
+ghost use Rattle.cedar_conversion.specs.Shows.{Before, IsNoOperand, is_call, calls_method, expr_shows, or_shows, and_shows, relation_shows, add_shows, mult_shows, unary_shows, member_shows, access_shows, primary_shows, rec_init_shows};
 
 use crate::{
     Head, Joint, Sign, attribute, call, entity_to_head, expr_to_head, has, head_to_expr, index,
@@ -36,7 +39,8 @@ pub(crate) fn expr_to_expr<B: ExprBuilder>(
     styles: &ExtStyles,
     node: &Node<Option<Expr>>,
 ) -> Result<B::Expr, ConversionError<B::BuildError>>
-    ensures { MakesTree B.operations B.meaning B.refusal result (expr_tree styles.now (shown_expr node.now)) }
+    ensures tree { MakesTree B.operations B.meaning B.refusal result (expr_tree styles.now (shown_expr node.now)) }
+    ensures shown { IfErr result (λ error. TellsOnly error (expr_shows styles.now (shown_expr node.now))) }
 {
     match &node.node {
         None => Err(ConversionError::missing(alloc, node.loc())),
@@ -64,7 +68,8 @@ fn or_to_expr<B: ExprBuilder>(
     styles: &ExtStyles,
     node: &Node<Option<Or>>,
 ) -> Result<B::Expr, ConversionError<B::BuildError>>
-    ensures { MakesTree B.operations B.meaning B.refusal result (or_tree styles.now (shown_or node.now)) }
+    ensures tree { MakesTree B.operations B.meaning B.refusal result (or_tree styles.now (shown_or node.now)) }
+    ensures shown { IfErr result (λ error. TellsOnly error (or_shows styles.now (shown_or node.now))) }
 {
     match &node.node {
         None => Err(ConversionError::missing(alloc, node.loc())),
@@ -87,7 +92,8 @@ fn and_to_expr<B: ExprBuilder>(
     styles: &ExtStyles,
     node: &Node<Option<And>>,
 ) -> Result<B::Expr, ConversionError<B::BuildError>>
-    ensures { MakesTree B.operations B.meaning B.refusal result (and_tree styles.now (shown_and node.now)) }
+    ensures tree { MakesTree B.operations B.meaning B.refusal result (and_tree styles.now (shown_and node.now)) }
+    ensures shown { IfErr result (λ error. TellsOnly error (and_shows styles.now (shown_and node.now))) }
 {
     match &node.node {
         None => Err(ConversionError::missing(alloc, node.loc())),
@@ -110,7 +116,8 @@ fn relation_to_expr<B: ExprBuilder>(
     styles: &ExtStyles,
     node: &Node<Option<Relation>>,
 ) -> Result<B::Expr, ConversionError<B::BuildError>>
-    ensures { MakesTree B.operations B.meaning B.refusal result (relation_tree styles.now (shown_relation node.now)) }
+    ensures tree { MakesTree B.operations B.meaning B.refusal result (relation_tree styles.now (shown_relation node.now)) }
+    ensures shown { IfErr result (λ error. TellsOnly error (relation_shows styles.now (shown_relation node.now))) }
 {
     match &node.node {
         None => Err(ConversionError::missing(alloc, node.loc())),
@@ -175,7 +182,8 @@ fn add_to_expr<B: ExprBuilder>(
     styles: &ExtStyles,
     node: &Node<Option<Add>>,
 ) -> Result<B::Expr, ConversionError<B::BuildError>>
-    ensures { MakesTree B.operations B.meaning B.refusal result (add_tree styles.now (shown_add node.now)) }
+    ensures tree { MakesTree B.operations B.meaning B.refusal result (add_tree styles.now (shown_add node.now)) }
+    ensures shown { IfErr result (λ error. TellsOnly error (add_shows styles.now (shown_add node.now))) }
 {
     match &node.node {
         None => Err(ConversionError::missing(alloc, node.loc())),
@@ -198,7 +206,8 @@ fn mult_to_expr<B: ExprBuilder>(
     styles: &ExtStyles,
     node: &Node<Option<Mult>>,
 ) -> Result<B::Expr, ConversionError<B::BuildError>>
-    ensures { MakesTree B.operations B.meaning B.refusal result (mult_tree styles.now (shown_mult node.now)) }
+    ensures tree { MakesTree B.operations B.meaning B.refusal result (mult_tree styles.now (shown_mult node.now)) }
+    ensures shown { IfErr result (λ error. TellsOnly error (mult_shows styles.now (shown_mult node.now))) }
 {
     match &node.node {
         None => Err(ConversionError::missing(alloc, node.loc())),
@@ -221,7 +230,8 @@ fn unary_to_expr<B: ExprBuilder>(
     styles: &ExtStyles,
     node: &Node<Option<Unary>>,
 ) -> Result<B::Expr, ConversionError<B::BuildError>>
-    ensures { MakesTree B.operations B.meaning B.refusal result (unary_tree styles.now (shown_unary node.now)) }
+    ensures tree { MakesTree B.operations B.meaning B.refusal result (unary_tree styles.now (shown_unary node.now)) }
+    ensures shown { IfErr result (λ error. TellsOnly error (unary_shows styles.now (shown_unary node.now))) }
 {
     match &node.node {
         None => Err(ConversionError::missing(alloc, node.loc())),
@@ -266,7 +276,8 @@ fn member_to_expr<B: ExprBuilder>(
     styles: &ExtStyles,
     node: &Node<Option<Member>>,
 ) -> Result<B::Expr, ConversionError<B::BuildError>>
-    ensures { MakesTree B.operations B.meaning B.refusal result (member_tree styles.now (shown_member node.now)) }
+    ensures tree { MakesTree B.operations B.meaning B.refusal result (member_tree styles.now (shown_member node.now)) }
+    ensures shown { IfErr result (λ error. TellsOnly error (member_shows styles.now (shown_member node.now))) }
 {
     match &node.node {
         None => Err(ConversionError::missing(alloc, node.loc())),
@@ -289,7 +300,8 @@ fn no_slots<E: Drop>(
     slot: &Node<Option<Slot>>,
     loc: Option<&Loc>,
 ) -> ConversionError<E>
-    ensures { IsFault result }
+    ensures fault { IsFault result }
+    ensures kind { TellsOnly result IsNoOperand }
 {
     match printed(alloc, slot) {
         Ok(text) => ConversionError::fault(alloc, ToASTErrorKind::InvalidSlot(text), loc),
@@ -305,10 +317,25 @@ fn printed(alloc: Global, slot: &Node<Option<Slot>>) -> Result<RcStr, AllocError
 }
 
 // Whether the second access is a call, so that the first one names a method.
-fn calls_method(accesses: &Vec<Node<Option<MemAccess>>>) -> bool {
+fn calls_method(accesses: &Vec<Node<Option<MemAccess>>>) -> bool
+    ensures { result ≡ calls_method (loose.accesses (map shown_mem_access accesses.now.items)) }
+{
     match accesses.get(1) {
-        Some(access) => matches!(&access.node, Some(MemAccess::Call(_))),
+        Some(access) => is_call(access),
         None => false,
+    }
+}
+
+fn is_call(node: &Node<Option<MemAccess>>) -> bool
+    ensures { result ≡ is_call (shown_mem_access node.now) }
+{
+    match &node.node {
+        None => false,
+        Some(access) => match access {
+            MemAccess::Field(_) => false,
+            MemAccess::Call(_) => true,
+            MemAccess::Index(_) => false,
+        },
     }
 }
 
@@ -321,8 +348,10 @@ fn access_to_head<'a, B: ExprBuilder>(
     head: Result<Head<'a, B::Expr>, ConversionError<B::BuildError>>,
     is_called: bool,
 ) -> Result<Head<'a, B::Expr>, ConversionError<B::BuildError>>
-    ensures { (v : Option converting.Head) → MakesHead B.operations B.meaning B.refusal head.entry v →
+    ensures head { (v : Option converting.Head) → MakesHead B.operations B.meaning B.refusal head.entry v →
         MakesHead B.operations B.meaning B.refusal result (and_then v (λ h. access_head styles.now h (shown_mem_access node.now))) }
+    ensures shown { (b : Before) → IsBefore head.entry b →
+        IfErr result (λ error. TellsOnly error (λ kind. Told head.entry kind ⊎ access_shows styles.now b is_called (shown_mem_access node.now) kind)) }
 {
     match &node.node {
         None => Err(ConversionError::missing(alloc, node.loc())),
@@ -354,7 +383,8 @@ pub(crate) fn primary_to_head<'a, B: ExprBuilder>(
     styles: &ExtStyles,
     node: &'a Node<Option<Primary>>,
 ) -> Result<Head<'a, B::Expr>, ConversionError<B::BuildError>>
-    ensures { MakesHead B.operations B.meaning B.refusal result (primary_head styles.now (shown_primary node.now)) }
+    ensures head { MakesHead B.operations B.meaning B.refusal result (primary_head styles.now (shown_primary node.now)) }
+    ensures shown { IfErr result (λ error. TellsOnly error (primary_shows styles.now (shown_primary node.now))) }
 {
     match &node.node {
         None => Err(ConversionError::missing(alloc, node.loc())),
@@ -404,7 +434,8 @@ fn entry_to_pair<B: ExprBuilder>(
     styles: &ExtStyles,
     node: &Node<Option<RecInit>>,
 ) -> Result<(RcStr, B::Expr), ConversionError<B::BuildError>>
-    ensures { MakesEntry B.operations B.meaning B.refusal result (rec_init_tree styles.now (shown_rec_init node.now)) }
+    ensures entry { MakesEntry B.operations B.meaning B.refusal result (rec_init_tree styles.now (shown_rec_init node.now)) }
+    ensures shown { IfErr result (λ error. TellsOnly error (rec_init_shows styles.now (shown_rec_init node.now))) }
 {
     match &node.node {
         None => Err(ConversionError::missing(alloc, node.loc())),

@@ -1,5 +1,6 @@
 // Operands, and what accesses make of them.
-ghost use Rattle.std.specs.Prelude.{List, Option, Some, IfOk};
+ghost use Rattle.std.specs.Prelude.{◌≡◌, ◌⊎◌, List, Option, Some, IfOk, IfErr};
+ghost use Rattle.std.specs.Option.{option_map};
 ghost use Rattle.std.specs.Rc.{rc_str_bytes};
 ghost use Rattle.cedar_language.specs.Tree as tree;
 ghost use Rattle.cedar_language.specs.Tree.{Tree};
@@ -11,9 +12,11 @@ ghost use Rattle.cedar_grammar.specs.Converting.{head_tree};
 ghost use Rattle.cedar_cst.specs.LeafView.{shown_name};
 ghost use Rattle.cedar_conversion_leaves.specs.Reasons.{IsFault};
 ghost use Rattle.cedar_conversion_leaves.specs.Converts.{and_then, Finds};
+ghost use Rattle.cedar_conversion_leaves.specs.Telling.{Told, TellsOnly};
 ghost use Rattle.cedar_conversion.specs.Building.{IsBuilt, MakesTree, MakesTrees};
-ghost use Rattle.cedar_conversion.specs.Choices.{IsNoVariable};
-ghost use Rattle.cedar_conversion.specs.Heads.{MakesHead};
+ghost use Rattle.cedar_conversion.specs.Choices.{IsNoVariable, used_as, by_itself, no_variable_shows, misuse_shows};
+ghost use Rattle.cedar_conversion.specs.Heads.{MakesHead, given, head_shows};
+ghost use Rattle.cedar_conversion.specs.Shows.{used_before, used_at};
 
 use crate::building::{builder_at, taken};
 use cedar_builders::expr_builder::ExprBuilder;
@@ -47,8 +50,9 @@ pub fn literal_to_head<'a, B: ExprBuilder>(
     loc: Option<&Loc>,
     literal: Result<Literal, ConversionError<B::BuildError>>,
 ) -> Result<Head<'a, B::Expr>, ConversionError<B::BuildError>>
-    ensures { (v : Option Tree) → Finds (λ l. tree.Lit (literal_of l)) literal v →
+    ensures head { (v : Option Tree) → Finds (λ l. tree.Lit (literal_of l)) literal v →
         MakesHead B.operations B.meaning B.refusal result (and_then v (λ t. Some (converting.a_tree t))) }
+    ensures shown { IfErr result (λ error. TellsOnly error (Told literal)) }
 {
     let literal = literal?;
     let builder = builder_at::<B>(alloc, loc)?;
@@ -61,8 +65,9 @@ pub fn entity_to_head<'a, B: ExprBuilder>(
     loc: Option<&Loc>,
     uid: Result<EntityUID, ConversionError<B::BuildError>>,
 ) -> Result<Head<'a, B::Expr>, ConversionError<B::BuildError>>
-    ensures { (v : Option Uid) → Finds (λ u. u) uid v →
+    ensures head { (v : Option Uid) → Finds (λ u. u) uid v →
         MakesHead B.operations B.meaning B.refusal result (and_then v (λ u. Some (converting.a_tree (tree.Lit (tree.Entity u))))) }
+    ensures shown { IfErr result (λ error. TellsOnly error (Told uid)) }
 {
     let uid = uid?;
     let shared = Rc::new(alloc, uid)?;
@@ -74,8 +79,9 @@ pub fn entity_to_head<'a, B: ExprBuilder>(
 pub fn expr_to_head<'a, B: ExprBuilder>(
     expr: Result<B::Expr, ConversionError<B::BuildError>>,
 ) -> Result<Head<'a, B::Expr>, ConversionError<B::BuildError>>
-    ensures { (v : Option Tree) → MakesTree B.operations B.meaning B.refusal expr v →
+    ensures head { (v : Option Tree) → MakesTree B.operations B.meaning B.refusal expr v →
         MakesHead B.operations B.meaning B.refusal result (and_then v (λ t. Some (converting.a_tree t))) }
+    ensures shown { IfErr result (λ error. TellsOnly error (Told expr)) }
 {
     let expr = expr?;
     Ok(Head::Expr(expr))
@@ -87,8 +93,9 @@ pub fn set_to_head<'a, B: ExprBuilder>(
     loc: Option<&Loc>,
     items: Result<Vec<B::Expr>, ConversionError<B::BuildError>>,
 ) -> Result<Head<'a, B::Expr>, ConversionError<B::BuildError>>
-    ensures { (v : Option (List Tree)) → MakesTrees B.operations B.meaning B.refusal items v →
+    ensures head { (v : Option (List Tree)) → MakesTrees B.operations B.meaning B.refusal items v →
         MakesHead B.operations B.meaning B.refusal result (and_then v (λ xs. Some (converting.a_tree (tree.Apply tree.MakeSet (trees xs))))) }
+    ensures shown { IfErr result (λ error. TellsOnly error (Told items)) }
 {
     let items = items?;
     let builder = builder_at::<B>(alloc, loc)?;
@@ -115,7 +122,8 @@ fn variable<B: ExprBuilder>(
     name: &Node<Option<Name>>,
     used: Use<'_>,
 ) -> Result<B::Expr, ConversionError<B::BuildError>>
-    ensures { MakesTree B.operations B.meaning B.refusal result (head_tree (converting.a_name (shown_name name.now))) }
+    ensures tree { MakesTree B.operations B.meaning B.refusal result (head_tree (converting.a_name (shown_name name.now))) }
+    ensures shown { IfErr result (λ error. TellsOnly error (misuse_shows (shown_name name.now) (used_as used.entry))) }
 {
     match to_variable(name) {
         Some(var) => {
@@ -134,7 +142,8 @@ fn no_variable<E: Drop>(
     loc: Option<&Loc>,
     used: Use<'_>,
 ) -> ConversionError<E>
-    ensures { IsFault result }
+    ensures fault { IsFault result }
+    ensures kind { TellsOnly result (no_variable_shows (shown_name name.now) (used_as used.entry)) }
 {
     match to_name(alloc, name) {
         Ok(name) => match kind_of_no_variable(alloc, name, used) {
@@ -177,8 +186,9 @@ fn accessed<B: ExprBuilder>(
     expr: B::Expr,
     id: UnreservedId,
 ) -> Result<B::Expr, ConversionError<B::BuildError>>
-    ensures { (t : Tree) → IsBuilt B.operations B.meaning expr t →
+    ensures tree { (t : Tree) → IsBuilt B.operations B.meaning expr t →
         MakesTree B.operations B.meaning B.refusal result (Some (unary (tree.GetAttr id) t)) }
+    ensures shown { IfErr result (λ error. TellsOnly error (λ kind. ⊥)) }
 {
     let builder = builder_at::<B>(alloc, loc)?;
     taken::<B>(builder.get_attr(expr, id.into_smolstr()))
@@ -190,8 +200,9 @@ pub fn head_to_expr<B: ExprBuilder>(
     loc: Option<&Loc>,
     head: Result<Head<'_, B::Expr>, ConversionError<B::BuildError>>,
 ) -> Result<B::Expr, ConversionError<B::BuildError>>
-    ensures { (v : Option converting.Head) → MakesHead B.operations B.meaning B.refusal head.entry v →
+    ensures tree { (v : Option converting.Head) → MakesHead B.operations B.meaning B.refusal head.entry v →
         MakesTree B.operations B.meaning B.refusal result (and_then v head_tree) }
+    ensures shown { IfErr result (λ error. TellsOnly error (λ kind. Told head.entry kind ⊎ head_shows by_itself head.entry kind)) }
 {
     used_to_expr::<B>(alloc, loc, head, Use::Alone)
 }
@@ -203,8 +214,9 @@ fn used_to_expr<B: ExprBuilder>(
     head: Result<Head<'_, B::Expr>, ConversionError<B::BuildError>>,
     used: Use<'_>,
 ) -> Result<B::Expr, ConversionError<B::BuildError>>
-    ensures { (v : Option converting.Head) → MakesHead B.operations B.meaning B.refusal head.entry v →
+    ensures tree { (v : Option converting.Head) → MakesHead B.operations B.meaning B.refusal head.entry v →
         MakesTree B.operations B.meaning B.refusal result (and_then v head_tree) }
+    ensures shown { IfErr result (λ error. TellsOnly error (λ kind. Told head.entry kind ⊎ head_shows (used_as used.entry) head.entry kind)) }
 {
     match head {
         Ok(Head::Expr(expr)) => Ok(expr),
@@ -215,7 +227,9 @@ fn used_to_expr<B: ExprBuilder>(
 }
 
 // How a name is used before this attribute, or this method.
-fn use_of<'a, E>(id: &'a Result<UnreservedId, E>, is_called: bool) -> Use<'a> {
+fn use_of<'a, E>(id: &'a Result<UnreservedId, E>, is_called: bool) -> Use<'a>
+    ensures { used_as result ≡ used_before is_called (given id.now) }
+{
     match id {
         Ok(id) => {
             if is_called {
@@ -229,7 +243,9 @@ fn use_of<'a, E>(id: &'a Result<UnreservedId, E>, is_called: bool) -> Use<'a> {
 }
 
 // How a name is used before this attribute between brackets.
-fn use_by_text<'a, E>(text: &'a Result<RcStr, E>) -> Use<'a> {
+fn use_by_text<'a, E>(text: &'a Result<RcStr, E>) -> Use<'a>
+    ensures { used_as result ≡ used_at (option_map rc_str_bytes (given text.now)) }
+{
     match text {
         Ok(text) => Use::Index(text),
         Err(_) => Use::Alone,
@@ -245,8 +261,10 @@ pub fn attribute<'a, B: ExprBuilder>(
     id: Result<UnreservedId, ConversionError<B::BuildError>>,
     is_called: bool,
 ) -> Result<Head<'a, B::Expr>, ConversionError<B::BuildError>>
-    ensures { (v : Option converting.Head) (w : Option Text) → MakesHead B.operations B.meaning B.refusal head.entry v → Finds (λ s. s) id w →
+    ensures head { (v : Option converting.Head) (w : Option Text) → MakesHead B.operations B.meaning B.refusal head.entry v → Finds (λ s. s) id w →
         MakesHead B.operations B.meaning B.refusal result (and_then v (λ h. and_then (head_tree h) (λ a. and_then w (λ s. Some (converting.an_attribute a s))))) }
+    ensures shown { (w : Option Text) → Finds (λ s. s) id w →
+        IfErr result (λ error. TellsOnly error (λ kind. Told head.entry kind ⊎ Told id kind ⊎ head_shows (used_before is_called w) head.entry kind)) }
 {
     let expr = used_to_expr::<B>(alloc, loc, head, use_of(&id, is_called));
     let (expr, id) = flatten_tuple_2(expr, id)?;
@@ -260,8 +278,10 @@ pub fn index<'a, B: ExprBuilder>(
     head: Result<Head<'_, B::Expr>, ConversionError<B::BuildError>>,
     text: Result<RcStr, ConversionError<B::BuildError>>,
 ) -> Result<Head<'a, B::Expr>, ConversionError<B::BuildError>>
-    ensures { (v : Option converting.Head) (w : Option Text) → MakesHead B.operations B.meaning B.refusal head.entry v → Finds rc_str_bytes text w →
+    ensures head { (v : Option converting.Head) (w : Option Text) → MakesHead B.operations B.meaning B.refusal head.entry v → Finds rc_str_bytes text w →
         MakesHead B.operations B.meaning B.refusal result (and_then v (λ h. and_then (head_tree h) (λ a. and_then w (λ s. Some (converting.a_tree (unary (tree.GetAttr s) a)))))) }
+    ensures shown { (w : Option Text) → Finds rc_str_bytes text w →
+        IfErr result (λ error. TellsOnly error (λ kind. Told head.entry kind ⊎ Told text kind ⊎ head_shows (used_at w) head.entry kind)) }
 {
     let expr = used_to_expr::<B>(alloc, loc, head, use_by_text(&text));
     let (expr, text) = flatten_tuple_2(expr, text)?;

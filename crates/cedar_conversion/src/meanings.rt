@@ -1,11 +1,13 @@
 // What loose trees mean to a builder. The faults of a tree that means nothing go before what the builder
 // refuses of it.
-ghost use Rattle.std.specs.Prelude.{IfErr};
+ghost use Rattle.std.specs.Prelude.{◌⊎◌, IfErr};
 ghost use Rattle.cedar_grammar.specs.Converting.{expr_tree, primary_tree};
 ghost use Rattle.cedar_cst.specs.View.{shown_expr, shown_primary};
 ghost use Rattle.cedar_conversion_leaves.specs.Reasons.{reason};
+ghost use Rattle.cedar_conversion_leaves.specs.Telling.{Tells, Told, TellsOnly};
 ghost use Rattle.cedar_conversion.specs.Building.{MakesTree};
 ghost use Rattle.cedar_conversion.specs.Meanings.{IsMeant, Weighs};
+ghost use Rattle.cedar_conversion.specs.Shows.{expr_shows, operand_shows};
 
 use crate::expressions::{expr_to_expr, primary_to_head};
 use crate::heads::head_to_expr;
@@ -22,7 +24,8 @@ fn weighed<T: Drop, E: Drop, F: Drop>(
     refusal: ConversionError<E>,
     again: Result<T, ConversionError<F>>,
 ) -> ConversionError<E>
-    ensures { Weighs (reason refusal) again (reason result) }
+    ensures weighed { Weighs (reason refusal) again (reason result) }
+    ensures shown { TellsOnly result (λ kind. Tells refusal kind ⊎ Told again kind) }
 {
     match again {
         Ok(_) => refusal,
@@ -39,6 +42,7 @@ fn weighed<T: Drop, E: Drop, F: Drop>(
 /// where it converts to none, one at least. The builder's own error, the first one where there are several,
 /// stands only where the loose tree converts to one that the builder's operations refuse, or for want of
 /// memory. Where the builder refuses a part, the loose tree is converted a second time, to look for faults.
+/// Each fault is of a kind that the loose tree shows.
 pub fn to_expr<B: ExprBuilder>(
     alloc: Global,
     node: &Node<Option<Expr>>,
@@ -46,6 +50,7 @@ pub fn to_expr<B: ExprBuilder>(
 ) -> Result<B::Expr, ConversionError<B::BuildError>>
     ensures tree { MakesTree B.operations B.meaning B.refusal result (expr_tree styles.now (shown_expr node.now)) }
     ensures meant { IfErr result (λ error. IsMeant (reason error) (expr_tree styles.now (shown_expr node.now))) }
+    ensures shown { IfErr result (λ error. TellsOnly error (expr_shows styles.now (shown_expr node.now))) }
 {
     match expr_to_expr::<B>(alloc, styles, node) {
         Ok(expr) => Ok(expr),
@@ -66,7 +71,8 @@ fn primary_built<B: ExprBuilder>(
     styles: &ExtStyles,
     node: &Node<Option<Primary>>,
 ) -> Result<B::Expr, ConversionError<B::BuildError>>
-    ensures { MakesTree B.operations B.meaning B.refusal result (primary_tree styles.now (shown_primary node.now)) }
+    ensures tree { MakesTree B.operations B.meaning B.refusal result (primary_tree styles.now (shown_primary node.now)) }
+    ensures shown { IfErr result (λ error. TellsOnly error (operand_shows styles.now (shown_primary node.now))) }
 {
     let head = primary_to_head::<B>(alloc, styles, node);
     head_to_expr::<B>(alloc, node.loc(), head)
@@ -80,6 +86,7 @@ pub fn primary_to_expr<B: ExprBuilder>(
 ) -> Result<B::Expr, ConversionError<B::BuildError>>
     ensures tree { MakesTree B.operations B.meaning B.refusal result (primary_tree styles.now (shown_primary node.now)) }
     ensures meant { IfErr result (λ error. IsMeant (reason error) (primary_tree styles.now (shown_primary node.now))) }
+    ensures shown { IfErr result (λ error. TellsOnly error (operand_shows styles.now (shown_primary node.now))) }
 {
     match primary_built::<B>(alloc, styles, node) {
         Ok(expr) => Ok(expr),

@@ -1,12 +1,14 @@
 // Records.
-ghost use Rattle.std.specs.Prelude.{[], ◌∷◌, ◌++◌, Option, Some, List};
+ghost use Rattle.std.specs.Prelude.{◌≡◌, ◌⊎◌, true, [], ◌∷◌, ◌++◌, Option, Some, List, IfErr};
 ghost use Rattle.std.specs.Rc.{rc_str_bytes};
 ghost use Rattle.cedar_language.specs.Tree.{Tree};
-ghost use Rattle.cedar_grammar.specs.Build.{Keyed};
+ghost use Rattle.cedar_grammar.specs.Names.{is_among};
+ghost use Rattle.cedar_grammar.specs.Build.{Keyed, keys};
 ghost use Rattle.cedar_grammar.specs.Converting as converting;
 ghost use Rattle.cedar_grammar.specs.Converting.{record_tree};
 ghost use Rattle.cedar_conversion_leaves.specs.Converts.{and_then, Finds};
-ghost use Rattle.cedar_conversion.specs.Entries.{keyed, ordered, MakesEntries, MakesEntry, Puts};
+ghost use Rattle.cedar_conversion_leaves.specs.Telling.{Told, TellsOnly};
+ghost use Rattle.cedar_conversion.specs.Entries.{keyed, ordered, MakesEntries, MakesEntry, Puts, repeated_key, IsRepeated, entries_show};
 ghost use Rattle.cedar_conversion.specs.Heads.{MakesHead};
 
 use crate::building::{builder_at, taken};
@@ -27,7 +29,8 @@ fn insert_new<T: Drop, E: Drop>(
     key: RcStr,
     expr: T,
 ) -> Result<(), ConversionError<E>>
-    ensures { Puts (rc_str_bytes key, expr) (keyed map.old.entries) (keyed map.new.entries) result }
+    ensures put { Puts (rc_str_bytes key, expr) (keyed map.old.entries) (keyed map.new.entries) result }
+    ensures shown { IfErr result (λ error. TellsOnly error (λ kind. (is_among (rc_str_bytes key) (keys (keyed map.old.entries)) ≡ true) × (repeated_key kind ≡ Some (rc_str_bytes key)))) }
 {
     if map.contains_key(&key) {
         let error = DuplicateKeyError::new(key, "in record literal");
@@ -45,7 +48,8 @@ fn map_of<T: Drop, E: Drop>(
     loc: Option<&Loc>,
     pairs: Vec<(RcStr, T)>,
 ) -> Result<BTreeMap<RcStr, T>, ConversionError<E>>
-    ensures { Finds (λ map. keyed map.entries) result (ordered (keyed pairs.items)) }
+    ensures map { Finds (λ map. keyed map.entries) result (ordered (keyed pairs.items)) }
+    ensures shown { IfErr result (λ error. TellsOnly error (IsRepeated (keys (keyed pairs.items)))) }
 {
     let mut map = BTreeMap::new(alloc);
     'pairs: for (key, expr) in pairs {
@@ -74,8 +78,9 @@ pub fn record_to_head<'a, B: ExprBuilder>(
     loc: Option<&Loc>,
     entries: Result<Vec<(RcStr, B::Expr)>, ConversionError<B::BuildError>>,
 ) -> Result<Head<'a, B::Expr>, ConversionError<B::BuildError>>
-    ensures { (v : Option (List (Keyed Tree))) → MakesEntries B.operations B.meaning B.refusal entries v →
+    ensures head { (v : Option (List (Keyed Tree))) → MakesEntries B.operations B.meaning B.refusal entries v →
         MakesHead B.operations B.meaning B.refusal result (and_then v (λ es. and_then (record_tree es) (λ t. Some (converting.a_tree t)))) }
+    ensures shown { IfErr result (λ error. TellsOnly error (λ kind. Told entries kind ⊎ entries_show entries kind)) }
 {
     let entries = entries?;
     let map = map_of(alloc, loc, entries)?;
@@ -89,8 +94,9 @@ pub fn pushed_entry<B: ExprBuilder>(
     made: Result<Vec<(RcStr, B::Expr)>, ConversionError<B::BuildError>>,
     next: Result<(RcStr, B::Expr), ConversionError<B::BuildError>>,
 ) -> Result<Vec<(RcStr, B::Expr)>, ConversionError<B::BuildError>>
-    ensures { (v : Option (List (Keyed Tree))) (w : Option (Keyed Tree)) → MakesEntries B.operations B.meaning B.refusal made v → MakesEntry B.operations B.meaning B.refusal next w →
+    ensures entries { (v : Option (List (Keyed Tree))) (w : Option (Keyed Tree)) → MakesEntries B.operations B.meaning B.refusal made v → MakesEntry B.operations B.meaning B.refusal next w →
         MakesEntries B.operations B.meaning B.refusal result (and_then v (λ xs. and_then w (λ x. Some (xs ++ x ∷ [])))) }
+    ensures shown { IfErr result (λ error. TellsOnly error (λ kind. Told made kind ⊎ Told next kind)) }
 {
     let (mut made, next) = flatten_tuple_2(made, next)?;
     made.push(next)?;

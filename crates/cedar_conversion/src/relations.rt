@@ -1,11 +1,12 @@
 // `has`, `like` and `is`.
-ghost use Rattle.std.specs.Prelude.{Option, Some, List};
+ghost use Rattle.std.specs.Prelude.{◌⊎◌, Option, Some, List, IfErr};
 ghost use Rattle.cedar_language.specs.Tree as tree;
 ghost use Rattle.cedar_language.specs.Tree.{Tree, PatternElem};
 ghost use Rattle.cedar_language.specs.Uid.{Text, Name};
 ghost use Rattle.cedar_grammar.specs.Build as build;
 ghost use Rattle.cedar_grammar.specs.Build.{unary, is_in};
 ghost use Rattle.cedar_conversion_leaves.specs.Converts.{and_then, Finds};
+ghost use Rattle.cedar_conversion_leaves.specs.Telling.{Told, TellsOnly};
 ghost use Rattle.cedar_conversion.specs.Building.{MakesTree};
 ghost use Rattle.cedar_conversion_leaves.specs.Fields.{path_texts};
 
@@ -27,8 +28,9 @@ pub fn has<B: ExprBuilder>(
     target: Result<B::Expr, ConversionError<B::BuildError>>,
     attrs: Result<NonEmpty<RcStr>, ConversionError<B::BuildError>>,
 ) -> Result<B::Expr, ConversionError<B::BuildError>>
-    ensures { (v : Option Tree) (w : Option (List Text)) → MakesTree B.operations B.meaning B.refusal target v → Finds path_texts attrs w →
+    ensures tree { (v : Option Tree) (w : Option (List Text)) → MakesTree B.operations B.meaning B.refusal target v → Finds path_texts attrs w →
         MakesTree B.operations B.meaning B.refusal result (and_then v (λ x. and_then w (λ ss. Some (build.has ss x)))) }
+    ensures shown { IfErr result (λ error. TellsOnly error (λ kind. Told target kind ⊎ Told attrs kind)) }
 {
     let (target, attrs) = flatten_tuple_2(target, attrs)?;
     let builder = builder_at::<B>(alloc, loc)?;
@@ -46,8 +48,9 @@ pub fn like<B: ExprBuilder>(
     target: Result<B::Expr, ConversionError<B::BuildError>>,
     pattern: Result<Pattern, ConversionError<B::BuildError>>,
 ) -> Result<B::Expr, ConversionError<B::BuildError>>
-    ensures { (v : Option Tree) (w : Option (List PatternElem)) → MakesTree B.operations B.meaning B.refusal target v → Finds (λ p. p) pattern w →
+    ensures tree { (v : Option Tree) (w : Option (List PatternElem)) → MakesTree B.operations B.meaning B.refusal target v → Finds (λ p. p) pattern w →
         MakesTree B.operations B.meaning B.refusal result (and_then v (λ x. and_then w (λ q. Some (unary (tree.Like q) x)))) }
+    ensures shown { IfErr result (λ error. TellsOnly error (λ kind. Told target kind ⊎ Told pattern kind)) }
 {
     let (target, pattern) = flatten_tuple_2(target, pattern)?;
     let builder = builder_at::<B>(alloc, loc)?;
@@ -61,8 +64,9 @@ pub fn is_type<B: ExprBuilder>(
     target: Result<B::Expr, ConversionError<B::BuildError>>,
     name: Result<names::Name, ConversionError<B::BuildError>>,
 ) -> Result<B::Expr, ConversionError<B::BuildError>>
-    ensures { (v : Option Tree) (w : Option Name) → MakesTree B.operations B.meaning B.refusal target v → Finds (λ p. p) name w →
+    ensures tree { (v : Option Tree) (w : Option Name) → MakesTree B.operations B.meaning B.refusal target v → Finds (λ p. p) name w →
         MakesTree B.operations B.meaning B.refusal result (and_then v (λ x. and_then w (λ p. Some (unary (tree.Is p) x)))) }
+    ensures shown { IfErr result (λ error. TellsOnly error (λ kind. Told target kind ⊎ Told name kind)) }
 {
     let (target, name) = flatten_tuple_2(target, name)?;
     let builder = builder_at::<B>(alloc, loc)?;
@@ -77,8 +81,9 @@ pub fn is_type_in<B: ExprBuilder>(
     name: Result<names::Name, ConversionError<B::BuildError>>,
     entity: Result<B::Expr, ConversionError<B::BuildError>>,
 ) -> Result<B::Expr, ConversionError<B::BuildError>>
-    ensures { (v : Option Tree) (w : Option Name) (u : Option Tree) → MakesTree B.operations B.meaning B.refusal target v → Finds (λ p. p) name w → MakesTree B.operations B.meaning B.refusal entity u →
+    ensures tree { (v : Option Tree) (w : Option Name) (u : Option Tree) → MakesTree B.operations B.meaning B.refusal target v → Finds (λ p. p) name w → MakesTree B.operations B.meaning B.refusal entity u →
         MakesTree B.operations B.meaning B.refusal result (and_then v (λ x. and_then w (λ p. and_then u (λ y. Some (is_in p x y))))) }
+    ensures shown { IfErr result (λ error. TellsOnly error (λ kind. Told target kind ⊎ Told name kind ⊎ Told entity kind)) }
 {
     let (target, (name, entity)) = flatten_tuple_2(target, flatten_tuple_2(name, entity))?;
     let builder = builder_at::<B>(alloc, loc)?;
@@ -93,8 +98,9 @@ pub fn ite<B: ExprBuilder>(
     then_expr: Result<B::Expr, ConversionError<B::BuildError>>,
     else_expr: Result<B::Expr, ConversionError<B::BuildError>>,
 ) -> Result<B::Expr, ConversionError<B::BuildError>>
-    ensures { (u v w : Option Tree) → MakesTree B.operations B.meaning B.refusal test u → MakesTree B.operations B.meaning B.refusal then_expr v → MakesTree B.operations B.meaning B.refusal else_expr w →
+    ensures tree { (u v w : Option Tree) → MakesTree B.operations B.meaning B.refusal test u → MakesTree B.operations B.meaning B.refusal then_expr v → MakesTree B.operations B.meaning B.refusal else_expr w →
         MakesTree B.operations B.meaning B.refusal result (and_then u (λ x. and_then v (λ y. and_then w (λ z. Some (tree.If x y z))))) }
+    ensures shown { IfErr result (λ error. TellsOnly error (λ kind. Told test kind ⊎ Told then_expr kind ⊎ Told else_expr kind)) }
 {
     let (test, (then_expr, else_expr)) = flatten_tuple_2(
         test,

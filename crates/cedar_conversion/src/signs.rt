@@ -1,11 +1,13 @@
 // Signs, and numbers under them.
-ghost use Rattle.std.specs.Prelude.{◌≡◌, Option, Some};
+ghost use Rattle.std.specs.Prelude.{◌≡◌, Option, Some, IfErr};
 ghost use Rattle.std.specs.Option.{option_map};
 ghost use Rattle.cedar_language.specs.Tree.{Tree, Lit};
 ghost use Rattle.cedar_literals.specs.Literals.{literal_of};
 ghost use Rattle.cedar_conversion_leaves.specs.Converts.{and_then};
+ghost use Rattle.cedar_conversion_leaves.specs.Telling.{Told, TellsOnly};
 ghost use Rattle.cedar_conversion.specs.Building.{IsBuilt, MakesTree};
 ghost use Rattle.cedar_conversion.specs.Joints.{repeated, minus_long};
+ghost use Rattle.cedar_conversion.specs.Shows.{minus_shows};
 
 use crate::building::{builder_at, taken};
 use cedar_builders::expr_builder::ExprBuilder;
@@ -28,7 +30,8 @@ fn signed_once<B: ExprBuilder>(
     sign: Sign,
     expr: B::Expr,
 ) -> Result<B::Expr, ConversionError<B::BuildError>>
-    ensures { (t : Tree) → IsBuilt B.operations B.meaning expr t → MakesTree B.operations B.meaning B.refusal result (Some (repeated sign 1 t)) }
+    ensures tree { (t : Tree) → IsBuilt B.operations B.meaning expr t → MakesTree B.operations B.meaning B.refusal result (Some (repeated sign 1 t)) }
+    ensures shown { IfErr result (λ error. TellsOnly error (λ kind. ⊥)) }
 {
     let builder = builder_at::<B>(alloc, loc)?;
     match sign {
@@ -45,7 +48,8 @@ pub fn signed<B: ExprBuilder>(
     count: u8,
     expr: Result<B::Expr, ConversionError<B::BuildError>>,
 ) -> Result<B::Expr, ConversionError<B::BuildError>>
-    ensures { (v : Option Tree) → MakesTree B.operations B.meaning B.refusal expr v → MakesTree B.operations B.meaning B.refusal result (and_then v (λ t. Some (repeated sign count t))) }
+    ensures tree { (v : Option Tree) → MakesTree B.operations B.meaning B.refusal expr v → MakesTree B.operations B.meaning B.refusal result (and_then v (λ t. Some (repeated sign count t))) }
+    ensures shown { IfErr result (λ error. TellsOnly error (Told expr)) }
 {
     let first = expr?;
     let mut made = first;
@@ -61,7 +65,8 @@ pub fn negative<B: ExprBuilder>(
     loc: Option<&Loc>,
     number: u64,
 ) -> Result<B::Expr, ConversionError<B::BuildError>>
-    ensures { MakesTree B.operations B.meaning B.refusal result (minus_long number) }
+    ensures tree { MakesTree B.operations B.meaning B.refusal result (minus_long number) }
+    ensures shown { IfErr result (λ error. TellsOnly error (minus_shows number)) }
 {
     match minus(number) {
         Some(literal) => {

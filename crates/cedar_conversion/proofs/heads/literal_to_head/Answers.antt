@@ -10,10 +10,11 @@ use Rattle.cedar_conversion_leaves.specs.Converts.{Finds}
 use Rattle.cedar_conversion.specs.Heads.{IsHead, IsHeadRefused}
 use Rattle.cedar_conversion.proofs.Converting.{passed, lacks_more, early}
 use Rattle.cedar_conversion.proofs.Made.{took_some, built_literal}
+use Rattle.cedar_conversion.proofs.Told.{by_part, by_memory, quiet_part}
 use Rattle.cedar_conversion.proofs.heads.literal_to_head.Goals as goal
 
-pub returns-in_err-literal : goal.returns-in_err-literal
-returns-in_err-literal g c v hv =
+pub returns-in_err-literal-clause-head : goal.returns-in_err-literal-clause-head
+returns-in_err-literal-clause-head g c v hv =
     let o = g.B.ExprBuilder.operations in
     let m = g.B.ExprBuilder.meaning in
     let refusal = g.B.ExprBuilder.refusal in
@@ -21,11 +22,23 @@ returns-in_err-literal g c v hv =
     passed refusal (IsHead o m) (IsHeadRefused o) c.from_residual.result e _ c.from_residual.ensures
     (lacks_more refusal (IsHeadRefused o) (reason e) v _ (early v (λ t. Some (converting.a_tree t))) (subst (λ r. Finds (λ x. tree.Lit (literal_of x)) r v) c.in_err-literal.was hv))
 
-pub returns : goal.returns
-returns g c v hv =
+pub returns-clause-head : goal.returns-clause-head
+returns-clause-head g c v hv =
     let o = g.B.ExprBuilder.operations in
     let m = g.B.ExprBuilder.meaning in
     let refusal = g.B.ExprBuilder.refusal in
     let l = c.in_ok-literal.literal in
     let is : v ≡ Some (tree.Lit (literal_of l)) = subst (λ r. Finds (λ x. tree.Lit (literal_of x)) r v) c.in_ok-literal.was hv in
-    c.expr_to_head.ensures v (took_some o m refusal c.taken.result _ (tree.Lit (literal_of l)) v is (built_literal o (literal_of l)) (c.taken.ensures _ c.val.ensures))
+    c.expr_to_head.ensures.head v (took_some o m refusal c.taken.result _ (tree.Lit (literal_of l)) v is (built_literal o (literal_of l)) (c.taken.ensures.taken _ c.val.ensures))
+
+pub returns-in_err-literal-clause-shown : goal.returns-in_err-literal-clause-shown
+returns-in_err-literal-clause-shown g c =
+    by_part c.from_residual.result c.args.literal c.in_err-literal.field-0.0 _ c.from_residual.ensures c.in_err-literal.was (λ k t. t)
+
+pub returns-in_err-builder-clause-shown : goal.returns-in_err-builder-clause-shown
+returns-in_err-builder-clause-shown g c =
+    by_memory c.from_residual-in_err-builder.result c.in_err-builder.field-0.0 _ c.from_residual-in_err-builder.ensures c.in_err-builder.ensures
+
+pub returns-clause-shown : goal.returns-clause-shown
+returns-clause-shown g c =
+    quiet_part c.expr_to_head.result c.taken.result _ c.expr_to_head.ensures.shown c.taken.ensures.shown

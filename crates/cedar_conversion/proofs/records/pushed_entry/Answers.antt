@@ -1,5 +1,5 @@
 -- Entries with one more at the end are built where all of them are; what refuses one refuses them together.
-use Rattle.std.proofs.Common.{◌≡◌, Some, [], ◌∷◌, ◌++◌, sym, ap, ◌∙◌, subst, rules}
+use Rattle.std.proofs.Common.{◌≡◌, Some, [], ◌∷◌, ◌++◌, sym, ap, ◌∙◌, subst, rules, inl, inr}
 use Rattle.std.proofs.lemmas.List.{map-append}
 use Rattle.std.specs.Rc.{rc_str_bytes}
 use Rattle.cedar_grammar.specs.Build.{Keyed}
@@ -7,10 +7,13 @@ use Rattle.cedar_conversion.specs.Entries.{meant, AreEntries, IsEntry, EachIsBui
 use Rattle.cedar_conversion.proofs.Converting.{passed, both_some, flat_err, flat_ok}
 use Rattle.cedar_conversion.proofs.Ordering.{each_last}
 use Rattle.cedar_conversion.proofs.Refusing.{entries_early, entries_last}
+use Rattle.cedar_conversion_leaves.specs.declared.errors.ConversionError.TheVariants as error
+use Rattle.cedar_conversion_leaves.proofs.Telling.{handed_on}
+use Rattle.cedar_conversion.proofs.Told.{by_both}
 use Rattle.cedar_conversion.proofs.records.pushed_entry.Goals as goal
 
-pub returns-in_err-made : goal.returns-in_err-made
-returns-in_err-made g c v w hv hw =
+pub returns-in_err-made-clause-entries : goal.returns-in_err-made-clause-entries
+returns-in_err-made-clause-entries g c v w hv hw =
     let o = g.B.ExprBuilder.operations in
     let m = g.B.ExprBuilder.meaning in
     let refusal = g.B.ExprBuilder.refusal in
@@ -20,8 +23,8 @@ returns-in_err-made g c v w hv hw =
     ((λ xs x zs is h. let same : xs ++ x ∷ [] ≡ zs = cc is in subst (AreEntriesRefused o) same (entries_early o xs x h)), (λ xs x zs is h. let same : xs ++ x ∷ [] ≡ zs = cc is in subst (AreEntriesRefused o) same (entries_last o xs x h)))
     c.args.made c.args.next e v w c.in_err-made.ensures hv hw)
 
-pub returns : goal.returns
-returns g c v w hv hw =
+pub returns-clause-entries : goal.returns-clause-entries
+returns-clause-entries g c v w hv hw =
     let o = g.B.ExprBuilder.operations in
     let m = g.B.ExprBuilder.meaning in
     let refusal = g.B.ExprBuilder.refusal in
@@ -34,3 +37,11 @@ returns g c v w hv hw =
       is = both_some v w h.0.value h.1.value (λ xs x. Some (xs ++ x ∷ [])) h.0.is h.1.is;
       stands = subst (λ ps. EachIsBuilt o ps (h.0.value ++ h.1.value ∷ [])) (sym both) (each_last o (meant m c.in_ok-made.made.items) h.0.value p h.1.value h.0.stands h.1.stands.0 h.1.stands.1);
     }
+
+pub returns-in_err-made-clause-shown : goal.returns-in_err-made-clause-shown
+returns-in_err-made-clause-shown g c =
+    by_both c.from_residual.result c.args.made c.args.next c.in_err-made.field-0.0 _ c.from_residual.ensures c.in_err-made.ensures (λ k t. inl t) (λ k t. inr t)
+
+pub returns-in_err-push-clause-shown : goal.returns-in_err-push-clause-shown
+returns-in_err-push-clause-shown g c =
+    handed_on c.from_residual-in_err-push.result error.Memory _ c.from_residual-in_err-push.ensures record { each = λ k told. absurd told }

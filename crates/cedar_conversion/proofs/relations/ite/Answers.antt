@@ -1,5 +1,5 @@
 -- A choice is built of its three parts, and refused where the test or one of the branches is.
-use Rattle.std.proofs.Common.{Some, sym, ◌∙◌, subst}
+use Rattle.std.proofs.Common.{Some, sym, ◌∙◌, subst, inl, inr}
 use Rattle.cedar_language.specs.Tree as tree
 use Rattle.cedar_language.specs.Tree.{Tree}
 use Rattle.cedar_conversion_leaves.specs.Reasons.{reason}
@@ -9,10 +9,11 @@ use Rattle.cedar_conversion.proofs.Converting.{passed, both_some, three, flat_er
 use Rattle.cedar_conversion.proofs.Made.{took_some, built_if}
 use Rattle.cedar_conversion.proofs.Converting.{Both, Either}
 use Rattle.cedar_conversion.proofs.Refusing.{refused_as, refused_test, refused_branch}
+use Rattle.cedar_conversion.proofs.Told.{by_both, by_memory, of_pair, quiet}
 use Rattle.cedar_conversion.proofs.relations.ite.Goals as goal
 
-pub returns-in_err-test : goal.returns-in_err-test
-returns-in_err-test g c u v w hu hv hw =
+pub returns-in_err-test-clause-tree : goal.returns-in_err-test-clause-tree
+returns-in_err-test-clause-tree g c u v w hu hv hw =
     let o = g.B.ExprBuilder.operations in
     let m = g.B.ExprBuilder.meaning in
     let refusal = g.B.ExprBuilder.refusal in
@@ -24,8 +25,8 @@ returns-in_err-test g c u v w hu hv hw =
     ((λ x q z is h. refused_as o (tree.If x q.0 q.1) z is (refused_test o x q.0 q.1 h)), (λ x q z is h. refused_as o (tree.If x q.0 q.1) z is (refused_branch o x q.0 q.1 h)))
     c.args.test c.flatten_tuple_2.result e u _ c.in_err-test.ensures hu both))
 
-pub returns : goal.returns
-returns g c u v w hu hv hw =
+pub returns-clause-tree : goal.returns-clause-tree
+returns-clause-tree g c u v w hu hv hw =
     let o = g.B.ExprBuilder.operations in
     let m = g.B.ExprBuilder.meaning in
     let refusal = g.B.ExprBuilder.refusal in
@@ -35,4 +36,15 @@ returns g c u v w hu hv hw =
     let x = h.0.value in
     let q = h.1.value in
     took_some o m refusal c.taken.result _ (tree.If x q.0 q.1) _ (three u v w (λ x y z. Some (tree.If x y z)) ∙ both_some u _ x q (λ x q. Some (tree.If x q.0 q.1)) h.0.is h.1.is)
-    (built_if o x q.0 q.1 (m k.test) (m k.then_expr) (m k.else_expr) h.0.stands h.1.stands.0 h.1.stands.1) (c.taken.ensures _ c.ite.ensures)
+    (built_if o x q.0 q.1 (m k.test) (m k.then_expr) (m k.else_expr) h.0.stands h.1.stands.0 h.1.stands.1) (c.taken.ensures.taken _ c.ite.ensures)
+
+pub returns-in_err-test-clause-shown : goal.returns-in_err-test-clause-shown
+returns-in_err-test-clause-shown g c =
+    by_both c.from_residual.result c.args.test c.flatten_tuple_2.result c.in_err-test.field-0.0 _ c.from_residual.ensures c.in_err-test.ensures (λ k t. inl t) (λ k t. inr (of_pair c.args.then_expr c.args.else_expr c.flatten_tuple_2.result c.flatten_tuple_2.ensures k t))
+
+pub returns-in_err-builder-clause-shown : goal.returns-in_err-builder-clause-shown
+returns-in_err-builder-clause-shown g c =
+    by_memory c.from_residual-in_err-builder.result c.in_err-builder.field-0.0 _ c.from_residual-in_err-builder.ensures c.in_err-builder.ensures
+
+pub returns-clause-shown : goal.returns-clause-shown
+returns-clause-shown g c = quiet c.taken.result _ c.taken.ensures.shown

@@ -7,10 +7,12 @@ use Rattle.cedar_conversion.specs.Building.{IsBuilt, IsRefused}
 use Rattle.cedar_conversion.specs.Joints.{repeated}
 use Rattle.cedar_conversion.proofs.Converting.{passed, failed, misses_more, then_some}
 use Rattle.cedar_conversion.proofs.Refusing.{refused_as, refused_repeated, refused_under}
+use Rattle.cedar_conversion_leaves.proofs.Telling.{handed_on, tells_more}
+use Rattle.cedar_conversion.proofs.Told.{by_part}
 use Rattle.cedar_conversion.proofs.signs.signed.Goals as goal
 
-pub returns-in_err-first : goal.returns-in_err-first
-returns-in_err-first g c v hv =
+pub returns-in_err-first-clause-tree : goal.returns-in_err-first-clause-tree
+returns-in_err-first-clause-tree g c v hv =
     let o = g.B.ExprBuilder.operations in
     let m = g.B.ExprBuilder.meaning in
     let refusal = g.B.ExprBuilder.refusal in
@@ -20,8 +22,8 @@ returns-in_err-first g c v hv =
     passed refusal (IsBuilt o m) (IsRefused o) c.from_residual.result e _ c.from_residual.ensures
     (failed refusal (IsRefused o) (IsRefused o) (reason e) v (λ t. Some (repeated s n t)) (λ x z is h. refused_as o (repeated s n x) z is (refused_repeated o s n x h)) (subst (λ r. Converts (IsBuilt o m) (IsRefused o) refusal r v) c.in_err-first.was hv))
 
-pub returns-in_err-made : goal.returns-in_err-made
-returns-in_err-made g c v hv =
+pub returns-in_err-made-clause-tree : goal.returns-in_err-made-clause-tree
+returns-in_err-made-clause-tree g c v hv =
     let o = g.B.ExprBuilder.operations in
     let m = g.B.ExprBuilder.meaning in
     let refusal = g.B.ExprBuilder.refusal in
@@ -34,4 +36,12 @@ returns-in_err-made g c v hv =
     passed refusal (IsBuilt o m) (IsRefused o) c.from_residual-in_err-made.result e _ c.from_residual-in_err-made.ensures
     (misses_more refusal (IsRefused o) (IsRefused o) (reason e) (Some (repeated s 1 (repeated s i x))) _ (λ none. absurd (cc none))
     (λ h. subst (λ z. IfSome z (IsRefused o)) (sym (then_some v x (λ t. Some (repeated s n t)) first.is)) (refused_under o s i n x c.signs-test.true h))
-    (c.in_err-made.ensures (repeated s i x) (c.signs.invariant x first.stands)))
+    (c.in_err-made.ensures.tree (repeated s i x) (c.signs.invariant x first.stands)))
+
+pub returns-in_err-first-clause-shown : goal.returns-in_err-first-clause-shown
+returns-in_err-first-clause-shown g c =
+    by_part c.from_residual.result c.args.expr c.in_err-first.field-0.0 _ c.from_residual.ensures c.in_err-first.was (λ k t. t)
+
+pub returns-in_err-made-clause-shown : goal.returns-in_err-made-clause-shown
+returns-in_err-made-clause-shown g c =
+    handed_on c.from_residual-in_err-made.result c.in_err-made.field-0.0 _ c.from_residual-in_err-made.ensures (tells_more _ _ _ (λ k t. absurd t) c.in_err-made.ensures.shown)
