@@ -12,6 +12,7 @@ use Rattle.cedar_constraints.specs.Actions.{held_uids}
 use Rattle.cedar_names.specs.Names.{basename_of}
 use Rattle.cedar_literals.specs.Uids.{IsActionType}
 use Rattle.cedar_policy_parts_conversion.specs.Entities.{listed, primary_entity, entity, as_action, others}
+use Rattle.cedar_policy_parts_conversion.specs.Shows.{entities_of}
 
 -- ---- types whose last identifier is `Action`
 
@@ -76,6 +77,10 @@ actions_are (x ∷ xs) =
     ap (λ o. o >>= λ u. actions (loose.exprs xs) >>= prefixed u) (action_is x)
     ∙ ap (λ o. (entity x >>= as_action) >>= λ u. o >>= prefixed u) (actions_are xs)
     ∙ one_more (entity x) (each entity xs)
+
+pub entities_are : (xs : List loose.Expr) → entities_of (loose.exprs xs) ≡ each entity xs
+entities_are [] = refl
+entities_are (x ∷ xs) = ap (λ o. entity x >>= λ u. o >>= prefixed u) (entities_are xs)
 
 -- ---- a list, or one
 

@@ -15,13 +15,14 @@ use Rattle.cedar_grammar.specs.Reading.{◌>>=◌}
 use Rattle.cedar_grammar.specs.Converting.{ident_spelling}
 use Rattle.cedar_grammar.specs.Loose as loose
 use Rattle.cedar_cst.specs.LeafView.{shown_ident, shown_str}
-use Rattle.cedar_cst.specs.View.{view_annotation}
+use Rattle.cedar_cst.specs.View.{view_annotation, shown_annotation}
 use Rattle.cedar_cst.specs.declared.cst.Annotation.{Annotation}
 use Rattle.cedar_cst.specs.declared.node.Node.{Node}
 use Rattle.cedar_conversion_leaves.specs.declared.errors.ConversionError.{ConversionError}
 use Rattle.cedar_conversion_leaves.specs.Converts.{Given, Lacks, Finds}
 use Rattle.cedar_conversion_leaves.specs.Reasons.{reason}
 use Rattle.cedar_policy_parts_conversion.specs.Notes.{Handed, Making, IsMadeAt, AreMade, Makes, put_new, written_value, written_note, placed_note}
+use Rattle.cedar_policy_parts_conversion.specs.Shows.{annotation_key}
 use Rattle.cedar_policy_parts_conversion.proofs.Gathering.{lacks_more}
 
 module _ {T : Type 0} (gives : Making T) where
@@ -42,6 +43,19 @@ module _ {T : Type 0} (gives : Making T) where
       = ap (λ o. o >>= λ x. written_value (option_map shown_str a.value) >>= λ y. Some ((x, y))) key ∙ ap (λ o. o >>= λ y. Some ((k, y))) value in
       subst (λ o. Given (IsMadeAt gives) (k, made) (written_note (unwrap_or (option_map view_annotation o) loose.missing_annotation) >>= λ e. Some ((e.0, (e.1, n.loc))))) (sym node_is)
       (subst (λ p. Given (IsMadeAt gives) (k, made) (written_note (view_annotation a) >>= λ e. Some ((e.0, (e.1, p))))) place_is (pair_made (written_note (view_annotation a)) k v place made note g))
+
+  key_written : (o : Option Text) (w : Option (Option Text)) (place : Option Place) (h : Keyed Handed) → ((o >>= λ k. w >>= λ v. let z : Option (Keyed (Option Text)) = Some ((k, v)) in z) >>= λ e. let y : Option (Keyed Handed) = Some ((e.0, (e.1, place))) in y) ≡ Some h → o ≡ Some h.0
+  key_written None w place h is = cc
+  key_written (Some k) None place h is = cc
+  key_written (Some k) (Some v) place h is = let same : (k, (v, place)) ≡ h = cc in ap (λ z. Some z.0) same
+
+  key_noted : (a : loose.Annotation) (place : Option Place) (h : Keyed Handed) → (written_note a >>= λ e. let y : Option (Keyed Handed) = Some ((e.0, (e.1, place))) in y) ≡ Some h → annotation_key a ≡ Some h.0
+  key_noted loose.missing_annotation place h is = cc
+  key_noted (loose.annotation i s) place h is = key_written (ident_spelling i) (written_value s) place h is
+
+  -- the key is the annotation's own
+  pub key_is : (n : Node (Option Annotation)) (e : Keyed T) → Given (IsMadeAt gives) e (placed_note n) → annotation_key (shown_annotation n) ≡ Some e.0
+  key_is n e made = key_noted (shown_annotation n) n.loc made.value made.is ∙ ap Some (sym made.stands.0)
 
   -- ---- one put among others
 

@@ -1,5 +1,5 @@
 -- One more annotation.
-use Rattle.std.proofs.Common.{◌≡◌, Bool, true, false, List, [], ◌∷◌, ◌++◌, Option, Some, None, Ok, Err, refl, sym, ap, ◌∙◌}
+use Rattle.std.proofs.Common.{◌≡◌, ◌⊎◌, Bool, true, false, List, [], ◌∷◌, ◌++◌, Option, Some, None, Ok, Err, refl, sym, ap, ◌∙◌, subst}
 use Rattle.std.specs.Prelude.{cond, ◌||◌, is_some}
 use Rattle.std.specs.BTreeMap.{insert_entry, is_at}
 use Rattle.std.specs.Cmp.Lexicographic.{slice_cmp, texts_ties}
@@ -19,6 +19,7 @@ use Rattle.cedar_conversion.specs.Entries.{ordered}
 use Rattle.cedar_conversion.proofs.Ordering.{given, ordered_put}
 use Rattle.cedar_policy_parts_conversion.specs.Notes.{put_new, placed_note, placed_notes}
 use Rattle.cedar_policy_parts_conversion.proofs.Joining.{each_last}
+use Rattle.cedar_policy_parts_conversion.proofs.NoteKeys.{among_put}
 
 -- ---- a map's own insertion and look-up
 
@@ -63,6 +64,13 @@ pub put_unfound : {A : Type 0} (k : Text) (t : A) (es : List (Keyed A)) (b : Boo
 put_unfound k t es b found is =
     let new : is_among k (keys es) ≡ false = sym (found_is_among k es) ∙ sym found ∙ is in
     ap (λ c. cond c None (Some (put (k, t) es))) new ∙ ap Some (sym (insert_is_put k t es new))
+
+-- where a key is found it is among the others, and else what is inserted are those and this one
+pub among_found : {A : Type 0} (k : Text) (es : List (Keyed A)) (b : Bool) → b ≡ is_some (lookup (is_at (order k)) es) → b ≡ true → is_among k (keys es) ≡ true
+among_found k es b found is = sym (found_is_among k es) ∙ sym found ∙ is
+
+pub among_inserted : {A : Type 0} (j k : Text) (t : A) (es fs : List (Keyed A)) (b : Bool) → b ≡ is_some (lookup (is_at (order k)) es) → b ≡ false → fs ≡ insert_entry order es k t → is_among j (keys fs) ≡ true → (j ≡ k) ⊎ (is_among j (keys es) ≡ true)
+among_inserted j k t es fs b found is made h = among_put j (k, t) es (subst (λ gs. is_among j (keys gs) ≡ true) (made ∙ insert_is_put k t es (sym (found_is_among k es) ∙ sym found ∙ is)) h)
 
 -- ---- annotations in order
 

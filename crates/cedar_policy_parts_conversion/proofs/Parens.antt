@@ -4,6 +4,7 @@ use Rattle.cedar_grammar.proofs.Parts.{bind_some}
 use Rattle.cedar_grammar.specs.Loose as loose
 use Rattle.cedar_grammar.specs.Converting.{lone_member, without_accesses, lone_primary, lone_add, alone, inside_parens, opened}
 use Rattle.cedar_policy_parts_conversion.specs.Entities.{in_parens}
+use Rattle.cedar_policy_parts_conversion.specs.Shows.{is_empty_expr, is_empty_inside, is_empty_primary}
 
 -- a primary, as an expression
 abbrev summed : loose.Add → loose.Expr
@@ -127,3 +128,40 @@ wrapped_parens e = refl
 
 pub fewer_parens : (e d : loose.Expr) (p : loose.Primary) → alone e ≡ Some p → in_parens p ≡ Some d → parens e ≡ suc (parens d)
 fewer_parens e d p h k = ap parens (primary_alone e p h) ∙ ap (λ q. parens (wrapped q)) (in_parens_is p d k) ∙ wrapped_parens d
+
+-- ---- whether a node is missing inside them
+
+wrapped_empty : (p : loose.Primary) → is_empty_inside (wrapped p) ≡ is_empty_primary p
+unfolding is_empty_inside
+wrapped_empty p = refl
+
+empty_parens : (e : loose.Expr) → is_empty_primary (loose.expr e) ≡ is_empty_inside e
+unfolding is_empty_primary
+empty_parens e = refl
+
+pub more_empty : (e d : loose.Expr) (p : loose.Primary) → alone e ≡ Some p → in_parens p ≡ Some d → is_empty_inside e ≡ is_empty_inside d
+more_empty e d p h k = ap is_empty_inside (primary_alone e p h) ∙ wrapped_empty p ∙ ap is_empty_primary (in_parens_is p d k) ∙ empty_parens d
+
+pub empty_itself : (e : loose.Expr) → alone e ≡ None → is_empty_inside e ≡ is_empty_expr e
+unfolding is_empty_inside
+empty_itself loose.missing_expr h = refl
+empty_itself (loose.if_expr x y z) h = refl
+empty_itself (loose.or_expr loose.missing_or) h = refl
+empty_itself (loose.or_expr (loose.or loose.missing_and ns)) h = refl
+empty_itself (loose.or_expr (loose.or (loose.and loose.missing_relation rs) ns)) h = refl
+empty_itself (loose.or_expr (loose.or (loose.and (loose.has b f) rs) ns)) h = refl
+empty_itself (loose.or_expr (loose.or (loose.and (loose.like b p) rs) ns)) h = refl
+empty_itself (loose.or_expr (loose.or (loose.and (loose.is_type b t) rs) ns)) h = refl
+empty_itself (loose.or_expr (loose.or (loose.and (loose.is_type_in b t d) rs) ns)) h = refl
+empty_itself (loose.or_expr (loose.or (loose.and (loose.common loose.missing_add bs) rs) ns)) h = refl
+empty_itself (loose.or_expr (loose.or (loose.and (loose.common (loose.add loose.missing_mult ms) bs) rs) ns)) h = refl
+empty_itself (loose.or_expr (loose.or (loose.and (loose.common (loose.add (loose.mult loose.missing_unary us) ms) bs) rs) ns)) h = refl
+empty_itself (loose.or_expr (loose.or (loose.and (loose.common (loose.add (loose.mult (loose.unary (Some s) m) us) ms) bs) rs) ns)) h = refl
+empty_itself (loose.or_expr (loose.or (loose.and (loose.common (loose.add (loose.mult (loose.unary None loose.missing_member) us) ms) bs) rs) ns)) h = refl
+empty_itself (loose.or_expr (loose.or (loose.and (loose.common (loose.add (loose.mult (loose.unary None (loose.member p (loose.an_access x xs))) us) ms) bs) rs) ns)) h = refl
+empty_itself (loose.or_expr (loose.or (loose.and (loose.common (loose.add (loose.mult (loose.unary None (loose.member p loose.no_accesses)) (loose.a_unary o u us)) ms) bs) rs) ns)) h = refl
+empty_itself (loose.or_expr (loose.or (loose.and (loose.common (loose.add (loose.mult (loose.unary None (loose.member p loose.no_accesses)) loose.no_unaries) (loose.a_mult o m ms)) bs) rs) ns)) h = refl
+empty_itself (loose.or_expr (loose.or (loose.and (loose.common (loose.add (loose.mult (loose.unary None (loose.member p loose.no_accesses)) loose.no_unaries) loose.no_mults) (loose.an_add o a bs)) rs) ns)) h = refl
+empty_itself (loose.or_expr (loose.or (loose.and (loose.common (loose.add (loose.mult (loose.unary None (loose.member p loose.no_accesses)) loose.no_unaries) loose.no_mults) loose.no_adds) (loose.a_relation r rs)) ns)) h = refl
+empty_itself (loose.or_expr (loose.or (loose.and (loose.common (loose.add (loose.mult (loose.unary None (loose.member p loose.no_accesses)) loose.no_unaries) loose.no_mults) loose.no_adds) loose.no_relations) (loose.an_and n ns))) h = refl
+empty_itself (loose.or_expr (loose.or (loose.and (loose.common (loose.add (loose.mult (loose.unary None (loose.member p loose.no_accesses)) loose.no_unaries) loose.no_mults) loose.no_adds) loose.no_relations) loose.no_ands)) h = cc

@@ -3,3 +3,5 @@ pub mod Clauses
 pub mod Own
 pub mod Entities
 pub mod Scopes
+pub mod Shows
+pub mod ClausesShow

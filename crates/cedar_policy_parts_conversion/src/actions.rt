@@ -1,5 +1,5 @@
 // What a scope asks of the action.
-ghost use Rattle.std.specs.Prelude.{Some};
+ghost use Rattle.std.specs.Prelude.{◌⊎◌, Some, IfErr};
 ghost use Rattle.std.specs.Option.{option_map};
 ghost use Rattle.cedar_grammar.specs.Policy.{action_within_any};
 ghost use Rattle.cedar_grammar.specs.Converting.{alone, actions_among, action_asked, action_constraint};
@@ -7,6 +7,8 @@ ghost use Rattle.cedar_cst.specs.LeafView.{view_rel_op};
 ghost use Rattle.cedar_cst.specs.View.{shown_expr, shown_variable_def};
 ghost use Rattle.cedar_constraints.specs.Actions.{action_of};
 ghost use Rattle.cedar_conversion_leaves.specs.Converts.{and_then, Finds};
+ghost use Rattle.cedar_conversion_leaves.specs.Telling.{TellsOnly};
+ghost use Rattle.cedar_policy_parts_conversion.specs.Shows.{actions_show, type_test_shows, action_asked_shows, action_constraint_shows};
 
 use crate::entities::{to_action, to_refs};
 use crate::variables::{no_type_name, to_var, unless_inverted};
@@ -25,7 +27,8 @@ fn to_within<E: Drop>(
     node: &Node<Option<Expr>>,
     loc: Option<&Loc>,
 ) -> Result<ActionConstraint, ConversionError<E>>
-    ensures { Finds action_of result (and_then (actions_among (shown_expr node.now) (alone (shown_expr node.now))) (λ us. Some (action_within_any us))) }
+    ensures constraint { Finds action_of result (and_then (actions_among (shown_expr node.now) (alone (shown_expr node.now))) (λ us. Some (action_within_any us))) }
+    ensures shown { IfErr result (λ error. TellsOnly error (λ kind. actions_show (shown_expr node.now) kind ⊎ type_test_shows (shown_expr node.now) kind)) }
 {
     match to_refs(alloc, node) {
         Ok(refs) => Ok(ActionConstraint::In(refs.into_euids(alloc)?)),
@@ -42,7 +45,8 @@ fn to_asked<E: Drop>(
     ineq: &Option<(RelOp, Node<Option<Expr>>)>,
     loc: Option<&Loc>,
 ) -> Result<ActionConstraint, ConversionError<E>>
-    ensures { Finds action_of result (action_asked (option_map (λ x. (view_rel_op x.0, shown_expr x.1)) ineq.now)) }
+    ensures constraint { Finds action_of result (action_asked (option_map (λ x. (view_rel_op x.0, shown_expr x.1)) ineq.now)) }
+    ensures shown { IfErr result (λ error. TellsOnly error (action_asked_shows (option_map (λ x. (view_rel_op x.0, shown_expr x.1)) ineq.now))) }
 {
     let Some((op, node)) = ineq else {
         return Ok(ActionConstraint::Any);
@@ -71,7 +75,8 @@ pub fn to_action_constraint<E: Drop>(
     alloc: Global,
     node: &Node<Option<VariableDef>>,
 ) -> Result<ActionConstraint, ConversionError<E>>
-    ensures { Finds action_of result (action_constraint (shown_variable_def node.now)) }
+    ensures constraint { Finds action_of result (action_constraint (shown_variable_def node.now)) }
+    ensures shown { IfErr result (λ error. TellsOnly error (action_constraint_shows (shown_variable_def node.now))) }
 {
     let Some(def) = &node.node else {
         return Err(ConversionError::missing(alloc, node.loc()));

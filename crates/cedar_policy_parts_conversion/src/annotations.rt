@@ -1,12 +1,16 @@
 // Annotations.
-ghost use Rattle.std.specs.Prelude.{◌≡◌, List, map, Option};
+ghost use Rattle.std.specs.Prelude.{◌≡◌, ◌⊎◌, true, List, map, Option, Some, IfErr};
 ghost use Rattle.std.specs.Option.{option_map};
 ghost use Rattle.std.specs.Rc.{rc_str_bytes};
-ghost use Rattle.cedar_grammar.specs.Build.{Keyed};
+ghost use Rattle.cedar_language.specs.Uid.{Text};
+ghost use Rattle.cedar_grammar.specs.Names.{is_among};
+ghost use Rattle.cedar_grammar.specs.Build.{Keyed, keys};
 ghost use Rattle.cedar_cst.specs.LeafView.{shown_str};
 ghost use Rattle.cedar_cst.specs.View.{shown_annotation};
 ghost use Rattle.cedar_conversion_leaves.specs.Converts.{and_then, Finds};
+ghost use Rattle.cedar_conversion_leaves.specs.Telling.{Told, TellsOnly};
 ghost use Rattle.cedar_policy_parts_conversion.specs.Notes.{notes_of, put_new, written_value, placed_note, placed_notes, Handed, IsMadeAt, AreMade, Makes};
+ghost use Rattle.cedar_policy_parts_conversion.specs.Shows.{note_text_shows, annotation_key, annotation_shows, again_shows, annotations_show};
 
 use cedar_conversion_leaves::{
     ConversionError, ToASTErrorKind, flatten_tuple_2, to_any_ident, to_text,
@@ -26,7 +30,8 @@ fn to_value<E: Drop>(
     alloc: Global,
     value: &Option<Node<Option<Str>>>,
 ) -> Result<Option<RcStr>, ConversionError<E>>
-    ensures { Finds (option_map rc_str_bytes) result (written_value (option_map shown_str value.now)) }
+    ensures value { Finds (option_map rc_str_bytes) result (written_value (option_map shown_str value.now)) }
+    ensures shown { IfErr result (λ error. TellsOnly error (note_text_shows (option_map shown_str value.now))) }
 {
     match value {
         None => Ok(None),
@@ -41,7 +46,8 @@ fn to_made<T: Drop, E: Drop, F: Fn(Option<RcStr>, Option<Loc>) -> Result<T, Allo
     maker: &F,
 ) -> Result<(AnyId, T), ConversionError<E>>
     requires { F.IsAlwaysCallable maker.now }
-    ensures { Makes (IsMadeAt (F.post maker.now)) result (placed_note node.now) }
+    ensures made { Makes (IsMadeAt (F.post maker.now)) result (placed_note node.now) }
+    ensures shown { IfErr result (λ error. TellsOnly error (annotation_shows (shown_annotation node.now))) }
 {
     let Some(annotation) = &node.node else {
         return Err(ConversionError::missing(alloc, node.loc()));
@@ -63,7 +69,8 @@ pub fn to_kv_pair<T: Drop, E: Drop, F: Fn(Option<RcStr>, Option<Loc>) -> Result<
     maker: F,
 ) -> Result<(AnyId, T), ConversionError<E>>
     requires { F.IsAlwaysCallable maker }
-    ensures { Makes (IsMadeAt (F.post maker)) result (placed_note node.now) }
+    ensures made { Makes (IsMadeAt (F.post maker)) result (placed_note node.now) }
+    ensures shown { IfErr result (λ error. TellsOnly error (annotation_shows (shown_annotation node.now))) }
 {
     to_made(alloc, node, &maker)
 }
@@ -76,7 +83,9 @@ fn insert_new<T: Drop, E: Drop>(
     key: AnyId,
     value: T,
 ) -> Result<(), ConversionError<E>>
-    ensures { Finds (λ done. notes.new.entries) result (put_new (key, value) notes.old.entries) }
+    ensures put { Finds (λ done. notes.new.entries) result (put_new (key, value) notes.old.entries) }
+    ensures kind { IfErr result (λ error. TellsOnly error (λ kind. (kind ≡ ToASTErrorKind.DuplicateAnnotation key) × (is_among key (keys notes.old.entries) ≡ true))) }
+    ensures keys { (k : Text) → is_among k (keys notes.new.entries) ≡ true → (k ≡ key) ⊎ (is_among k (keys notes.old.entries) ≡ true) }
 {
     if notes.contains_key(&key) {
         let kind = ToASTErrorKind::DuplicateAnnotation(key);
@@ -94,9 +103,11 @@ fn insert_node<T: Drop, E: Drop, F: Fn(Option<RcStr>, Option<Loc>) -> Result<T, 
     maker: &F,
 ) -> Result<(), ConversionError<E>>
     requires { F.IsAlwaysCallable maker.now }
-    ensures { (before : List (Keyed Handed)) → AreMade (F.post maker.now) notes.old.entries before →
+    ensures made { (before : List (Keyed Handed)) → AreMade (F.post maker.now) notes.old.entries before →
         Makes (λ done. AreMade (F.post maker.now) notes.new.entries) result
         (and_then (placed_note node.now) (λ note. put_new note before)) }
+    ensures shown { IfErr result (λ error. TellsOnly error (λ kind. annotation_shows (shown_annotation node.now) kind ⊎ again_shows (keys notes.old.entries) (shown_annotation node.now) kind)) }
+    ensures keys { (k : Text) → is_among k (keys notes.new.entries) ≡ true → (annotation_key (shown_annotation node.now) ≡ Some k) ⊎ (is_among k (keys notes.old.entries) ≡ true) }
 {
     let (key, value) = to_made(alloc, node, maker)?;
     insert_new(alloc, node.loc(), notes, key, value)
@@ -111,9 +122,11 @@ fn insert_next<T: Drop, E: Drop, F: Fn(Option<RcStr>, Option<Loc>) -> Result<T, 
     maker: &F,
 ) -> Result<(), ConversionError<E>>
     requires { F.IsAlwaysCallable maker.now }
-    ensures { (before : Option (List (Keyed Handed))) → Makes (λ done. AreMade (F.post maker.now) notes.old.entries) earlier before →
+    ensures made { (before : Option (List (Keyed Handed))) → Makes (λ done. AreMade (F.post maker.now) notes.old.entries) earlier before →
         Makes (λ done. AreMade (F.post maker.now) notes.new.entries) result
         (and_then before (λ es. and_then (placed_note node.now) (λ note. put_new note es))) }
+    ensures told { IfErr result (λ error. TellsOnly error (λ kind. Told earlier kind ⊎ annotation_shows (shown_annotation node.now) kind ⊎ again_shows (keys notes.old.entries) (shown_annotation node.now) kind)) }
+    ensures keys { (k : Text) → is_among k (keys notes.new.entries) ≡ true → (annotation_key (shown_annotation node.now) ≡ Some k) ⊎ (is_among k (keys notes.old.entries) ≡ true) }
 {
     let next = insert_node(alloc, notes, node, maker);
     let (_, _) = flatten_tuple_2(earlier, next)?;
@@ -133,7 +146,8 @@ pub fn get_ast_annotations<
     maker: F,
 ) -> Result<BTreeMap<AnyId, T>, ConversionError<E>>
     requires { F.IsAlwaysCallable maker }
-    ensures { Makes (λ made. AreMade (F.post maker) made.entries) result (placed_notes nodes.now.items) }
+    ensures made { Makes (λ made. AreMade (F.post maker) made.entries) result (placed_notes nodes.now.items) }
+    ensures shown { IfErr result (λ error. TellsOnly error (annotations_show (map shown_annotation nodes.now.items))) }
 {
     let mut notes = BTreeMap::new(alloc);
     let mut sound = Ok(());
@@ -150,7 +164,8 @@ pub fn to_annotations<E: Drop>(
     alloc: Global,
     nodes: &Vec<Node<Option<cst::Annotation>>>,
 ) -> Result<Annotations, ConversionError<E>>
-    ensures { Finds (λ annotations. annotations) result (notes_of (map shown_annotation nodes.now.items)) }
+    ensures annotations { Finds (λ annotations. annotations) result (notes_of (map shown_annotation nodes.now.items)) }
+    ensures shown { IfErr result (λ error. TellsOnly error (annotations_show (map shown_annotation nodes.now.items))) }
 {
     let maker = |value, loc| Annotation::with_optional_value(alloc, value, loc);
     let made = get_ast_annotations(alloc, nodes, maker)?;

@@ -1,15 +1,21 @@
 // Clauses.
-ghost use Rattle.std.specs.Prelude.{◌≡◌, map, IfOk, Option, Some};
+ghost use Rattle.std.specs.Prelude.{◌≡◌, ◌≢◌, ◌⊎◌, map, IfOk, IfErr, MatchOption, None, Option, Some};
 ghost use Rattle.std.specs.Option.{option_map};
-ghost use Rattle.cedar_language.specs.Tree.{Tree};
+ghost use Rattle.cedar_language.specs.Tree.{Tree, SlotId};
+ghost use Rattle.cedar_literals.specs.Slots.{slot_text};
+ghost use Rattle.cedar_grammar.specs.Token.{spelled};
 ghost use Rattle.cedar_grammar.specs.Converting.{clause, expr_tree};
 ghost use Rattle.cedar_cst.specs.LeafView.{shown_ident, view_ident, written_ident};
 ghost use Rattle.cedar_cst.specs.View.{shown_cond, shown_expr};
 ghost use Rattle.cedar_trees.specs.Bare.{bare};
-ghost use Rattle.cedar_conversion_leaves.specs.Reasons.{IsFault};
+ghost use Rattle.cedar_conversion_leaves.specs.declared.kinds.ToASTErrorKind.{ToASTErrorKind};
+ghost use Rattle.cedar_conversion_leaves.specs.Reasons.{IsFault, listed};
+ghost use Rattle.cedar_conversion_leaves.specs.Telling.{AreOf, Tells, Told, TellsOnly};
 ghost use Rattle.cedar_conversion_leaves.specs.Converts.{and_then, Finds};
 ghost use Rattle.cedar_policy_parts_conversion.specs.Clauses.{clause_word, word_of, condition_tree, clauses_of, one_more};
+ghost use Rattle.cedar_policy_parts_conversion.specs.ClausesShow.{clause_word_shows, IsSlotTold, in_clause_shows};
 
+use crate::copies::copied;
 use cedar_builders::own_builder::ExprBuilder;
 use cedar_conversion::{to_expr, trees_are_built};
 use cedar_conversion_leaves::{
@@ -61,7 +67,9 @@ fn to_clause_word<E: Drop>(
     alloc: Global,
     node: &Node<Option<Ident>>,
 ) -> Result<ClauseWord, ConversionError<E>>
-    ensures { Finds word_of result (clause_word (shown_ident node.now)) }
+    ensures word { Finds word_of result (clause_word (shown_ident node.now)) }
+    ensures none { IfErr result (λ error. clause_word (shown_ident node.now) ≡ None) }
+    ensures shown { IfErr result (λ error. TellsOnly error (clause_word_shows (shown_ident node.now))) }
 {
     let Some(word) = &node.node else {
         return Err(ConversionError::missing(alloc, node.loc()));
@@ -69,14 +77,16 @@ fn to_clause_word<E: Drop>(
     match word_to_clause_word(word) {
         Some(word) => Ok(word),
         None => {
-            let kind = ToASTErrorKind::InvalidCondition(word.clone()?);
+            let kind = ToASTErrorKind::InvalidCondition(copied(word)?);
             Err(ConversionError::fault(alloc, kind, node.loc()))
         }
     }
 }
 
 // How the clause begins.
-fn text_of(word: ClauseWord) -> &'static str {
+fn text_of(word: ClauseWord) -> &'static str
+    ensures { result.now ≡ spelled (word_of word) }
+{
     match word {
         ClauseWord::When => "when",
         ClauseWord::Unless => "unless",
@@ -84,7 +94,9 @@ fn text_of(word: ClauseWord) -> &'static str {
 }
 
 // The slot of templates that is so written.
-fn slot_named(text: &str) -> Option<SlotId> {
+fn slot_named(text: &str) -> Option<SlotId>
+    ensures { MatchOption result ((id : SlotId) → text.now ≢ slot_text id) (λ id. text.now ≡ slot_text id) }
+{
     match text {
         "?principal" => Some(SlotId::principal()),
         "?resource" => Some(SlotId::resource()),
@@ -92,18 +104,28 @@ fn slot_named(text: &str) -> Option<SlotId> {
     }
 }
 
-// The same fault; that of a slot of templates tells of the clause.
-fn told_fault(fault: ToASTError, word: ClauseWord) -> Result<ToASTError, AllocError> {
-    let mut fault = fault;
-    let slot = match fault.kind() {
+// The slot of templates that a kind of fault tells of.
+fn slot_told(kind: &ToASTErrorKind) -> Option<SlotId>
+    ensures { IsSlotTold kind.now result }
+{
+    match kind {
         ToASTErrorKind::InvalidSlot(text) => slot_named(text.as_str()),
         _ => None,
-    };
-    if let Some(id) = slot {
-        let loc = fault.loc.as_ref().cloned()?;
-        fault.kind = ToASTErrorKind::slots_in_condition_clause(Slot { id, loc }, text_of(word));
     }
-    Ok(fault)
+}
+
+// The same fault; that of a slot of templates tells of the clause.
+fn told_fault(alloc: Global, fault: ToASTError, word: ClauseWord) -> Result<ToASTError, AllocError>
+    ensures { IfOk result (λ made. in_clause_shows (Some (word_of word)) (λ kind. fault.kind ≡ kind) made.kind) }
+{
+    match slot_told(fault.kind()) {
+        None => Ok(fault),
+        Some(id) => {
+            let loc = fault.loc.as_ref().cloned()?;
+            let kind = ToASTErrorKind::slots_in_condition_clause(Slot { id, loc }, text_of(word));
+            ToASTError::at(alloc, kind, fault.loc.as_ref())
+        }
+    }
 }
 
 // The same faults; those of slots tell of the clause.
@@ -111,19 +133,22 @@ fn told_faults(
     alloc: Global,
     faults: NonEmpty<ToASTError>,
     word: ClauseWord,
-) -> Result<NonEmpty<ToASTError>, AllocError> {
+) -> Result<NonEmpty<ToASTError>, AllocError>
+    ensures { IfOk result (λ made. (kind : ToASTErrorKind) → AreOf (listed made) kind → in_clause_shows (Some (word_of word)) (AreOf (listed faults)) kind) }
+{
     let NonEmpty { head, tail: others } = faults;
-    let head = told_fault(head, word)?;
+    let head = told_fault(alloc, head, word)?;
     let mut tail = Vec::new(alloc);
     for fault in others {
-        tail.push(told_fault(fault, word)?)?;
+        tail.push(told_fault(alloc, fault, word)?)?;
     }
     Ok(NonEmpty { head, tail })
 }
 
 // The faults of what stands in a clause that begins so, where that is known.
 fn told(alloc: Global, error: PolicyError, word: Option<ClauseWord>) -> PolicyError
-    ensures { IsFault error → IsFault result }
+    ensures fault { IsFault error → IsFault result }
+    ensures told { TellsOnly result (in_clause_shows (option_map word_of word) (Tells error)) }
 {
     let Some(word) = word else {
         return error;
@@ -215,8 +240,9 @@ fn join_clause(
     earlier: Result<Option<Expr>, PolicyError>,
     next: Result<Expr, PolicyError>,
 ) -> Result<Option<Expr>, PolicyError>
-    ensures { (before : Option (Option Tree)) (more : Option Tree) → Finds (option_map bare) earlier before → Finds bare next more →
+    ensures joined { (before : Option (Option Tree)) (more : Option Tree) → Finds (option_map bare) earlier before → Finds bare next more →
         Finds (option_map bare) result (and_then before (λ b. and_then more (λ t. Some (Some (one_more b t))))) }
+    ensures told { IfErr result (λ error. TellsOnly error (λ kind. Told earlier kind ⊎ Told next kind)) }
 {
     let (earlier, next) = flatten_tuple_2(earlier, next)?;
     match earlier {

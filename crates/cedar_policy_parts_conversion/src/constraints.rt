@@ -1,15 +1,19 @@
 // What a scope asks of the principal, or of the resource.
-ghost use Rattle.std.specs.Prelude.{None};
+ghost use Rattle.std.specs.Prelude.{◌≡◌, ◌⊎◌, None, IfErr};
 ghost use Rattle.std.specs.Option.{option_map};
 ghost use Rattle.cedar_grammar.specs.Converting.{type_of, target, compared_with, typed_within, asked, constraint};
 ghost use Rattle.cedar_grammar.specs.Token.{Word};
 ghost use Rattle.cedar_cst.specs.LeafView.{view_rel_op};
 ghost use Rattle.cedar_cst.specs.View.{shown_expr, shown_add, shown_variable_def};
+ghost use Rattle.cedar_literals.specs.Variables.{variable_of};
 ghost use Rattle.cedar_constraints.specs.Asked.{constraint_of};
 ghost use Rattle.cedar_constraints.specs.References.{target_of};
 ghost use Rattle.cedar_conversion_leaves.specs.Reasons.{IsFault};
 ghost use Rattle.cedar_conversion_leaves.specs.Converts.{and_then, Finds};
+ghost use Rattle.cedar_conversion_leaves.specs.Telling.{TellsOnly};
+ghost use Rattle.cedar_conversion_leaves.specs.Shown.{type_shows};
 ghost use Rattle.cedar_policy_parts_conversion.specs.Own.{own_word};
+ghost use Rattle.cedar_policy_parts_conversion.specs.Shows.{operator_shows, typed_shows, type_alone_shows, compared_shows, asked_shows, asked_of_shows, constraint_shows};
 
 use crate::references::to_ref_or_slot;
 use crate::variables::{no_type_name, stands_for, to_var, unless_inverted};
@@ -31,7 +35,8 @@ fn compared<E: Drop>(
     reference: EntityReference,
     loc: Option<&Loc>,
 ) -> Result<PrincipalOrResourceConstraint, ConversionError<E>>
-    ensures { Finds constraint_of result (compared_with (view_rel_op op) (target_of reference)) }
+    ensures constraint { Finds constraint_of result (compared_with (view_rel_op op) (target_of reference)) }
+    ensures shown { IfErr result (λ error. TellsOnly error (operator_shows (view_rel_op op))) }
 {
     match op {
         RelOp::Eq => Ok(PrincipalOrResourceConstraint::Eq(reference)),
@@ -52,7 +57,8 @@ fn to_type<E: Drop>(
     alloc: Global,
     node: &Node<Option<Add>>,
 ) -> Result<Rc<EntityType>, ConversionError<E>>
-    ensures { Finds (λ entity_type. entity_type.value) result (type_of (shown_add node.now)) }
+    ensures named { Finds (λ entity_type. entity_type.value) result (type_of (shown_add node.now)) }
+    ensures shown { IfErr result (λ error. TellsOnly error (type_shows (shown_add node.now))) }
 {
     let name = to_entity_type(alloc, node)?;
     Ok(Rc::new(alloc, EntityType::from(name))?)
@@ -66,7 +72,8 @@ fn typed<E: Drop>(
     reference: EntityReference,
     loc: Option<&Loc>,
 ) -> Result<PrincipalOrResourceConstraint, ConversionError<E>>
-    ensures { Finds constraint_of result (and_then (type_of (shown_add entity_type.now)) (λ p. typed_within p (view_rel_op op) (target_of reference))) }
+    ensures constraint { Finds constraint_of result (and_then (type_of (shown_add entity_type.now)) (λ p. typed_within p (view_rel_op op) (target_of reference))) }
+    ensures shown { IfErr result (λ error. TellsOnly error (typed_shows (shown_add entity_type.now) (view_rel_op op))) }
 {
     match op {
         RelOp::In => {
@@ -90,7 +97,8 @@ fn to_typed<E: Drop>(
     alloc: Global,
     entity_type: &Option<Node<Option<Add>>>,
 ) -> Result<PrincipalOrResourceConstraint, ConversionError<E>>
-    ensures { (own : Word) → Finds constraint_of result (asked own (option_map shown_add entity_type.now) None) }
+    ensures constraint { (own : Word) → Finds constraint_of result (asked own (option_map shown_add entity_type.now) None) }
+    ensures shown { IfErr result (λ error. TellsOnly error (type_alone_shows (option_map shown_add entity_type.now))) }
 {
     match entity_type {
         None => Ok(PrincipalOrResourceConstraint::Any),
@@ -109,7 +117,8 @@ fn to_reference<E: Drop>(
     v: PrincipalOrResource,
     loc: Option<&Loc>,
 ) -> Result<EntityReference, ConversionError<E>>
-    ensures { Finds target_of result (target (own_word v) (shown_expr node.now)) }
+    ensures target { Finds target_of result (target (own_word v) (shown_expr node.now)) }
+    ensures shown { IfErr result (λ error. TellsOnly error (compared_shows (own_word v) (view_rel_op op) (shown_expr node.now))) }
 {
     match to_ref_or_slot(alloc, node, v) {
         Ok(reference) => Ok(reference),
@@ -136,7 +145,8 @@ fn to_asked<E: Drop>(
     v: PrincipalOrResource,
     loc: Option<&Loc>,
 ) -> Result<PrincipalOrResourceConstraint, ConversionError<E>>
-    ensures { Finds constraint_of result (asked (own_word v) (option_map shown_add def.now.entity_type) (option_map (λ x. (view_rel_op x.0, shown_expr x.1)) def.now.ineq)) }
+    ensures constraint { Finds constraint_of result (asked (own_word v) (option_map shown_add def.now.entity_type) (option_map (λ x. (view_rel_op x.0, shown_expr x.1)) def.now.ineq)) }
+    ensures shown { IfErr result (λ error. TellsOnly error (asked_shows (own_word v) (option_map shown_add def.now.entity_type) (option_map (λ x. (view_rel_op x.0, shown_expr x.1)) def.now.ineq))) }
 {
     match &def.ineq {
         None => to_typed(alloc, &def.entity_type),
@@ -158,7 +168,9 @@ fn other_variable<E: Drop>(
     got: Var,
     loc: Option<&Loc>,
 ) -> ConversionError<E>
-    ensures { IsFault result }
+    ensures fault { IsFault result }
+    ensures told { TellsOnly result (λ kind. (kind ≡ ToASTErrorKind.IncorrectVariable expected got)
+        ⊎ asked_of_shows (variable_of got) (option_map shown_add def.now.entity_type) (option_map (λ x. (view_rel_op x.0, shown_expr x.1)) def.now.ineq) kind) }
 {
     if let Ok(other) = PrincipalOrResource::try_from(got) {
         if let Err(error) = to_asked(alloc, def, other, loc) {
@@ -181,7 +193,8 @@ pub fn to_principal_or_resource_constraint<E: Drop>(
     node: &Node<Option<VariableDef>>,
     v: PrincipalOrResource,
 ) -> Result<PrincipalOrResourceConstraint, ConversionError<E>>
-    ensures { Finds constraint_of result (constraint (own_word v) (shown_variable_def node.now)) }
+    ensures constraint { Finds constraint_of result (constraint (own_word v) (shown_variable_def node.now)) }
+    ensures shown { IfErr result (λ error. TellsOnly error (constraint_shows (own_word v) (shown_variable_def node.now))) }
 {
     let Some(def) = &node.node else {
         return Err(ConversionError::missing(alloc, node.loc()));

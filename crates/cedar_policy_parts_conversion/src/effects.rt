@@ -1,11 +1,14 @@
 // Effects.
-ghost use Rattle.std.specs.Prelude.{◌≡◌};
+ghost use Rattle.std.specs.Prelude.{◌≡◌, IfErr};
 ghost use Rattle.std.specs.Option.{option_map};
 ghost use Rattle.cedar_grammar.specs.Converting.{effect};
 ghost use Rattle.cedar_cst.specs.LeafView.{shown_ident, view_ident, written_ident};
 ghost use Rattle.cedar_policy_parts.specs.Effects.{effect_of};
 ghost use Rattle.cedar_conversion_leaves.specs.Converts.{Finds};
+ghost use Rattle.cedar_conversion_leaves.specs.Telling.{TellsOnly};
+ghost use Rattle.cedar_policy_parts_conversion.specs.Shows.{effect_shows};
 
+use crate::copies::copied;
 use cedar_conversion_leaves::{ConversionError, ToASTErrorKind, spelling};
 use cedar_cst::cst::Ident;
 use cedar_cst::node::Node;
@@ -39,7 +42,8 @@ pub fn to_effect<E: Drop>(
     alloc: Global,
     node: &Node<Option<Ident>>,
 ) -> Result<Effect, ConversionError<E>>
-    ensures { Finds effect_of result (effect (shown_ident node.now)) }
+    ensures effect { Finds effect_of result (effect (shown_ident node.now)) }
+    ensures shown { IfErr result (λ error. TellsOnly error (effect_shows (shown_ident node.now))) }
 {
     let Some(word) = &node.node else {
         return Err(ConversionError::missing(alloc, node.loc()));
@@ -47,7 +51,7 @@ pub fn to_effect<E: Drop>(
     match word_to_effect(word) {
         Some(effect) => Ok(effect),
         None => {
-            let kind = ToASTErrorKind::InvalidEffect(word.clone()?);
+            let kind = ToASTErrorKind::InvalidEffect(copied(word)?);
             Err(ConversionError::fault(alloc, kind, node.loc()))
         }
     }

@@ -1,5 +1,5 @@
 // Entities, lists of them, and which are actions.
-ghost use Rattle.std.specs.Prelude.{◌≡◌, ◌++◌, ◌∷◌, [], List, Option, Some, IfOk, IfErr, MatchOption, filter, map};
+ghost use Rattle.std.specs.Prelude.{◌≡◌, ◌⊎◌, ◌++◌, ◌∷◌, [], List, Option, Some, IfOk, IfErr, MatchOption, filter, map};
 ghost use Rattle.std.specs.Option.{option_map};
 ghost use Rattle.cedar_language.specs.Uid.{Uid};
 ghost use Rattle.cedar_grammar.specs.Policies.{ends_in_action};
@@ -10,8 +10,10 @@ ghost use Rattle.cedar_constraints.specs.Actions.{held_uids};
 ghost use Rattle.cedar_cst.specs.View.{shown_expr, shown_primary};
 ghost use Rattle.cedar_conversion_leaves.specs.Reasons.{IsFault};
 ghost use Rattle.cedar_conversion_leaves.specs.Converts.{and_then, Finds};
+ghost use Rattle.cedar_conversion_leaves.specs.Telling.{Told, TellsOnly};
 ghost use Rattle.cedar_policy_parts_conversion.specs.Entities.{primary_entity, entity, as_action, refs_of};
 ghost use Rattle.cedar_policy_parts_conversion.specs.Entities as entities;
+ghost use Rattle.cedar_policy_parts_conversion.specs.Shows.{no_actions_show, primary_entity_shows, entity_shows, entities_show, action_shows, actions_show};
 
 use crate::misfits::{ENTITY, ENTITY_OR_SET, no_entity, no_list, no_primary, other_slot};
 use crate::parentheses::inside_parens;
@@ -76,7 +78,8 @@ fn primary_to_entity<E: Drop>(
     node: &Node<Option<Primary>>,
     expected: &'static str,
 ) -> Result<EntityUID, ConversionError<E>>
-    ensures { Finds (λ uid. uid) result (primary_entity (shown_primary node.now)) }
+    ensures entity { Finds (λ uid. uid) result (primary_entity (shown_primary node.now)) }
+    ensures shown { IfErr result (λ error. TellsOnly error (primary_entity_shows (shown_primary node.now))) }
 {
     match &node.node {
         None => Err(ConversionError::missing(alloc, node.loc())),
@@ -101,7 +104,8 @@ fn to_entity<E: Drop>(
     node: &Node<Option<Expr>>,
     expected: &'static str,
 ) -> Result<EntityUID, ConversionError<E>>
-    ensures { Finds (λ uid. uid) result (entity (shown_expr node.now)) }
+    ensures entity { Finds (λ uid. uid) result (entity (shown_expr node.now)) }
+    ensures shown { IfErr result (λ error. TellsOnly error (entity_shows (shown_expr node.now))) }
 {
     match inside_parens(node) {
         Ok(primary) => primary_to_entity(alloc, primary, expected),
@@ -116,7 +120,8 @@ fn no_actions<E: Drop>(
     alloc: Global,
     loc: Option<&Loc>,
 ) -> ConversionError<E>
-    ensures { IsFault result }
+    ensures fault { IsFault result }
+    ensures kind { TellsOnly result (λ kind. kind ≡ ToASTErrorKind.InvalidActionType (record { euids = record { head = head; tail = tail } })) }
 {
     let euids = NonEmpty { head, tail };
     let kind = ToASTErrorKind::InvalidActionType(InvalidActionType { euids });
@@ -129,7 +134,8 @@ fn only_action<E: Drop>(
     uid: EntityUID,
     loc: Option<&Loc>,
 ) -> Result<EntityUID, ConversionError<E>>
-    ensures { Finds (λ u. u) result (as_action uid) }
+    ensures action { Finds (λ u. u) result (as_action uid) }
+    ensures shown { IfErr result (λ error. TellsOnly error (no_actions_show (Some (uid ∷ [])))) }
 {
     if is_action(&uid) {
         Ok(uid)
@@ -144,7 +150,8 @@ pub fn to_action<E: Drop>(
     alloc: Global,
     node: &Node<Option<Expr>>,
 ) -> Result<EntityUID, ConversionError<E>>
-    ensures { Finds (λ uid. uid) result (action (shown_expr node.now)) }
+    ensures action { Finds (λ uid. uid) result (action (shown_expr node.now)) }
+    ensures shown { IfErr result (λ error. TellsOnly error (action_shows (shown_expr node.now))) }
 {
     let uid = to_entity(alloc, node, ENTITY)?;
     only_action(alloc, uid, node.loc())
@@ -155,8 +162,9 @@ fn pushed<E: Drop>(
     uids: Result<Vec<EntityUID>, ConversionError<E>>,
     next: Result<EntityUID, ConversionError<E>>,
 ) -> Result<Vec<EntityUID>, ConversionError<E>>
-    ensures { (v : Option (List Uid)) (w : Option Uid) → Finds (λ us. us.items) uids v → Finds (λ u. u) next w →
+    ensures pushed { (v : Option (List Uid)) (w : Option Uid) → Finds (λ us. us.items) uids v → Finds (λ u. u) next w →
         Finds (λ us. us.items) result (and_then v (λ us. and_then w (λ u. Some (us ++ u ∷ [])))) }
+    ensures told { IfErr result (λ error. TellsOnly error (λ kind. Told uids kind ⊎ Told next kind)) }
 {
     let (mut uids, next) = flatten_tuple_2(uids, next)?;
     uids.push(next)?;
@@ -168,7 +176,8 @@ fn to_entities<E: Drop>(
     alloc: Global,
     items: &Vec<Node<Option<Expr>>>,
 ) -> Result<Vec<EntityUID>, ConversionError<E>>
-    ensures { Finds (λ uids. uids.items) result (each entity (map shown_expr items.now.items)) }
+    ensures entities { Finds (λ uids. uids.items) result (each entity (map shown_expr items.now.items)) }
+    ensures shown { IfErr result (λ error. TellsOnly error (entities_show (loose.exprs (map shown_expr items.now.items)))) }
 {
     let mut uids = Ok(Vec::new(alloc));
     'items: for item in items {
@@ -197,7 +206,8 @@ fn only_actions<E: Drop>(
     uids: Vec<EntityUID>,
     loc: Option<&Loc>,
 ) -> Result<Vec<EntityUID>, ConversionError<E>>
-    ensures { Finds (λ us. us.items) result (each as_action uids.items) }
+    ensures actions { Finds (λ us. us.items) result (each as_action uids.items) }
+    ensures shown { IfErr result (λ error. TellsOnly error (no_actions_show (Some uids.items))) }
 {
     let mut others = other_entities(alloc, &uids)?;
     if others.is_empty() {
@@ -241,7 +251,8 @@ pub fn to_refs<E: Drop>(
     alloc: Global,
     node: &Node<Option<Expr>>,
 ) -> Result<OneOrMultipleRefs, ConversionError<E>>
-    ensures { Finds refs_of result (actions_among (shown_expr node.now) (converting.alone (shown_expr node.now))) }
+    ensures actions { Finds refs_of result (actions_among (shown_expr node.now) (converting.alone (shown_expr node.now))) }
+    ensures shown { IfErr result (λ error. TellsOnly error (actions_show (shown_expr node.now))) }
 {
     match listed(node) {
         Some(items) => {

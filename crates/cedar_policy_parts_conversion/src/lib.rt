@@ -5,6 +5,7 @@ mod actions;
 mod annotations;
 mod clauses;
 mod constraints;
+mod copies;
 mod effects;
 mod entities;
 mod misfits;

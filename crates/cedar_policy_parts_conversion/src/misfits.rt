@@ -1,5 +1,10 @@
 // The faults of what stands in a scope where an entity should.
+ghost use Rattle.std.specs.Prelude.{◌≡◌, is_none};
+ghost use Rattle.cedar_cst.specs.View.{shown_expr, shown_relation, shown_add, shown_primary};
 ghost use Rattle.cedar_conversion_leaves.specs.Reasons.{IsFault};
+ghost use Rattle.cedar_conversion_leaves.specs.Telling.{TellsOnly};
+ghost use Rattle.cedar_policy_parts_conversion.specs.Shows.{is_empty_expr, is_empty_add, IsWrongNode, IsWrongArgument, misfit_shows, no_entity_shows};
+ghost use Rattle.cedar_policy_parts_conversion.specs.Shows as shows;
 
 use cedar_conversion_leaves::{
     ConversionError, ToASTErrorKind, only_add, only_and, only_mult, only_or, only_relation,
@@ -28,7 +33,9 @@ struct Misfit<'a> {
     loc: Option<&'a Loc>,
 }
 
-fn seen<'a, T>(node: &'a Node<Option<T>>, got: &'static str) -> Misfit<'a> {
+fn seen<'a, T>(node: &'a Node<Option<T>>, got: &'static str) -> Misfit<'a>
+    ensures { is_none result.got ≡ is_none node.now.node }
+{
     let got = if node.node.is_some() { Some(got) } else { None };
     Misfit {
         got,
@@ -37,7 +44,9 @@ fn seen<'a, T>(node: &'a Node<Option<T>>, got: &'static str) -> Misfit<'a> {
 }
 
 // What keeps a primary from standing alone.
-fn beside_primary(node: &Node<Option<Expr>>) -> Misfit<'_> {
+fn beside_primary(node: &Node<Option<Expr>>) -> Misfit<'_>
+    ensures { is_none result.got ≡ is_empty_expr (shown_expr node.now) }
+{
     let Some(or) = only_or(node) else {
         return seen(node, "an `if` expression");
     };
@@ -62,7 +71,9 @@ fn relation_name(relation: &Node<Option<Relation>>) -> &'static str {
     }
 }
 
-fn inside_sum(node: &Node<Option<Add>>) -> Misfit<'_> {
+fn inside_sum(node: &Node<Option<Add>>) -> Misfit<'_>
+    ensures { is_none result.got ≡ is_empty_add (shown_add node.now) }
+{
     let Some(mult) = only_mult(node) else {
         return seen(node, "a `+/-` expression");
     };
@@ -92,7 +103,8 @@ pub(crate) fn no_primary<E: Drop>(
     node: &Node<Option<Expr>>,
     expected: &'static str,
 ) -> ConversionError<E>
-    ensures { IsFault result }
+    ensures fault { IsFault result }
+    ensures shown { TellsOnly result (misfit_shows (is_empty_expr (shown_expr node.now))) }
 {
     let misfit = beside_primary(node);
     match misfit.got {
@@ -107,7 +119,8 @@ pub(crate) fn no_entity<E: Drop>(
     node: &Node<Option<Primary>>,
     expected: &'static str,
 ) -> ConversionError<E>
-    ensures { IsFault result }
+    ensures fault { IsFault result }
+    ensures shown { TellsOnly result (no_entity_shows (shown_primary node.now)) }
 {
     match &node.node {
         Some(primary) => wrong_node(alloc, expected, described(alloc, primary), node.loc()),
@@ -138,7 +151,8 @@ pub(crate) fn other_slot<S: fmt::Display, V: fmt::Display, E: Drop>(
     expected: &'static str,
     loc: Option<&Loc>,
 ) -> ConversionError<E>
-    ensures { IsFault result }
+    ensures fault { IsFault result }
+    ensures kind { TellsOnly result IsWrongNode }
 {
     wrong_node(alloc, expected, instead(alloc, slot, var), loc)
 }
@@ -157,7 +171,8 @@ fn wrong_node<E: Drop>(
     got: Result<RcStr, AllocError>,
     loc: Option<&Loc>,
 ) -> ConversionError<E>
-    ensures { IsFault result }
+    ensures fault { IsFault result }
+    ensures kind { TellsOnly result IsWrongNode }
 {
     match got {
         Ok(got) => ConversionError::fault(alloc, ToASTErrorKind::WrongNode { expected, got }, loc),
@@ -171,7 +186,8 @@ pub(crate) fn no_list<E: Drop>(
     expected: Either<Ref, (Ref, Ref)>,
     loc: Option<&Loc>,
 ) -> ConversionError<E>
-    ensures { IsFault result }
+    ensures fault { IsFault result }
+    ensures kind { TellsOnly result (IsWrongArgument expected) }
 {
     let got = Ref::Set;
     let argument = WrongEntityArgument { expected, got };
@@ -179,7 +195,10 @@ pub(crate) fn no_list<E: Drop>(
 }
 
 /// Whether an expression is a test of a type, without a further test.
-pub(crate) fn is_type_test(node: &Node<Option<Expr>>) -> bool {
+#[tactic(auto, using(crate::proofs::Emptiness::test_at))]
+pub(crate) fn is_type_test(node: &Node<Option<Expr>>) -> bool
+    ensures { result ≡ shows.is_type_test (shown_expr node.now) }
+{
     let Some(or) = only_or(node) else {
         return false;
     };
@@ -187,13 +206,24 @@ pub(crate) fn is_type_test(node: &Node<Option<Expr>>) -> bool {
         return false;
     };
     match only_relation(and) {
-        Some(relation) => matches!(
-            &relation.node,
-            Some(Relation::IsIn {
-                in_entity: None,
-                ..
-            })
-        ),
+        Some(relation) => is_type_relation(relation),
         None => false,
+    }
+}
+
+fn is_type_relation(node: &Node<Option<Relation>>) -> bool
+    ensures { result ≡ shows.is_type_relation (shown_relation node.now) }
+{
+    match &node.node {
+        None => false,
+        Some(relation) => match relation {
+            Relation::Common { .. } => false,
+            Relation::Has { .. } => false,
+            Relation::Like { .. } => false,
+            Relation::IsIn { in_entity, .. } => match in_entity {
+                None => true,
+                Some(_) => false,
+            },
+        },
     }
 }

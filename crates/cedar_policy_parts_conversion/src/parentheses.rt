@@ -1,9 +1,10 @@
 // What stands alone inside parentheses.
-ghost use Rattle.std.specs.Prelude.{◌≡◌, Some, None, MatchResult};
+ghost use Rattle.std.specs.Prelude.{◌≡◌, Some, None, IfErr, MatchResult};
 ghost use Rattle.std.specs.Option.{option_map};
 ghost use Rattle.cedar_grammar.specs.Converting as converting;
 ghost use Rattle.cedar_cst.specs.View.{shown_expr, shown_primary};
 ghost use Rattle.cedar_policy_parts_conversion.specs.Entities as entities;
+ghost use Rattle.cedar_policy_parts_conversion.specs.Shows.{is_empty_expr, is_empty_inside};
 
 use cedar_conversion_leaves::alone;
 use cedar_cst::cst::{Expr, Primary};
@@ -32,8 +33,9 @@ fn in_parens(node: &Node<Option<Primary>>) -> Option<&Node<Option<Expr>>>
 pub(crate) fn inside_parens(
     node: &Node<Option<Expr>>,
 ) -> Result<&Node<Option<Primary>>, &Node<Option<Expr>>>
-    ensures { MatchResult result (λ n. converting.inside_parens (shown_expr node.now) ≡ Some (shown_primary n.now))
+    ensures primary { MatchResult result (λ n. converting.inside_parens (shown_expr node.now) ≡ Some (shown_primary n.now))
         (λ _. converting.inside_parens (shown_expr node.now) ≡ None) }
+    ensures empty { IfErr result (λ n. is_empty_inside (shown_expr node.now) ≡ is_empty_expr (shown_expr n.now)) }
 {
     match alone(node) {
         None => Err(node),

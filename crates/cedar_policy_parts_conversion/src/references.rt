@@ -1,12 +1,14 @@
 // Entities, and the slots of templates.
-ghost use Rattle.std.specs.Prelude.{◌≡◌};
+ghost use Rattle.std.specs.Prelude.{◌≡◌, IfErr};
 ghost use Rattle.cedar_grammar.specs.Loose as loose;
 ghost use Rattle.cedar_grammar.specs.Converting.{primary_target, target};
 ghost use Rattle.cedar_cst.specs.LeafView.{shown_slot};
 ghost use Rattle.cedar_cst.specs.View.{shown_expr, shown_primary};
 ghost use Rattle.cedar_constraints.specs.References.{target_of};
 ghost use Rattle.cedar_conversion_leaves.specs.Converts.{Finds};
+ghost use Rattle.cedar_conversion_leaves.specs.Telling.{TellsOnly};
 ghost use Rattle.cedar_policy_parts_conversion.specs.Own.{own_word};
+ghost use Rattle.cedar_policy_parts_conversion.specs.Shows.{own_slot_shows, primary_target_shows, target_shows};
 
 use crate::misfits::{ENTITY_OR_SLOT, no_entity, no_list, no_primary, other_slot};
 use crate::parentheses::inside_parens;
@@ -29,7 +31,8 @@ fn slot_to_reference<E: Drop>(
     v: PrincipalOrResource,
     loc: Option<&Loc>,
 ) -> Result<EntityReference, ConversionError<E>>
-    ensures { Finds target_of result (primary_target (own_word v) (loose.slot (shown_slot node.now))) }
+    ensures target { Finds target_of result (primary_target (own_word v) (loose.slot (shown_slot node.now))) }
+    ensures shown { IfErr result (λ error. TellsOnly error (own_slot_shows (own_word v) (shown_slot node.now))) }
 {
     let Some(slot) = &node.node else {
         return Err(ConversionError::missing(alloc, loc));
@@ -47,7 +50,8 @@ fn primary_to_reference<E: Drop>(
     node: &Node<Option<Primary>>,
     v: PrincipalOrResource,
 ) -> Result<EntityReference, ConversionError<E>>
-    ensures { Finds target_of result (primary_target (own_word v) (shown_primary node.now)) }
+    ensures target { Finds target_of result (primary_target (own_word v) (shown_primary node.now)) }
+    ensures shown { IfErr result (λ error. TellsOnly error (primary_target_shows (own_word v) (shown_primary node.now))) }
 {
     match &node.node {
         None => Err(ConversionError::missing(alloc, node.loc())),
@@ -76,7 +80,8 @@ pub fn to_ref_or_slot<E: Drop>(
     node: &Node<Option<Expr>>,
     v: PrincipalOrResource,
 ) -> Result<EntityReference, ConversionError<E>>
-    ensures { Finds target_of result (target (own_word v) (shown_expr node.now)) }
+    ensures target { Finds target_of result (target (own_word v) (shown_expr node.now)) }
+    ensures shown { IfErr result (λ error. TellsOnly error (target_shows (own_word v) (shown_expr node.now))) }
 {
     match inside_parens(node) {
         Ok(primary) => primary_to_reference(alloc, primary, v),

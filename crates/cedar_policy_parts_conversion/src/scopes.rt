@@ -1,5 +1,5 @@
 // Whole scopes.
-ghost use Rattle.std.specs.Prelude.{◌≡◌, map, slice_get};
+ghost use Rattle.std.specs.Prelude.{◌≡◌, ◌∷◌, drop, map, slice_get, IfErr};
 ghost use Rattle.std.specs.Option.{option_map};
 ghost use Rattle.cedar_grammar.specs.Token as token;
 ghost use Rattle.cedar_grammar.specs.Converting.{constraint, action_constraint, scope_syntax};
@@ -7,8 +7,10 @@ ghost use Rattle.cedar_cst.specs.View.{shown_variable_def};
 ghost use Rattle.cedar_constraints.specs.Actions.{action_of};
 ghost use Rattle.cedar_conversion_leaves.specs.Reasons.{IsFault};
 ghost use Rattle.cedar_conversion_leaves.specs.Converts.{and_then, Finds};
+ghost use Rattle.cedar_conversion_leaves.specs.Telling.{TellsOnly};
 ghost use Rattle.cedar_policy_parts_conversion.specs.Scopes.{scope_of};
 ghost use Rattle.cedar_policy_parts_conversion.specs.Scopes as scopes;
+ghost use Rattle.cedar_policy_parts_conversion.specs.Shows.{principal_shows, action_part_shows, resource_shows, extra_shows, extras_show, scope_shows};
 
 use crate::actions::to_action_constraint;
 use crate::constraints::to_principal_or_resource_constraint;
@@ -26,7 +28,8 @@ use std::rc::RcStr;
 
 // The fault of a scope that lacks this variable.
 fn lacking<E: Drop>(alloc: Global, var: Var, loc: Option<&Loc>) -> ConversionError<E>
-    ensures { IsFault result }
+    ensures fault { IsFault result }
+    ensures kind { TellsOnly result (λ kind. kind ≡ ToASTErrorKind.MissingScopeVariable var) }
 {
     ConversionError::fault(alloc, ToASTErrorKind::MissingScopeVariable(var), loc)
 }
@@ -37,7 +40,8 @@ fn to_principal<E: Drop>(
     part: Option<&Node<Option<VariableDef>>>,
     loc: Option<&Loc>,
 ) -> Result<PrincipalConstraint, ConversionError<E>>
-    ensures { Finds (λ c. c) result (and_then (option_map (λ n. shown_variable_def n.now) part.entry) (constraint token.Principal)) }
+    ensures constraint { Finds (λ c. c) result (and_then (option_map (λ n. shown_variable_def n.now) part.entry) (constraint token.Principal)) }
+    ensures shown { IfErr result (λ error. TellsOnly error (principal_shows (option_map (λ n. shown_variable_def n.now) part.entry))) }
 {
     let Some(node) = part else {
         return Err(lacking(alloc, Var::Principal, loc));
@@ -53,7 +57,8 @@ fn to_action<E: Drop>(
     part: Option<&Node<Option<VariableDef>>>,
     loc: Option<&Loc>,
 ) -> Result<ActionConstraint, ConversionError<E>>
-    ensures { Finds action_of result (and_then (option_map (λ n. shown_variable_def n.now) part.entry) action_constraint) }
+    ensures constraint { Finds action_of result (and_then (option_map (λ n. shown_variable_def n.now) part.entry) action_constraint) }
+    ensures shown { IfErr result (λ error. TellsOnly error (action_part_shows (option_map (λ n. shown_variable_def n.now) part.entry))) }
 {
     match part {
         Some(node) => to_action_constraint(alloc, node),
@@ -67,7 +72,8 @@ fn to_resource<E: Drop>(
     part: Option<&Node<Option<VariableDef>>>,
     loc: Option<&Loc>,
 ) -> Result<ResourceConstraint, ConversionError<E>>
-    ensures { Finds (λ c. c) result (and_then (option_map (λ n. shown_variable_def n.now) part.entry) (constraint token.Resource)) }
+    ensures constraint { Finds (λ c. c) result (and_then (option_map (λ n. shown_variable_def n.now) part.entry) (constraint token.Resource)) }
+    ensures shown { IfErr result (λ error. TellsOnly error (resource_shows (option_map (λ n. shown_variable_def n.now) part.entry))) }
 {
     let Some(node) = part else {
         return Err(lacking(alloc, Var::Resource, loc));
@@ -83,7 +89,8 @@ fn printed(alloc: Global, def: &VariableDef) -> Result<RcStr, AllocError> {
 
 // The fault of a further part.
 fn extra<E: Drop>(alloc: Global, node: &Node<Option<VariableDef>>) -> ConversionError<E>
-    ensures { IsFault result }
+    ensures fault { IsFault result }
+    ensures shown { TellsOnly result (extra_shows (shown_variable_def node.now)) }
 {
     let Some(def) = &node.node else {
         return ConversionError::missing(alloc, node.loc());
@@ -103,7 +110,8 @@ fn all_extra<E: Drop>(
     first: &Node<Option<VariableDef>>,
     parts: &[Node<Option<VariableDef>>],
 ) -> ConversionError<E>
-    ensures { IsFault result }
+    ensures fault { IsFault result }
+    ensures shown { TellsOnly result (extras_show (shown_variable_def first.now ∷ map shown_variable_def parts.now)) }
 {
     let mut faults = extra(alloc, first);
     'parts: for part in parts {
@@ -118,7 +126,8 @@ fn no_more<E: Drop>(
     alloc: Global,
     defs: &[Node<Option<VariableDef>>],
 ) -> Result<(), ConversionError<E>>
-    ensures { Finds (λ u. u) result (scopes.no_more (map shown_variable_def defs.now)) }
+    ensures none { Finds (λ u. u) result (scopes.no_more (map shown_variable_def defs.now)) }
+    ensures shown { IfErr result (λ error. TellsOnly error (extras_show (drop 3 (map shown_variable_def defs.now)))) }
 {
     if defs.len() <= 3 {
         return Ok(());
@@ -141,7 +150,8 @@ pub fn extract_scope<E: Drop>(
     defs: &Vec<Node<Option<VariableDef>>>,
     loc: Option<&Loc>,
 ) -> Result<(PrincipalConstraint, ActionConstraint, ResourceConstraint), ConversionError<E>>
-    ensures { Finds scope_of result (scope_syntax (map shown_variable_def defs.now.items)) }
+    ensures scope { Finds scope_of result (scope_syntax (map shown_variable_def defs.now.items)) }
+    ensures shown { IfErr result (λ error. TellsOnly error (scope_shows (map shown_variable_def defs.now.items))) }
 {
     let first = part(defs, 0);
     let second = part(defs, 1);

@@ -1,13 +1,19 @@
 // Which variable a part of a scope speaks of.
-ghost use Rattle.std.specs.Prelude.{◌≡◌, ◌↔◌, Option, Some, None, IsTrue};
+ghost use Rattle.std.specs.Prelude.{◌≡◌, ◌⊎◌, ◌↔◌, true, Option, Some, None, IfErr, IsTrue};
+ghost use Rattle.std.specs.Option.{option_map};
 ghost use Rattle.cedar_literals.specs.Variables.{variable_of};
 ghost use Rattle.cedar_cst.specs.LeafView.{shown_ident, shown_name};
+ghost use Rattle.cedar_cst.specs.View.{shown_expr};
 ghost use Rattle.cedar_constraints.specs.Asked.{variable_asked};
 ghost use Rattle.cedar_conversion_leaves.specs.Reasons.{IsFault, reason, out_of_memory};
 ghost use Rattle.cedar_conversion_leaves.specs.Converts.{and_then, Finds};
 ghost use Rattle.cedar_conversion_leaves.specs.Words.{ident_variable};
+ghost use Rattle.cedar_conversion_leaves.specs.Telling.{Tells, TellsOnly};
 ghost use Rattle.cedar_policy_parts_conversion.specs.Own.{asked_of, without};
+ghost use Rattle.cedar_policy_parts_conversion.specs.Shows.{variable_shows, type_name_shows};
+ghost use Rattle.cedar_policy_parts_conversion.specs.Shows as shows;
 
+use crate::copies::copied;
 use crate::misfits::is_type_test;
 use cedar_constraints::constraints::PrincipalOrResource;
 use cedar_conversion_leaves::{ConversionError, ToASTErrorKind, word_to_variable};
@@ -22,7 +28,8 @@ pub(crate) fn to_var<E: Drop>(
     alloc: Global,
     node: &Node<Option<Ident>>,
 ) -> Result<Var, ConversionError<E>>
-    ensures { Finds variable_of result (and_then (ident_variable (shown_ident node.now)) asked_of) }
+    ensures variable { Finds variable_of result (and_then (ident_variable (shown_ident node.now)) asked_of) }
+    ensures shown { IfErr result (λ error. TellsOnly error (variable_shows (shown_ident node.now))) }
 {
     match word_to_variable(node) {
         Some(Var::Principal) => Ok(Var::Principal),
@@ -34,10 +41,11 @@ pub(crate) fn to_var<E: Drop>(
 }
 
 fn no_variable<E: Drop>(alloc: Global, node: &Node<Option<Ident>>) -> ConversionError<E>
-    ensures { IsFault result }
+    ensures fault { IsFault result }
+    ensures shown { and_then (ident_variable (shown_ident node.now)) asked_of ≡ None → TellsOnly result (variable_shows (shown_ident node.now)) }
 {
     match &node.node {
-        Some(ident) => match ident.clone() {
+        Some(ident) => match copied(ident) {
             Ok(ident) => {
                 let kind = ToASTErrorKind::InvalidScopeVariable(ident);
                 ConversionError::fault(alloc, kind, node.loc())
@@ -64,7 +72,8 @@ pub(crate) fn no_type_name<E: Drop>(
     alloc: Global,
     name: &Option<Node<Option<Name>>>,
 ) -> Result<(), ConversionError<E>>
-    ensures { Finds (λ u. u) result (without name.now) }
+    ensures absent { Finds (λ u. u) result (without name.now) }
+    ensures shown { IfErr result (λ error. TellsOnly error (type_name_shows (option_map shown_name name.now))) }
 {
     match name {
         None => Ok(()),
@@ -86,6 +95,7 @@ pub(crate) fn unless_inverted<E: Drop>(
 ) -> ConversionError<E>
     ensures fault { IsFault error → IsFault inverted → IsFault result }
     ensures memory { reason error ≡ out_of_memory → reason result ≡ out_of_memory }
+    ensures told { TellsOnly result (λ kind. Tells error kind ⊎ (shows.is_type_test (shown_expr node.now) ≡ true) × Tells inverted kind) }
 {
     match &error {
         ConversionError::Faults(_) => { if is_type_test(node) { inverted } else { error } }

@@ -24,8 +24,8 @@ returns-in_err-effect c =
     let ds = map shown_variable_def p.variables.items in
     let cs = map shown_cond p.conds.items in
     let e = c.in_err-effect.field-0.0 in
-    let head = both_found effect_of (λ a. a) c.to_effect-effect.result c.to_annotations-annotations.result c.flatten_tuple_2-head.result (effect w) (notes_of xs) c.flatten_tuple_2-head.ensures c.to_effect-effect.ensures c.to_annotations-annotations.ensures in
-    let body = both_found scope_of (option_map bare) c.extract_scope-scope.result c.to_clauses-clauses.result c.flatten_tuple_2-body.result (scope_syntax ds) (clauses_of names cs) c.flatten_tuple_2-body.ensures c.extract_scope-scope.ensures c.to_clauses-clauses.ensures in
+    let head = both_found effect_of (λ a. a) c.to_effect-effect.result c.to_annotations-annotations.result c.flatten_tuple_2-head.result (effect w) (notes_of xs) c.flatten_tuple_2-head.ensures c.to_effect-effect.ensures.effect c.to_annotations-annotations.ensures.annotations in
+    let body = both_found scope_of (option_map bare) c.extract_scope-scope.result c.to_clauses-clauses.result c.flatten_tuple_2-body.result (scope_syntax ds) (clauses_of names cs) c.flatten_tuple_2-body.ensures c.extract_scope-scope.ensures.scope c.to_clauses-clauses.ensures in
     let none = both_found (λ h. (effect_of (h.0), h.1)) (λ b. (scope_of (b.0), option_map bare (b.1))) c.flatten_tuple_2-head.result c.flatten_tuple_2-body.result (Err e) (paired (effect w) (notes_of xs)) (paired (scope_syntax ds) (clauses_of names cs)) c.in_err-effect.ensures head body in
     passed parts_syntax c.from_residual.result e _ c.from_residual.ensures (lacks_more (reason e) (loose_parts names xs w ds cs) _ (no_policy names xs w ds cs) none)
 
@@ -38,7 +38,7 @@ returns c =
     let ds = map shown_variable_def p.variables.items in
     let cs = map shown_cond p.conds.items in
     let o = c.in_ok-effect in
-    let head = both_found effect_of (λ a. a) c.to_effect-effect.result c.to_annotations-annotations.result c.flatten_tuple_2-head.result (effect w) (notes_of xs) c.flatten_tuple_2-head.ensures c.to_effect-effect.ensures c.to_annotations-annotations.ensures in
-    let body = both_found scope_of (option_map bare) c.extract_scope-scope.result c.to_clauses-clauses.result c.flatten_tuple_2-body.result (scope_syntax ds) (clauses_of names cs) c.flatten_tuple_2-body.ensures c.extract_scope-scope.ensures c.to_clauses-clauses.ensures in
+    let head = both_found effect_of (λ a. a) c.to_effect-effect.result c.to_annotations-annotations.result c.flatten_tuple_2-head.result (effect w) (notes_of xs) c.flatten_tuple_2-head.ensures c.to_effect-effect.ensures.effect c.to_annotations-annotations.ensures.annotations in
+    let body = both_found scope_of (option_map bare) c.extract_scope-scope.result c.to_clauses-clauses.result c.flatten_tuple_2-body.result (scope_syntax ds) (clauses_of names cs) c.flatten_tuple_2-body.ensures c.extract_scope-scope.ensures.scope c.to_clauses-clauses.ensures in
     let found = both_found (λ h. (effect_of (h.0), h.1)) (λ b. (scope_of (b.0), option_map bare (b.1))) c.flatten_tuple_2-head.result c.flatten_tuple_2-body.result (Ok ((o.effect, o.annotations), (o.scope, o.clauses))) (paired (effect w) (notes_of xs)) (paired (scope_syntax ds) (clauses_of names cs)) o.ensures head body in
     a_policy names xs w ds cs ((effect_of o.effect, o.annotations), (scope_of o.scope, option_map bare o.clauses)) found

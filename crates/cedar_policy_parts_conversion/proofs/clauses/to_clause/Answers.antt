@@ -16,7 +16,7 @@ returns-in_err-word c =
     let v = clause_word (shown_ident c.in-Some.cond.cond) in
     let w = condition_tree c.args.styles.now (option_map shown_expr c.in-Some.cond.expr) in
     let e = c.in_err-word.field-0.0 in
-    let none = both_found word_of bare c.to_clause_word-word.result c.to_condition-expr.result (Err e) v w c.in_err-word.ensures c.to_clause_word-word.ensures c.to_condition-expr.ensures in
+    let none = both_found word_of bare c.to_clause_word-word.result c.to_condition-expr.result (Err e) v w c.in_err-word.ensures c.to_clause_word-word.ensures.word c.to_condition-expr.ensures in
     passed bare c.from_residual.result e _ c.from_residual.ensures
     (lacks_more (reason e) (paired v w) _ (λ h. clause_of_parts c.args.styles.now c.args.node.now c.in-Some.cond c.in-Some.is ∙ no_pair v w clause_by h) none)
 
@@ -26,7 +26,7 @@ returns-in-When c =
     let w = condition_tree c.args.styles.now (option_map shown_expr c.in-Some.cond.expr) in
     let x = c.in_ok-word.word in
     let t = bare c.in_ok-word.expr in
-    let both = both_found word_of bare c.to_clause_word-word.result c.to_condition-expr.result (Ok (x, c.in_ok-word.expr)) v w c.in_ok-word.ensures c.to_clause_word-word.ensures c.to_condition-expr.ensures in
+    let both = both_found word_of bare c.to_clause_word-word.result c.to_condition-expr.result (Ok (x, c.in_ok-word.expr)) v w c.in_ok-word.ensures c.to_clause_word-word.ensures.word c.to_condition-expr.ensures in
     clause_of_parts c.args.styles.now c.args.node.now c.in-Some.cond c.in-Some.is
     ∙ a_pair v w clause_by (word_of x, t) both
     ∙ ap (λ y. clause_by (word_of y) t) c.in-When.is

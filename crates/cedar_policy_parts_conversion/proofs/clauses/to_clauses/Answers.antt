@@ -18,4 +18,4 @@ loop-node-preserved c =
     let more = seen_more shown_cond nodes c.deref-node-items.result.now c.loop-node.node-index c.node-item.result c.deref-node-items.ensures.value c.loop-node-test.true c.node-item.is in
     subst (Finds (option_map bare) c.join_clause-clauses.result)
     (sym (ap (clauses_of names) more ∙ clauses_more names before (shown_cond c.node-item.result)))
-    (c.join_clause-clauses.ensures (clauses_of names before) (clause names (shown_cond c.node-item.result)) c.loop-node.invariant c.to_clause-next.ensures)
+    (c.join_clause-clauses.ensures.joined (clauses_of names before) (clause names (shown_cond c.node-item.result)) c.loop-node.invariant c.to_clause-next.ensures)

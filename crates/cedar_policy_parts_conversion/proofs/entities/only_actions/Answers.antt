@@ -7,16 +7,16 @@ use Rattle.cedar_policy_parts_conversion.proofs.Finding.{nothing}
 use Rattle.cedar_policy_parts_conversion.proofs.Acting.{all_actions, held_other}
 use Rattle.cedar_policy_parts_conversion.proofs.entities.only_actions.Goals as goal
 
-pub returns-then-is_empty : goal.returns-then-is_empty
-returns-then-is_empty g c =
+pub returns-then-is_empty-clause-actions : goal.returns-then-is_empty-clause-actions
+returns-then-is_empty-clause-actions g c =
     let v = c.in_ok-others.others in
     let us = c.args.uids.items in
     let none : v.items ≡ [] = none_more v.items (ap (λ n. n == 0) (sym v.ok.0) ∙ sym c.is_empty.ensures ∙ c.if-is_empty.true) in
     all_actions us (sym c.in_ok-others.ensures ∙ ap held_uids none)
 
-pub returns : goal.returns
-returns g c =
+pub returns-clause-actions : goal.returns-clause-actions
+returns-clause-actions g c =
     let v = c.in_ok-others.others in
     let us = c.args.uids.items in
     let some : 0 < length v.items = some_more v.items (ap (λ n. n == 0) (sym v.ok.0) ∙ sym c.is_empty.ensures ∙ c.if-is_empty.false) in
-    nothing c.no_actions.result _ c.no_actions.ensures (held_other v.items us c.in_ok-others.ensures some)
+    nothing c.no_actions.result _ c.no_actions.ensures.fault (held_other v.items us c.in_ok-others.ensures some)

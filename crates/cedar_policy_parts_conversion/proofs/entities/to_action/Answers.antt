@@ -10,14 +10,14 @@ use Rattle.cedar_policy_parts_conversion.proofs.Finding.{passed, through, early,
 use Rattle.cedar_policy_parts_conversion.proofs.Acting.{action_is}
 use Rattle.cedar_policy_parts_conversion.proofs.entities.to_action.Goals as goal
 
-pub returns-in_err-uid : goal.returns-in_err-uid
-returns-in_err-uid g c =
+pub returns-in_err-uid-clause-action : goal.returns-in_err-uid-clause-action
+returns-in_err-uid-clause-action g c =
     let e = c.in_err-uid.field-0.0 in
     let x = shown_expr c.args.node.now in
     passed (λ (u : Uid). u) c.from_residual.result e _ c.from_residual.ensures
-    (through (reason e) (entity x) (action x) c.in_err-uid.ensures (λ h. action_is x ∙ early (entity x) as_action h))
+    (through (reason e) (entity x) (action x) c.in_err-uid.ensures.entity (λ h. action_is x ∙ early (entity x) as_action h))
 
-pub returns : goal.returns
-returns g c =
+pub returns-clause-action : goal.returns-clause-action
+returns-clause-action g c =
     let x = shown_expr c.args.node.now in
-    same_as (λ (u : Uid). u) c.only_action.result (as_action c.in_ok-uid.uid) (action x) (action_is x ∙ ap (λ o. o >>= as_action) c.in_ok-uid.ensures) c.only_action.ensures
+    same_as (λ (u : Uid). u) c.only_action.result (as_action c.in_ok-uid.uid) (action x) (action_is x ∙ ap (λ o. o >>= as_action) c.in_ok-uid.ensures.entity) c.only_action.ensures.action
