@@ -18,6 +18,7 @@ use Rattle.cedar_substitution.specs.Told.{told_for}
 use Rattle.cedar_interpreter.specs.Asking.{untold, variable_asked, request_held, StandFor, IsEvaluatorOf}
 use Rattle.cedar_interpreter.specs.Holding.{variable_held, value_told, held_by, depth_of}
 use Rattle.cedar_interpreter.specs.Operating.{HasFunctions, NamesNothing}
+use Rattle.cedar_interpreter.specs.Seen.{AreSeen}
 use Rattle.cedar_interpreter.specs.declared.evaluator.Evaluator.{Evaluator}
 
 -- what is held, by what stands for variables and what is told for unknowns
@@ -40,6 +41,7 @@ module _ (r : RequestParts) (ev : Evaluator) (stand : StandFor r ev.variables) (
 pub is_evaluator : (r : RequestParts) (entities : Entities) (table : Extensions) (depth : ℕ) (ev : Evaluator) →
     StandFor r ev.variables → ev.told ≡ None → ev.entities.now ≡ entities → ev.extensions.now ≡ table → depth_of ev ≡ depth → IsEvaluatorOf (untold r) entities table depth ev
 is_evaluator r entities table depth ev stand nothing es ts ds = record {
+  store = es;
   holds = holds_asked r ev stand nothing;
   serves = λ facts t has functions names. record {
     entities = subst (λ e. HasFacts e facts) (sym es) has;
@@ -50,12 +52,13 @@ is_evaluator r entities table depth ev stand nothing es ts ds = record {
 }
 
 -- the same evaluator, that is told values
-abbrev pub telling : Evaluator → Bor (HashMap (RcStr Global) Value (BuildHasherDefault FoldHasher)) → Evaluator
-telling ev told = record { variables = ev.variables; entities = ev.entities; extensions = ev.extensions; depth = ev.depth; told = Some told }
+abbrev pub telling : (ev : Evaluator) → Bor (HashMap (RcStr Global) Value (BuildHasherDefault FoldHasher)) → AreSeen ev.entities.now ev.variables ev.seen → Evaluator
+telling ev told seen = record { variables = ev.variables; entities = ev.entities; seen = ev.seen; extensions = ev.extensions; depth = ev.depth; told = Some told; are_seen = seen }
 
-pub is_told : (r : RequestParts) (entities : Entities) (table : Extensions) (depth : ℕ) (ev : Evaluator) (told : Bor (HashMap (RcStr Global) Value (BuildHasherDefault FoldHasher))) →
-    IsEvaluatorOf (untold r) entities table depth ev → IsEvaluatorOf (record { request = r; told = told_for told.now.entries }) entities table depth (telling ev told)
-is_told r entities table depth ev told is = record {
+pub is_told : (r : RequestParts) (entities : Entities) (table : Extensions) (depth : ℕ) (ev : Evaluator) (told : Bor (HashMap (RcStr Global) Value (BuildHasherDefault FoldHasher))) (seen : AreSeen ev.entities.now ev.variables ev.seen) →
+    IsEvaluatorOf (untold r) entities table depth ev → IsEvaluatorOf (record { request = r; told = told_for told.now.entries }) entities table depth (telling ev told seen)
+is_told r entities table depth ev told seen is = record {
+  store = is.store;
   holds = λ slots. ap (λ (h : LeafAnswers). holding slots h.variable (told_for told.now.entries)) (is.holds slots);
   serves = λ facts t has functions names.
       let s = is.serves facts t has functions names in

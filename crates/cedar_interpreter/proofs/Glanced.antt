@@ -10,8 +10,11 @@ use Rattle.cedar_language.specs.Value.{Value, Plain, no_values, Gives}
 use Rattle.cedar_language.specs.Facts.{Facts}
 use Rattle.cedar_language.specs.Order.{same, same_text, same_uid, value_cmp}
 use Rattle.cedar_language.specs.OrderLaws.{value_cmp_total, value_cmp_same}
-use Rattle.cedar_language.specs.Operators.{applied, truth, attribute}
+use Rattle.cedar_language.specs.Operators.{applied, truth, attribute, attribute_held}
 use Rattle.cedar_partial_evaluation.specs.Partial.{Evaluated, AllEvaluated, answer_of, last_answer, and_answer, or_answer, if_answer, and_next, apply_answer, partial_in}
+use Rattle.cedar_entities.specs.Data.{EntityData}
+use Rattle.cedar_entities.specs.Held.{held_of}
+use Rattle.cedar_entities.specs.Store.{held_at}
 use Rattle.cedar_grammar.specs.Build.{unary, binary}
 use Rattle.cedar_literals.specs.Heads.{order_decides}
 use Rattle.cedar_literals.proofs.Sameness.{uids_same}
@@ -19,6 +22,7 @@ use Rattle.cedar_operators.specs.Operands.{one, two}
 use Rattle.cedar_operators.specs.Store.{HasFacts}
 use Rattle.cedar_interpreter.specs.Glancing.{value_lent, least_depth, Tells}
 use Rattle.cedar_interpreter.specs.Holding.{held_by, variable_held}
+use Rattle.cedar_interpreter.specs.Seen.{IsSeen}
 use Rattle.cedar_interpreter.specs.declared.evaluator.Evaluator.{Evaluator}
 use Rattle.cedar_interpreter.specs.declared.lent.Lent.{Lent}
 
@@ -67,11 +71,20 @@ module _ (ev : Evaluator) where
     within = let h : least_depth t ≡ 1 = ap least_depth is in omega (arith, h);
   }
 
+  -- where the limit isn't met
+  pub literal_within : (d e : ℕ) (t : Tree) (l : Literal) (v : Value) → d ≡ e + 1 → t ≡ Lit l → v ≡ Plain l → Tells ev d t v
+  literal_within d e t l v most is also = let h = literal_tells t l v is also in record { value = h.value; within = omega (arith, h.within, most) }
+
   pub variable_tells : (t : Tree) (x : Variable) (v : Value) → t ≡ Var x → variable_held ev x ≡ Evaluated v → Tells ev 1 t v
   variable_tells t x v is held = record {
     value = λ facts slots has. ap (partial_in facts (held_by ev slots)) is ∙ held;
     within = let h : least_depth t ≡ 1 = ap least_depth is in omega (arith, h);
   }
+
+  -- the same tree, where the limit is no lower
+  pub tells_within : (d e : ℕ) (t u : Tree) (found : Option Lent) → e ≤ d → t ≡ u → IfSome found (λ l. Tells ev e u (value_lent l)) → IfSome found (λ l. Tells ev d t (value_lent l))
+  tells_within d e t u None most same h = tt
+  tells_within d e t u (Some l) most same h = subst (λ s. Tells ev d s (value_lent l)) (sym same) (record { value = h.value; within = omega (arith, h.within, most) })
 
   module _ (d : ℕ) where
     pub and_stops : (l r : Tree) (b : Bool) → b ≡ false → Tells ev d l (Plain (Boolean b)) → Tells ev (d + 1) (And l r) (Plain (Boolean false))
@@ -148,3 +161,16 @@ module _ (ev : Evaluator) where
           ∙ ap answer_of (k facts has);
       within = omega (arith, h.within, g.within);
     }
+
+  -- ---- an attribute of a variable
+
+  module _ (a : Text) (x : Variable) (found : Option Lent) where
+    pub attribute_of_variable : (v : Value) → variable_held ev x ≡ Evaluated v → ((facts : Facts) → HasFacts ev.entities.now facts → IfSome found (λ l. attribute facts a v ≡ Gives (value_lent l))) →
+        IfSome found (λ l. Tells ev 2 (unary (GetAttr a) (Var x)) (value_lent l))
+    attribute_of_variable v held k = attribute_tells 1 a a (Var x) v found refl (variable_tells (Var x) x v refl held) k
+
+    -- of an entity that is given, by what the store holds of it
+    pub attribute_of_given : (u : Uid) (e : EntityData) → variable_held ev x ≡ Evaluated (Plain (Entity u)) → IsSeen ev.entities.now u (Some e) →
+        ((facts : Facts) → HasFacts ev.entities.now facts → held_at ev.entities.now u ≡ Some (held_of e) → IfSome found (λ l. attribute_held a (facts.entity u) ≡ Gives (value_lent l))) →
+        IfSome found (λ l. Tells ev 2 (unary (GetAttr a) (Var x)) (value_lent l))
+    attribute_of_given u e held seen k = attribute_of_variable (Plain (Entity u)) held (λ facts has. k facts has seen.0)

@@ -1,5 +1,6 @@
 pub mod Gathering
 pub mod Projecting
+pub mod Seen
 pub mod Steps
 pub mod Left
 pub mod Operated

@@ -66,6 +66,7 @@ pub record StandFor (r : RequestParts) (vs : Variables) : Type 0 where
 
 -- it answers for this inquiry, over these entities and functions, to this depth
 pub record IsEvaluatorOf (i : Inquiry) (entities : Entities) (table : Extensions) (depth : ℕ) (ev : Evaluator) : Type 0 where
+  pub store : ev.entities.now ≡ entities
   pub holds : (slots : Bindings) → held_by ev slots ≡ request_held i slots
   pub serves : (facts : Facts) (t : Tree) → HasFacts entities facts → HasFunctions table facts → NamesNothing table t → Serves ev facts t
   pub limit : depth_of ev ≡ depth

@@ -3,6 +3,7 @@ pub mod Meeting
 pub mod Operating
 pub mod Projecting
 pub mod Holding
+pub mod Seen
 pub mod Glancing
 pub mod Asking
 pub mod Restricted

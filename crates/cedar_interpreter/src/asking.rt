@@ -14,7 +14,7 @@ ghost use Rattle.cedar_interpreter.specs.Asking.{context_asked, untold, StandFor
 ghost use Rattle.cedar_interpreter.specs.Holding.{held_by, Serves, Deep, depth_of};
 ghost use Rattle.cedar_interpreter.specs.Meeting.{MeetsAt, ValueAt, IsLimit};
 
-use crate::evaluator::{Evaluator, Variables};
+use crate::evaluator::{Evaluator, Seen, Variables};
 use cedar_constraints::bindings::SlotEnv;
 use cedar_entities::store::Entities;
 use cedar_extensions::evaluation_error::EvaluationError;
@@ -43,9 +43,12 @@ impl<'s, 'e, 'f> Evaluator<'s, 'e, 'f> {
     ) -> Result<Evaluator<'s, 'e, 'f>, AllocError>
         ensures { IfOk result (λ ev. IsEvaluatorOf (untold (request_parts request.now)) entities.now extensions.now depth ev) }
     {
+        let variables = variables_of(alloc, request)?;
+        let seen = Seen::of(entities, &variables);
         Ok(Evaluator {
-            variables: variables_of(alloc, request)?,
+            variables,
             entities,
+            seen,
             extensions,
             depth,
             told: None,
@@ -62,6 +65,7 @@ impl<'s, 'e, 'f> Evaluator<'s, 'e, 'f> {
         Evaluator {
             variables: self.variables,
             entities: self.entities,
+            seen: self.seen,
             extensions: self.extensions,
             depth: self.depth,
             told: Some(told),

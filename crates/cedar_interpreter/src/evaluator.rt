@@ -1,4 +1,7 @@
 // What is asked, and what is held besides.
+ghost use Rattle.cedar_interpreter.specs.Seen.{AreSeen, are_seen_prop};
+
+use cedar_entities::entity::Entity;
 use cedar_entities::store::Entities;
 use cedar_extensions::extensions::Extensions;
 use cedar_restricted::partial_values::PartialValue;
@@ -16,6 +19,15 @@ pub(crate) struct Variables {
     pub(crate) context: PartialValue,
 }
 
+// What a store holds of the entities that stand for variables, each looked up once. Where no entity stands
+// for a variable, nothing is said.
+#[derive(Drop)]
+pub(crate) struct Seen<'s> {
+    pub(crate) principal: Option<&'s Entity>,
+    pub(crate) action: Option<&'s Entity>,
+    pub(crate) resource: Option<&'s Entity>,
+}
+
 /// A request and what is held besides it, by which expressions are evaluated: the entities of a store,
 /// the functions of extensions, and the values that are told for unknowns. No evaluation nests deeper
 /// than a limit. Contracts see it by `held_by`, what is held of the leaves of trees, by `Serves`, the
@@ -24,7 +36,9 @@ pub(crate) struct Variables {
 pub struct Evaluator<'s, 'e, 'f> {
     pub(crate) variables: Variables,
     pub(crate) entities: &'s Entities,
+    pub(crate) seen: Seen<'s>,
     pub(crate) extensions: &'e Extensions<'f>,
     pub(crate) depth: u32,
     pub(crate) told: Option<&'s HashMap<RcStr, Value>>,
+    ghost are_seen: { AreSeen entities.now variables seen } by { are_seen_prop entities.now variables seen },
 }

@@ -18,11 +18,10 @@ ghost use Rattle.cedar_interpreter.specs.Glancing.{value_lent, least_depth, Tell
 ghost use Rattle.cedar_interpreter.specs.Holding.{held_by, variable_held, depth_of};
 
 use crate::evaluator::Evaluator;
-use crate::forms::Form;
 use crate::lent::Lent;
-use crate::lent_lookups::attribute_lent;
+use crate::lent_lookups::{attribute_lent, attribute_of_held};
 use crate::lent_operators::{test_of_one, test_of_two};
-use crate::operands::{Operands, UnaryOperator};
+use crate::operands::UnaryOperator;
 use cedar_literals::operators::BinaryOp;
 use cedar_literals::variables::Var;
 use cedar_trees::expr::{Expr, ExprKind};
@@ -64,15 +63,30 @@ impl<'s, 'e, 'f> Evaluator<'s, 'e, 'f> {
         ensures { IfSome result (λ lent. Tells self.now depth (bare expr.now) (value_lent lent)) }
     {
         let below = depth.checked_sub(1)?;
-        match Form::of(expr) {
-            Form::Leaf => self.glance_leaf(expr),
-            Form::If { test, yes, no } => self.glance_if(test, yes, no, below),
-            Form::And { left, right } => self.glance_and(left, right, below),
-            Form::Or { left, right } => self.glance_or(left, right, below),
-            Form::GetAttr { of, attr } => self.glance_attribute(of, attr, below),
-            Form::Strict(Operands::One(op, of)) => self.glance_one(op, of, below),
-            Form::Strict(Operands::Two(op, left, right)) => self.glance_two(op, left, right, below),
-            Form::Strict(Operands::List) => None,
+        match &expr.expr_kind {
+            ExprKind::Lit(_) | ExprKind::Var(_) => self.glance_leaf(expr),
+            ExprKind::If {
+                test_expr,
+                then_expr,
+                else_expr,
+            } => self.glance_if(test_expr, then_expr, else_expr, below),
+            ExprKind::And { left, right } => self.glance_and(left, right, below),
+            ExprKind::Or { left, right } => self.glance_or(left, right, below),
+            ExprKind::GetAttr { expr, attr } => self.glance_attribute(expr, attr, below),
+            ExprKind::UnaryApp { op, arg } => {
+                self.glance_one(UnaryOperator::Applied(*op), arg, below)
+            }
+            ExprKind::BinaryApp { op, arg1, arg2 } => self.glance_two(*op, arg1, arg2, below),
+            ExprKind::HasAttr { expr, attr } => {
+                self.glance_one(UnaryOperator::Has(attr), expr, below)
+            }
+            ExprKind::Like { expr, pattern } => {
+                self.glance_one(UnaryOperator::Like(pattern), expr, below)
+            }
+            ExprKind::Is { expr, entity_type } => {
+                self.glance_one(UnaryOperator::Is(entity_type), expr, below)
+            }
+            _ => None,
         }
     }
 
@@ -124,11 +138,30 @@ impl<'s, 'e, 'f> Evaluator<'s, 'e, 'f> {
     }
 
     #[cycle(glance)]
+    #[tactic(auto, using(crate::proofs::Glanced::tells_within))]
     fn glance_attribute<'a>(&'a self, of: &'a Expr, attr: &'a RcStr, depth: u32) -> Option<Lent<'a>>
         ensures { IfSome result (λ lent. Tells self.now (depth + 1) (unary (tree.GetAttr (rc_str_bytes attr.now)) (bare of.now)) (value_lent lent)) }
     {
+        if let ExprKind::Var(var) = &of.expr_kind {
+            let _level = depth.checked_sub(1)?;
+            return self.glance_attribute_of(*var, attr.as_str());
+        }
         let lent = self.glance_within(of, depth)?;
         attribute_lent(self.entities, lent, attr.as_str())
+    }
+
+    // An operand: most are literals, which are read at once.
+    #[cycle(glance)]
+    #[inline(always)]
+    #[tactic(auto, using(crate::proofs::Glanced::literal_within))]
+    fn glance_operand<'a>(&'a self, expr: &'a Expr, depth: u32) -> Option<Lent<'a>>
+        ensures { IfSome result (λ lent. Tells self.now depth (bare expr.now) (value_lent lent)) }
+    {
+        if let ExprKind::Lit(literal) = &expr.expr_kind {
+            let _below = depth.checked_sub(1)?;
+            return Some(Lent::of_literal(literal));
+        }
+        self.glance_within(expr, depth)
     }
 
     #[cycle(glance)]
@@ -136,7 +169,7 @@ impl<'s, 'e, 'f> Evaluator<'s, 'e, 'f> {
     fn glance_one<'a>(&'a self, op: UnaryOperator<'a>, of: &'a Expr, depth: u32) -> Option<Lent<'a>>
         ensures { IfSome result (λ lent. Tells self.now (depth + 1) (unary (unary_operator op.entry) (bare of.now)) (value_lent lent)) }
     {
-        let lent = self.glance_within(of, depth)?;
+        let lent = self.glance_operand(of, depth)?;
         let told = test_of_one(self.entities, op, lent)?;
         Some(Lent::Bool(told))
     }
@@ -152,8 +185,8 @@ impl<'s, 'e, 'f> Evaluator<'s, 'e, 'f> {
     ) -> Option<Lent<'a>>
         ensures { IfSome result (λ lent. Tells self.now (depth + 1) (binary (binary_operator_of op) (bare left.now) (bare right.now)) (value_lent lent)) }
     {
-        let first = self.glance_within(left, depth)?;
-        let second = self.glance_within(right, depth)?;
+        let first = self.glance_operand(left, depth)?;
+        let second = self.glance_operand(right, depth)?;
         let told = test_of_two(self.entities, op, first, second)?;
         Some(Lent::Bool(told))
     }
@@ -169,6 +202,19 @@ impl<'s, 'e, 'f> Evaluator<'s, 'e, 'f> {
                 Some(lent)
             }
             _ => None,
+        }
+    }
+
+    // What an attribute of a variable is.
+    fn glance_attribute_of<'a>(&'a self, var: Var, attr: &str) -> Option<Lent<'a>>
+        ensures { IfSome result (λ lent. Tells self.now 2 (unary (tree.GetAttr attr.now) (tree.Var (variable_of var))) (value_lent lent)) }
+    {
+        match self.given(var) {
+            Some((_, seen)) => attribute_of_held(seen?, attr),
+            None => {
+                let lent = self.glance_variable(var)?;
+                attribute_lent(self.entities, lent, attr)
+            }
         }
     }
 

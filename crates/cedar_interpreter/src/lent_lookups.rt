@@ -1,11 +1,15 @@
 // Look-ups in what is lent: attributes of records and of entities that are held, and which entities are
 // below others.
-ghost use Rattle.std.specs.Prelude.{◌≡◌, IfSome, false};
+ghost use Rattle.std.specs.Prelude.{◌≡◌, IfSome, Some, false};
 ghost use Rattle.std.specs.FinSet as set;
 ghost use Rattle.std.specs.Option.{option_copied, option_map_or};
 ghost use Rattle.cedar_entities.specs.Data.{ancestors_of};
+ghost use Rattle.cedar_entities.specs.Held.{held_of};
+ghost use Rattle.cedar_entities.specs.Store.{held_at};
+ghost use Rattle.cedar_entities.specs.declared.store.Entities.{Entities as Store};
 ghost use Rattle.cedar_language.specs.Facts.{Facts};
 ghost use Rattle.cedar_language.specs.Operators.{truth, found, or_fails, is_there, attribute_held, attribute, is_within};
+ghost use Rattle.cedar_language.specs.Uid.{Uid};
 ghost use Rattle.cedar_language.specs.Value.{RecordAttrDoesNotExist, Gives};
 ghost use Rattle.cedar_values.specs.Kinds.{keys_of, values_of};
 ghost use Rattle.cedar_operators.specs.Store.{HasFacts, IsFound};
@@ -19,8 +23,8 @@ use cedar_values::values::{Value, ValueKind};
 use std::collections::BTreeMap;
 use std::rc::RcStr;
 
-// The entity of this uid, if one is held.
-fn held<'a>(entities: &'a Entities, uid: &EntityUID) -> Option<&'a Entity>
+/// The entity of this uid, if one is held.
+pub(crate) fn held<'a>(entities: &'a Entities, uid: &EntityUID) -> Option<&'a Entity>
     ensures { IsFound entities.now uid.now result }
 {
     entities.get(uid)
@@ -45,6 +49,13 @@ fn attribute_of_entity<'a>(entities: &'a Entities, uid: &EntityUID, attr: &str) 
     ensures { (facts : Facts) → HasFacts entities.now facts → IfSome result (λ seen. attribute_held attr.now (facts.entity uid.now) ≡ Gives (value_lent seen)) }
 {
     let entity = entities.get(uid)?;
+    attribute_of_held(entity, attr)
+}
+
+/// The value of an attribute of an entity that a store holds.
+pub(crate) fn attribute_of_held<'a>(entity: &'a Entity, attr: &str) -> Option<Lent<'a>>
+    ensures { (store : Store) (facts : Facts) (uid : Uid) → HasFacts store facts → held_at store uid ≡ Some (held_of entity.now) → IfSome result (λ seen. attribute_held attr.now (facts.entity uid) ≡ Gives (value_lent seen)) }
+{
     let part = entity.get(attr)?;
     Lent::of_partial(part)
 }

@@ -22,6 +22,7 @@ mod partial_stores;
 mod parts;
 mod places;
 mod restricted;
+mod seeing;
 mod stated;
 mod waiting;
 

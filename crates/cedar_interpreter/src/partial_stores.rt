@@ -30,8 +30,8 @@ fn is_unknown(found: &Result<Value, EvaluationError>) -> bool {
     }
 }
 
-// The entity that a value is.
-fn uid(value: &Value) -> Option<&Rc<EntityUID>>
+/// The entity that a value is.
+pub(crate) fn uid(value: &Value) -> Option<&Rc<EntityUID>>
     ensures { uid_in value.now ≡ option_map (λ uid. uid.value) (option_copied result) }
 {
     match value.value_kind() {

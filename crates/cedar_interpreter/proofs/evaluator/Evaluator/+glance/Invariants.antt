@@ -24,3 +24,6 @@ decreases-glance_one l = 3 * l.depth + 2
 
 abbrev pub decreases-glance_two : goal.decreases-glance_two
 decreases-glance_two l = 3 * l.depth + 2
+
+abbrev pub decreases-glance_operand : goal.decreases-glance_operand
+decreases-glance_operand l = 3 * l.depth + 1

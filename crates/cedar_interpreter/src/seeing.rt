@@ -1,0 +1,83 @@
+// The entities that a request gives. What a store holds of them is looked up once.
+ghost use Rattle.std.specs.Prelude.{◌≡◌, IfSome};
+ghost use Rattle.std.specs.Option.{option_map, option_copied};
+ghost use Rattle.cedar_entities.specs.declared.store.Entities.{Entities as Store};
+ghost use Rattle.cedar_language.specs.Tree as tree;
+ghost use Rattle.cedar_language.specs.Value.{Plain};
+ghost use Rattle.cedar_literals.specs.Variables.{variable_of};
+ghost use Rattle.cedar_partial_evaluation.specs.Partial.{Evaluated};
+ghost use Rattle.cedar_restricted.specs.PartialValues.{partial_of};
+ghost use Rattle.cedar_requests.specs.Answers.{part_answer};
+ghost use Rattle.cedar_interpreter.specs.Holding.{variable_held};
+ghost use Rattle.cedar_interpreter.specs.Seen.{IsSeen, IsSeenFor, AreSeen, uid_standing};
+
+use crate::evaluator::{Evaluator, Seen, Variables};
+use crate::lent_lookups::held;
+use crate::partial_stores::uid;
+use cedar_entities::entity::Entity;
+use cedar_entities::store::Entities;
+use cedar_literals::uids::EntityUID;
+use cedar_literals::variables::Var;
+use cedar_restricted::partial_values::PartialValue;
+use std::rc::Rc;
+
+// The entity that stands there.
+fn standing(part: &PartialValue) -> Option<&Rc<EntityUID>>
+    ensures { uid_standing (partial_of part.now) ≡ option_map (λ uid. uid.value) (option_copied result) }
+{
+    match part {
+        PartialValue::Value(value) => uid(value),
+        PartialValue::Residual(_) => None,
+    }
+}
+
+// What a store holds of the entity that stands there, if one does.
+fn seen_for<'s>(entities: &'s Entities, part: &PartialValue) -> Option<&'s Entity>
+    ensures { IsSeenFor entities.now part.now result }
+{
+    match standing(part) {
+        Some(uid) => held(entities, uid),
+        None => None,
+    }
+}
+
+// The entity that stands there, with what a store holds of it.
+fn given_as<'p, 's>(
+    part: &'p PartialValue,
+    seen: Option<&'s Entity>,
+) -> Option<(&'p Rc<EntityUID>, Option<&'s Entity>)>
+    ensures { (store : Store) → IsSeenFor store part.now seen.entry → IfSome result (λ given. (part_answer (partial_of part.now) ≡ Evaluated (Plain (tree.Entity given.0.now.value))) × IsSeen store given.0.now.value (option_copied given.1)) }
+{
+    match standing(part) {
+        Some(uid) => Some((uid, seen)),
+        None => None,
+    }
+}
+
+impl<'s> Seen<'s> {
+    /// What a store holds of the entities that stand for variables.
+    pub(crate) fn of(entities: &'s Entities, variables: &Variables) -> Seen<'s>
+        ensures { AreSeen entities.now variables.now result }
+    {
+        Seen {
+            principal: seen_for(entities, &variables.principal),
+            action: seen_for(entities, &variables.action),
+            resource: seen_for(entities, &variables.resource),
+        }
+    }
+}
+
+impl<'s, 'e, 'f> Evaluator<'s, 'e, 'f> {
+    /// The entity that stands for a variable, with what the store holds of it; none where what stands there
+    /// isn't known. Nothing is looked up.
+    pub fn given(&self, var: Var) -> Option<(&Rc<EntityUID>, Option<&'s Entity>)>
+        ensures { IfSome result (λ given. (variable_held self.now (variable_of var) ≡ Evaluated (Plain (tree.Entity given.0.now.value))) × IsSeen self.now.entities.now given.0.now.value (option_copied given.1)) }
+    {
+        match var {
+            Var::Principal => given_as(&self.variables.principal, self.seen.principal),
+            Var::Action => given_as(&self.variables.action, self.seen.action),
+            Var::Resource => given_as(&self.variables.resource, self.seen.resource),
+            Var::Context => None,
+        }
+    }
+}
