@@ -1,12 +1,12 @@
 -- The ids of the six groups of what a response holds are those that are kept, each once, in another order.
-use Rattle.std.proofs.Common.{◌≡◌, List, [], ◌∷◌, ◌++◌, map, sym, ◌∙◌, ap, subst}
+use Rattle.std.proofs.Common.{◌≡◌, Bool, true, false, List, [], ◌∷◌, ◌++◌, map, sym, ◌∙◌, ap, subst}
 use Rattle.std.specs.List.{IsDistinct, cons_option}
 use Rattle.std.specs.List.Sorted.{IsPermutation}
 use Rattle.std.specs.Map.{keys_of}
 use Rattle.std.specs.Cmp.Lexicographic.{nat_list_eq_equiv}
-use Rattle.std.proofs.lemmas.List.{map-append}
-use Rattle.std.proofs.lemmas.List.Sorted.{IsPermutation-refl, IsPermutation-trans, IsPermutation-cons, IsPermutation-sym, IsPermutation-middle, IsPermutation-append_left}
-use Rattle.std.proofs.lemmas.Map.Keys.{IsDistinct-IsPermutation}
+use Rattle.std.proofs.lemmas.List.{append-nil, append_assoc, map-append}
+use Rattle.std.proofs.lemmas.List.Sorted.{IsPermutation-refl, IsPermutation-trans, IsPermutation-cons, IsPermutation-sym, IsPermutation-middle, IsPermutation-append_left, IsPermutation-append_comm}
+use Rattle.std.proofs.lemmas.Map.Keys.{IsDistinct-tail, IsDistinct-IsPermutation}
 use Rattle.std.proofs.lemmas.Map.Made.{keys_of-map_values}
 use Rattle.cedar_language.specs.Answering.{Effect, Permit, Forbid}
 use Rattle.cedar_language.specs.Order.{same_text}
@@ -14,6 +14,7 @@ use Rattle.cedar_language.specs.Uid.{Text}
 use Rattle.cedar_policy_set.specs.Entries.{Entries}
 use Rattle.cedar_trees.specs.Bare.{bare}
 use Rattle.cedar_evaluator.specs.Evaluations.{Found, Satisfied, Unsatisfied, Erred, Open, Kept}
+use Rattle.cedar_evaluator.specs.Grouping.{held_with}
 use Rattle.cedar_evaluator.specs.Holding.{has_erred, holding_in}
 use Rattle.cedar_evaluator.specs.Residuals.{left_satisfied, left_false, left_open, residuals_with, is_any}
 use Rattle.cedar_evaluator.specs.Responses.{Holding, if_effect, satisfied_id, false_id, open_id, error_id, holding_of}
@@ -101,8 +102,32 @@ all_held (k ∷ ks) =
     (IsPermutation-cons k.id (ids_of ks) (held_ids (holding_of ks)) (all_held ks))
     (one_more k.id k.effect k.found (holding_of ks))
 
+-- ---- some of them, without those that aren't satisfied
+
+drop_front : (xs ys : List Text) → IsDistinct same_text (xs ++ ys) → IsDistinct same_text ys
+drop_front [] ys apart = apart
+drop_front (x ∷ xs) ys apart = drop_front xs ys (IsDistinct-tail same_text x (xs ++ ys) apart)
+
+drop_middle : (xs ys zs : List Text) → IsDistinct same_text (xs ++ ys ++ zs) → IsDistinct same_text (xs ++ zs)
+drop_middle xs ys zs apart =
+    drop_front ys (xs ++ zs)
+    (subst (IsDistinct same_text) (append_assoc ys xs zs) (IsDistinct-IsPermutation same_text nat_list_eq_equiv.symm _ _ (IsPermutation-append_left zs _ _ (IsPermutation-append_comm xs ys)) apart))
+
+regrouped : (a b c d : List Text) → a ++ b ++ c ++ d ≡ a ++ (b ++ c ++ d)
+regrouped a b c d = ap (λ l. l ++ d) (append_assoc a b c) ∙ append_assoc a (b ++ c) d
+
+without_two : (a b c d e f : List Text) → IsDistinct same_text (a ++ b ++ c ++ d ++ e ++ f) → IsDistinct same_text (a ++ [] ++ c ++ d ++ [] ++ f)
+without_two a b c d e f apart =
+    let fewer = drop_middle a b (c ++ d ++ f) (subst (IsDistinct same_text) (regrouped (a ++ b) c d f) (drop_middle (a ++ b ++ c ++ d) e f apart)) in
+    let four : a ++ [] ++ c ++ d ++ [] ++ f ≡ a ++ c ++ d ++ f = λ i. append-nil (append-nil a i ++ c ++ d) i ++ f in
+    subst (IsDistinct same_text) (sym (four ∙ regrouped a c d f)) fewer
+
+held_apart : (with_false : Bool) (h : Holding) → IsDistinct same_text (held_ids h) → IsDistinct same_text (held_ids (held_with with_false h))
+held_apart true h apart = apart
+held_apart false h apart = without_two h.satisfied_permits (keys_of h.false_permits) (keys_of h.open_permits) h.satisfied_forbids (keys_of h.false_forbids) (keys_of h.open_forbids) apart
+
 -- no id stands twice in a response of policies of which none does
-pub left_apart : (r : PartialResponse) (ks : List Kept) → holding_in r ≡ holding_of ks → IsDistinct same_text (ids_of ks) → IsDistinct same_text (keys_of (residuals_with is_any r))
-left_apart r ks holds apart =
+pub left_apart : (with_false : Bool) (r : PartialResponse) (ks : List Kept) → holding_in r ≡ held_with with_false (holding_of ks) → IsDistinct same_text (ids_of ks) → IsDistinct same_text (keys_of (residuals_with is_any r))
+left_apart with_false r ks holds apart =
     subst (IsDistinct same_text) (sym (ids_left r ∙ ap held_ids holds))
-    (IsDistinct-IsPermutation same_text nat_list_eq_equiv.symm (ids_of ks) (held_ids (holding_of ks)) (all_held ks) apart)
+    (held_apart with_false (holding_of ks) (IsDistinct-IsPermutation same_text nat_list_eq_equiv.symm (ids_of ks) (held_ids (holding_of ks)) (all_held ks) apart))

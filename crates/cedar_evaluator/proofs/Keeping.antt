@@ -1,5 +1,5 @@
 -- One more policy that is kept.
-use Rattle.std.proofs.Common.{◌≡◌, ℕ, Option, Some, None, List, [], ◌∷◌, ◌++◌, refl, sym, ◌∙◌, ap, subst}
+use Rattle.std.proofs.Common.{◌≡◌, ℕ, Bool, true, false, Option, Some, None, List, [], ◌∷◌, ◌++◌, refl, sym, ◌∙◌, ap, subst}
 use Rattle.std.specs.List.{IsDistinct, filter_map, cons_option}
 use Rattle.std.specs.Map.{keys_of}
 use Rattle.std.proofs.lemmas.List.{append-nil}
@@ -14,11 +14,11 @@ use Rattle.cedar_interpreter.specs.Asking.{Inquiry}
 use Rattle.cedar_policy_set.specs.Entries.{Entry, Entries, policies_of}
 use Rattle.cedar_requests.specs.Holding.{RequestParts}
 use Rattle.cedar_trees.specs.Bare.{bare}
-use Rattle.cedar_evaluator.specs.Authorizing.{Responds}
+use Rattle.cedar_evaluator.specs.Authorizing.{RespondsWith}
 use Rattle.cedar_evaluator.specs.Evaluations.{Kept, IsKept, AreKept}
-use Rattle.cedar_evaluator.specs.Grouping.{held_in, and_then, with_kept, Keeps, AreApart}
+use Rattle.cedar_evaluator.specs.Grouping.{held_in, and_then, with_kept, held_with, Keeps, AreApart}
 use Rattle.cedar_evaluator.specs.Holding.{request_asked, has_erred, holding_in}
-use Rattle.cedar_evaluator.specs.Responses.{Holding, if_effect, satisfied_id, false_id, open_id, error_id, holding_of}
+use Rattle.cedar_evaluator.specs.Responses.{Holding, if_effect, satisfied_id, false_id, open_id, error_id, holding_of, without_false}
 use Rattle.cedar_evaluator.specs.declared.groups.Groups.{Groups}
 use Rattle.cedar_evaluator.specs.declared.partial_response.PartialResponse.{PartialResponse}
 use Rattle.cedar_evaluator.proofs.Apart.{ids_of, satisfied_apart, false_apart, open_apart}
@@ -42,7 +42,52 @@ holding_more ks k = λ i. record {
   errors = pushed (λ (j : Kept). error_id j.id j.found) ks k i;
 }
 
-module _ (i : Inquiry) (store : Entities) (table : Extensions) (depth : ℕ) where
+-- one more policy is kept, with those that aren't satisfied or without them
+abbrev Adds : Bool → Kept → Groups → Groups → Type 0
+Adds with_false k g more = (h : Holding) → held_in g ≡ held_with with_false h → held_in more ≡ held_with with_false (with_kept k h)
+
+pub adds_any : (with_false : Bool) (k : Kept) (g more : Groups) → with_false ≡ true → held_in more ≡ with_kept k (held_in g) → Adds with_false k g more
+adds_any with_false k g more is held = subst (λ b. Adds b k g more) (sym is) (λ h same. held ∙ ap (with_kept k) same)
+
+pub adds_true : (with_false : Bool) (k : Kept) (g more : Groups) → with_false ≡ false → ((h : Holding) → held_in g ≡ without_false h → held_in more ≡ without_false (with_kept k h)) → Adds with_false k g more
+adds_true with_false k g more is held = subst (λ b. Adds b k g more) (sym is) held
+
+none_kept : (with_false : Bool) → held_with with_false (holding_of []) ≡ holding_of []
+none_kept true = refl
+none_kept false = refl
+
+-- ---- of no group an id stands twice
+
+record HoldsApart (h : Holding) : Type 0 where
+  satisfied_permits : IsDistinct same_text h.satisfied_permits
+  false_permits : IsDistinct same_text (keys_of h.false_permits)
+  open_permits : IsDistinct same_text (keys_of h.open_permits)
+  satisfied_forbids : IsDistinct same_text h.satisfied_forbids
+  false_forbids : IsDistinct same_text (keys_of h.false_forbids)
+  open_forbids : IsDistinct same_text (keys_of h.open_forbids)
+
+holds_apart : (with_false : Bool) (ks : List Kept) → IsDistinct same_text (ids_of ks) → HoldsApart (held_with with_false (holding_of ks))
+unfolding IsDistinct
+holds_apart true ks apart = record {
+  satisfied_permits = satisfied_apart Permit ks apart;
+  false_permits = false_apart Permit ks apart;
+  open_permits = open_apart Permit ks apart;
+  satisfied_forbids = satisfied_apart Forbid ks apart;
+  false_forbids = false_apart Forbid ks apart;
+  open_forbids = open_apart Forbid ks apart;
+}
+holds_apart false ks apart = record {
+  satisfied_permits = satisfied_apart Permit ks apart;
+  false_permits = tt;
+  open_permits = open_apart Permit ks apart;
+  satisfied_forbids = satisfied_apart Forbid ks apart;
+  false_forbids = tt;
+  open_forbids = open_apart Forbid ks apart;
+}
+
+-- ---- of the policies of a set
+
+module _ (with_false : Bool) (i : Inquiry) (store : Entities) (table : Extensions) (depth : ℕ) where
   each_more : (es : Entries) (ks : List Kept) (e : Text × Entry) (k : Kept) → AreKept i store table depth es ks → IsKept i store table depth e k → AreKept i store table depth (es ++ e ∷ []) (ks ++ k ∷ [])
   each_more [] [] e k each this = (this, tt)
   each_more [] (j ∷ ks) e k each this = absurd each
@@ -55,39 +100,40 @@ module _ (i : Inquiry) (store : Entities) (table : Extensions) (depth : ℕ) whe
   ids_kept (e ∷ es) [] each = absurd each
   ids_kept (e ∷ es) (k ∷ ks) each = λ j. each.0.id j ∷ ids_kept es ks each.1 j
 
-  pub keeps_none : (g : Groups) → held_in g ≡ holding_of [] → Keeps i store table depth [] g
-  keeps_none g none = record { kept = []; each = tt; holds = none }
+  pub keeps_none : (g : Groups) → held_in g ≡ holding_of [] → Keeps with_false i store table depth [] g
+  keeps_none g none = record { kept = []; each = tt; holds = none ∙ sym (none_kept with_false) }
 
-  pub keeps_more : (es : Entries) (g h : Groups) (e : Text × Entry) (k : Kept) → Keeps i store table depth es g → held_in h ≡ with_kept k (held_in g) → IsKept i store table depth e k → Keeps i store table depth (es ++ e ∷ []) h
+  pub keeps_more : (es : Entries) (g h : Groups) (e : Text × Entry) (k : Kept) → Keeps with_false i store table depth es g → Adds with_false k g h → IsKept i store table depth e k → Keeps with_false i store table depth (es ++ e ∷ []) h
   keeps_more es g h e k keeps more this = record {
     kept = keeps.kept ++ k ∷ [];
     each = each_more es keeps.kept e k keeps.each this;
-    holds = more ∙ ap (with_kept k) keeps.holds ∙ sym (holding_more keeps.kept k);
+    holds = more (holding_of keeps.kept) keeps.holds ∙ ap (held_with with_false) (sym (holding_more keeps.kept k));
   }
 
-  module _ (es : Entries) (g : Groups) (keeps : Keeps i store table depth es g) (apart : IsDistinct same_text (keys_of es)) where
+  module _ (es : Entries) (g : Groups) (keeps : Keeps with_false i store table depth es g) (apart : IsDistinct same_text (keys_of es)) where
     ids_apart : IsDistinct same_text (ids_of keeps.kept)
     ids_apart = subst (IsDistinct same_text) (sym (ids_kept es keeps.kept keeps.each)) apart
 
     pub are_apart : AreApart g
-    are_apart = record {
-      satisfied_permits = subst (IsDistinct same_text) (sym (ap (λ (h : Holding). h.satisfied_permits) keeps.holds)) (satisfied_apart Permit keeps.kept ids_apart);
-      false_permits = subst (IsDistinct same_text) (sym (ap (λ (h : Holding). keys_of h.false_permits) keeps.holds) ∙ keys_of-map_values (λ v. has_erred v.0) g.false_permits.items) (false_apart Permit keeps.kept ids_apart);
-      residual_permits = subst (IsDistinct same_text) (sym (ap (λ (h : Holding). keys_of h.open_permits) keeps.holds) ∙ keys_of-map_values (λ v. bare v.0.value) g.residual_permits.items) (open_apart Permit keeps.kept ids_apart);
-      satisfied_forbids = subst (IsDistinct same_text) (sym (ap (λ (h : Holding). h.satisfied_forbids) keeps.holds)) (satisfied_apart Forbid keeps.kept ids_apart);
-      false_forbids = subst (IsDistinct same_text) (sym (ap (λ (h : Holding). keys_of h.false_forbids) keeps.holds) ∙ keys_of-map_values (λ v. has_erred v.0) g.false_forbids.items) (false_apart Forbid keeps.kept ids_apart);
-      residual_forbids = subst (IsDistinct same_text) (sym (ap (λ (h : Holding). keys_of h.open_forbids) keeps.holds) ∙ keys_of-map_values (λ v. bare v.0.value) g.residual_forbids.items) (open_apart Forbid keeps.kept ids_apart);
-    }
+    are_apart =
+        let held = subst HoldsApart (sym keeps.holds) (holds_apart with_false keeps.kept ids_apart) in
+        record {
+          satisfied_permits = held.satisfied_permits;
+          false_permits = subst (IsDistinct same_text) (keys_of-map_values (λ v. has_erred v.0) g.false_permits.items) held.false_permits;
+          residual_permits = subst (IsDistinct same_text) (keys_of-map_values (λ v. bare v.0.value) g.residual_permits.items) held.open_permits;
+          satisfied_forbids = held.satisfied_forbids;
+          false_forbids = subst (IsDistinct same_text) (keys_of-map_values (λ v. has_erred v.0) g.false_forbids.items) held.false_forbids;
+          residual_forbids = subst (IsDistinct same_text) (keys_of-map_values (λ v. bare v.0.value) g.residual_forbids.items) held.open_forbids;
+        }
+
+  responds_with : (b : Bool) (es : Entries) (ks : List Kept) → AreKept i store table depth (policies_of es) ks → IsDistinct same_text (ids_of ks)
+      → (response : PartialResponse) → holding_in response ≡ held_with b (holding_of ks) → request_asked response ≡ i.request → RespondsWith b i store table depth es response
+  responds_with true es ks each apart response holds asked = record { kept = ks; each = each; holds = holds; asked = asked; apart = left_apart true response ks holds apart }
+  responds_with false es ks each apart response holds asked = record { kept = ks; each = each; holds = holds; asked = asked; apart = left_apart false response ks holds apart }
 
   -- the response that is made of groups which keep the policies of a set
-  pub responds : (es : Entries) (g : Groups) (keeps : Keeps i store table depth (policies_of es) g) → IsDistinct same_text (keys_of (policies_of es))
-      → (response : PartialResponse) → (AreApart g → holding_in response ≡ held_in g) → {r : RequestParts} → request_asked response ≡ r → i.request ≡ r → Responds i store table depth es response
+  pub responds : (es : Entries) (g : Groups) (keeps : Keeps with_false i store table depth (policies_of es) g) → IsDistinct same_text (keys_of (policies_of es))
+      → (response : PartialResponse) → (AreApart g → holding_in response ≡ held_in g) → {r : RequestParts} → request_asked response ≡ r → i.request ≡ r → RespondsWith with_false i store table depth es response
   responds es g keeps apart response holds asked is =
-      let holds_kept = holds (are_apart (policies_of es) g keeps apart) ∙ keeps.holds in
-      record {
-        kept = keeps.kept;
-        each = keeps.each;
-        holds = holds_kept;
-        asked = asked ∙ sym is;
-        apart = left_apart response keeps.kept holds_kept (ids_apart (policies_of es) g keeps apart);
-      }
+      responds_with with_false es keeps.kept keeps.each (ids_apart (policies_of es) g keeps apart) response
+      (holds (are_apart (policies_of es) g keeps apart) ∙ keeps.holds) (asked ∙ sym is)

@@ -6,7 +6,7 @@ mod Gathered
 mod Keeping
 mod Kept
 mod Responding
-mod Deciding
+pub mod Deciding
 mod Reading
 mod Concrete
 mod Residuals

@@ -1,5 +1,5 @@
 -- What a response to an inquiry says of the policies of a set.
-use Rattle.std.specs.Prelude.{◌≡◌, ℕ, List}
+use Rattle.std.specs.Prelude.{◌≡◌, ℕ, Bool, true, false, List}
 use Rattle.std.specs.List.{IsDistinct}
 use Rattle.std.specs.Map.{keys_of}
 use Rattle.cedar_language.specs.Order.{same_text}
@@ -12,7 +12,7 @@ use Rattle.cedar_interpreter.specs.declared.evaluator.Evaluator.{Evaluator}
 use Rattle.cedar_evaluator.specs.Evaluations.{Kept, AreKept}
 use Rattle.cedar_evaluator.specs.Holding.{request_asked, holding_in}
 use Rattle.cedar_evaluator.specs.Residuals.{residuals_with, is_any}
-use Rattle.cedar_evaluator.specs.Responses.{holding_of}
+use Rattle.cedar_evaluator.specs.Responses.{holding_of, without_false}
 use Rattle.cedar_evaluator.specs.Scopes.{AreScopesOf}
 use Rattle.cedar_evaluator.specs.declared.authorizer.Authorizer.{Authorizer}
 use Rattle.cedar_evaluator.specs.declared.partial_response.PartialResponse.{PartialResponse}
@@ -35,6 +35,19 @@ pub record Responds (i : Inquiry) (store : Entities) (table : Extensions) (depth
   pub asked : request_asked response ≡ i.request
   pub apart : IsDistinct same_text (keys_of (residuals_with is_any response))
 
+-- The same, but no policy that isn't satisfied stands in a group: of one that errs the error alone is kept.
+pub record RespondsWithoutFalse (i : Inquiry) (store : Entities) (table : Extensions) (depth : ℕ) (es : Entries) (response : PartialResponse) : Type 0 where
+  pub kept : List Kept
+  pub each : AreKept i store table depth (policies_of es) kept
+  pub holds : holding_in response ≡ without_false (holding_of kept)
+  pub asked : request_asked response ≡ i.request
+  pub apart : IsDistinct same_text (keys_of (residuals_with is_any response))
+
+-- with the policies that aren't satisfied, or without them
+abbrev pub RespondsWith : Bool → Inquiry → Entities → Extensions → ℕ → Entries → PartialResponse → Type 0
+RespondsWith true i store table depth es response = Responds i store table depth es response
+RespondsWith false i store table depth es response = RespondsWithoutFalse i store table depth es response
+
 -- by an evaluator and what is decided of scopes, to each inquiry of this request that these answer for
-abbrev pub RespondsBy : Evaluator → Scopes → RequestParts → Entries → PartialResponse → Type 0
-RespondsBy ev scopes r es response = (i : Inquiry) (store : Entities) (table : Extensions) (depth : ℕ) → i.request ≡ r → IsEvaluatorOf i store table depth ev → AreScopesOf i store scopes → Responds i store table depth es response
+abbrev pub RespondsBy : Bool → Evaluator → Scopes → RequestParts → Entries → PartialResponse → Type 0
+RespondsBy with_false ev scopes r es response = (i : Inquiry) (store : Entities) (table : Extensions) (depth : ℕ) → i.request ≡ r → IsEvaluatorOf i store table depth ev → AreScopesOf i store scopes → RespondsWith with_false i store table depth es response

@@ -18,7 +18,7 @@ use Rattle.cedar_trees.specs.declared.expr.Expr.{Expr}
 use Rattle.cedar_evaluator.specs.Evaluating.{found_by}
 use Rattle.cedar_evaluator.specs.Evaluations.{Found, Erred, Kept, AreKept}
 use Rattle.cedar_evaluator.specs.Holding.{has_erred, error_seen}
-use Rattle.cedar_evaluator.specs.Responses.{Holding, if_effect, satisfied_id, false_id, open_id, error_id, holding_of}
+use Rattle.cedar_evaluator.specs.Responses.{Holding, if_effect, satisfied_id, false_id, open_id, error_id, holding_of, without_false}
 use Rattle.cedar_evaluator.specs.declared.groups.Groups.{Groups}
 
 -- the policies of each group and the errors, in their order
@@ -69,11 +69,16 @@ is_want MemoryRanOut = true
 abbrev pub IsKeepable : Result (Either Bool (Expr (Unit {0}))) EvaluationError → Type 0
 IsKeepable answer = found_in answer ≡ Erred MemoryRanOut → ⊥
 
+-- with the policies that aren't satisfied, or without them
+abbrev pub held_with : Bool → Holding → Holding
+held_with true h = h
+held_with false h = without_false h
+
 -- of each policy what was found of it is kept, and nothing else
-pub record Keeps (i : Inquiry) (store : Entities) (table : Extensions) (depth : ℕ) (es : Entries) (g : Groups) : Type 0 where
+pub record Keeps (with_false : Bool) (i : Inquiry) (store : Entities) (table : Extensions) (depth : ℕ) (es : Entries) (g : Groups) : Type 0 where
   pub kept : List Kept
   pub each : AreKept i store table depth es kept
-  pub holds : held_in g ≡ holding_of kept
+  pub holds : held_in g ≡ held_with with_false (holding_of kept)
 
 -- of no group an id stands twice
 pub record AreApart (g : Groups) : Type 0 where

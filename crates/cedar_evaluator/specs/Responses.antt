@@ -67,6 +67,10 @@ holding_of ks = record {
   errors = errors_of ks;
 }
 
+-- the same without the policies that aren't satisfied; the errors are kept
+abbrev pub without_false : Holding → Holding
+without_false h = record h { false_permits = []; false_forbids = [] }
+
 -- ---- how its policies stand, an error counting as not satisfied
 
 abbrev pub stands : Effect → answering.Standing → Text → Judged

@@ -1,11 +1,11 @@
 //! The authorizer: what answers requests by the policies of a set and the entities of a store. Begin with
 //! `Authorizer::new`, and then `is_authorized`, or `is_authorized_core` where parts of the request may be
-//! unknown.
+//! unknown; `is_authorized_without_false` where nothing is asked of the policies that aren't satisfied.
 ghost use Rattle.std.specs.Prelude.{◌≡◌, IfOk};
 ghost use Rattle.cedar_interpreter.specs.Asking.{untold};
 ghost use Rattle.cedar_requests.specs.Holding.{request_parts};
 ghost use Rattle.cedar_substitution.specs.Told.{told_for};
-ghost use Rattle.cedar_evaluator.specs.Authorizing.{table_of, limit_of, Responds, RespondsBy};
+ghost use Rattle.cedar_evaluator.specs.Authorizing.{table_of, limit_of, Responds, RespondsWithoutFalse, RespondsBy};
 
 use crate::groups::Groups;
 use crate::partial_response::PartialResponse;
@@ -59,7 +59,7 @@ impl<'e, 'f> Authorizer<'e, 'f> {
     {
         let evaluator = Evaluator::new(alloc, &request, entities, self.extensions, self.depth)?;
         let scopes = Scopes::new(entities, &request)?;
-        responded(alloc, &evaluator, &scopes, request, policies)
+        responded(alloc, &evaluator, &scopes, request, policies, true)
     }
 
     /// The same where these values are told for unknowns.
@@ -76,22 +76,41 @@ impl<'e, 'f> Authorizer<'e, 'f> {
         let evaluator = Evaluator::new(alloc, &request, entities, self.extensions, self.depth)?;
         let evaluator = evaluator.with_told(told);
         let scopes = Scopes::new(entities, &request)?;
-        responded(alloc, &evaluator, &scopes, request, policies)
+        responded(alloc, &evaluator, &scopes, request, policies, true)
+    }
+
+    /// What [`Authorizer::is_authorized_core`] answers, but without the policies that aren't satisfied:
+    /// `false_permits` and `false_forbids` are empty, and of a policy that errs the error alone is kept. What is
+    /// decided, the reasons, the open policies and the errors are the same, at less cost where most policies
+    /// don't hold. Refused for memory alone.
+    pub fn is_authorized_without_false(
+        &self,
+        alloc: Global,
+        request: Request,
+        policies: &PolicySet,
+        entities: &Entities,
+    ) -> Result<PartialResponse, AllocError>
+        ensures { IfOk result (λ response. RespondsWithoutFalse (untold (request_parts request)) entities.now (table_of self.now) (limit_of self.now) policies.now response) }
+    {
+        let evaluator = Evaluator::new(alloc, &request, entities, self.extensions, self.depth)?;
+        let scopes = Scopes::new(entities, &request)?;
+        responded(alloc, &evaluator, &scopes, request, policies, false)
     }
 }
 
-// What the policies of a set come to for a request, by its evaluator and what it decides of scopes; refused
-// for memory alone.
+// What the policies of a set come to for a request, by its evaluator and what it decides of scopes, with
+// those that aren't satisfied or without them; refused for memory alone.
 fn responded(
     alloc: Global,
     evaluator: &Evaluator<'_, '_, '_>,
     scopes: &Scopes<'_>,
     request: Request,
     policies: &PolicySet,
+    with_false: bool,
 ) -> Result<PartialResponse, AllocError>
-    ensures { IfOk result (RespondsBy evaluator.now scopes.now (request_parts request) policies.now) }
+    ensures { IfOk result (RespondsBy with_false evaluator.now scopes.now (request_parts request) policies.now) }
 {
     let _count = policies.len();
-    let groups = Groups::of_policies(alloc, evaluator, scopes, policies)?;
+    let groups = Groups::of_policies(alloc, evaluator, scopes, policies, with_false)?;
     groups.into_response(alloc, request)
 }

@@ -1,9 +1,10 @@
 // Policies in groups, by their effects and by what was found of them.
-ghost use Rattle.std.specs.Prelude.{◌≡◌, ℕ, [], ◌∷◌, ◌++◌, IfOk, OnOk};
+ghost use Rattle.std.specs.Prelude.{◌≡◌, ℕ, false, [], ◌∷◌, ◌++◌, IfOk, OnOk};
 ghost use Rattle.cedar_entities.specs.declared.store.Entities.{Entities as Store};
 ghost use Rattle.cedar_extensions.specs.Failures.{failure_of};
 ghost use Rattle.cedar_extensions.specs.declared.extensions.Extensions.{Extensions};
 ghost use Rattle.cedar_interpreter.specs.Asking.{Inquiry, IsEvaluatorOf};
+ghost use Rattle.cedar_policies.specs.Policies.{policy_id};
 ghost use Rattle.cedar_policy_parts.specs.Effects.{effect_of};
 ghost use Rattle.cedar_policy_set.specs.Bounds.{policy_seen};
 ghost use Rattle.cedar_policy_set.specs.Entries.{Entries, policies_of};
@@ -12,6 +13,7 @@ ghost use Rattle.cedar_trees.specs.Bare.{bare};
 ghost use Rattle.cedar_evaluator.specs.Evaluations.{Satisfied, Unsatisfied, Erred, Open};
 ghost use Rattle.cedar_evaluator.specs.Grouping.{held_in, with_kept, kept_of, is_want, IsKeepable, Keeps, AreApart};
 ghost use Rattle.cedar_evaluator.specs.Holding.{holding_in, request_asked};
+ghost use Rattle.cedar_evaluator.specs.Responses.{Holding, without_false};
 ghost use Rattle.cedar_evaluator.specs.Scopes.{AreScopesOf};
 
 use crate::errors::AuthorizationError;
@@ -111,20 +113,21 @@ impl Groups {
         }
     }
 
-    /// What each policy of a set, a static policy or a link, comes to, in their order; refused for memory
-    /// alone.
+    /// What each policy of a set, a static policy or a link, comes to, in their order, with those that
+    /// aren't satisfied or without them; refused for memory alone.
     pub(crate) fn of_policies(
         alloc: Global,
         evaluator: &Evaluator<'_, '_, '_>,
         scopes: &Scopes<'_>,
         policies: &PolicySet,
+        with_false: bool,
     ) -> Result<Groups, AllocError>
         ensures { IfOk result (λ groups. (i : Inquiry) (store : Store) (table : Extensions) (depth : ℕ) →
-            IsEvaluatorOf i store table depth evaluator.now → AreScopesOf i store scopes.now → Keeps i store table depth (policies_of policies.now) groups) }
+            IsEvaluatorOf i store table depth evaluator.now → AreScopesOf i store scopes.now → Keeps with_false i store table depth (policies_of policies.now) groups) }
     {
         let mut groups = Groups::new(alloc);
         for policy in policies.policies() {
-            groups.evaluate(alloc, evaluator, scopes, policy)?;
+            groups.evaluate(alloc, evaluator, scopes, policy, with_false)?;
         }
         Ok(groups)
     }
@@ -136,13 +139,18 @@ impl Groups {
         evaluator: &Evaluator<'_, '_, '_>,
         scopes: &Scopes<'_>,
         policy: &Policy,
+        with_false: bool,
     ) -> Result<(), AllocError>
         ensures { OnOk result ((i : Inquiry) (store : Store) (table : Extensions) (depth : ℕ) →
             IsEvaluatorOf i store table depth evaluator.now → AreScopesOf i store scopes.now → (es : Entries) →
-            Keeps i store table depth es self.old → Keeps i store table depth (es ++ policy_seen policy.now ∷ []) self.new) }
+            Keeps with_false i store table depth es self.old → Keeps with_false i store table depth (es ++ policy_seen policy.now ∷ []) self.new) }
     {
         let answer = evaluated(alloc, evaluator, scopes, policy);
-        self.keep(alloc, policy, answer)
+        if with_false {
+            self.keep(alloc, policy, answer)
+        } else {
+            self.keep_without_false(alloc, policy, answer)
+        }
     }
 
     // Keeps what one more policy comes to; want of memory is handed on.
@@ -176,6 +184,39 @@ impl Groups {
                 self.keep_erring(effect, id, error, annotations)
             }
         }
+    }
+
+    // The same, but nothing is kept of a policy that isn't satisfied, and of one that errs the error alone.
+    fn keep_without_false(
+        &mut self,
+        alloc: Global,
+        policy: &Policy,
+        answer: Result<Either<bool, Expr>, EvaluationError>,
+    ) -> Result<(), AllocError>
+        ensures held { OnOk result ((h : Holding) → held_in self.old ≡ without_false h → held_in self.new ≡ without_false (with_kept (kept_of policy.now answer) h)) }
+        ensures keepable { OnOk result (IsKeepable answer) }
+    {
+        match answer {
+            Ok(Either::Left(false)) => Ok(()),
+            Ok(Either::Left(true)) => self.keep(alloc, policy, Ok(Either::Left(true))),
+            Ok(Either::Right(rest)) => self.keep(alloc, policy, Ok(Either::Right(rest))),
+            Err(error) => self.keep_error(policy, error),
+        }
+    }
+
+    // Keeps the error of one more policy, and not the policy; want of memory is handed on.
+    fn keep_error(&mut self, policy: &Policy, error: EvaluationError) -> Result<(), AllocError>
+        ensures held { OnOk result (held_in self.new ≡ record (held_in self.old) { errors = (held_in self.old).errors ++ (policy_id policy.now, failure_of error) ∷ [] }) }
+        ensures kind { OnOk result (is_want (failure_of error) ≡ false) }
+    {
+        if is_want_of_memory(&error) {
+            return Err(AllocError);
+        }
+        let id = copied(policy.id())?;
+        Ok(
+            self.errors
+                .push(AuthorizationError::PolicyEvaluationError { id, error })?,
+        )
     }
 
     fn keep_satisfied(

@@ -10,4 +10,4 @@ use Rattle.cedar_evaluator.proofs.groups.Groups.of_policies.Given as goal
 -- the policies so far are kept
 abbrev pub invariant-loop-policy : goal.invariant-loop-policy
 invariant-loop-policy l =
-    (i : Inquiry) (store : Entities) (table : Extensions) (depth : ℕ) → IsEvaluatorOf i store table depth l.evaluator → AreScopesOf i store l.scopes → Keeps i store table depth (map (λ p. policy_seen p.now) l.yielded) l.groups
+    (i : Inquiry) (store : Entities) (table : Extensions) (depth : ℕ) → IsEvaluatorOf i store table depth l.evaluator → AreScopesOf i store l.scopes → Keeps l.with_false i store table depth (map (λ p. policy_seen p.now) l.yielded) l.groups

@@ -1,0 +1,12 @@
+-- The evaluator is one of the request of which nothing is told.
+use Rattle.std.proofs.Common.{refl}
+use Rattle.cedar_interpreter.specs.Asking.{untold}
+use Rattle.cedar_requests.specs.Holding.{request_parts}
+use Rattle.cedar_evaluator.specs.Authorizing.{table_of, limit_of}
+use Rattle.cedar_evaluator.proofs.Responding.{if_ok}
+use Rattle.cedar_evaluator.proofs.authorizer.Authorizer.is_authorized_without_false.Goals as goal
+
+pub returns : goal.returns
+returns c =
+    let i = untold (request_parts c.args.request) in
+    if_ok c.responded.result (λ response by. by i c.args.entities.now (table_of c.args.self.now) (limit_of c.args.self.now) refl c.in_ok-evaluator.ensures (c.in_ok-scopes.ensures i.told)) c.responded.ensures
