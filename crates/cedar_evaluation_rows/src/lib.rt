@@ -1,6 +1,5 @@
-//! Answers lines of steps of the layer of evaluation: a step is a section, a verb, and words with a bar
-//! between. What a step makes is kept, or stands on a stack; each line is printed again with the answer of
-//! its last step.
+//! What lines of steps of the layer of evaluation answer: a step is a section, a verb, and words with a bar
+//! between. What a step makes is kept, or stands on a stack; a line's answer is that of its last step.
 #![tactic(auto)]
 
 mod evaluators;
@@ -18,13 +17,12 @@ use cedar_request_rows::requests::{self, Requests};
 use cedar_restricted_rows::{partial_values, substitution};
 use cedar_rows::{Answer, Step, no_case};
 use cedar_tree_rows::trees;
-use std::alloc::Global;
+use std::alloc::{AllocError, Global};
 use std::collections::HashMap;
-use std::io;
 use std::rc::RcStr;
 
 /// What earlier steps left. The stacks, and what is told, are empty where a line begins.
-struct Held {
+pub struct Held {
     stores: Stores,
     policies: PolicySet,
     found: Found,
@@ -50,8 +48,9 @@ impl Drop for Held {
     }
 }
 
-fn nothing(alloc: Global, table: Extensions<'static>) -> Held {
-    Held {
+/// Nothing was made yet. Refused for memory alone.
+pub fn none(alloc: Global) -> Result<Held, AllocError> {
+    Ok(Held {
         stores: stores::none(alloc),
         policies: PolicySet::new(alloc),
         found: responses::none(alloc),
@@ -59,12 +58,12 @@ fn nothing(alloc: Global, table: Extensions<'static>) -> Held {
         exprs: Vec::new(alloc),
         values: Vec::new(alloc),
         told: HashMap::new(alloc),
-        table,
-    }
+        table: Extensions::all_available(alloc)?,
+    })
 }
 
 /// The section that knows a verb of stores and of operators.
-fn answer(alloc: Global, section: &str, step: &Step<'_>, held: &mut Held) -> Answer {
+fn stored(alloc: Global, section: &str, step: &Step<'_>, held: &mut Held) -> Answer {
     let (verb, one, other) = (step.verb, step.one.as_str(), step.other.as_str());
     match section {
         "value" => stores::value(alloc, verb, one, other, &mut held.stores),
@@ -131,10 +130,11 @@ fn requested(alloc: Global, section: &str, step: &Step<'_>, held: &mut Held) -> 
 fn answered(alloc: Global, step: &str, held: &mut Held) -> Answer {
     let (section, rest) = cedar_rows::cut(step);
     let step = cedar_rows::read(alloc, rest)?;
-    answer(alloc, section, &step, held)
+    stored(alloc, section, &step, held)
 }
 
-fn last_answer(alloc: Global, line: &str, held: &mut Held) -> Answer {
+/// What the last step of a line answers. Refused for memory alone.
+pub fn answer(alloc: Global, line: &str, held: &mut Held) -> Answer {
     held.exprs.clear();
     held.values.clear();
     held.told.clear();
@@ -143,15 +143,4 @@ fn last_answer(alloc: Global, line: &str, held: &mut Held) -> Answer {
         answer = answered(alloc, step, held)?;
     }
     Ok(answer)
-}
-
-fn main(rt: HostRuntime) -> io::Result<()> {
-    let table = Extensions::all_available(rt.alloc())?;
-    let mut held = nothing(rt.alloc(), table);
-    for line in rt.lines(rt.alloc()) {
-        let line = line?;
-        let answer = last_answer(rt.alloc(), line.as_str(), &mut held)?;
-        println!(rt; "{line} => {answer}")?;
-    }
-    Ok(())
 }
