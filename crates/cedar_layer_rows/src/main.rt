@@ -8,17 +8,22 @@ use std::io;
 
 /// What earlier lines of each layer left.
 struct Held {
+    expressions: cedar_expressions_rows::Held,
     evaluation: cedar_evaluation_rows::Held,
 }
 
 impl Drop for Held {
     fn drop(self) {
-        let Held { evaluation: _ } = self;
+        let Held {
+            expressions: _,
+            evaluation: _,
+        } = self;
     }
 }
 
 fn nothing(alloc: Global) -> Result<Held, AllocError> {
     Ok(Held {
+        expressions: cedar_expressions_rows::none(alloc),
         evaluation: cedar_evaluation_rows::none(alloc)?,
     })
 }
@@ -26,6 +31,7 @@ fn nothing(alloc: Global) -> Result<Held, AllocError> {
 /// What the layer of this name answers.
 fn answered(alloc: Global, layer: &str, line: &str, held: &mut Held) -> Answer {
     match layer {
+        "expressions" => cedar_expressions_rows::answer(alloc, line, &mut held.expressions),
         "evaluation" => cedar_evaluation_rows::answer(alloc, line, &mut held.evaluation),
         _ => no_case(alloc),
     }

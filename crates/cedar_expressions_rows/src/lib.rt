@@ -1,5 +1,5 @@
-//! Answers lines of steps: a step is a section, a verb, and words with a bar between. What a step makes
-//! is kept, or stands on a stack; each line is printed again with the answer of its last step.
+//! What lines of steps of the layer of expressions answer: a step is a section, a verb, and words with a bar
+//! between. What a step makes is kept, or stands on a stack; a line's answer is that of its last step.
 #![tactic(auto)]
 
 mod errors;
@@ -21,10 +21,9 @@ use cedar_value_rows::uids::Uids;
 use cedar_value_rows::values::Stack;
 use cedar_value_rows::{literals, names, raw_names, uids, values};
 use std::alloc::Global;
-use std::io;
 
 /// What earlier steps left. The stacks of the expressions are empty where a line begins.
-struct Held {
+pub struct Held {
     names: Names,
     uids: Uids,
     literals: Literals,
@@ -48,8 +47,8 @@ impl Drop for Held {
     }
 }
 
-/// The section that knows a verb.
-fn answer(alloc: Global, section: &str, step: &Step<'_>, held: &mut Held) -> Answer {
+/// The section that knows a verb of names, uids, literals and ids of policies.
+fn named(alloc: Global, section: &str, step: &Step<'_>, held: &mut Held) -> Answer {
     let (verb, one, other) = (step.verb, step.one.as_str(), step.other.as_str());
     match section {
         "names" => names::read(alloc, verb, one, &mut held.names),
@@ -71,6 +70,7 @@ fn answer(alloc: Global, section: &str, step: &Step<'_>, held: &mut Held) -> Ans
     }
 }
 
+/// That of values.
 fn of_values(alloc: Global, section: &str, step: &Step<'_>, held: &mut Held) -> Answer {
     let (verb, one, other) = (step.verb, step.one.as_str(), step.other.as_str());
     match section {
@@ -84,6 +84,7 @@ fn of_values(alloc: Global, section: &str, step: &Step<'_>, held: &mut Held) -> 
     }
 }
 
+/// That of restricted expressions.
 fn of_restricted(alloc: Global, section: &str, step: &Step<'_>, held: &mut Held) -> Answer {
     let (verb, one, other) = (step.verb, step.one.as_str(), step.other.as_str());
     let stack = &mut held.restricted;
@@ -107,20 +108,11 @@ fn of_restricted(alloc: Global, section: &str, step: &Step<'_>, held: &mut Held)
 fn answered(alloc: Global, step: &str, held: &mut Held) -> Answer {
     let (section, rest) = cedar_rows::cut(step);
     let step = cedar_rows::read(alloc, rest)?;
-    answer(alloc, section, &step, held)
+    named(alloc, section, &step, held)
 }
 
-/// What the last step of a line answers.
-fn last_answer(alloc: Global, line: &str, held: &mut Held) -> Answer {
-    registers::clear(&mut held.expressions);
-    let mut answer = String::new(alloc);
-    for step in line.split("; ") {
-        answer = answered(alloc, step, held)?;
-    }
-    Ok(answer)
-}
-
-fn nothing(alloc: Global) -> Held {
+/// Nothing was made yet.
+pub fn none(alloc: Global) -> Held {
     Held {
         names: names::none(),
         uids: uids::none(),
@@ -132,12 +124,12 @@ fn nothing(alloc: Global) -> Held {
     }
 }
 
-fn main(rt: HostRuntime) -> io::Result<()> {
-    let mut held = nothing(rt.alloc());
-    for line in rt.lines(rt.alloc()) {
-        let line = line?;
-        let answer = last_answer(rt.alloc(), line.as_str(), &mut held)?;
-        println!(rt; "{line} => {answer}")?;
+/// What the last step of a line answers. Refused for memory alone.
+pub fn answer(alloc: Global, line: &str, held: &mut Held) -> Answer {
+    registers::clear(&mut held.expressions);
+    let mut answer = String::new(alloc);
+    for step in line.split("; ") {
+        answer = answered(alloc, step, held)?;
     }
-    Ok(())
+    Ok(answer)
 }
