@@ -1,12 +1,12 @@
 // Annotations of a policy, made by a maker that tells what it is handed.
 use crate::conversion::faults;
-use crate::words::{Answer, no_case};
 use cedar_cst::cst;
 use cedar_cst::node::Node;
 use cedar_loose::parse_policy;
 use cedar_names::identifiers::AnyId;
 use cedar_names::places::Loc;
 use cedar_policy_parts_conversion::{PolicyError, get_ast_annotations, to_kv_pair};
+use cedar_rows::{Answer, no_case};
 use std::alloc::Global;
 use std::collections::BTreeMap;
 use std::rc::RcStr;

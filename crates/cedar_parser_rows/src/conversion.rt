@@ -1,6 +1,5 @@
 // Texts that are read and converted, and printed again; and texts that mean nothing, with their faults.
 use crate::refusing::NoCalls;
-use crate::words::{Answer, tell};
 use cedar_builders::own_builder::ExprBuilder;
 use cedar_conversion::to_expr;
 use cedar_conversion_leaves::{
@@ -18,6 +17,7 @@ use cedar_policy_conversion::{
 use cedar_policy_parts::PolicyID;
 use cedar_policy_parts_conversion::PolicyError;
 use cedar_policy_set::sets::PolicySet;
+use cedar_rows::{Answer, tell};
 use cedar_templates::static_policies::StaticPolicy;
 use cedar_templates::templates::Template;
 use cedar_trees::errors::ExpressionConstructionError;

@@ -1,9 +1,9 @@
 // Kinds of tokens that are expected, and errors of parsers.
-use crate::words::{Answer, cut, said, show, tell};
 use cedar_literals::variables::Var;
 use cedar_loose::{ParseError, ParseErrors, ToCSTError};
 use cedar_names::places::{Loc, Span};
 use cedar_parser::err::{LiteralParseError, RestrictedExpressionParseError};
+use cedar_rows::{Answer, cut, said, tell, text_of};
 use cedar_tokens::{Kinds, POLICY_TOKEN_CONFIG, expected_to_string};
 use cedar_trees::expr::Expr;
 use std::alloc::{AllocError, Global};
@@ -59,7 +59,7 @@ pub(crate) fn placed(alloc: Global, verb: &str, names: &str) -> Answer {
     match verb {
         "token" => told(alloc, ToCSTError::unrecognized_token(place(alloc)?, kinds)),
         "end" => told(alloc, ToCSTError::unrecognized_eof(place(alloc)?, kinds)),
-        "invalid" => show(alloc, invalid(alloc)),
+        "invalid" => text_of(alloc, invalid(alloc)),
         "alike" => alike(alloc, names),
         "no-expression" => literal(alloc, LiteralParseError::from(invalid(alloc)?)),
         "no-body" => body(alloc),

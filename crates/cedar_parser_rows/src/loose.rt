@@ -1,10 +1,10 @@
 // Texts that are read into loose trees and printed again, or refused with a place.
-use crate::words::{Answer, no_case, number, tell};
 use cedar_cst::node::Node;
 use cedar_loose::{
     ParseError, ParseErrors, ToCSTError, parse_expr, parse_ident, parse_name, parse_policies,
     parse_policy, parse_primary, parse_ref,
 };
+use cedar_rows::{Answer, no_case, number, tell};
 use cedar_tokens::POLICY_TOKEN_CONFIG;
 use std::alloc::Global;
 use std::fmt::Display;

@@ -11,12 +11,11 @@ mod nodes;
 mod refusing;
 mod strict;
 mod tokens;
-mod words;
 
 use crate::loose::Told;
 use crate::nodes::Nodes;
-use crate::words::Answer;
 use cedar_conversion_leaves::ExtStyles;
+use cedar_rows::Answer;
 use std::alloc::{AllocError, Global};
 use std::{io, mem};
 
@@ -82,12 +81,12 @@ fn repeat(text: &mut String, count: usize, piece: &str) -> Result<(), AllocError
 }
 
 fn answered(alloc: Global, line: &str, held: &mut Held) -> Answer {
-    let (section, rest) = words::cut(line);
-    let (verb, text) = words::cut(rest);
-    let text = words::plain(alloc, text)?;
+    let (section, rest) = cedar_rows::cut(line);
+    let (verb, text) = cedar_rows::cut(rest);
+    let text = cedar_rows::plain(alloc, text)?;
     if section == "repeat" {
-        repeat(&mut held.text, words::number(verb), text.as_str())?;
-        return words::tell(alloc, held.text.len());
+        repeat(&mut held.text, cedar_rows::number(verb), text.as_str())?;
+        return cedar_rows::tell(alloc, held.text.len());
     }
     held.text.push_str(text.as_str())?;
     let text = mem::replace(&mut held.text, String::new(alloc));

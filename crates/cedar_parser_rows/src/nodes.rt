@@ -1,11 +1,11 @@
 // Calls on nodes of numbers, on errors at places, on slots and on names.
-use crate::words::{Answer, alike, no_case, number, said, show, tell};
 use cedar_cst::cst::{Ident, Name, Slot};
 use cedar_cst::errors::{EmptyNodeError, PlacedError};
 use cedar_cst::node::Node;
 use cedar_literals::slots::SlotId;
 use cedar_literals::variables::Var;
 use cedar_names::places::{Loc, Span};
+use cedar_rows::{Answer, alike, no_case, number, said, tell, text_of};
 use std::alloc::{AllocError, Global};
 use std::rc::RcStr;
 
@@ -252,7 +252,7 @@ fn name(alloc: Global, text: &str) -> Result<Name, AllocError> {
 
 pub(crate) fn named(alloc: Global, verb: &str, text: &str) -> Answer {
     match verb {
-        "shown" => show(alloc, name(alloc, text)),
+        "shown" => text_of(alloc, name(alloc, text)),
         _ => copied(alloc, &name(alloc, text)?),
     }
 }

@@ -1,5 +1,4 @@
 // Texts that are read by the strict grammar, with no function of an extension but `unknown` in bodies.
-use crate::words::Answer;
 use cedar_conversion_leaves::ExtStyles;
 use cedar_data::read_data;
 use cedar_extensions::extensions::Extensions;
@@ -13,6 +12,7 @@ use cedar_parser::strict::{
 };
 use cedar_policy_set::sets::PolicySet;
 use cedar_restricted::restricted::RestrictedExpr;
+use cedar_rows::Answer;
 use std::alloc::{AllocError, Global};
 use std::fmt::Display;
 

@@ -1,5 +1,5 @@
 // Tokens of texts, and what raw strings stand for.
-use crate::words::{Answer, spell, tell};
+use cedar_rows::{Answer, spell, tell};
 use cedar_tokens::{
     Token, TokenError, Tokens, loose_nesting, to_unescaped_string, tokenize, unescape_parts,
 };
