@@ -1,12 +1,13 @@
 #!/usr/bin/env python3
-"""Times loose parsing by a built program of rows, and prints for each text the time and the most memory
+"""Times loose parsing by the built program of rows, and prints for each text the time and the most memory
 that a run takes, and for each nested construct the stack that it takes.
 
-    python3 bench/measure_parser.py --program crates/cedar_parser_rows/out/cedar_parser_rows [--repeat 5]
+    python3 bench/measure_parser.py --program crates/cedar_layer_rows/out/cedar_layer_rows [--repeat 5]
 
-Each run is given one line, which holds the text. The time is that of the fastest of the repeats less that of a
-run that takes the same text and does not read it, in seconds; the memory is the greatest resident set in MiB,
-in which the line and its text stand too. The stack is the smallest limit with which the text is read, in KiB.
+Each run is given one line of the layer of texts, which holds the text. The time is that of the fastest of the
+repeats less that of a run that takes the same text and does not read it, in seconds; the memory is the greatest
+resident set in MiB, in which the line and its text stand too. The stack is the smallest limit with which the
+text is read, in KiB.
 """
 import argparse
 import os
@@ -51,8 +52,8 @@ LEVELS = (55, 255)
 
 
 def rows(step, text):
-    """The lines that have the step take the text, in which a caret and `J` write a line feed."""
-    return ('%s %s\n' % (step, text.replace('\n', '^J'))).encode()
+    """The lines that have the step of this layer take the text, in which a caret and `J` write a line feed."""
+    return ('layer parser\n%s %s\n' % (step, text.replace('\n', '^J'))).encode()
 
 
 def reads(program, text, kibibytes):

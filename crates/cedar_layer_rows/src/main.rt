@@ -9,6 +9,7 @@ use std::io;
 /// What earlier lines of each layer left.
 struct Held {
     expressions: cedar_expressions_rows::Held,
+    parser: cedar_parser_rows::Held,
     evaluation: cedar_evaluation_rows::Held,
 }
 
@@ -16,6 +17,7 @@ impl Drop for Held {
     fn drop(self) {
         let Held {
             expressions: _,
+            parser: _,
             evaluation: _,
         } = self;
     }
@@ -24,6 +26,7 @@ impl Drop for Held {
 fn nothing(alloc: Global) -> Result<Held, AllocError> {
     Ok(Held {
         expressions: cedar_expressions_rows::none(alloc),
+        parser: cedar_parser_rows::none(alloc),
         evaluation: cedar_evaluation_rows::none(alloc)?,
     })
 }
@@ -32,6 +35,7 @@ fn nothing(alloc: Global) -> Result<Held, AllocError> {
 fn answered(alloc: Global, layer: &str, line: &str, held: &mut Held) -> Answer {
     match layer {
         "expressions" => cedar_expressions_rows::answer(alloc, line, &mut held.expressions),
+        "parser" => cedar_parser_rows::answer(alloc, line, &mut held.parser),
         "evaluation" => cedar_evaluation_rows::answer(alloc, line, &mut held.evaluation),
         _ => no_case(alloc),
     }

@@ -1,6 +1,6 @@
-//! Answers cases, one a line: a section, a verb, and a text in which control characters are written with
-//! a caret. What the section `repeat` piles up stands before the next line's text; every line is printed
-//! again with its answer.
+//! What lines of the layer of texts answer: a line is a section, a verb, and a text in which control
+//! characters are written with a caret. What the section `repeat` piles up stands before the next line's
+//! text.
 #![tactic(auto)]
 
 mod annotations;
@@ -15,12 +15,12 @@ mod tokens;
 use crate::loose::Told;
 use crate::nodes::Nodes;
 use cedar_conversion_leaves::ExtStyles;
-use cedar_rows::Answer;
+use cedar_rows::{Answer, cut, number, plain, tell};
 use std::alloc::{AllocError, Global};
-use std::{io, mem};
+use std::mem;
 
 /// What earlier lines left.
-struct Held {
+pub struct Held {
     text: String,
     told: Told,
     nodes: Nodes,
@@ -39,7 +39,7 @@ impl Drop for Held {
 }
 
 /// The section that knows a verb: lines of one section begin with its name.
-fn answer(alloc: Global, section: &str, verb: &str, text: &str, held: &mut Held) -> Answer {
+fn answered(alloc: Global, section: &str, verb: &str, text: &str, held: &mut Held) -> Answer {
     match section {
         "tokens" => tokens::answer(alloc, verb, text),
         "loose" => loose::read(alloc, verb, text, &mut held.told),
@@ -80,20 +80,8 @@ fn repeat(text: &mut String, count: usize, piece: &str) -> Result<(), AllocError
     Ok(())
 }
 
-fn answered(alloc: Global, line: &str, held: &mut Held) -> Answer {
-    let (section, rest) = cedar_rows::cut(line);
-    let (verb, text) = cedar_rows::cut(rest);
-    let text = cedar_rows::plain(alloc, text)?;
-    if section == "repeat" {
-        repeat(&mut held.text, cedar_rows::number(verb), text.as_str())?;
-        return cedar_rows::tell(alloc, held.text.len());
-    }
-    held.text.push_str(text.as_str())?;
-    let text = mem::replace(&mut held.text, String::new(alloc));
-    answer(alloc, section, verb, text.as_str(), held)
-}
-
-fn nothing(alloc: Global) -> Held {
+/// Nothing was made or kept yet.
+pub fn none(alloc: Global) -> Held {
     Held {
         text: String::new(alloc),
         told: None,
@@ -102,12 +90,16 @@ fn nothing(alloc: Global) -> Held {
     }
 }
 
-fn main(rt: HostRuntime) -> io::Result<()> {
-    let mut held = nothing(rt.alloc());
-    for line in rt.lines(rt.alloc()) {
-        let line = line?;
-        let answer = answered(rt.alloc(), line.as_str(), &mut held)?;
-        println!(rt; "{line} => {answer}")?;
+/// What a line answers. Refused for memory alone.
+pub fn answer(alloc: Global, line: &str, held: &mut Held) -> Answer {
+    let (section, rest) = cut(line);
+    let (verb, text) = cut(rest);
+    let text = plain(alloc, text)?;
+    if section == "repeat" {
+        repeat(&mut held.text, number(verb), text.as_str())?;
+        return tell(alloc, held.text.len());
     }
-    Ok(())
+    held.text.push_str(text.as_str())?;
+    let text = mem::replace(&mut held.text, String::new(alloc));
+    answered(alloc, section, verb, text.as_str(), held)
 }
