@@ -1,7 +1,7 @@
 #!/usr/bin/env python3
-"""Times a store that is built and edited by steps of a built program of rows, and prints how time grows.
+"""Times a store that is built and edited by steps of the built program of rows, and prints how time grows.
 
-    python3 bench/measure_store.py --program crates/cedar_store_rows/out/cedar_store_rows [--repeat 5]
+    python3 bench/measure_store.py --program crates/cedar_layer_rows/out/cedar_layer_rows [--repeat 5]
 
 A store of users in groups that nest five deep, each user and group with three parents, is built and then
 edited once. Each case is a run of its own over standard input; the figure is the fastest of the repeats, in
@@ -21,7 +21,7 @@ EDITS = {
 
 def run(program, users, edit):
     """Seconds, and how many entities and ancestors the store has before the edit."""
-    steps = ['nested %d' % users, 'fill of', 'store counted', *edit]
+    steps = ['layer store', 'nested %d' % users, 'fill of', 'store counted', *edit]
     data = ''.join(step + '\n' for step in steps).encode()
     start = time.perf_counter()
     done = subprocess.run([program], input=data, stdout=subprocess.PIPE, check=True)

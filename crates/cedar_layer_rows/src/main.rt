@@ -10,6 +10,7 @@ use std::io;
 struct Held {
     expressions: cedar_expressions_rows::Held,
     parser: cedar_parser_rows::Held,
+    store: cedar_store_rows::Held,
     evaluation: cedar_evaluation_rows::Held,
 }
 
@@ -18,6 +19,7 @@ impl Drop for Held {
         let Held {
             expressions: _,
             parser: _,
+            store: _,
             evaluation: _,
         } = self;
     }
@@ -27,6 +29,7 @@ fn nothing(alloc: Global) -> Result<Held, AllocError> {
     Ok(Held {
         expressions: cedar_expressions_rows::none(alloc),
         parser: cedar_parser_rows::none(alloc),
+        store: cedar_store_rows::none(alloc)?,
         evaluation: cedar_evaluation_rows::none(alloc)?,
     })
 }
@@ -36,6 +39,7 @@ fn answered(alloc: Global, layer: &str, line: &str, held: &mut Held) -> Answer {
     match layer {
         "expressions" => cedar_expressions_rows::answer(alloc, line, &mut held.expressions),
         "parser" => cedar_parser_rows::answer(alloc, line, &mut held.parser),
+        "store" => cedar_store_rows::answer(alloc, line, &mut held.store),
         "evaluation" => cedar_evaluation_rows::answer(alloc, line, &mut held.evaluation),
         _ => no_case(alloc),
     }

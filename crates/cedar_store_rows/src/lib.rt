@@ -1,5 +1,5 @@
-//! Answers cases, one a line: a section, a verb, and words between bars. What a verb makes is kept, or
-//! stands on a stack; every line is printed again with its answer.
+//! What lines of the layer of entities and policies answer: a line is a section, a verb, and words between
+//! bars. What a verb makes is kept, or stands on a stack.
 #![tactic(auto)]
 
 mod entities;
@@ -17,12 +17,11 @@ use cedar_policy_rows::sets::{self, Sets};
 use cedar_policy_rows::templates::{self, Policies};
 use cedar_policy_rows::words::{self, Answer, Case};
 use cedar_store::ast::SlotEnv;
-use std::alloc::Global;
+use std::alloc::{AllocError, Global};
 use std::collections::HashMap;
-use std::io;
 
 /// What earlier lines left.
-struct Held {
+pub struct Held {
     graph: Graph,
     stack: Stack,
     made: Made,
@@ -31,6 +30,7 @@ struct Held {
     bindings: SlotEnv,
     policies: Policies,
     sets: Sets,
+    table: Extensions<'static>,
 }
 
 impl Drop for Held {
@@ -44,12 +44,14 @@ impl Drop for Held {
             bindings: _,
             policies: _,
             sets: _,
+            table: _,
         } = self;
     }
 }
 
-fn nothing(alloc: Global) -> Held {
-    Held {
+/// Nothing was made yet. Refused for memory alone.
+pub fn none(alloc: Global) -> Result<Held, AllocError> {
+    Ok(Held {
         graph: HashMap::new(alloc),
         stack: Vec::new(alloc),
         made: entities::none(alloc),
@@ -58,12 +60,13 @@ fn nothing(alloc: Global) -> Held {
         bindings: SlotEnv::new(),
         policies: templates::none(),
         sets: sets::none(alloc),
-    }
+        table: Extensions::all_available(alloc)?,
+    })
 }
 
 /// The section that knows a verb of graphs, entities and stores.
-fn answer(alloc: Global, case: &Case<'_>, table: &Extensions<'_>, held: &mut Held) -> Answer {
-    let entities = &mut held.made.entities;
+fn answered(alloc: Global, case: &Case<'_>, held: &mut Held) -> Answer {
+    let (entities, table) = (&mut held.made.entities, &held.table);
     match case.section {
         "graph" => graphs::answer(alloc, case, &mut held.graph),
         "expr" => expressions::answer(alloc, case, &mut held.stack),
@@ -77,13 +80,13 @@ fn answer(alloc: Global, case: &Case<'_>, table: &Extensions<'_>, held: &mut Hel
         "fill" => stores::fill(alloc, case.verb, entities, &mut held.stores),
         "stored" => stores::edit(alloc, case, &mut held.stores),
         "store" => stores::ask(alloc, case, table, &mut held.stores),
-        _ => policies(alloc, case, table, held),
+        _ => policies(alloc, case, held),
     }
 }
 
 /// That of scopes, policies and their sets.
-fn policies(alloc: Global, case: &Case<'_>, table: &Extensions<'_>, held: &mut Held) -> Answer {
-    let (scope, made) = (&mut held.scope, &mut held.policies);
+fn policies(alloc: Global, case: &Case<'_>, held: &mut Held) -> Answer {
+    let (scope, made, table) = (&mut held.scope, &mut held.policies, &held.table);
     match case.section {
         "annotation" => scopes::annotate(alloc, case, &mut scope.annotations),
         "principal" => scopes::principal(alloc, case, &mut scope.principal),
@@ -109,16 +112,10 @@ fn policies(alloc: Global, case: &Case<'_>, table: &Extensions<'_>, held: &mut H
     }
 }
 
-fn main(rt: HostRuntime) -> io::Result<()> {
-    let table = Extensions::all_available(rt.alloc())?;
-    let mut held = nothing(rt.alloc());
-    for line in rt.lines(rt.alloc()) {
-        let line = line?;
-        let case = words::read(line.as_str());
-        match answer(rt.alloc(), &case, &table, &mut held) {
-            Ok(answer) => println!(rt; "{line} => {answer}")?,
-            Err(error) => println!(rt; "{line} => {error}")?,
-        }
+/// What a line answers, or why a word of it isn't a name. Refused for memory alone.
+pub fn answer(alloc: Global, line: &str, held: &mut Held) -> Result<String, AllocError> {
+    match answered(alloc, &words::read(line), held) {
+        Ok(answer) => Ok(answer),
+        Err(error) => error.to_string(alloc),
     }
-    Ok(())
 }
