@@ -2,18 +2,22 @@
 //! between. What a step makes is kept, or stands on a stack; a line's answer is that of its last step.
 #![tactic(auto)]
 
+mod contexts;
 mod evaluators;
+mod operators;
 mod policies;
+mod refusing;
+mod requests;
 mod responses;
+mod stores;
 mod telling;
 
+use crate::requests::Requests;
 use crate::responses::Found;
+use crate::stores::Stores;
 use cedar_expressions::Extensions;
 use cedar_expressions::ast::{Expr, Value};
-use cedar_operator_rows::operators;
-use cedar_operator_rows::stores::{self, Stores};
 use cedar_policy_set::sets::PolicySet;
-use cedar_request_rows::requests::{self, Requests};
 use cedar_restricted_rows::{partial_values, substitution};
 use cedar_rows::{Answer, Step, no_case};
 use cedar_tree_rows::trees;

@@ -1,5 +1,6 @@
 // What policies come to for a question, and what the authorizer responds.
 use crate::evaluators::question;
+use crate::requests::word_depth;
 use cedar_entities::store::Entities;
 use cedar_evaluator::authorizer::Authorizer;
 use cedar_evaluator::evaluation::EvaluatePolicy;
@@ -13,7 +14,6 @@ use cedar_parser::strict::parse_policyset_strict;
 use cedar_policies::policies::Policy;
 use cedar_policy_parts::PolicyID;
 use cedar_policy_set::sets::PolicySet;
-use cedar_request_rows::requests::word_depth;
 use cedar_rows::{Answer, explain, no_case, refused_for, said, separate, tell};
 use either::Either;
 use std::alloc::{AllocError, Global};

@@ -1,12 +1,12 @@
 // What the authorizer responds once values are told.
 use crate::evaluators::question;
 use crate::policies::responded;
+use crate::requests::Requests;
 use cedar_entities::store::Entities;
 use cedar_evaluator::authorizer::Authorizer;
 use cedar_expressions::Extensions;
 use cedar_expressions::ast::Value;
 use cedar_policy_set::sets::PolicySet;
-use cedar_request_rows::requests::Requests;
 use cedar_rows::{Answer, refused_for};
 use std::alloc::Global;
 use std::collections::HashMap;

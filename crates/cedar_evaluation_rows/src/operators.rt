@@ -66,7 +66,7 @@ fn of_two(
 
 /// What an operator gives for the value on top, or for the two on top. The whole expression stands at the
 /// bytes 0 to 9.
-pub fn operate(alloc: Global, verb: &str, word: &str, held: &mut Stores) -> Answer {
+pub(crate) fn operate(alloc: Global, verb: &str, word: &str, held: &mut Stores) -> Answer {
     let loc = loc(alloc, "0", "9")?;
     let store = &held.store;
     let Some(last) = held.values.pop() else {

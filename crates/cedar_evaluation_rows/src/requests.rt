@@ -25,7 +25,7 @@ use std::collections::HashMap;
 use std::rc::RcStr;
 
 /// What was made last: entries on a stack, a context, one that was put aside, and a request.
-pub struct Requests {
+pub(crate) struct Requests {
     entries: Vec<EntityUIDEntry>,
     context: Option<Context>,
     aside: Option<Context>,
@@ -45,13 +45,13 @@ impl Drop for Requests {
 
 impl Requests {
     /// The request that was made last, if one was.
-    pub fn request(&self) -> Option<&Request> {
+    pub(crate) fn request(&self) -> Option<&Request> {
         self.request.as_ref()
     }
 }
 
 /// Nothing was made yet.
-pub fn none(alloc: Global) -> Requests {
+pub(crate) fn none(alloc: Global) -> Requests {
     Requests {
         entries: Vec::new(alloc),
         context: None,
@@ -357,13 +357,13 @@ fn parts(alloc: Global, verb: &str, table: &Extensions<'_>, state: &Requests) ->
 }
 
 /// The depth that a word says; 0 where it is no number.
-pub fn word_depth(word: &str) -> u32 {
+pub(crate) fn word_depth(word: &str) -> u32 {
     word.parse::<u32>().unwrap_or(0)
 }
 
 /// What a step on requests answers, where the stack has the expressions that earlier steps made and `told`
 /// the values that they told. Refused for memory alone.
-pub fn answer(
+pub(crate) fn answer(
     alloc: Global,
     verb: &str,
     one: &str,

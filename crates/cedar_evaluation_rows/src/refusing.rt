@@ -7,10 +7,10 @@ use thiserror::Error;
 /// The one error of the schema.
 #[derive(Debug, Drop, Error)]
 #[error("the schema refuses it")]
-pub struct Refused;
+pub(crate) struct Refused;
 
 /// The schema.
-pub struct RefusesAll;
+pub(crate) struct RefusesAll;
 
 impl RequestSchema for RefusesAll {
     ghost use Rattle.std.specs.Result.{IsErr};

@@ -20,13 +20,13 @@ use std::rc::RcStr;
 type Parts = BTreeMap<RcStr, PartialValue>;
 
 /// The values, the parts of the next entity, the entities of the next store, and the store at hand.
-pub struct Stores {
+pub(crate) struct Stores {
     pub(crate) values: Vec<Value>,
     attrs: Parts,
     tags: Parts,
     entities: Vec<Entity>,
     /// The store that was made last.
-    pub store: Entities,
+    pub(crate) store: Entities,
 }
 
 impl Drop for Stores {
@@ -42,7 +42,7 @@ impl Drop for Stores {
 }
 
 /// Nothing was made yet.
-pub fn none(alloc: Global) -> Stores {
+pub(crate) fn none(alloc: Global) -> Stores {
     Stores {
         values: Vec::new(alloc),
         attrs: BTreeMap::new(alloc),
@@ -61,7 +61,13 @@ fn user_value(alloc: Global, id: &str) -> Result<Value, ParseNameError> {
 }
 
 /// Puts on the stack what the verb makes of the words and of the values on top.
-pub fn value(alloc: Global, verb: &str, one: &str, other: &str, held: &mut Stores) -> Answer {
+pub(crate) fn value(
+    alloc: Global,
+    verb: &str,
+    one: &str,
+    other: &str,
+    held: &mut Stores,
+) -> Answer {
     let stack = &mut held.values;
     match verb {
         "user" => push(alloc, stack, user_value(alloc, one)),
@@ -134,7 +140,7 @@ fn stored(alloc: Global, held: &mut Stores) -> Answer {
 }
 
 /// A part of the next entity, that entity with its parents, or the store of those made.
-pub fn hold(alloc: Global, verb: &str, one: &str, other: &str, held: &mut Stores) -> Answer {
+pub(crate) fn hold(alloc: Global, verb: &str, one: &str, other: &str, held: &mut Stores) -> Answer {
     match verb {
         "attr" => {
             let value = held.values.pop();
