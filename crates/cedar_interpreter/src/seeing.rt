@@ -70,7 +70,7 @@ impl<'s> Seen<'s> {
 impl<'s, 'e, 'f> Evaluator<'s, 'e, 'f> {
     /// The entity that stands for a variable, with what the store holds of it; none where what stands there
     /// isn't known. Nothing is looked up.
-    pub fn given(&self, var: Var) -> Option<(&Rc<EntityUID>, Option<&'s Entity>)>
+    pub(crate) fn given(&self, var: Var) -> Option<(&Rc<EntityUID>, Option<&'s Entity>)>
         ensures { IfSome result (λ given. (variable_held self.now (variable_of var) ≡ Evaluated (Plain (tree.Entity given.0.now.value))) × IsSeen self.now.entities.now given.0.now.value (option_copied given.1)) }
     {
         match var {
