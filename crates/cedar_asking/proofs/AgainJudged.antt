@@ -1,5 +1,6 @@
--- The policies of a first response that are taken up again once values are told are just those in force, each as it stands then.
-use Rattle.std.proofs.Common.{◌≡◌, ◌∙◌, ap, sym, subst, ℕ, true, false, IsSome, List, map, Contains}
+-- The policies of a first response that are taken up again once values are told, and those that aren't satisfied whatever is told, are just those in
+-- force, each as it stands then.
+use Rattle.std.proofs.Common.{◌≡◌, ◌∙◌, refl, ap, sym, subst, ℕ, Bool, true, false, inl, inr, IsSome, List, [], ◌∷◌, ◌++◌, map, filter, Contains}
 use Rattle.std.specs.declared.alloc.Global.{Global}
 use Rattle.std.specs.declared.rc.RcStr.{RcStr}
 use Rattle.cedar_grammar.specs.Calls.{calls_only}
@@ -15,9 +16,10 @@ use Rattle.cedar_partial_evaluation.specs.Question.{held_of}
 use Rattle.cedar_partial_evaluation.specs.ReadUnknowns.{calls_unknown}
 use Rattle.cedar_telling.specs.Again.{standing_again, StandsAgain}
 use Rattle.cedar_telling.specs.Plain.{PlainAnswers}
+use Rattle.cedar_world.specs.Answer.{Answer}
 use Rattle.cedar_world.specs.Asking.{Question}
 use Rattle.cedar_world.specs.Setting.{Setting}
-use Rattle.cedar_world.specs.Standing.{IsJudged, Judges, ErrOnce}
+use Rattle.cedar_world.specs.Standing.{IsJudged, Judges, Says, ErrOnce, UnsatisfiedSayNothing}
 use Rattle.cedar_world.specs.World.{World, in_force_at}
 use Rattle.cedar_world.specs.WorldFacts.{AreFactsOf}
 use Rattle.cedar_constraints.specs.Bindings.{binding_of, unbound}
@@ -31,7 +33,7 @@ use Rattle.cedar_policy_set.specs.Texts.{syntax_in}
 use Rattle.cedar_policy_set.specs.Worlds.{FindsAsWorlds}
 use Rattle.cedar_requests.specs.Holding.{RequestParts}
 use Rattle.cedar_substitution.specs.Told.{told_for}
-use Rattle.cedar_evaluator.specs.Evaluations.{bindings_in, condition_in, Kept, IsKept, AreKept}
+use Rattle.cedar_evaluator.specs.Evaluations.{Unsatisfied, bindings_in, condition_in, Kept, IsKept, AreKept}
 use Rattle.cedar_evaluator.specs.Residuals.{residuals_with, is_any}
 use Rattle.cedar_evaluator.specs.declared.partial_response.PartialResponse.{PartialResponse}
 use Rattle.cedar_asking.specs.Keeping.{IsFirstResponse}
@@ -40,13 +42,33 @@ use Rattle.cedar_asking.proofs.Exactness.{clause_stands, clause_calls}
 use Rattle.cedar_asking.proofs.Firsts.{kept_of, of_kept, some_value, same_value, same_kind, effect_as_written, all_among}
 use Rattle.cedar_asking.proofs.InForce.{written_entry, is_bound, is_there, is_in_force, written_by}
 use Rattle.cedar_asking.proofs.Lists.{IsAmong, contained, contains, mapped, unmapped}
+use Rattle.cedar_asking.proofs.Members.{among_left, among_right, among_either, filtered, unfiltered}
 use Rattle.cedar_asking.proofs.Naming.{is_other, no_unknown}
 use Rattle.cedar_asking.proofs.Rejudged.{binds_written, names_nothing, is_named, taken_up, clause_calls_nothing}
 use Rattle.cedar_asking.proofs.Standings.{standing_found, judged, is_settled, stands_as_found, no_slots}
-use Rattle.cedar_asking.proofs.Taken.{clause_of, IsLeftOf, is_left, left_of}
+use Rattle.cedar_asking.proofs.Taken.{clause_of, is_out, out_clause, IsLeftOf, is_left, left_of}
 
 along : (w x y z : Text) → w ≡ x → x ≡ y → y ≡ z → w ≡ z
 along w x y z e f g = e ∙ f ∙ g
+
+-- ---- the policies that aren't satisfied whatever is told
+
+abbrev again_out : Kept → Kept
+again_out k = record { id = k.id; effect = k.effect; found = Unsatisfied }
+
+abbrev pub all_out : List Kept → List Kept
+all_out ks = map again_out (filter (λ (k : Kept). is_out k.found) ks)
+
+-- they change nothing of what is said
+module _ (law : UnsatisfiedSayNothing) (later : List Kept) (answer : Answer) (says : Says (map judged later) answer) where
+  say_besides : (ks : List Kept) → Says (map judged (map again_out ks ++ later)) answer
+  say_besides [] = says
+  say_besides (k ∷ ks) = (law (judged (again_out k)) (map judged (map again_out ks ++ later)) answer refl).1 (say_besides ks)
+
+  pub says_of_all : (ks : List Kept) → Says (map judged (all_out ks ++ later)) answer
+  says_of_all ks = say_besides (filter (λ (k : Kept). is_out k.found) ks)
+
+-- ---- each policy
 
 module _ (law : PlainAnswers) (finds : FindsAsWorlds) (by : Setting) (world : World) (facts : Facts) (are : AreFactsOf by world facts) (q : Question) (first : PartialResponse) (response : IsFirstResponse by world q first)
     (told : List (RcStr Global × Value)) (more : RequestParts) (holds : request_held (record { request = more; told = told_for told }) unbound ≡ held_of facts q no_slots (told_in told))
@@ -95,6 +117,12 @@ module _ (law : PlainAnswers) (finds : FindsAsWorlds) (by : Setting) (world : Wo
       standing = stands_so;
     }
 
+  abbrev ks : List Kept
+  ks = response.responds.kept
+
+  abbrev all_later : List Kept
+  all_later = all_out ks ++ later
+
   again_of : (l : Kept) → IsAmong l later → IsAgain l
   again_of l in_later =
       let (d, in_left, of_later) = kept_of inquiry store table depth (residuals_with is_any first) later each l in_later in
@@ -102,10 +130,38 @@ module _ (law : PlainAnswers) (finds : FindsAsWorlds) (by : Setting) (world : Wo
       let (e, in_set, of) = kept_of (untold response.request) response.store response.table response.depth (policies_of response.policies) response.responds.kept response.responds.each k in_ks in
       kept_again l in_later d of_later k in_ks left e in_set of
 
-  each_judged : LinkConditions → (j : Judged) → IsAmong j (map judged later) → IsJudged world (StandsAgain facts q (told_in told)) j
+  -- what wasn't satisfied is `false`, whatever is told
+  out_stands : (k : Kept) → is_out k.found ≡ true → IsAmong k ks → (e : Text × Entry) → IsAmong e (policies_of response.policies) → IsKept (untold response.request) response.store response.table response.depth e k →
+      standing_found Unsatisfied ≡ standing_of e.1
+  out_stands k out in_ks e in_set of =
+      sym (ap (λ (c : Tree). standing_of_answer (partial_in facts (held_of facts q no_slots (told_in told)) c)) (taken_up law finds by world facts are q first response k in_ks e in_set of ∙ out_clause k.found out))
+
+  again_without : (k : Kept) → IsAmong k ks → is_out k.found ≡ true → IsAgain (again_out k)
+  again_without k in_ks out =
+      let (e, in_set, of) = kept_of (untold response.request) response.store response.table response.depth (policies_of response.policies) ks response.responds.each k in_ks in
+      record {
+        entry = e;
+        in_set = in_set;
+        id = of.id;
+        effect = effect_as_written e.1 ∙ sym of.effect;
+        named = is_named law finds by world facts are q first response k in_ks e in_set of;
+        standing = out_stands k out in_ks e in_set of;
+      }
+
+  each_again : (l : Kept) → IsAmong l all_later → IsAgain l
+  each_again l a =
+      elim (among_either l (all_out ks) later a) [
+        | inr h ↦ again_of l h
+        | inl h ↦
+            let (k, among, is) = unmapped again_out (filter (λ (k : Kept). is_out k.found) ks) l h in
+            let (in_ks, out) = unfiltered (λ (k : Kept). is_out k.found) k ks among in
+            subst IsAgain is (again_without k in_ks out)
+      ]
+
+  each_judged : LinkConditions → (j : Judged) → IsAmong j (map judged all_later) → IsJudged world (StandsAgain facts q (told_in told)) j
   each_judged conditions j a =
-      let (l, in_later, is) = unmapped judged later j a in
-      let x = again_of l in_later in
+      let (l, in_later, is) = unmapped judged all_later j a in
+      let x = each_again l in_later in
       let (at, policy) = is_bound response.policies response.whole x.entry x.in_set in
       subst (IsJudged world (StandsAgain facts q (told_in told))) is (record {
         syntax = written_entry x.entry.1;
@@ -120,17 +176,27 @@ module _ (law : PlainAnswers) (finds : FindsAsWorlds) (by : Setting) (world : Wo
         };
       })
 
-  every_judged : (id : Text) → IsSome (in_force_at world.policies id) → (j : Judged) × Contains (map judged later) j × (j.id ≡ id)
+  abbrev HasJudged : Text → Type 0
+  HasJudged id = (j : Judged) × Contains (map judged all_later) j × (j.id ≡ id)
+
+  has_judged : (id : Text) (k : Kept) → IsAmong k ks → k.id ≡ id → (out : Bool) → is_out k.found ≡ out → HasJudged id
+  has_judged id k in_ks named true out =
+      let there = among_left (again_out k) (all_out ks) later (mapped again_out (filter (λ (k : Kept). is_out k.found) ks) k (filtered (λ (k : Kept). is_out k.found) k ks in_ks out)) in
+      (judged (again_out k), contains (map judged all_later) (judged (again_out k)) (mapped judged all_later (again_out k) there), named)
+  has_judged id k in_ks named false out =
+      let (d, in_left, same) = left_of ks first response.responds.holds k out in_ks in
+      let (l, in_later, again) = of_kept inquiry store table depth (residuals_with is_any first) later each d in_left in
+      (judged l, contains (map judged all_later) (judged l) (mapped judged all_later l (among_right l (all_out ks) later in_later)), along l.id d.0 k.id id again same named)
+
+  every_judged : (id : Text) → IsSome (in_force_at world.policies id) → HasJudged id
   every_judged id some =
       let (s, force) = some_value (in_force_at world.policies id) some in
       let (e, at, is, policy) = written_by response.policies response.whole response.of.slots finds world response.of.policies id s force in
-      let (k, in_ks, named) = of_kept (untold response.request) response.store response.table response.depth (policies_of response.policies) response.responds.kept response.responds.each (id, e) (is_there response.policies response.whole id e at policy) in
-      let (d, in_left, same) = left_of response.responds.kept first response.responds.holds k in_ks in
-      let (l, in_later, again) = of_kept inquiry store table depth (residuals_with is_any first) later each d in_left in
-      (judged l, contains (map judged later) (judged l) (mapped judged later l in_later), along l.id d.0 k.id id again same named)
+      let (k, in_ks, named) = of_kept (untold response.request) response.store response.table response.depth (policies_of response.policies) ks response.responds.each (id, e) (is_there response.policies response.whole id e at policy) in
+      has_judged id k in_ks named (is_out k.found) refl
 
-  pub judges_again : LinkConditions → Judges world (StandsAgain facts q (told_in told)) (map judged later)
-  judges_again conditions = record { each = all_among _ (map judged later) (each_judged conditions); every = every_judged }
+  pub judges_again : LinkConditions → Judges world (StandsAgain facts q (told_in told)) (map judged all_later)
+  judges_again conditions = record { each = all_among _ (map judged all_later) (each_judged conditions); every = every_judged }
 
   -- under one id one policy is kept, and it stands in one way
   pub once_again : ErrOnce (map judged later)

@@ -1,7 +1,6 @@
 -- A response to the request of a question, over the policies and entities of a world, answers the question.
 use Rattle.std.proofs.Common.{◌≡◌, ap, subst, ℕ, List, Ok, Err}
 use Rattle.cedar_language.specs.Uid.{Text}
-use Rattle.cedar_world.specs.Answer.{ids_of}
 use Rattle.cedar_world.specs.Answer as answers
 use Rattle.cedar_world.specs.Asking.{Question}
 use Rattle.cedar_world.specs.Setting.{Setting}
@@ -19,7 +18,7 @@ use Rattle.cedar_replies.specs.declared.error_kind.ErrorKind.{ErrorKind}
 use Rattle.cedar_replies.specs.declared.refusal.Refusal.{Refusal}
 use Rattle.cedar_replies.specs.declared.refusal.Refusal.TheVariants as refusal
 use Rattle.cedar_requests.specs.Holding.{RequestParts}
-use Rattle.cedar_evaluator.specs.Authorizing.{Responds}
+use Rattle.cedar_evaluator.specs.Authorizing.{RespondsWithoutFalse}
 use Rattle.cedar_evaluator.specs.Holding.{holding_in}
 use Rattle.cedar_evaluator.specs.Responses.{Holding, holding_of}
 use Rattle.cedar_evaluator.specs.declared.partial_response.PartialResponse.{PartialResponse}
@@ -30,11 +29,12 @@ use Rattle.cedar_asking.specs.Laws.{StoresHaveWorldFacts, TablesServeWorlds, Wor
 use Rattle.cedar_asking.specs.Requests.{IsRequestOf}
 use Rattle.cedar_asking.specs.Responses.{SaysResponse, IsAnswered, AnswersAsked}
 use Rattle.cedar_asking.specs.TellLaws.{QuestionsAreKept}
+use Rattle.cedar_asking.proofs.WithoutFalse.{says_with_all}
 
 -- the response of an authorizer with this table and this limit
-pub responds_at : (r : RequestParts) (s : Entities) (t table : Extensions) (n depth : ℕ) (es : Entries) (response : PartialResponse) → t ≡ table → n ≡ depth → Responds (untold r) s t n es response → Responds (untold r) s table depth es response
+pub responds_at : (r : RequestParts) (s : Entities) (t table : Extensions) (n depth : ℕ) (es : Entries) (response : PartialResponse) → t ≡ table → n ≡ depth → RespondsWithoutFalse (untold r) s t n es response → RespondsWithoutFalse (untold r) s table depth es response
 responds_at r s t table n depth es response e f h =
-    subst (λ (m : ℕ). Responds (untold r) s table m es response) f (subst (λ (u : Extensions). Responds (untold r) s u n es response) e h)
+    subst (λ (m : ℕ). RespondsWithoutFalse (untold r) s table m es response) f (subst (λ (u : Extensions). RespondsWithoutFalse (untold r) s u n es response) e h)
 
 -- a response of which some error isn't listed says nothing: it met the limit, or memory ran out
 pub unlisted : (response : PartialResponse) (errors : List (Text × Failure)) → errors ≡ (holding_in response).errors → (refused : Refusal) → ListsErrors errors (Err refused) → SaysResponse response (Err refused)
@@ -44,7 +44,7 @@ unlisted response errors is refused h = absurd h
 
 module _ (exist : WorldsHaveFacts) (stores : StoresHaveWorldFacts) (tables : TablesServeWorlds) (made : WorldsAreMade) (answer : ResponsesAnswerQuestions) (keep : QuestionsAreKept)
     (by : Setting) (world : World) (q : Question) (es : Entries) (s : Entities) (table : Extensions) (depth : ℕ) (r : RequestParts)
-    (whole : IsWhole es) (are : AreOf by world es s table depth) (asked : IsRequestOf by table q r) (named : IsNamed q.context) (response : PartialResponse) (responds : Responds (untold r) s table depth es response) where
+    (whole : IsWhole es) (are : AreOf by world es s table depth) (asked : IsRequestOf by table q r) (named : IsNamed q.context) (response : PartialResponse) (responds : RespondsWithoutFalse (untold r) s table depth es response) where
   are_facts : AreFactsOf by world (facts_of by world)
   are_facts = exist.exist by world
 
@@ -66,7 +66,7 @@ module _ (exist : WorldsHaveFacts) (stores : StoresHaveWorldFacts) (tables : Tab
   answered = answer by world (facts_of by world) es s table depth q r responds.kept held_by_world asked responds.each
 
   says_kept : (listed : List (Text × ErrorKind)) (a : answers.Answer) → SaysHeld (holding_in response) listed a → SaysHeld (holding_of responds.kept) listed a
-  says_kept listed a says = subst (λ (h : Holding). SaysHeld h listed a) responds.holds says
+  says_kept listed a says = says_with_all (holding_of responds.kept) listed a (subst (λ (h : Holding). SaysHeld h listed a) responds.holds says)
 
   -- what the response says is a first answer, by which the question is kept
   pub is_answered : (a : Answer) → SaysResponse response (Ok a) → IsAnswered by world q response (answer_of a)

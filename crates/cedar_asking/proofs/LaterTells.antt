@@ -1,5 +1,5 @@
 -- A first response taken up again once values are told answers its question, and only its context may be why it isn't.
-use Rattle.std.proofs.Common.{◌≡◌, ◌∙◌, refl, ap, sym, subst, true, false, Option, Some, None, option_map, List, map, ℕ, Err}
+use Rattle.std.proofs.Common.{◌≡◌, ◌∙◌, refl, ap, sym, subst, true, false, Option, Some, None, option_map, List, ◌++◌, map, ℕ, Err}
 use Rattle.std.specs.FinMap as finite
 use Rattle.std.specs.declared.alloc.Global.{Global}
 use Rattle.std.specs.declared.rc.RcStr.{RcStr}
@@ -27,7 +27,7 @@ use Rattle.cedar_world.specs.Asking.{Entries as Written, NoContext, WithEntries,
 use Rattle.cedar_world.specs.Bodies.{some_name_of, is_one_of, hold_call}
 use Rattle.cedar_world.specs.First.{IsData}
 use Rattle.cedar_world.specs.Setting.{Setting, functions_alone}
-use Rattle.cedar_world.specs.Standing.{Says, AnswersAreMade}
+use Rattle.cedar_world.specs.Standing.{Says, AnswersAreMade, UnsatisfiedSayNothing}
 use Rattle.cedar_world.specs.Values.{variable_names, context_errs}
 use Rattle.cedar_world.specs.World.{World}
 use Rattle.cedar_world.specs.WorldFacts.{AreFactsOf, facts_of, WorldsHaveFacts}
@@ -64,7 +64,7 @@ use Rattle.cedar_asking.specs.TellLaws.{IsAnsweredLater, IsContextFailure, IsWhy
 use Rattle.cedar_asking.specs.Tells.{told_in}
 use Rattle.cedar_requests.specs.ToldContexts.{ToldContextsAreEvaluated}
 use Rattle.cedar_asking.proofs.Accepting.{accepts_told}
-use Rattle.cedar_asking.proofs.AgainJudged.{judges_again, once_again}
+use Rattle.cedar_asking.proofs.AgainJudged.{all_out, says_of_all, judges_again, once_again}
 use Rattle.cedar_asking.proofs.ContextsTold.{holds_told, context_fails, no_unknown_asked, nothing_held}
 use Rattle.cedar_asking.proofs.Errors.{errors_listed, settled_listed}
 use Rattle.cedar_asking.proofs.Facts.{store_has_facts, table_is_served, built_is_made}
@@ -89,6 +89,7 @@ pub record Rests : Type 0 where
 pub record AnswersRest : Type 0 where
   pub conditions : LinkConditions
   pub made : AnswersAreMade
+  pub nothing : UnsatisfiedSayNothing
   pub prompt : IsPrompt
   pub again : AgainIsSound
   pub later : LaterAnswersStand
@@ -178,12 +179,19 @@ module _ (c : Rests) (by : Setting) (world : World) (q : Question) (first : Part
           (says.may ∙ ap (λ (h : Holding). ids_of (ids_with (in_may (judged_held h)) (judged_held h))) r.holds)
           (says.erring ∙ ap finite.from_entries (errors_listed listed r.kept errors))
 
+      -- and of the policies besides that weren't satisfied when the question was asked
+      abbrev all_later : List Kept
+      all_later = all_out response.responds.kept ++ r.kept
+
+      says_all : Says (map judged all_later) new
+      says_all = says_of_all d.nothing r.kept new says_again response.responds.kept
+
       pub is_answered : (old : List (RcStr Global × Value)) (last answer : Answer) → KeepsQuestion by world q first old last → Extends (told_in old) (told_in told) → IsJoined last new answer → IsAnsweredLater by world q first old told last answer
       is_answered old last answer keeps extends joined =
-          let stands = d.later by world facts (record { question = q; told = told_in old; last = last }) (told_in told) (map judged r.kept) new answer are_facts extends (made_told facts) accepted keeps.steady
+          let stands = d.later by world facts (record { question = q; told = told_in old; last = last }) (told_in told) (map judged all_later) new answer are_facts extends (made_told facts) accepted keeps.steady
           (d.again by world facts q (told_in told) are_facts good (first_names c.plain c.finds by world facts are_facts q first response d.conditions) asked.is_data (asked.accepted facts served_first) (made_told facts) accepted)
           (judges_again c.plain c.finds by world facts are_facts q first response told r.request held s table depth (store_has_facts by world facts s are_facts now.shows now.closed now.whole) served r.kept r.each settled d.conditions)
-          says_again joined in
+          says_all joined in
           record { later = stands.later; keeps = record { response = response; are_told = are; steady = stands.steady }; fine = fine }
 
   -- ---- why nothing is answered

@@ -13,6 +13,7 @@ pub mod Filled
 pub mod Asked
 pub mod Asking
 pub mod Listed
+pub mod WithoutFalse
 pub mod Answered
 pub mod AnsweredTold
 pub mod Named

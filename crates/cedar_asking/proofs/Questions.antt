@@ -2,13 +2,10 @@
 use Rattle.std.proofs.Common.{◌≡◌, ◌∙◌, ap, sym, subst, true, Option, Some, None, [], map, Contains}
 use Rattle.std.specs.FinMap as finite
 use Rattle.cedar_grammar.specs.Laws.{LinkConditions}
-use Rattle.cedar_language.specs.Answering.{decision, in_must, in_may}
 use Rattle.cedar_language.specs.Facts.{Facts}
 use Rattle.cedar_partial_evaluation.specs.LinkingEarly.{LinkingIsWritingEarly}
 use Rattle.cedar_telling.specs.Again.{EarlyStaysSound}
 use Rattle.cedar_telling.specs.Joined.{FirstAnswersAreSteady}
-use Rattle.cedar_world.specs.Answer.{ids_of}
-use Rattle.cedar_world.specs.Answers.{ids_with}
 use Rattle.cedar_world.specs.Asking.{Question}
 use Rattle.cedar_world.specs.Standing.{AnswersAreMade}
 use Rattle.cedar_world.specs.WorldFacts.{AreFactsOf, facts_of, WorldsHaveFacts}
@@ -17,15 +14,17 @@ use Rattle.cedar_interpreter.specs.Operating.{HasFunctions}
 use Rattle.cedar_operators.specs.Store.{HasFacts}
 use Rattle.cedar_policy_set.specs.Worlds.{FindsAsWorlds}
 use Rattle.cedar_evaluator.specs.Evaluations.{Kept, Erred}
-use Rattle.cedar_evaluator.specs.Responses.{Holding, errors_of, judged_held}
+use Rattle.cedar_evaluator.specs.Responses.{Holding, errors_of, holding_of}
 use Rattle.cedar_asking.specs.Erring.{with_failure}
 use Rattle.cedar_asking.specs.Keeping.{AreTold}
+use Rattle.cedar_asking.specs.Laws.{SaysHeld}
 use Rattle.cedar_asking.specs.TellLaws.{QuestionsAreKept}
 use Rattle.cedar_asking.proofs.Errors.{errors_listed, settled_listed, limit_kept}
 use Rattle.cedar_asking.proofs.Facts.{store_has_facts, table_is_served, facts_are_made}
 use Rattle.cedar_asking.proofs.Firsts.{names_none, judges, once}
 use Rattle.cedar_asking.proofs.Sayings.{says_rules}
 use Rattle.cedar_asking.proofs.Standings.{judged, is_settled}
+use Rattle.cedar_asking.proofs.WithoutFalse.{says_with_all}
 
 none_is_told : {A : Type 0} (x : A) → ◌≡◌ {A = Option A} None (Some x) → ⊥
 none_is_told x e = cc
@@ -48,16 +47,13 @@ module _ (exist : WorldsHaveFacts) (early : LinkingIsWritingEarly) (conditions :
       let has : HasFacts s facts = store_has_facts by world facts s are_facts are.shows are.closed are.whole in
       let served : HasFunctions table facts = table_is_served by world facts table are_facts are.setting.functions in
       let good = facts_are_made by world facts table served are.built are_facts in
-      let errors : map with_failure listed ≡ errors_of responds.kept = says.errors ∙ ap (λ (h : Holding). h.errors) responds.holds in
+      let kept_says : SaysHeld (holding_of responds.kept) listed answer = says_with_all (holding_of responds.kept) listed answer (subst (λ (h : Holding). SaysHeld h listed answer) responds.holds says) in
+      let errors : map with_failure listed ≡ errors_of responds.kept = kept_says.errors in
       let settled = settled_listed listed responds.kept says.kinds errors in
       let names = names_none r s table depth early conditions es whole are.slots are.names finds responds.kept responds.each by world are.policies facts has served q asked in
       let judged_first = judges r s table depth early conditions es whole are.slots are.names finds responds.kept responds.each by world are.policies facts has served q asked settled in
       let once_first = once r s table depth early conditions es whole are.slots are.names finds responds.kept responds.each by world are.policies facts has served q asked settled in
-      let says_first = says_rules responds.kept made once_first answer
-      (says.decided ∙ ap (λ (h : Holding). decision (judged_held h)) responds.holds)
-      (says.must ∙ ap (λ (h : Holding). ids_of (ids_with (in_must (judged_held h)) (judged_held h))) responds.holds)
-      (says.may ∙ ap (λ (h : Holding). ids_of (ids_with (in_may (judged_held h)) (judged_held h))) responds.holds)
-      (says.erring ∙ ap finite.from_entries (errors_listed listed responds.kept errors)) in
+      let says_first = says_rules responds.kept made once_first answer kept_says.decided kept_says.must kept_says.may (says.erring ∙ ap finite.from_entries (errors_listed listed responds.kept errors)) in
       record {
         response = record {
           policies = es;

@@ -1,5 +1,5 @@
 -- What is left of the policies of a response, by what was found of each.
-use Rattle.std.proofs.Common.{◌≡◌, true, false, inl, inr, Some, List, ◌++◌, map, refl, sym, ◌∙◌, ap, subst}
+use Rattle.std.proofs.Common.{◌≡◌, Bool, true, false, inl, inr, List, [], ◌∷◌, ◌++◌, map, refl, sym, ap, subst}
 use Rattle.std.specs.Map.{keys_of}
 use Rattle.std.specs.declared.alloc.Global.{Global}
 use Rattle.std.specs.declared.rc.Rc.{Rc}
@@ -14,12 +14,12 @@ use Rattle.cedar_evaluator.specs.Evaluations.{Found, Satisfied, Unsatisfied, Err
 use Rattle.cedar_evaluator.specs.Given.{Noted}
 use Rattle.cedar_evaluator.specs.Holding.{holding_in, has_erred}
 use Rattle.cedar_evaluator.specs.Residuals.{clause_policy, judged_satisfied, judged_false, judged_open, judged_residuals, residuals_with, is_any}
-use Rattle.cedar_evaluator.specs.Responses.{Holding, if_effect, satisfied_id, false_id, open_id, satisfied_of, false_of, open_of, holding_of}
+use Rattle.cedar_evaluator.specs.Responses.{Holding, if_effect, satisfied_id, open_id, satisfied_of, open_of, holding_of, without_false}
 use Rattle.cedar_evaluator.specs.declared.partial_response.ErrorState.{ErrorState}
 use Rattle.cedar_evaluator.specs.declared.partial_response.PartialResponse.{PartialResponse}
 use Rattle.cedar_asking.proofs.Lists.{IsAmong, mapped, unmapped}
-use Rattle.cedar_asking.proofs.Members.{among_left, among_right, among_either, filtered, unfiltered, gathered, ungathered}
-use Rattle.cedar_asking.proofs.Sayings.{itself, of_effect, is_satisfied_id, is_open_id, satisfied_there, open_there}
+use Rattle.cedar_asking.proofs.Members.{among_left, among_right, among_either, filtered, unfiltered, ungathered}
+use Rattle.cedar_asking.proofs.Sayings.{of_effect, is_satisfied_id, is_open_id, satisfied_there, open_there}
 
 -- what was satisfied is taken up as `true`, what was open as what was left, and anything else as `false`
 abbrev pub clause_of : Found → Tree
@@ -28,17 +28,23 @@ clause_of Unsatisfied = Lit (Boolean false)
 clause_of (Erred f) = Lit (Boolean false)
 clause_of (Open r) = r
 
+-- it isn't satisfied, whatever is told, and isn't taken up
+abbrev pub is_out : Found → Bool
+is_out Unsatisfied = true
+is_out (Erred f) = true
+is_out f = false
+
+pub out_clause : (f : Found) → is_out f ≡ true → clause_of f ≡ Lit (Boolean false)
+out_clause Satisfied out = cc
+out_clause Unsatisfied out = refl
+out_clause (Erred f) out = refl
+out_clause (Open t) out = cc
+
 -- so this policy is taken up
 pub record IsLeftOf (k : Kept) (e : Text × Entry) : Type 0 where
   pub id : e.0 ≡ k.id
   pub annotations : List (Keyed Text)
   pub policy : e.1 ≡ static_policy (clause_policy k.effect (clause_of k.found) annotations)
-
-is_false_id : (id : Text) (x : Text × _) (f : Found) → false_id id f ≡ Some x → (clause_of f ≡ Lit (Boolean false)) × (id ≡ x.0)
-is_false_id id x Satisfied h = cc
-is_false_id id x Unsatisfied h = let same : (id, false) ≡ x = cc in (refl, ap (λ (y : Text × _). y.0) same)
-is_false_id id x (Erred e) h = let same : (id, true) ≡ x = cc in (refl, ap (λ (y : Text × _). y.0) same)
-is_false_id id x (Open t) h = cc
 
 abbrev Open_at : Type 0
 Open_at = Rc (Expr (Unit {0})) Global × Noted
@@ -62,14 +68,9 @@ module _ (ks : List Kept) where
       let (found, named) = is_satisfied_id k.id x.0 k.found found_id in
       subst (λ (p : Judged × (Text × Entry)). IsLeft p.1) is (left_by k effect (Lit (Boolean true)) x.1.value x.0 in_ks same (ap clause_of found) named)
 
-  false_left : (effect : Effect) (es : List (Text × False_at)) → map (λ e. (e.0, has_erred e.1.0)) es ≡ false_of effect ks → (p : Judged × (Text × Entry)) → IsAmong p (map (judged_false effect) es) → IsLeft p.1
-  false_left effect es keys p a =
-      let (x, among, is) = unmapped (judged_false effect) es p a in
-      let (k, in_ks, by) = ungathered (λ (k : Kept). if_effect effect k.effect (false_id k.id k.found)) (x.0, has_erred x.1.0) ks
-      (subst (IsAmong (x.0, has_erred x.1.0)) keys (mapped (λ (e : Text × False_at). (e.0, has_erred e.1.0)) es x among)) in
-      let (same, found_id) = of_effect effect k.effect (false_id k.id k.found) (x.0, has_erred x.1.0) by in
-      let (found, named) = is_false_id k.id (x.0, has_erred x.1.0) k.found found_id in
-      subst (λ (p : Judged × (Text × Entry)). IsLeft p.1) is (left_by k effect (Lit (Boolean false)) x.1.1.value x.0 in_ks same found named)
+  false_left : (effect : Effect) (es : List (Text × False_at)) → map {B = Text × Bool} (λ e. (e.0, has_erred e.1.0)) es ≡ [] → (p : Judged × (Text × Entry)) → IsAmong p (map (judged_false effect) es) → IsLeft p.1
+  false_left effect [] none p a = absurd a
+  false_left effect (e ∷ es) none p a = absurd (cc none)
 
   open_left : (effect : Effect) (es : List (Text × Open_at)) → map (λ e. (e.0, bare e.1.0.value)) es ≡ open_of effect ks → (p : Judged × (Text × Entry)) → IsAmong p (map (judged_open effect) es) → IsLeft p.1
   open_left effect es keys p a =
@@ -80,7 +81,7 @@ module _ (ks : List Kept) where
       let (found, named) = is_open_id k.id (x.0, bare x.1.0.value) k.found found_id in
       subst (λ (p : Judged × (Text × Entry)). IsLeft p.1) is (left_by k effect (bare x.1.0.value) x.1.1.value x.0 in_ks same (ap clause_of found) named)
 
-  module _ (first : PartialResponse) (holds : holding_in first ≡ holding_of ks) where
+  module _ (first : PartialResponse) (holds : holding_in first ≡ without_false (holding_of ks)) where
     abbrev sp : List (Judged × (Text × Entry))
     sp = map (judged_satisfied Permit) first.satisfied_permits.entries
 
@@ -137,7 +138,7 @@ module _ (ks : List Kept) where
         let (there, any) = unfiltered (λ (p : Judged × (Text × Entry)). is_any p.0) p (judged_residuals first) among in
         subst IsLeft is (left_in p there)
 
-    -- ---- and something is left of each
+    -- ---- and something is left of each that may be satisfied
 
     abbrev HasLeft : Text → List (Judged × (Text × Entry)) → Type 0
     HasLeft id ps = (p : Judged × (Text × Entry)) × IsAmong p ps × (p.1.0 ≡ id)
@@ -152,12 +153,6 @@ module _ (ks : List Kept) where
         let (x, among, is) = unmapped (λ (e : Text × Open_at). (e.0, bare e.1.0.value)) es (k.id, t) (subst (IsAmong (k.id, t)) (sym keys) (open_there ks effect k t a same found)) in
         (judged_open effect x, mapped (judged_open effect) es x among, ap (λ (y : Text × Tree). y.0) is)
 
-    has_false : (effect : Effect) (es : List (Text × False_at)) → map (λ e. (e.0, has_erred e.1.0)) es ≡ false_of effect ks → (k : Kept) (erred : _) → IsAmong k ks → k.effect ≡ effect → false_id k.id k.found ≡ Some (k.id, erred) → HasLeft k.id (map (judged_false effect) es)
-    has_false effect es keys k erred a same found =
-        let there = gathered (λ (k : Kept). if_effect effect k.effect (false_id k.id k.found)) k (k.id, erred) ks a ((λ i. if_effect effect (same i) (found i)) ∙ itself effect (Some (k.id, erred))) in
-        let (x, among, is) = unmapped (λ (e : Text × False_at). (e.0, has_erred e.1.0)) es (k.id, erred) (subst (IsAmong (k.id, erred)) (sym keys) there) in
-        (judged_false effect x, mapped (judged_false effect) es x among, ap (λ (y : Text × _). y.0) is)
-
     in_left : (id : Text) (xs ys : List (Judged × (Text × Entry))) → HasLeft id xs → HasLeft id (xs ++ ys)
     in_left id xs ys (p, a, is) = (p, among_left p xs ys a, is)
 
@@ -167,24 +162,18 @@ module _ (ks : List Kept) where
     permit_left : (k : Kept) → HasLeft k.id three → HasLeft k.id (judged_residuals first)
     permit_left k h = in_left k.id five of (in_left k.id four ff (in_left k.id three sf h))
 
-    has_left : (k : Kept) (effect : Effect) (found : Found) → IsAmong k ks → k.effect ≡ effect → k.found ≡ found → HasLeft k.id (judged_residuals first)
-    has_left k Permit Satisfied a same is =
+    has_left : (k : Kept) (effect : Effect) (found : Found) → is_out found ≡ false → IsAmong k ks → k.effect ≡ effect → k.found ≡ found → HasLeft k.id (judged_residuals first)
+    has_left k e Unsatisfied out a same is = cc
+    has_left k e (Erred f) out a same is = cc
+    has_left k Permit Satisfied out a same is =
         permit_left k (in_left k.id two op (in_left k.id sp fp (has_satisfied Permit first.satisfied_permits.entries (ap (λ (x : Holding). x.satisfied_permits) holds) k a same is)))
-    has_left k Permit Unsatisfied a same is =
-        permit_left k (in_left k.id two op (in_right k.id sp fp (has_false Permit first.false_permits.entries (ap (λ (x : Holding). x.false_permits) holds) k false a same (ap (false_id k.id) is))))
-    has_left k Permit (Erred f) a same is =
-        permit_left k (in_left k.id two op (in_right k.id sp fp (has_false Permit first.false_permits.entries (ap (λ (x : Holding). x.false_permits) holds) k true a same (ap (false_id k.id) is))))
-    has_left k Permit (Open t) a same is = permit_left k (in_right k.id two op (has_open Permit first.residual_permits.entries (ap (λ (x : Holding). x.open_permits) holds) k t a same is))
-    has_left k Forbid Satisfied a same is =
+    has_left k Permit (Open t) out a same is = permit_left k (in_right k.id two op (has_open Permit first.residual_permits.entries (ap (λ (x : Holding). x.open_permits) holds) k t a same is))
+    has_left k Forbid Satisfied out a same is =
         in_left k.id five of (in_left k.id four ff (in_right k.id three sf (has_satisfied Forbid first.satisfied_forbids.entries (ap (λ (x : Holding). x.satisfied_forbids) holds) k a same is)))
-    has_left k Forbid Unsatisfied a same is =
-        in_left k.id five of (in_right k.id four ff (has_false Forbid first.false_forbids.entries (ap (λ (x : Holding). x.false_forbids) holds) k false a same (ap (false_id k.id) is)))
-    has_left k Forbid (Erred f) a same is =
-        in_left k.id five of (in_right k.id four ff (has_false Forbid first.false_forbids.entries (ap (λ (x : Holding). x.false_forbids) holds) k true a same (ap (false_id k.id) is)))
-    has_left k Forbid (Open t) a same is = in_right k.id five of (has_open Forbid first.residual_forbids.entries (ap (λ (x : Holding). x.open_forbids) holds) k t a same is)
+    has_left k Forbid (Open t) out a same is = in_right k.id five of (has_open Forbid first.residual_forbids.entries (ap (λ (x : Holding). x.open_forbids) holds) k t a same is)
 
-    -- something is left of each policy that was kept
-    pub left_of : (k : Kept) → IsAmong k ks → (e : Text × Entry) × IsAmong e (residuals_with is_any first) × (e.0 ≡ k.id)
-    left_of k a =
-        let (p, among, is) = has_left k k.effect k.found a refl refl in
+    -- something is left of each policy that was kept and is satisfied or open
+    pub left_of : (k : Kept) → is_out k.found ≡ false → IsAmong k ks → (e : Text × Entry) × IsAmong e (residuals_with is_any first) × (e.0 ≡ k.id)
+    left_of k out a =
+        let (p, among, is) = has_left k k.effect k.found out a refl refl in
         (p.1, mapped (λ (p : Judged × (Text × Entry)). p.1) _ p (filtered (λ (p : Judged × (Text × Entry)). is_any p.0) p (judged_residuals first) among refl), is)

@@ -20,7 +20,7 @@ use Rattle.cedar_policy_set.specs.Entries.{Entries, IsWhole}
 use Rattle.cedar_requests.specs.Holding.{RequestParts}
 use Rattle.cedar_substitution.specs.Told.{told_for}
 use Rattle.cedar_bodies.specs.Built.{IsBuilt}
-use Rattle.cedar_evaluator.specs.Authorizing.{Responds}
+use Rattle.cedar_evaluator.specs.Authorizing.{RespondsWithoutFalse}
 use Rattle.cedar_evaluator.specs.Holding.{holding_in}
 use Rattle.cedar_evaluator.specs.declared.partial_response.PartialResponse.{PartialResponse}
 use Rattle.cedar_asking.specs.Answering.{AreOf}
@@ -38,7 +38,7 @@ pub record IsNamed (context : Written) : Type 0 where
   pub well : holds_bad_unknown context ≡ false
   pub untyped : StatesNoTypes context
 
--- the response to a request of the question, by the policies and entities of the world, for which no limit was met
+-- the response to a request of the question, by the policies and entities of the world, without those that aren't satisfied; no limit was met
 pub record IsFirstResponse (by : Setting) (world : World) (q : Question) (first : PartialResponse) : Type 0 where
   pub policies : Entries
   pub store : Entities
@@ -49,7 +49,7 @@ pub record IsFirstResponse (by : Setting) (world : World) (q : Question) (first 
   pub of : AreOf by world policies store table depth
   pub is_request : IsRequestOf by table q request
   pub named : IsNamed q.context
-  pub responds : Responds (untold request) store table depth policies first
+  pub responds : RespondsWithoutFalse (untold request) store table depth policies first
   pub within : SomeAtLimit (holding_in first).errors → ⊥
 
 -- the values told are for unknowns of the question and of their kinds, and no extension value stands in them

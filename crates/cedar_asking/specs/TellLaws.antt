@@ -20,7 +20,7 @@ use Rattle.cedar_interpreter.specs.Asking.{untold}
 use Rattle.cedar_policy_set.specs.Entries.{Entries, IsWhole}
 use Rattle.cedar_replies.specs.declared.error_kind.ErrorKind.{ErrorKind}
 use Rattle.cedar_requests.specs.Holding.{RequestParts}
-use Rattle.cedar_evaluator.specs.Authorizing.{Responds}
+use Rattle.cedar_evaluator.specs.Authorizing.{RespondsWithoutFalse}
 use Rattle.cedar_evaluator.specs.Holding.{holding_in}
 use Rattle.cedar_evaluator.specs.Reauthorizing.{Reauthorizes}
 use Rattle.cedar_evaluator.specs.declared.errors.ConcretizationError.TheVariants as concretization
@@ -44,7 +44,7 @@ MoreIsTold =
 abbrev pub QuestionsAreKept : Type 0
 QuestionsAreKept =
     (by : Setting) (world : World) (q : Question) (es : Entries) (s : Entities) (table : Extensions) (depth : ℕ) (r : RequestParts) (first : PartialResponse) (listed : List (Text × ErrorKind)) (answer : Answer)
-    → IsWhole es → AreOf by world es s table depth → IsRequestOf by table q r → IsNamed q.context → Responds (untold r) s table depth es first → SaysHeld (holding_in first) listed answer
+    → IsWhole es → AreOf by world es s table depth → IsRequestOf by table q r → IsNamed q.context → RespondsWithoutFalse (untold r) s table depth es first → SaysHeld (holding_in first) listed answer
     → KeepsQuestion by world q first [] answer
 
 module _ (by : Setting) (world : World) (q : Question) (first : PartialResponse) (old told : List (RcStr Global × Value)) (last answer : Answer) where

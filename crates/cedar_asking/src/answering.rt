@@ -91,7 +91,7 @@ pub fn answer(
     questions_are_kept();
     let _count = policies.len();
     let authorizer = Authorizer::new(extensions, depth);
-    let response = authorizer.is_authorized_core(alloc, request, policies, entities)?;
+    let response = authorizer.is_authorized_without_false(alloc, request, policies, entities)?;
     let answer = answer_by(alloc, &response)?;
     Ok((response, answer))
 }

@@ -76,6 +76,7 @@ pub fn tells_are_answered()
     cedar_partial_evaluation::contexts_stay();
     cedar_world::worlds_have_facts();
     cedar_world::answers_are_made();
+    cedar_world::unsatisfied_say_nothing();
     cedar_policy_set::worlds::policy_sets_are_worlds();
     cedar_requests::laws::told_contexts_are_evaluated();
     cedar_telling::plain_answers();

@@ -18,6 +18,7 @@ returns c by world q first again old told es s table depth listed last new answe
     (record {
       conditions = c.linking_binds_the_condition.ensures;
       made = c.answers_are_made.ensures;
+      nothing = c.unsatisfied_say_nothing.ensures;
       prompt = c.answers_are_prompt.ensures;
       again = c.again_is_sound.ensures;
       later = c.later_answers_stand.ensures;
