@@ -14,6 +14,7 @@ use cedar_parser::strict::parse_policyset_strict;
 use cedar_policies::policies::Policy;
 use cedar_policy_parts::PolicyID;
 use cedar_policy_set::sets::PolicySet;
+use cedar_requests::Request;
 use cedar_rows::{Answer, explain, no_case, refused_for, said, separate, tell};
 use either::Either;
 use std::alloc::{AllocError, Global};
@@ -153,6 +154,26 @@ pub(crate) fn read_response(alloc: Global, reader: &str, response: &PartialRespo
     }
 }
 
+/// What the authorizer responds; without the policies that aren't satisfied, also what is left of the others.
+fn respond(
+    alloc: Global,
+    verb: &str,
+    authorizer: &Authorizer<'_, '_>,
+    request: Request,
+    set: &PolicySet,
+    entities: &Entities,
+) -> Answer {
+    if verb == "respond" {
+        let response = authorizer.is_authorized_core(alloc, request, set, entities)?;
+        return responded(alloc, &response);
+    }
+    let response = authorizer.is_authorized_without_false(alloc, request, set, entities)?;
+    let mut text = responded(alloc, &response)?;
+    text.push_str(", left ")?;
+    text.push_str(read_response(alloc, "all", &response)?.as_str())?;
+    Ok(text)
+}
+
 /// What a step on policies answers, within the depth that a word gives, the variable of this name missing.
 pub(crate) fn answer(
     alloc: Global,
@@ -165,13 +186,10 @@ pub(crate) fn answer(
 ) -> Answer {
     match verb {
         "read" | "read-open" => read(alloc, verb, one, table, set),
-        "respond" => {
+        "respond" | "respond-without-false" => {
             let authorizer = Authorizer::new(table, word_depth(one));
             let request = question(alloc, missing)?;
-            responded(
-                alloc,
-                &authorizer.is_authorized_core(alloc, request, set, entities)?,
-            )
+            respond(alloc, verb, &authorizer, request, set, entities)
         }
         "answer" => {
             let authorizer = Authorizer::new(table, word_depth(one));
