@@ -1,6 +1,6 @@
 -- What is told of a clause.
 use Rattle.std.proofs.Common.{◌≡◌, ◌⊎◌, inl, inr, List, [], ◌∷◌, ◌++◌, Option, Some, None, Result, Ok, Err, Global, refl, sym, ap, ◌∙◌, subst}
-use Rattle.std.specs.Prelude.{◌≢◌, IfOk, MatchOption}
+use Rattle.std.specs.Prelude.{◌≢◌, IfOk, IfErr, MatchOption, MatchResult}
 use Rattle.std.specs.declared.rc.RcStr.{RcStr}
 use Rattle.cedar_language.specs.Uid.{Text}
 use Rattle.cedar_language.specs.Tree.{SlotId}
@@ -11,8 +11,22 @@ use Rattle.cedar_cst.specs.declared.errors.PlacedError.{PlacedError}
 use Rattle.cedar_policy_parts.specs.declared.policies.SlotsInConditionClause.{SlotsInConditionClause}
 use Rattle.cedar_conversion_leaves.specs.declared.kinds.ToASTErrorKind.{ToASTErrorKind}
 use Rattle.cedar_conversion_leaves.specs.declared.kinds.ToASTErrorKind.TheVariants as kinds
-use Rattle.cedar_conversion_leaves.specs.Telling.{AreOf}
-use Rattle.cedar_policy_parts_conversion.specs.ClausesShow.{IsSlotTold, in_clause_shows}
+use Rattle.cedar_conversion_leaves.specs.Telling.{AreOf, TellsOnly}
+use Rattle.std.specs.Option.{option_map}
+use Rattle.cedar_grammar.specs.Names.{Names}
+use Rattle.cedar_grammar.specs.Loose as loose
+use Rattle.cedar_cst.specs.declared.node.Node.{Node}
+use Rattle.cedar_cst.specs.declared.cst.Cond.{Cond}
+use Rattle.cedar_cst.specs.LeafView.{shown_ident}
+use Rattle.cedar_cst.specs.View.{shown_expr, view_cond, shown_cond}
+use Rattle.cedar_cst.proofs.Views.{seen}
+use Rattle.cedar_conversion_leaves.specs.declared.errors.ConversionError.{ConversionError}
+use Rattle.cedar_conversion_leaves.specs.Converts.{Finds}
+use Rattle.cedar_conversion_leaves.specs.Flat.{Flat}
+use Rattle.cedar_conversion_leaves.proofs.Telling.{flat_shows}
+use Rattle.cedar_policy_parts_conversion.specs.declared.clauses.ClauseWord.{ClauseWord}
+use Rattle.cedar_policy_parts_conversion.specs.Clauses.{word_of, clause_word}
+use Rattle.cedar_policy_parts_conversion.specs.ClausesShow.{IsSlotTold, clause_word_shows, in_clause_shows, condition_shows, clause_shows}
 
 -- what shows more may be told the same of
 pub in_clause_more : (w : Option Word) (p q : ToASTErrorKind → Type 0) → ((k : ToASTErrorKind) → p k → q k) → (k : ToASTErrorKind) → in_clause_shows w p k → in_clause_shows w q k
@@ -74,3 +88,17 @@ module _ (w : Option Word) (shows : ToASTErrorKind → Type 0) where
       by (inl h) = more k h
       by (inr (inl is)) = one_told f kind s told k is
       by (inr (inr none)) = absurd none
+
+-- ---- a clause
+
+-- how it begins, where that is known
+pub beginning_is : {E : Type 0} (r : Result ClauseWord (ConversionError E)) (i : loose.Ident) (o : Option ClauseWord) → Finds word_of r (clause_word i) → IfErr r (λ e. clause_word i ≡ None) → MatchResult r (λ w. o ≡ Some w) (λ _. o ≡ None) → option_map word_of o ≡ clause_word i
+beginning_is (Ok w) i o found none is = ap (option_map word_of) is ∙ sym found
+beginning_is (Err e) i o found none is = ap (option_map word_of) is ∙ sym none
+
+module _ {A B E : Type 0} (names : Names) (n : Node (Option Cond)) (d : Cond) (is : n.node ≡ Some d) (a : Result A (ConversionError E)) (b : Result B (ConversionError E)) (e : ConversionError E) where
+  pub clause_tells : (w : Option Word) → Flat a b (Err e) → w ≡ clause_word (shown_ident d.cond) → IfErr a (λ y. TellsOnly y (clause_word_shows (shown_ident d.cond))) → IfErr b (λ y. TellsOnly y (condition_shows names w (shown_ident d.cond) (option_map shown_expr d.expr))) → TellsOnly e (clause_shows names (shown_cond n))
+  clause_tells w flat begins left right =
+      subst (λ c. TellsOnly e (clause_shows names c)) (sym (seen loose.missing_cond view_cond n d is))
+      (flat_shows a b e (clause_word_shows (shown_ident d.cond)) (condition_shows names w (shown_ident d.cond) (option_map shown_expr d.expr)) _ flat left right
+      (λ k s. inl s) (λ k s. inr (subst (λ o. condition_shows names o (shown_ident d.cond) (option_map shown_expr d.expr) k) begins s)))

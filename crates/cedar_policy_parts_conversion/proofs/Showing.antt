@@ -1,5 +1,5 @@
 -- What is told of several parts together, and by faults that take another one's place.
-use Rattle.std.proofs.Common.{◌≡◌, ◌⊎◌, inl, inr, List, [], ◌∷◌, ◌++◌, Option, None, Result, Ok, Err, refl, sym, subst}
+use Rattle.std.proofs.Common.{◌≡◌, ◌⊎◌, inl, inr, List, [], ◌∷◌, ◌++◌, Option, Some, None, Result, Ok, Err, refl, sym, subst}
 use Rattle.std.specs.Prelude.{IfErr}
 use Rattle.cedar_names.specs.declared.places.Loc.{Loc}
 use Rattle.cedar_cst.specs.declared.errors.PlacedError.{PlacedError}
@@ -8,9 +8,9 @@ use Rattle.cedar_conversion_leaves.specs.declared.errors.ConversionError.{Conver
 use Rattle.cedar_conversion_leaves.specs.declared.errors.ConversionError.TheVariants as error
 use Rattle.cedar_conversion_leaves.specs.Reasons.{IsFaultOf, reason, means_nothing, faults_of}
 use Rattle.cedar_conversion_leaves.specs.Telling.{AreOf, Tells, Told, TellsOnly}
-use Rattle.cedar_conversion_leaves.specs.Flat.{Flat4, FailsByAll, failing, all_faults}
+use Rattle.cedar_conversion_leaves.specs.Flat.{Flat, Flat4, FailsByAll, failing, all_faults}
 use Rattle.cedar_conversion_leaves.specs.Converts.{Finds}
-use Rattle.cedar_conversion_leaves.proofs.Telling.{tells_one, told_each, gathered_tells}
+use Rattle.cedar_conversion_leaves.proofs.Telling.{tells_one, told_each, gathered_tells, flat_shows}
 
 -- what is told where nothing is found
 pub lacking_tells : {A E W : Type 0} (seen : A → W) (r : Result A (ConversionError E)) (want : Option W) (p : ToASTErrorKind → Type 0) → Finds seen r want → IfErr r (λ e. TellsOnly e p) → IfErr r (λ e. TellsOnly e (λ k. (want ≡ None) × p k))
@@ -49,6 +49,11 @@ next_shows e f d p q all left right more = record { each = λ k t. by k ((gather
     by : (k : ToASTErrorKind) → Tells e k ⊎ Tells f k → p k
     by k (inl t) = left.each k t
     by k (inr t) = more k (right.each k t)
+
+-- what two parts show, both together show
+pub flat_both : {A B E : Type 0} (a : Result A (ConversionError E)) (b : Result B (ConversionError E)) (r : Result (A × B) (ConversionError E)) (p q : ToASTErrorKind → Type 0) → Flat a b r → IfErr a (λ e. TellsOnly e p) → IfErr b (λ e. TellsOnly e q) → IfErr r (λ e. TellsOnly e (λ k. p k ⊎ q k))
+flat_both a b (Ok x) p q flat left right = tt
+flat_both a b (Err e) p q flat left right = flat_shows a b e p q _ flat left right (λ k s. inl s) (λ k s. inr s)
 
 -- ---- another fault in the place of those that were told
 

@@ -1,5 +1,5 @@
 // Clauses.
-ghost use Rattle.std.specs.Prelude.{◌≡◌, ◌≢◌, ◌⊎◌, map, IfOk, IfErr, MatchOption, None, Option, Some};
+ghost use Rattle.std.specs.Prelude.{◌≡◌, ◌≢◌, ◌⊎◌, map, IfOk, IfErr, MatchOption, MatchResult, None, Option, Some};
 ghost use Rattle.std.specs.Option.{option_map};
 ghost use Rattle.cedar_language.specs.Tree.{Tree, SlotId};
 ghost use Rattle.cedar_literals.specs.Slots.{slot_text};
@@ -12,10 +12,11 @@ ghost use Rattle.cedar_conversion_leaves.specs.declared.kinds.ToASTErrorKind.{To
 ghost use Rattle.cedar_conversion_leaves.specs.Reasons.{IsFault, listed};
 ghost use Rattle.cedar_conversion_leaves.specs.Telling.{AreOf, Tells, Told, TellsOnly};
 ghost use Rattle.cedar_conversion_leaves.specs.Converts.{and_then, Finds};
+ghost use Rattle.cedar_conversion.specs.Shows.{expr_shows};
 ghost use Rattle.cedar_policy_parts_conversion.specs.Clauses.{clause_word, word_of, condition_tree, clauses_of, one_more};
-ghost use Rattle.cedar_policy_parts_conversion.specs.ClausesShow.{clause_word_shows, IsSlotTold, in_clause_shows};
+ghost use Rattle.cedar_policy_parts_conversion.specs.ClausesShow.{clause_word_shows, IsSlotTold, in_clause_shows, condition_shows, clause_shows, clauses_show};
 
-use crate::copies::copied;
+use crate::copies::{copied, copied_if_any};
 use cedar_builders::own_builder::ExprBuilder;
 use cedar_conversion::{to_expr, trees_are_built};
 use cedar_conversion_leaves::{
@@ -171,7 +172,8 @@ fn to_own_expr(
     node: &Node<Option<cst::Expr>>,
     word: Option<ClauseWord>,
 ) -> Result<Expr, PolicyError>
-    ensures { Finds bare result (expr_tree styles.now (shown_expr node.now)) }
+    ensures tree { Finds bare result (expr_tree styles.now (shown_expr node.now)) }
+    ensures shown { IfErr result (λ error. TellsOnly error (in_clause_shows (option_map word_of word) (expr_shows styles.now (shown_expr node.now)))) }
 {
     // This runs no code: its contract is a law of what a conversion gives.
     trees_are_built();
@@ -194,12 +196,13 @@ fn to_condition(
     word: Option<ClauseWord>,
     loc: Option<&Loc>,
 ) -> Result<Expr, PolicyError>
-    ensures { Finds bare result (condition_tree styles.now (option_map shown_expr cond.now.expr)) }
+    ensures tree { Finds bare result (condition_tree styles.now (option_map shown_expr cond.now.expr)) }
+    ensures shown { IfErr result (λ error. TellsOnly error (condition_shows styles.now (option_map word_of word) (shown_ident cond.now.cond) (option_map shown_expr cond.now.expr))) }
 {
     match &cond.expr {
         Some(expr) => to_own_expr(alloc, styles, expr, word),
         None => {
-            let kind = ToASTErrorKind::EmptyClause(cond.cond.node.clone()?);
+            let kind = ToASTErrorKind::EmptyClause(copied_if_any(&cond.cond.node)?);
             Err(ConversionError::fault(alloc, kind, loc))
         }
     }
@@ -212,19 +215,30 @@ fn placed(expr: Expr, loc: Option<&Loc>) -> Result<Expr, AllocError>
     Ok(expr.with_maybe_source_loc(loc.cloned()?))
 }
 
+// How a clause begins, where that is known.
+fn beginning_of<E>(word: &Result<ClauseWord, ConversionError<E>>) -> Option<ClauseWord>
+    ensures { MatchResult word.now (λ known. result ≡ Some known) (λ _. result ≡ None) }
+{
+    match word {
+        Ok(word) => Some(*word),
+        Err(_) => None,
+    }
+}
+
 // What a clause asks; or the faults of its parts.
 fn to_clause(
     alloc: Global,
     styles: &ExtStyles,
     node: &Node<Option<Cond>>,
 ) -> Result<Expr, PolicyError>
-    ensures { Finds bare result (clause styles.now (shown_cond node.now)) }
+    ensures clause { Finds bare result (clause styles.now (shown_cond node.now)) }
+    ensures shown { IfErr result (λ error. TellsOnly error (clause_shows styles.now (shown_cond node.now))) }
 {
     let Some(cond) = &node.node else {
         return Err(ConversionError::missing(alloc, node.loc()));
     };
     let word = to_clause_word(alloc, &cond.cond);
-    let beginning = word.as_ref().ok().copied();
+    let beginning = beginning_of(&word);
     let expr = to_condition(alloc, styles, cond, beginning, node.loc());
     let (word, expr) = flatten_tuple_2(word, expr)?;
     match word {
@@ -259,7 +273,8 @@ pub fn to_clauses(
     nodes: &Vec<Node<Option<Cond>>>,
     loc: Option<&Loc>,
 ) -> Result<Option<Expr>, PolicyError>
-    ensures { Finds (option_map bare) result (clauses_of styles.now (map shown_cond nodes.now.items)) }
+    ensures clauses { Finds (option_map bare) result (clauses_of styles.now (map shown_cond nodes.now.items)) }
+    ensures shown { IfErr result (λ error. TellsOnly error (clauses_show styles.now (map shown_cond nodes.now.items))) }
 {
     let mut clauses = Ok(None);
     for node in nodes {
