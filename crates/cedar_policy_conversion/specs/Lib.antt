@@ -1,3 +1,4 @@
 pub mod Kinds
 pub mod Numbered
 pub mod Parts
+pub mod Shows

@@ -1,6 +1,8 @@
 // The policies of a text under their numbers.
 ghost use Rattle.std.specs.Prelude.{◌≡◌, None, Some, IfOk, IfErr};
 ghost use Rattle.cedar_world.specs.PolicyEdits.{numbered};
+ghost use Rattle.cedar_conversion_leaves.specs.Telling.{TellsOnly};
+ghost use Rattle.cedar_conversion_leaves.specs.Shown.{missing_shows};
 ghost use Rattle.cedar_policy_conversion.specs.Numbered.{number_next, policies_left, HoldsPolicies};
 
 use cedar_conversion_leaves::ConversionError;
@@ -57,6 +59,7 @@ pub fn with_generated_policyids(
     ensures first { IfOk result (λ policies. number_next policies ≡ 0) }
     ensures policies { IfOk result (λ policies. HoldsPolicies node.now.node (policies_left policies)) }
     ensures missing { IfErr result (λ error. node.now.node ≡ None) }
+    ensures shown { IfErr result (λ error. TellsOnly error missing_shows) }
 {
     let Some(policies) = &node.node else {
         return Err(ConversionError::missing(alloc, node.loc()));

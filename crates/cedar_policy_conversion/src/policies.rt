@@ -1,5 +1,5 @@
 // Policies by whether they have slots.
-ghost use Rattle.std.specs.Prelude.{◌≡◌, IfOk};
+ghost use Rattle.std.specs.Prelude.{◌≡◌, Some, IfOk, IfErr};
 ghost use Rattle.std.specs.Option.{option_map};
 ghost use Rattle.cedar_grammar.specs.Converting.{policy_syntax};
 ghost use Rattle.cedar_cst.specs.View.{shown_policy};
@@ -7,6 +7,8 @@ ghost use Rattle.cedar_templates.specs.StaticPolicies.{static_id, static_syntax}
 ghost use Rattle.cedar_templates.specs.Templates.{template_id, syntax_of};
 ghost use Rattle.cedar_conversion_leaves.specs.Converts.{and_then, Finds};
 ghost use Rattle.cedar_policy_set.specs.Texts.{text_entry};
+ghost use Rattle.cedar_conversion_leaves.specs.Telling.{TellsOnly};
+ghost use Rattle.cedar_policy_conversion.specs.Shows.{policy_shows, slots_show, static_policy_shows, template_shows};
 ghost use Rattle.cedar_policy_conversion.specs.Kinds.{without_slots, with_slots, entry_made, id_made};
 
 use crate::templates::to_template;
@@ -30,6 +32,7 @@ fn as_static(
 ) -> Result<StaticPolicy, PolicyError>
     ensures syntax { Finds static_syntax result (without_slots (syntax_of template)) }
     ensures id { IfOk result (λ policy. static_id policy ≡ template_id template) }
+    ensures shown { IfErr result (λ error. TellsOnly error (slots_show (Some (syntax_of template)))) }
 {
     match StaticPolicy::from_template(template) {
         Ok(policy) => Ok(policy),
@@ -50,6 +53,7 @@ pub fn to_policy(
 ) -> Result<StaticPolicy, PolicyError>
     ensures syntax { Finds static_syntax result (and_then (policy_syntax styles.now (shown_policy node.now)) without_slots) }
     ensures id { IfOk result (λ policy. static_id policy ≡ id) }
+    ensures shown { IfErr result (λ error. TellsOnly error (static_policy_shows styles.now (shown_policy node.now))) }
 {
     let template = to_template(alloc, node, id, styles)?;
     as_static(alloc, node.loc(), template)
@@ -64,6 +68,7 @@ pub fn to_policy_template(
 ) -> Result<Template, PolicyError>
     ensures syntax { Finds syntax_of result (and_then (policy_syntax styles.now (shown_policy node.now)) with_slots) }
     ensures id { IfOk result (λ template. template_id template ≡ id) }
+    ensures shown { IfErr result (λ error. TellsOnly error (template_shows styles.now (shown_policy node.now))) }
 {
     let template = to_template(alloc, node, id, styles)?;
     if template.is_static() {
@@ -97,6 +102,7 @@ pub fn to_policy_or_template(
 ) -> Result<Either<StaticPolicy, Template>, PolicyError>
     ensures syntax { Finds entry_made result (option_map text_entry (policy_syntax styles.now (shown_policy node.now))) }
     ensures id { IfOk result (λ either. id_made either ≡ id) }
+    ensures shown { IfErr result (λ error. TellsOnly error (policy_shows styles.now (shown_policy node.now))) }
 {
     let template = to_template(alloc, node, id, styles)?;
     Ok(sorted(template))

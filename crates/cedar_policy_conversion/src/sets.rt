@@ -1,5 +1,5 @@
 // The policies of a text.
-ghost use Rattle.std.specs.Prelude.{◌≡◌, ◌<◌, ◌^◌, [], ◌∷◌, ◌++◌, IfOk, IfErr, OnOk, map, None, Option, Some};
+ghost use Rattle.std.specs.Prelude.{◌≡◌, ◌⊎◌, ◌<◌, ◌^◌, [], ◌∷◌, ◌++◌, IfOk, IfErr, OnOk, map, None, Option, Some};
 ghost use Rattle.std.specs.Option.{option_map};
 ghost use Rattle.cedar_grammar.specs.Converting.{each, policies_syntax, policy_syntax};
 ghost use Rattle.cedar_cst.specs.View.{shown_policies, shown_policy};
@@ -8,7 +8,9 @@ ghost use Rattle.cedar_conversion_leaves.specs.Converts.{and_then, Finds};
 ghost use Rattle.cedar_policy_set.specs.Entries.{Entries, bound_at};
 ghost use Rattle.cedar_policy_set.specs.Refused.{IsOccupied, taken};
 ghost use Rattle.cedar_policy_set.specs.Texts.{text_entry, text_entries};
+ghost use Rattle.cedar_conversion_leaves.specs.Telling.{Told, TellsOnly};
 ghost use Rattle.cedar_policy_conversion.specs.Kinds.{entry_made, id_made};
+ghost use Rattle.cedar_policy_conversion.specs.Shows.{policy_shows, each_policy_shows, policies_show};
 
 use crate::numbers::numbered_id;
 use crate::policies::to_policy_or_template;
@@ -45,7 +47,8 @@ fn with_policy(
     policy: Either<StaticPolicy, Template>,
 ) -> Result<PolicySet, PolicyError>
     requires { bound_at set (id_made policy) ≡ None }
-    ensures { Finds (λ set. set) result (Some (set ++ (id_made policy, entry_made policy) ∷ [])) }
+    ensures set { Finds (λ set. set) result (Some (set ++ (id_made policy, entry_made policy) ∷ [])) }
+    ensures told { IfErr result (λ error. TellsOnly error (λ kind. ⊥)) }
 {
     match add(alloc, &mut set, policy) {
         Ok(()) => Ok(set),
@@ -63,9 +66,10 @@ fn with_node(
     styles: &ExtStyles,
 ) -> Result<PolicySet, PolicyError>
     requires { number < 2 ^ 64 → IfOk earlier (λ set. bound_at set (numbered number) ≡ None) }
-    ensures { (before : Option Entries) → Finds (λ set. set) earlier before →
+    ensures set { (before : Option Entries) → Finds (λ set. set) earlier before →
         Finds (λ set. set) result (and_then before (λ es.
         and_then (option_map text_entry (policy_syntax styles.now (shown_policy node.now))) (λ e. Some (es ++ (numbered number, e) ∷ [])))) }
+    ensures told { IfErr result (λ error. TellsOnly error (λ kind. Told earlier kind ⊎ policy_shows styles.now (shown_policy node.now) kind)) }
 {
     let id = numbered_id(alloc, number)?;
     let next = to_policy_or_template(alloc, node, id, styles);
@@ -79,7 +83,8 @@ fn set_of(
     nodes: &[Node<Option<cst::Policy>>],
     styles: &ExtStyles,
 ) -> Result<PolicySet, PolicyError>
-    ensures { Finds (λ set. set) result (option_map (text_entries 0) (each (policy_syntax styles.now) (map shown_policy nodes.now))) }
+    ensures set { Finds (λ set. set) result (option_map (text_entries 0) (each (policy_syntax styles.now) (map shown_policy nodes.now))) }
+    ensures shown { IfErr result (λ error. TellsOnly error (each_policy_shows styles.now (map shown_policy nodes.now))) }
 {
     let mut set = Ok(PolicySet::new(alloc));
     for (number, node) in nodes.iter().enumerate() {
@@ -96,7 +101,8 @@ pub fn to_policyset(
     node: &Node<Option<cst::Policies>>,
     styles: &ExtStyles,
 ) -> Result<PolicySet, PolicyError>
-    ensures { Finds (λ set. set) result (option_map (text_entries 0) (policies_syntax styles.now (shown_policies node.now))) }
+    ensures set { Finds (λ set. set) result (option_map (text_entries 0) (policies_syntax styles.now (shown_policies node.now))) }
+    ensures shown { IfErr result (λ error. TellsOnly error (policies_show styles.now (shown_policies node.now))) }
 {
     let Some(policies) = &node.node else {
         return Err(ConversionError::missing(alloc, node.loc()));

@@ -1,10 +1,12 @@
 // Policies with or without slots.
-ghost use Rattle.std.specs.Prelude.{◌≡◌, IfOk};
+ghost use Rattle.std.specs.Prelude.{◌≡◌, IfOk, IfErr};
 ghost use Rattle.cedar_grammar.specs.Converting.{policy_syntax};
 ghost use Rattle.cedar_cst.specs.View.{shown_policy, view_policy_impl};
 ghost use Rattle.cedar_templates.specs.Templates.{template_id, syntax_of};
 ghost use Rattle.cedar_conversion_leaves.specs.Converts.{Finds};
+ghost use Rattle.cedar_conversion_leaves.specs.Telling.{TellsOnly};
 ghost use Rattle.cedar_policy_conversion.specs.Parts.{parts_syntax};
+ghost use Rattle.cedar_policy_conversion.specs.Shows.{policy_shows};
 
 use cedar_constraints::actions::ActionConstraint;
 use cedar_constraints::principals::PrincipalConstraint;
@@ -41,7 +43,8 @@ fn to_parts(
     loc: Option<&Loc>,
     styles: &ExtStyles,
 ) -> Result<Parts, PolicyError>
-    ensures { Finds parts_syntax result (policy_syntax styles.now (view_policy_impl policy.now)) }
+    ensures syntax { Finds parts_syntax result (policy_syntax styles.now (view_policy_impl policy.now)) }
+    ensures shown { IfErr result (λ error. TellsOnly error (policy_shows styles.now (view_policy_impl policy.now))) }
 {
     let effect = to_effect(alloc, &policy.effect);
     let annotations = to_annotations(alloc, &policy.annotations);
@@ -95,6 +98,7 @@ pub fn to_template(
 ) -> Result<Template, PolicyError>
     ensures syntax { Finds syntax_of result (policy_syntax styles.now (shown_policy node.now)) }
     ensures id { IfOk result (λ template. template_id template ≡ id) }
+    ensures shown { IfErr result (λ error. TellsOnly error (policy_shows styles.now (shown_policy node.now))) }
 {
     let Some(cst::Policy::Policy(policy)) = &node.node else {
         return Err(ConversionError::missing(alloc, node.loc()));

@@ -1,5 +1,5 @@
 -- The number isn't bound in the set so far, so the node's policy goes behind it; without either there is no set.
-use Rattle.std.proofs.Common.{◌≡◌, ◌<◌, ◌^◌, arith, [], ◌∷◌, ◌++◌, Some, None, Ok, Err, sym, ap, ◌∙◌, subst}
+use Rattle.std.proofs.Common.{◌≡◌, inl, inr, ◌<◌, ◌^◌, arith, [], ◌∷◌, ◌++◌, Some, None, Ok, Err, sym, ap, ◌∙◌, subst}
 use Rattle.std.specs.Prelude.{IfOk}
 use Rattle.std.specs.Option.{option_map}
 use Rattle.cedar_grammar.specs.Converting.{policy_syntax}
@@ -8,13 +8,17 @@ use Rattle.cedar_world.specs.PolicyEdits.{numbered}
 use Rattle.cedar_conversion_leaves.specs.Reasons.{reason}
 use Rattle.cedar_conversion_leaves.specs.Converts.{Finds}
 use Rattle.cedar_policy_parts_conversion.proofs.Gathering.{a_pair, both_found, flat_ok, lacks_more, no_pair, paired, passed}
+use Rattle.cedar_conversion_leaves.specs.Telling.{Told}
+use Rattle.cedar_conversion_leaves.proofs.Telling.{flat_shows, handed_on}
+use Rattle.cedar_policy_parts_conversion.proofs.Showing.{itself_tells}
+use Rattle.cedar_policy_conversion.specs.Shows.{policy_shows}
 use Rattle.cedar_policy_set.specs.Entries.{bound_at}
 use Rattle.cedar_policy_set.specs.Texts.{text_entry}
 use Rattle.cedar_policy_conversion.specs.Kinds.{entry_made, id_made}
 use Rattle.cedar_policy_conversion.proofs.sets.with_node.Goals as goal
 
-pub returns-in_err-set : goal.returns-in_err-set
-returns-in_err-set c before found =
+pub returns-in_err-set-clause-set : goal.returns-in_err-set-clause-set
+returns-in_err-set-clause-set c before found =
     let w = option_map text_entry (policy_syntax c.args.styles.now (shown_policy c.args.node.now)) in
     let e = c.in_err-set.field-0.0 in
     let none = both_found (λ set. set) entry_made c.args.earlier c.to_policy_or_template-next.result (Err e) before w c.in_err-set.ensures found c.to_policy_or_template-next.ensures.syntax in
@@ -30,8 +34,8 @@ with_policy-requires c =
     let id = subst (λ r. IfOk r (λ x. id_made x ≡ c.in_ok-id.id)) (flat.1) c.to_policy_or_template-next.ensures.id in
     ap (bound_at o.set) (id ∙ c.in_ok-id.ensures) ∙ free
 
-pub returns : goal.returns
-returns c before found =
+pub returns-clause-set : goal.returns-clause-set
+returns-clause-set c before found =
     let o = c.in_ok-set in
     let w = option_map text_entry (policy_syntax c.args.styles.now (shown_policy c.args.node.now)) in
     let flat = flat_ok c.args.earlier c.to_policy_or_template-next.result (o.set, o.policy) o.ensures in
@@ -39,4 +43,9 @@ returns c before found =
     let both = both_found (λ set. set) entry_made c.args.earlier c.to_policy_or_template-next.result (Ok (o.set, o.policy)) before w o.ensures found c.to_policy_or_template-next.ensures.syntax in
     subst (Finds (λ set. set) c.with_policy.result)
     (sym (a_pair before w (λ es x. Some (es ++ (numbered c.args.number, x) ∷ [])) (o.set, entry_made o.policy) both ∙ ap (λ k. Some (o.set ++ (k, entry_made o.policy) ∷ [])) (sym (id ∙ c.in_ok-id.ensures))))
-    c.with_policy.ensures
+    c.with_policy.ensures.set
+
+pub returns-in_err-set-clause-told : goal.returns-in_err-set-clause-told
+returns-in_err-set-clause-told c =
+    handed_on c.from_residual-in_err-set.result _ _ c.from_residual-in_err-set.ensures
+    (flat_shows c.args.earlier c.to_policy_or_template-next.result _ (λ k. Told c.args.earlier k) (policy_shows c.args.styles.now (shown_policy c.args.node.now)) _ c.in_err-set.ensures (itself_tells c.args.earlier) c.to_policy_or_template-next.ensures.shown (λ k s. inl s) (λ k s. inr s))
