@@ -1,5 +1,5 @@
 -- Restricted expressions, from the trees of their texts.
-use Rattle.std.proofs.Common.{◌≡◌, sym, inl, inr, ℕ, ◌<◌, Bool, true, false, Option, Some, None, Result, Ok, Err, refl, ◌∙◌, arith}
+use Rattle.std.proofs.Common.{◌≡◌, sym, inl, inr, ℕ, Bool, true, false, Option, Some, None, Result, Ok, Err, refl, ◌∙◌, arith}
 use Rattle.std.proofs.lemmas.Bool.{leb-true, leb-false}
 use Rattle.std.specs.Prelude.{nat_le}
 use Rattle.cedar_language.specs.Uid.{Text}

@@ -1,5 +1,6 @@
 mod Lowness
 mod Texts
+mod Faults
 mod Reading
 mod Bodies
 mod Callers

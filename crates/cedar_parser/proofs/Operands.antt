@@ -1,5 +1,5 @@
 -- Literals, by the operands that they are.
-use Rattle.std.proofs.Common.{◌≡◌, ◌∙◌, ◌↔◌, refl, sym, ap, subst, ℕ, List, Option, Some, None, Result, Ok, Err}
+use Rattle.std.proofs.Common.{◌≡◌, ◌∙◌, ◌↔◌, sym, ap, subst, ℕ, List, Option, Some, None, Result, Ok, Err}
 use Rattle.cedar_language.specs.Uid.{Text}
 use Rattle.cedar_language.specs.Tree.{Tree, Literal, Lit, Var, Slot, Unknown, If, And, Or, Apply}
 use Rattle.cedar_grammar.specs.Grammar.{IsLiteral}
@@ -7,11 +7,10 @@ use Rattle.cedar_grammar.specs.Laws.{OneList}
 use Rattle.cedar_grammar.specs.Names.{Names}
 use Rattle.cedar_grammar.specs.Token.{Token}
 use Rattle.cedar_grammar.specs.Reading.{◌>>=◌}
-use Rattle.cedar_grammar.specs.Converting.{converted, expr_tree, or_tree, and_tree, relation_tree, add_tree, mult_tree, member_tree, primary_tree}
+use Rattle.cedar_grammar.specs.Converting.{converted, expr_tree, and_tree, primary_tree}
 use Rattle.cedar_grammar.specs.Loose as loose
 use Rattle.cedar_grammar.specs.LooseLaws.{LiteralsConvert, LiteralsStand}
-use Rattle.cedar_grammar.specs.LooseReading.{Fault, depth, read_primary}
-use Rattle.cedar_builders.specs.Operations.{built}
+use Rattle.cedar_grammar.specs.LooseReading.{Fault, read_primary}
 use Rattle.cedar_builders.specs.Own.{own_operations}
 use Rattle.cedar_conversion.specs.Building.{IsBuilt}
 use Rattle.cedar_conversion.specs.Laws.{TreesAreBuilt}

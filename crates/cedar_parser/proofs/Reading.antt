@@ -1,7 +1,6 @@
 -- What texts are, by what their loose trees are converted to, and why others are refused.
-use Rattle.std.proofs.Common.{◌≡◌, refl, sym, subst, ℕ, inl, inr, List, Option, Some, None, option_map, Result, Ok, Err}
+use Rattle.std.proofs.Common.{◌≡◌, refl, sym, subst, ℕ, inl, inr, Option, Some, None, option_map, Result, Ok, Err}
 use Rattle.cedar_language.specs.Uid.{Text, Uid}
-use Rattle.cedar_language.specs.Tree.{Tree}
 use Rattle.cedar_grammar.specs.Grammar.{IsExpr, IsEntity}
 use Rattle.cedar_grammar.specs.Laws.{OneList}
 use Rattle.cedar_grammar.specs.Names.{Names}
@@ -13,7 +12,6 @@ use Rattle.cedar_grammar.specs.LooseReading.{read_expr, read_policies, read_ref}
 use Rattle.cedar_conversion_leaves.specs.Reasons as reasons
 use Rattle.cedar_conversion_leaves.specs.Reasons.{Reason, reason}
 use Rattle.cedar_conversion_leaves.specs.Converts.{Lacks, Misses}
-use Rattle.cedar_loose.specs.Texts as loosely
 use Rattle.cedar_loose.specs.Texts.{IsRead, Refuses, RefusesFlat, flat}
 use Rattle.cedar_loose.specs.Errors as cause
 use Rattle.cedar_loose.specs.Errors.{Cause, cause_of}

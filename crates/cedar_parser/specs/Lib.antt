@@ -1,3 +1,4 @@
+pub mod Faults
 pub mod Literals
 pub mod Sameness
 pub mod Settings
@@ -14,3 +15,5 @@ pub use Rattle.cedar_conversion_leaves.specs.Shown
 pub use Rattle.cedar_conversion_leaves.specs.Converts
 pub use Rattle.cedar_conversion_leaves.specs.Flat
 pub use Rattle.cedar_conversion.specs.Building
+pub use Rattle.cedar_conversion.specs.Choices
+pub use Rattle.cedar_conversion.specs.Shows

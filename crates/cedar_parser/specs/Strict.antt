@@ -1,10 +1,10 @@
 -- What a text is by the strict grammar, or why it is refused. (Cedar language reference, "Grammar specification".)
-use Rattle.std.specs.Prelude.{◌≡◌, ◌⊎◌, ◌<◌, ◌≤◌, ⊤, ℕ, [], false, codes, List, Option, Some, None, Result, Ok, Err}
+use Rattle.std.specs.Prelude.{◌≡◌, ◌⊎◌, ◌<◌, ◌≤◌, ⊤, ℕ, false, codes, List, Option, Some, None, Result, Ok, Err}
 use Rattle.cedar_language.specs.Uid.{Text, Uid}
 use Rattle.cedar_language.specs.Height.{height}
 use Rattle.cedar_language.specs.Restricted.{is_restricted}
-use Rattle.cedar_language.specs.Tree.{Tree, Literal}
-use Rattle.cedar_grammar.specs.Grammar.{IsEntity, IsLiteral}
+use Rattle.cedar_language.specs.Tree.{Tree}
+use Rattle.cedar_grammar.specs.Grammar.{IsEntity}
 use Rattle.cedar_grammar.specs.Names.{Names, is_among, is_function}
 use Rattle.cedar_grammar.specs.Nesting.{loose_nesting}
 use Rattle.cedar_grammar.specs.Policies.{Reads, ReadsExpr}

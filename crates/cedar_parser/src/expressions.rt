@@ -1,9 +1,12 @@
 // Expressions.
-ghost use Rattle.std.specs.Prelude.{◌≡◌, IfOk, false};
+ghost use Rattle.std.specs.Prelude.{◌≡◌, IfOk, IfErr, false};
 ghost use Rattle.cedar_grammar.specs.Converting.{expr_tree};
+ghost use Rattle.cedar_grammar.specs.LooseReading.{read_expr};
 ghost use Rattle.cedar_cst.specs.View.{shown_expr};
 ghost use Rattle.cedar_trees.specs.Bare.{bare};
 ghost use Rattle.cedar_world.specs.Bodies.{holds_call};
+ghost use Rattle.cedar_conversion.specs.Shows.{expr_shows};
+ghost use Rattle.cedar_parser.specs.Faults.{TellOnly, text_shows};
 ghost use Rattle.cedar_parser.specs.Strict.{LacksUnknown, Writes, ReadsTree};
 
 use crate::refusals::refused;
@@ -22,7 +25,7 @@ use std::alloc::Global;
 ///
 /// The first error is `ToCST` or `ToAST`, with a place, where the text is none within any nesting; `Depth`
 /// where it is none within this one and more places in it open a construct; and `Memory`. With `ToAST` the
-/// errors are all faults of the text, in order.
+/// errors are all faults of the text, in order, each of a kind that its loose tree shows.
 pub fn parse_expr_strict(
     alloc: Global,
     text: &str,
@@ -31,6 +34,7 @@ pub fn parse_expr_strict(
 ) -> Result<Expr, ParseErrors>
     ensures tree { ReadsTree styles.now depth text.now result }
     ensures calls { IfOk result (λ expr. LacksUnknown styles.now → holds_call (bare expr) ≡ false) }
+    ensures shown { IfErr result (λ errors. TellOnly errors (text_shows read_expr depth text.now (expr_shows styles.now))) }
 {
     // These run no code: their contracts are laws of the grammars.
     at_most_one_meaning();
@@ -52,6 +56,7 @@ fn converted(
 ) -> Result<Expr, ParseErrors>
     ensures tree { Writes bare result (expr_tree styles.now (shown_expr tree.now)) }
     ensures calls { IfOk result (λ expr. LacksUnknown styles.now → holds_call (bare expr) ≡ false) }
+    ensures shown { IfErr result (λ errors. TellOnly errors (expr_shows styles.now (shown_expr tree.now))) }
 {
     // These run no code: their contracts are laws of what a conversion gives.
     trees_are_built();

@@ -1,8 +1,11 @@
 // Literals.
-ghost use Rattle.std.specs.Prelude.{◌≡◌};
+ghost use Rattle.std.specs.Prelude.{◌≡◌, IfErr};
 ghost use Rattle.cedar_grammar.specs.Converting.{primary_tree};
+ghost use Rattle.cedar_grammar.specs.LooseReading.{read_primary};
 ghost use Rattle.cedar_cst.specs.View.{shown_primary};
 ghost use Rattle.cedar_trees.specs.Bare.{bare};
+ghost use Rattle.cedar_conversion.specs.Shows.{operand_shows};
+ghost use Rattle.cedar_parser.specs.Faults.{TellOnly, LiteralTellsOnly, text_shows};
 ghost use Rattle.cedar_parser.specs.Literals.{ReadsLiteral, TakesLiteral, WritesLiteral};
 ghost use Rattle.cedar_parser.specs.Strict.{Writes};
 
@@ -84,7 +87,8 @@ pub fn parse_literal_strict(
     styles: &ExtStyles,
     depth: u32,
 ) -> Result<Literal, LiteralParseError>
-    ensures { ReadsLiteral styles.now depth text.now result }
+    ensures literal { ReadsLiteral styles.now depth text.now result }
+    ensures shown { IfErr result (λ error. LiteralTellsOnly error (text_shows read_primary depth text.now (operand_shows styles.now))) }
 {
     // These run no code: their contracts are laws of the grammars.
     at_most_one_meaning();
@@ -103,7 +107,8 @@ fn written(
     tree: &Node<Option<Primary>>,
     styles: &ExtStyles,
 ) -> Result<Literal, LiteralParseError>
-    ensures { WritesLiteral result (primary_tree styles.now (shown_primary tree.now)) }
+    ensures literal { WritesLiteral result (primary_tree styles.now (shown_primary tree.now)) }
+    ensures shown { IfErr result (λ error. LiteralTellsOnly error (operand_shows styles.now (shown_primary tree.now))) }
 {
     match converted(alloc, tree, styles) {
         Ok(expr) => literal(expr),
@@ -118,7 +123,8 @@ fn converted(
     tree: &Node<Option<Primary>>,
     styles: &ExtStyles,
 ) -> Result<Expr, ParseErrors>
-    ensures { Writes bare result (primary_tree styles.now (shown_primary tree.now)) }
+    ensures tree { Writes bare result (primary_tree styles.now (shown_primary tree.now)) }
+    ensures shown { IfErr result (λ errors. TellOnly errors (operand_shows styles.now (shown_primary tree.now))) }
 {
     // This runs no code: its contract is a law of what a conversion gives.
     trees_are_built();

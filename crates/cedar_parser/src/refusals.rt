@@ -1,5 +1,5 @@
 // Faults of trees, as errors of their texts.
-ghost use Rattle.std.specs.Prelude.{◌≡◌, map, IfOk};
+ghost use Rattle.std.specs.Prelude.{◌≡◌, [], map, IfOk};
 ghost use Rattle.cedar_conversion_leaves.specs.Reasons.{reason, listed, faults_of};
 ghost use Rattle.cedar_loose.specs.Errors.{cause_of, means_nothing};
 ghost use Rattle.cedar_parser.specs.Strict.{IsToldAs};
@@ -15,6 +15,7 @@ use std::mem;
 pub(crate) fn refused<E: Drop>(alloc: Global, error: ConversionError<E>) -> ParseErrors
     ensures cause { IsToldAs (reason error) (cause_of result.0.head) }
     ensures faults { cause_of result.0.head ≡ means_nothing → listed result.0 ≡ map (λ fault. ParseError.ToAST fault) (faults_of error) }
+    ensures alone { (cause_of result.0.head ≡ means_nothing → ⊥) → result.0.tail.items ≡ [] }
 {
     let mut error = error;
     let faults = match &mut error {

@@ -1,8 +1,11 @@
 // Restricted expressions.
-ghost use Rattle.std.specs.Prelude.{◌≡◌, IfOk, false};
+ghost use Rattle.std.specs.Prelude.{◌≡◌, IfOk, IfErr, false};
 ghost use Rattle.cedar_restricted.specs.Views.{restricted_tree};
 ghost use Rattle.cedar_trees.specs.Bare.{bare};
 ghost use Rattle.cedar_world.specs.Bodies.{holds_call};
+ghost use Rattle.cedar_grammar.specs.LooseReading.{read_expr};
+ghost use Rattle.cedar_conversion.specs.Shows.{expr_shows};
+ghost use Rattle.cedar_parser.specs.Faults.{RestrictedTellsOnly, text_shows};
 ghost use Rattle.cedar_parser.specs.Strict.{LacksUnknown, Keeps, ReadsRestricted};
 
 use crate::expressions::parse_expr_strict;
@@ -64,6 +67,7 @@ pub fn parse_restrictedexpr(
 ) -> Result<RestrictedExpr, RestrictedExpressionParseError>
     ensures body { ReadsRestricted styles.now depth text.now result }
     ensures calls { IfOk result (λ body. LacksUnknown styles.now → holds_call (restricted_tree body) ≡ false) }
+    ensures shown { IfErr result (λ error. RestrictedTellsOnly error (text_shows read_expr depth text.now (expr_shows styles.now))) }
 {
     let expr = parse_expr_strict(alloc, text, styles, depth)?;
     if !is_low(&expr, depth) {

@@ -1,5 +1,4 @@
 -- Why no expression was made of the tree is what the first error tells, which else tells of memory.
-use Rattle.std.proofs.Common.{◌≡◌, subst}
 use Rattle.cedar_grammar.specs.Converting.{expr_tree}
 use Rattle.cedar_cst.specs.View.{shown_expr}
 use Rattle.cedar_conversion_leaves.specs.Reasons.{reason}
@@ -7,8 +6,12 @@ use Rattle.cedar_loose.specs.Errors.{cause_of}
 use Rattle.cedar_builders.specs.Own.{own_operations}
 use Rattle.cedar_conversion.specs.Building.{IsRefused}
 use Rattle.cedar_parser.proofs.Reading.{told_misses}
+use Rattle.cedar_parser.proofs.Faults.{refused_tells}
 use Rattle.cedar_parser.proofs.expressions.converted.Goals as goal
 
 pub returns-in-Err-clause-tree : goal.returns-in-Err-clause-tree
 returns-in-Err-clause-tree c =
     told_misses (IsRefused own_operations) _ (reason c.in-Err.error) (cause_of c.refused.result.0.head) (expr_tree c.args.styles.now (shown_expr c.args.tree.now)) c.refused.ensures.cause c.in-Err.ensures.tree
+
+pub returns-in-Err-clause-shown : goal.returns-in-Err-clause-shown
+returns-in-Err-clause-shown c = refused_tells c.refused.result c.in-Err.error _ c.refused.ensures.faults c.refused.ensures.alone c.in-Err.ensures.shown

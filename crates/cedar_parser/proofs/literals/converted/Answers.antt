@@ -7,12 +7,16 @@ use Rattle.cedar_builders.specs.Own.{own_operations}
 use Rattle.cedar_conversion.specs.Building.{IsRefused}
 use Rattle.cedar_parser.proofs.Operands.{operand_written}
 use Rattle.cedar_parser.proofs.Reading.{told_misses}
+use Rattle.cedar_parser.proofs.Faults.{refused_tells}
 use Rattle.cedar_parser.proofs.literals.converted.Goals as goal
 
-pub returns-in-Ok : goal.returns-in-Ok
-returns-in-Ok c =
+pub returns-in-Ok-clause-tree : goal.returns-in-Ok-clause-tree
+returns-in-Ok-clause-tree c =
     operand_written c.trees_are_built.ensures c.args.styles.now (shown_primary c.args.tree.now) c.in-Ok.expr c.in-Ok.ensures.tree
 
-pub returns-in-Err : goal.returns-in-Err
-returns-in-Err c =
+pub returns-in-Err-clause-tree : goal.returns-in-Err-clause-tree
+returns-in-Err-clause-tree c =
     told_misses (IsRefused own_operations) _ (reason c.in-Err.error) (cause_of c.refused.result.0.head) (primary_tree c.args.styles.now (shown_primary c.args.tree.now)) c.refused.ensures.cause c.in-Err.ensures.tree
+
+pub returns-in-Err-clause-shown : goal.returns-in-Err-clause-shown
+returns-in-Err-clause-shown c = refused_tells c.refused.result c.in-Err.error _ c.refused.ensures.faults c.refused.ensures.alone c.in-Err.ensures.shown

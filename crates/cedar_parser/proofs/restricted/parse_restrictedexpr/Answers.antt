@@ -6,6 +6,7 @@ use Rattle.cedar_parser.specs.Strict.{IsUnread}
 use Rattle.cedar_parser.specs.declared.restricted.RestrictedExpressionParseError.TheVariants as parse
 use Rattle.cedar_parser.proofs.Bodies.{tree_refused, too_high, tree_kept}
 use Rattle.cedar_parser.proofs.Callers.{kept_calls}
+use Rattle.cedar_parser.proofs.Faults.{one_tells, kept_tells}
 use Rattle.cedar_parser.proofs.restricted.parse_restrictedexpr.Goals as goal
 
 pub returns-in_err-expr-clause-body : goal.returns-in_err-expr-clause-body
@@ -26,3 +27,14 @@ returns-clause-body c =
 pub returns-clause-calls : goal.returns-clause-calls
 returns-clause-calls c =
     kept_calls (bare c.in_ok-expr.expr) c.restricted.result c.restricted.ensures c.in_ok-expr.ensures.calls
+
+pub returns-in_err-expr-clause-shown : goal.returns-in_err-expr-clause-shown
+returns-in_err-expr-clause-shown c =
+    let same : c.from_residual.result ≡ Err (parse.Parse c.in_err-expr.field-0.0) = search rules in
+    rw same c.in_err-expr.ensures.shown
+
+pub returns-then-not-is_low-clause-shown : goal.returns-then-not-is_low-clause-shown
+returns-then-not-is_low-clause-shown c = one_tells c.one-errors.result _ _ c.one-errors.ensures.first (λ h. cc) c.one-errors.ensures.alone
+
+pub returns-clause-shown : goal.returns-clause-shown
+returns-clause-shown c = kept_tells (bare c.in_ok-expr.expr) c.restricted.result _ c.restricted.ensures

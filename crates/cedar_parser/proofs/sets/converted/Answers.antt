@@ -10,4 +10,4 @@ use Rattle.cedar_parser.proofs.sets.converted.Goals as goal
 
 pub returns-in-Err : goal.returns-in-Err
 returns-in-Err c =
-    told_lacks (reason c.in-Err.error) (cause_of c.refused.result.0.head) (option_map (text_entries 0) (policies_syntax c.args.styles.now (shown_policies c.args.tree.now))) c.refused.ensures.cause c.in-Err.ensures
+    told_lacks (reason c.in-Err.error) (cause_of c.refused.result.0.head) (option_map (text_entries 0) (policies_syntax c.args.styles.now (shown_policies c.args.tree.now))) c.refused.ensures.cause c.in-Err.ensures.set

@@ -1,0 +1,86 @@
+-- Faults of a tree, told as errors of its text.
+use Rattle.std.proofs.Common.{◌≡◌, ◌⊎◌, inl, inr, ℕ, List, [], ◌∷◌, map, Result, Ok, Err, refl, sym, ap, ◌∙◌, subst}
+use Rattle.std.specs.Prelude.{IfErr}
+use Rattle.cedar_language.specs.Uid.{Text}
+use Rattle.cedar_grammar.specs.Token.{Token}
+use Rattle.cedar_grammar.specs.LooseReading.{Fault}
+use Rattle.cedar_cst.specs.declared.errors.PlacedError.{PlacedError}
+use Rattle.cedar_conversion_leaves.specs.Reasons.{listed, faults_of}
+use Rattle.cedar_conversion_leaves.specs.Telling.{AreOf, TellsOnly}
+use Rattle.cedar_conversion_leaves.specs.declared.kinds.ToASTErrorKind.{ToASTErrorKind}
+use Rattle.cedar_conversion_leaves.specs.declared.errors.ConversionError.{ConversionError}
+use Rattle.cedar_loose.specs.Errors.{means_nothing, cause_of}
+use Rattle.cedar_loose.specs.Texts.{IsRead, IsRefused, Refuses}
+use Rattle.cedar_loose.specs.declared.errors.ParseError.{ParseError}
+use Rattle.cedar_loose.specs.declared.errors.ParseError.TheVariants as error
+use Rattle.cedar_loose.specs.declared.errors.ParseErrors.{ParseErrors}
+use Rattle.cedar_language.specs.Tree.{Tree}
+use Rattle.cedar_literals.specs.declared.literals.Literal.{Literal}
+use Rattle.cedar_restricted.specs.declared.restricted.RestrictedExpr.{RestrictedExpr}
+use Rattle.cedar_parser.specs.declared.literals.LiteralParseError.{LiteralParseError}
+use Rattle.cedar_parser.specs.declared.literals.LiteralParseError.TheVariants as literal
+use Rattle.cedar_parser.specs.declared.restricted.RestrictedExpressionParseError.{RestrictedExpressionParseError}
+use Rattle.cedar_parser.specs.declared.restricted.RestrictedExpressionParseError.TheVariants as restricted
+use Rattle.cedar_parser.specs.Literals.{TakesLiteral}
+use Rattle.cedar_parser.specs.Strict.{Keeps}
+use Rattle.cedar_parser.specs.Faults.{HoldFault, TellOnly, LiteralTellsOnly, RestrictedTellsOnly, text_shows}
+
+of_faults : (fs : List (PlacedError ToASTErrorKind)) (k : ToASTErrorKind) → HoldFault (map (λ f. error.ToAST f) fs) k → AreOf fs k
+of_faults [] k held = held
+of_faults (f ∷ fs) k (inl same) = inl same
+of_faults (f ∷ fs) k (inr held) = inr (of_faults fs k held)
+
+-- an error alone that is no fault
+none_held : (e : ParseError) (k : ToASTErrorKind) → (cause_of e ≡ means_nothing → ⊥) → HoldFault (e ∷ []) k → ⊥
+none_held (error.ToCST e) k other held = held
+none_held (error.ToAST f) k other held = other refl
+none_held error.Depth k other held = held
+none_held error.Memory k other held = held
+
+alone_tells : (errors : ParseErrors) (p : ToASTErrorKind → Type 0) → (cause_of errors.0.head ≡ means_nothing → ⊥) → errors.0.tail.items ≡ [] → TellOnly errors p
+alone_tells errors p other alone = record { each = λ k held. absurd (none_held errors.0.head k other (subst (λ es. HoldFault (errors.0.head ∷ es) k) alone held)) }
+
+-- the first error that is no fault is the only one
+pub one_tells : (errors : ParseErrors) (e : ParseError) (p : ToASTErrorKind → Type 0) → errors.0.head ≡ e → (cause_of e ≡ means_nothing → ⊥) → errors.0.tail.items ≡ [] → TellOnly errors p
+one_tells errors e p is other alone = alone_tells errors p (λ h. other (ap cause_of (sym is) ∙ h)) alone
+
+fault_or_none : (e : ParseError) → (cause_of e ≡ means_nothing) ⊎ (cause_of e ≡ means_nothing → ⊥)
+fault_or_none (error.ToCST e) = inr (λ h. cc)
+fault_or_none (error.ToAST f) = inl refl
+fault_or_none error.Depth = inr (λ h. cc)
+fault_or_none error.Memory = inr (λ h. cc)
+
+-- the errors by which a conversion is refused
+pub refused_tells : {E : Type 0} (errors : ParseErrors) (e : ConversionError E) (p : ToASTErrorKind → Type 0) → (cause_of errors.0.head ≡ means_nothing → listed errors.0 ≡ map (λ f. error.ToAST f) (faults_of e)) → ((cause_of errors.0.head ≡ means_nothing → ⊥) → errors.0.tail.items ≡ [])
+    → TellsOnly e p → TellOnly errors p
+refused_tells errors e p faults alone only = by (fault_or_none errors.0.head)
+  where
+    by : (cause_of errors.0.head ≡ means_nothing) ⊎ (cause_of errors.0.head ≡ means_nothing → ⊥) → TellOnly errors p
+    by (inl fault) = record { each = λ k held. only.each k (of_faults (faults_of e) k (subst (λ es. HoldFault es k) (faults fault) held)) }
+    by (inr other) = alone_tells errors p other (alone other)
+
+module _ {A : Type 0} (read : ℕ → List Token → Result A Fault) (n : ℕ) (text : Text) where
+  -- a text that isn't read has no fault
+  pub unread_tells : (errors : ParseErrors) (p : ToASTErrorKind → Type 0) → Refuses read n text errors → errors.0.tail.items ≡ [] → TellOnly errors p
+  unread_tells errors p refuses alone = alone_tells errors p (λ h. subst (IsRefused read n text) h refuses) alone
+
+  -- what its tree shows is shown of the text
+  pub text_told : {D : Type 0} (r : Result D ParseErrors) (x : A) (shows : A → ToASTErrorKind → Type 0) → IsRead read n text x → IfErr r (λ errors. TellOnly errors (shows x)) → IfErr r (λ errors. TellOnly errors (text_shows read n text shows))
+  text_told (Ok d) x shows is only = tt
+  text_told (Err errors) x shows is only = record { each = λ k held. (x, is, only.each k held) }
+
+  pub literal_told : {D : Type 0} (r : Result D LiteralParseError) (x : A) (shows : A → ToASTErrorKind → Type 0) → IsRead read n text x → IfErr r (λ e. LiteralTellsOnly e (shows x)) → IfErr r (λ e. LiteralTellsOnly e (text_shows read n text shows))
+  literal_told (Ok d) x shows is only = tt
+  literal_told (Err (literal.Parse errors)) x shows is only = record { each = λ k held. (x, is, only.each k held) }
+  literal_told (Err (literal.InvalidLiteral e)) x shows is only = tt
+
+-- what is taken of a tree, or kept of it, tells no fault
+pub taken_tells : (t : Tree) (r : Result Literal LiteralParseError) (p : ToASTErrorKind → Type 0) → TakesLiteral t r → IfErr r (λ e. LiteralTellsOnly e p)
+taken_tells t (Ok l) p takes = tt
+taken_tells t (Err (literal.Parse errors)) p takes = absurd takes
+taken_tells t (Err (literal.InvalidLiteral e)) p takes = tt
+
+pub kept_tells : (t : Tree) (r : Result RestrictedExpr RestrictedExpressionParseError) (p : ToASTErrorKind → Type 0) → Keeps t r → IfErr r (λ e. RestrictedTellsOnly e p)
+kept_tells t (Ok e) p keeps = tt
+kept_tells t (Err (restricted.Parse errors)) p keeps = absurd keeps
+kept_tells t (Err (restricted.InvalidRestrictedExpression e)) p keeps = tt
