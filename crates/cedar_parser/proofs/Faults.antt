@@ -10,7 +10,7 @@ use Rattle.cedar_conversion_leaves.specs.Telling.{AreOf, TellsOnly}
 use Rattle.cedar_conversion_leaves.specs.declared.kinds.ToASTErrorKind.{ToASTErrorKind}
 use Rattle.cedar_conversion_leaves.specs.declared.errors.ConversionError.{ConversionError}
 use Rattle.cedar_loose.specs.Errors.{means_nothing, cause_of}
-use Rattle.cedar_loose.specs.Texts.{IsRead, IsRefused, Refuses}
+use Rattle.cedar_loose.specs.Texts.{IsRead, IsRefused, IsOutside, Refuses, RefusesFlat}
 use Rattle.cedar_loose.specs.declared.errors.ParseError.{ParseError}
 use Rattle.cedar_loose.specs.declared.errors.ParseError.TheVariants as error
 use Rattle.cedar_loose.specs.declared.errors.ParseErrors.{ParseErrors}
@@ -63,6 +63,10 @@ module _ {A : Type 0} (read : ℕ → List Token → Result A Fault) (n : ℕ) (
   -- a text that isn't read has no fault
   pub unread_tells : (errors : ParseErrors) (p : ToASTErrorKind → Type 0) → Refuses read n text errors → errors.0.tail.items ≡ [] → TellOnly errors p
   unread_tells errors p refuses alone = alone_tells errors p (λ h. subst (IsRefused read n text) h refuses) alone
+
+  -- the same where nothing nests
+  pub outside_tells : (errors : ParseErrors) (p : ToASTErrorKind → Type 0) → RefusesFlat read text errors → errors.0.tail.items ≡ [] → TellOnly errors p
+  outside_tells errors p refuses alone = alone_tells errors p (λ h. subst (IsOutside read text) h refuses) alone
 
   -- what its tree shows is shown of the text
   pub text_told : {D : Type 0} (r : Result D ParseErrors) (x : A) (shows : A → ToASTErrorKind → Type 0) → IsRead read n text x → IfErr r (λ errors. TellOnly errors (shows x)) → IfErr r (λ errors. TellOnly errors (text_shows read n text shows))

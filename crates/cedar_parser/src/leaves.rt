@@ -1,6 +1,11 @@
 // Entities.
+ghost use Rattle.std.specs.Prelude.{IfErr};
 ghost use Rattle.cedar_grammar.specs.Converting.{ref_entity};
+ghost use Rattle.cedar_grammar.specs.LooseReading.{read_ref};
 ghost use Rattle.cedar_cst.specs.LeafView.{shown_ref};
+ghost use Rattle.cedar_conversion_leaves.specs.Shown.{ref_shows};
+ghost use Rattle.cedar_loose.specs.Texts.{flat};
+ghost use Rattle.cedar_parser.specs.Faults.{TellOnly, text_shows};
 ghost use Rattle.cedar_parser.specs.Strict.{Writes, ReadsUid};
 
 use crate::refusals::refused;
@@ -16,9 +21,11 @@ use std::alloc::Global;
 /// The entity that a text is, as `Type::"id"`. (Cedar language reference, "Entity".)
 ///
 /// The first error is `ToCST` or `ToAST`, with a place, where the text is none, and `Memory` for want of
-/// memory alone. With `ToAST` the errors are all faults of the text, in order.
+/// memory alone. With `ToAST` the errors are all faults of the text, in order, each of a kind that its loose tree
+/// shows.
 pub fn parse_euid_strict(alloc: Global, text: &str) -> Result<EntityUID, ParseErrors>
-    ensures { ReadsUid text.now result }
+    ensures uid { ReadsUid text.now result }
+    ensures shown { IfErr result (λ errors. TellOnly errors (text_shows (flat read_ref) 0 text.now ref_shows)) }
 {
     // These run no code: their contracts are laws of the grammars.
     at_most_one_meaning();
@@ -32,7 +39,8 @@ pub fn parse_euid_strict(alloc: Global, text: &str) -> Result<EntityUID, ParseEr
 
 // The entity that a loose tree writes.
 fn converted(alloc: Global, tree: &Node<Option<Ref>>) -> Result<EntityUID, ParseErrors>
-    ensures { Writes (λ uid. uid) result (ref_entity (shown_ref tree.now)) }
+    ensures uid { Writes (λ uid. uid) result (ref_entity (shown_ref tree.now)) }
+    ensures shown { IfErr result (λ errors. TellOnly errors (ref_shows (shown_ref tree.now))) }
 {
     match to_ref::<ExpressionConstructionError>(alloc, tree) {
         Ok(uid) => Ok(uid),

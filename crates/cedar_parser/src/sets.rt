@@ -1,8 +1,12 @@
 // Policy sets.
+ghost use Rattle.std.specs.Prelude.{IfErr};
 ghost use Rattle.std.specs.Option.{option_map};
 ghost use Rattle.cedar_grammar.specs.Converting.{policies_syntax};
+ghost use Rattle.cedar_grammar.specs.LooseReading.{read_policies};
 ghost use Rattle.cedar_policy_set.specs.Texts.{text_entries};
 ghost use Rattle.cedar_cst.specs.View.{shown_policies};
+ghost use Rattle.cedar_policy_conversion.specs.Shows.{policies_show};
+ghost use Rattle.cedar_parser.specs.Faults.{TellOnly, text_shows};
 ghost use Rattle.cedar_parser.specs.Strict.{Writes, ReadsSet};
 
 use crate::refusals::refused;
@@ -20,14 +24,15 @@ use std::alloc::Global;
 ///
 /// The first error is `ToCST` or `ToAST`, with a place, where the text is none within any nesting; `Depth`
 /// where it is none within this one and more places in it open a construct; and `Memory`. With `ToAST` the
-/// errors are all faults of the text, in order.
+/// errors are all faults of the text, in order, each of a kind that its loose tree shows.
 pub fn parse_policyset_strict(
     alloc: Global,
     text: &str,
     styles: &ExtStyles,
     depth: u32,
 ) -> Result<PolicySet, ParseErrors>
-    ensures { ReadsSet styles.now depth text.now result }
+    ensures set { ReadsSet styles.now depth text.now result }
+    ensures shown { IfErr result (λ errors. TellOnly errors (text_shows read_policies depth text.now (policies_show styles.now))) }
 {
     // These run no code: their contracts are laws of the grammars.
     at_most_one_meaning();
@@ -46,7 +51,8 @@ fn converted(
     tree: &Node<Option<cst::Policies>>,
     styles: &ExtStyles,
 ) -> Result<PolicySet, ParseErrors>
-    ensures { Writes (λ set. set) result (option_map (text_entries 0) (policies_syntax styles.now (shown_policies tree.now))) }
+    ensures set { Writes (λ set. set) result (option_map (text_entries 0) (policies_syntax styles.now (shown_policies tree.now))) }
+    ensures shown { IfErr result (λ errors. TellOnly errors (policies_show styles.now (shown_policies tree.now))) }
 {
     match to_policyset(alloc, tree, styles) {
         Ok(set) => Ok(set),

@@ -6,8 +6,12 @@ use Rattle.cedar_conversion_leaves.specs.Reasons.{reason}
 use Rattle.cedar_loose.specs.Errors.{cause_of}
 use Rattle.cedar_policy_set.specs.Texts.{text_entries}
 use Rattle.cedar_parser.proofs.Reading.{told_lacks}
+use Rattle.cedar_parser.proofs.Faults.{refused_tells}
 use Rattle.cedar_parser.proofs.sets.converted.Goals as goal
 
-pub returns-in-Err : goal.returns-in-Err
-returns-in-Err c =
+pub returns-in-Err-clause-set : goal.returns-in-Err-clause-set
+returns-in-Err-clause-set c =
     told_lacks (reason c.in-Err.error) (cause_of c.refused.result.0.head) (option_map (text_entries 0) (policies_syntax c.args.styles.now (shown_policies c.args.tree.now))) c.refused.ensures.cause c.in-Err.ensures.set
+
+pub returns-in-Err-clause-shown : goal.returns-in-Err-clause-shown
+returns-in-Err-clause-shown c = refused_tells c.refused.result c.in-Err.error _ c.refused.ensures.faults c.refused.ensures.alone c.in-Err.ensures.shown

@@ -7,4 +7,4 @@ use Rattle.cedar_texts.proofs.policy_reading.policy_set.Goals as goal
 pub returns-in-Err : goal.returns-in-Err
 returns-in-Err c =
     subst (λ r. ReadsSet c.args.styles.now c.args.depth c.args.text.now (Err r)) (sym c.of_text.ensures)
-    (set_refused c.args.styles.now c.args.depth c.args.text.now c.in-Err.errors c.in-Err.ensures)
+    (set_refused c.args.styles.now c.args.depth c.args.text.now c.in-Err.errors c.in-Err.ensures.set)
