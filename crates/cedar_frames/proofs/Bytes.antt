@@ -55,6 +55,15 @@ keeps_more (Some xs) None c p q = absurd p
 keeps_more (Some xs) (Some ys) None p q = absurd q
 keeps_more (Some xs) (Some ys) (Some zs) p q = q ∙ p
 
+keeps_itself : (a : Option (List ℕ)) → Keeps a a
+keeps_itself None = tt
+keeps_itself (Some xs) = refl
+
+-- where nothing is put, nothing changes
+pub puts_nothing : (f : Bool) (a : Option (List ℕ)) → Puts f a f a []
+puts_nothing false a = keeps_appends a a (keeps_itself a)
+puts_nothing true a = keeps_itself a
+
 -- what is put one after the other is put as one
 pub puts_more : (f0 f1 f2 : Bool) (a b c : Option (List ℕ)) (x y : List ℕ) → Puts f0 a f1 b x → Puts f1 b f2 c y → Puts f0 a f2 c (x ++ y)
 puts_more false false false a b c x y p q = appends_more a b c x y p q

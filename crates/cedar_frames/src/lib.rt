@@ -23,7 +23,7 @@ pub use laws::{
     a_frame_is_one, commands_have_a_frame, faults_are_one, faults_hold_no_frame, faults_stay,
     frames_are_one, frames_begin,
 };
-pub use quoting::put_quoted;
+pub use quoting::{put_escaped, put_quoted};
 pub use reading::{ReadFailed, read_byte};
 pub use verb::Verb;
 pub use watched::Watched;

@@ -37,14 +37,13 @@ fn around_escape(bytes: &[u8]) -> Option<(&[u8], &'static [u8], &[u8])>
     None
 }
 
-/// Writes a text in quotes, as [`put`] does.
+/// Writes a text as it stands inside quotes, as [`put`] does.
 ///
 /// `"`, `\`, line feed, carriage return, tab and NUL are written `\"`, `\\`, `\n`, `\r`, `\t` and
 /// `\0`, and all else stands as it is.
-pub fn put_quoted<W: Write>(writer: &mut Watched<W>, text: &str)
-    ensures { Writes W.contents writer.old writer.new (quoted text.now) }
+pub fn put_escaped<W: Write>(writer: &mut Watched<W>, text: &str)
+    ensures { Writes W.contents writer.old writer.new (escaped_all text.now) }
 {
-    put(writer, b"\"");
     let mut rest = text.as_bytes();
     'escapes: while let Some((plain, written, after)) = around_escape(rest) {
         put(writer, plain);
@@ -52,5 +51,13 @@ pub fn put_quoted<W: Write>(writer: &mut Watched<W>, text: &str)
         rest = after;
     }
     put(writer, rest);
+}
+
+/// Writes a text in quotes, as [`put`] does; what stands inside them is written by [`put_escaped`].
+pub fn put_quoted<W: Write>(writer: &mut Watched<W>, text: &str)
+    ensures { Writes W.contents writer.old writer.new (quoted text.now) }
+{
+    put(writer, b"\"");
+    put_escaped(writer, text);
     put(writer, b"\"");
 }
