@@ -19,21 +19,25 @@ use std::marker::Model;
 use std::rc::Rc;
 use std::slice::Iter;
 
+// The identifiers of a name, and where it was written.
+#[derive(Debug, Drop)]
+struct Parts {
+    components: Vec<Id>,
+    loc: Option<Loc>,
+}
+
 /// A name, as `A::B::C`: identifiers of a namespace, and a basename after them. Its identifiers may be
 /// `__cedar`. Contracts see its identifiers in order, and no place; so do `==`, order and hash.
+/// Copies share all of it, so that a name is one handle.
 #[derive(Debug)]
 pub struct InternalName {
-    components: Rc<Vec<Id>>,
-    loc: Option<Loc>,
+    parts: Rc<Parts>,
 }
 
 // By hand, so that letting go of one is a call.
 impl Drop for InternalName {
     fn drop(self) {
-        let InternalName {
-            components: _,
-            loc: _,
-        } = self;
+        let InternalName { parts: _ } = self;
     }
 }
 
@@ -43,12 +47,25 @@ impl Model for InternalName {
 
     ghost Value = { Name };
 
-    ghost view = { λ a. a.components.value.items };
+    ghost view = { λ a. a.parts.value.components.items };
 
-    ghost invariant = { λ a. a.components.value.items ≢ [] };
+    ghost invariant = { λ a. a.parts.value.components.items ≢ [] };
 }
 
 impl InternalName {
+    // The name of these identifiers.
+    fn of_components(
+        alloc: Global,
+        components: Vec<Id>,
+        loc: Option<Loc>,
+    ) -> Result<InternalName, AllocError>
+        requires { components.items ≢ [] }
+        ensures { IfOk result (λ name. name ≡ components.items) }
+    {
+        let parts = Rc::new(alloc, Parts { components, loc })?;
+        Ok(InternalName { parts })
+    }
+
     /// The name `path::basename`; refused for memory alone.
     pub fn new(
         alloc: Global,
@@ -60,10 +77,7 @@ impl InternalName {
     {
         let mut components = path;
         components.push(basename)?;
-        Ok(InternalName {
-            components: Rc::new(alloc, components)?,
-            loc,
-        })
+        InternalName::of_components(alloc, components, loc)
     }
 
     /// The name without a namespace; refused for memory alone.
@@ -82,14 +96,14 @@ impl InternalName {
         ensures basename { result.now ≡ basename_of self.now }
         ensures last { self.now ≡ namespace_of self.now ++ result.now ∷ [] }
     {
-        &self.components[self.components.len() - 1]
+        &self.parts.components[self.parts.components.len() - 1]
     }
 
     /// The identifiers of the namespace, from the outermost.
     pub fn namespace_components(&self) -> Iter<'_, Id>
         ensures { iter_rest result ≡ namespace_of self.now }
     {
-        self.components[..self.components.len() - 1].iter()
+        self.parts.components[..self.parts.components.len() - 1].iter()
     }
 
     /// All identifiers, the basename last.
@@ -97,26 +111,26 @@ impl InternalName {
         ensures components { result.now ≡ self.now }
         ensures some { self.now ≢ [] }
     {
-        self.components.as_slice()
+        self.parts.components.as_slice()
     }
 
     /// Whether it has no namespace.
     pub fn is_unqualified(&self) -> bool
         ensures { result ≡ is_unqualified self.now }
     {
-        self.components.len() == 1
+        self.parts.components.len() == 1
     }
 
     /// Whether one of its identifiers is `__cedar`.
     pub fn is_reserved(&self) -> bool
         ensures { result ≡ is_reserved_name self.now }
     {
-        self.components.iter().any(|id| id.is_reserved())
+        self.parts.components.iter().any(|id| id.is_reserved())
     }
 
     /// Where it was written, if that is known.
     pub fn loc(&self) -> Option<&Loc> {
-        self.loc.as_ref()
+        self.parts.loc.as_ref()
     }
 
     /// The reserved namespace, `__cedar`; refused for memory alone.
@@ -152,7 +166,7 @@ impl InternalName {
         ensures { IfOk result (λ text. string_bytes text ≡ name_text (namespace_of self.now)) }
     {
         let path = Joined {
-            ids: &self.components[..self.components.len() - 1],
+            ids: &self.parts.components[..self.parts.components.len() - 1],
         };
         path.to_string(alloc)
     }
@@ -170,7 +184,7 @@ impl InternalName {
             Some(namespace) if self.is_unqualified() => {
                 let path = copied(alloc, namespace.components())?;
                 let basename = self.basename().clone(alloc)?;
-                InternalName::new(alloc, basename, path, Clone::clone(&self.loc)?)
+                InternalName::new(alloc, basename, path, Clone::clone(&self.parts.loc)?)
             }
             _ => self.clone(alloc),
         }
@@ -190,7 +204,7 @@ impl InternalName {
         }
     }
 
-    /// The same name, written at `loc`; refused for memory alone.
+    /// The same name, written at `loc`, which shares the texts of the identifiers; refused for memory alone.
     pub fn with_loc(&self, alloc: Global, loc: Option<&Loc>) -> Result<InternalName, AllocError>
         ensures { IfOk result (λ name. name ≡ self.now) }
     {
@@ -198,10 +212,7 @@ impl InternalName {
             Some(loc) => Some(loc.clone(alloc)?),
             None => None,
         };
-        Ok(InternalName {
-            components: self.components.clone()?,
-            loc,
-        })
+        InternalName::of_components(alloc, copied(alloc, self.components())?, loc)
     }
 
     /// A copy that shares the identifiers; refused for memory alone.
@@ -228,8 +239,7 @@ impl Clone for InternalName {
 
     fn clone(&self) -> Result<InternalName, AllocError> {
         Ok(InternalName {
-            components: self.components.clone()?,
-            loc: self.loc.clone()?,
+            parts: self.parts.clone()?,
         })
     }
 }
@@ -243,7 +253,7 @@ impl PartialEq for InternalName {
     ghost laws = { same_name_partial_equiv };
 
     fn eq(&self, other: &InternalName) -> bool {
-        self.components == other.components
+        self.parts.components == other.parts.components
     }
 }
 
@@ -282,7 +292,7 @@ impl Ord for InternalName {
     ghost matches_eq = { name_cmp_ties };
 
     fn cmp(&self, other: &InternalName) -> Ordering {
-        self.components.cmp(&other.components)
+        self.parts.components.cmp(&other.parts.components)
     }
 }
 
@@ -295,7 +305,7 @@ impl Hash for InternalName {
     ghost respects_eq = { name_hash_alike.fed };
 
     fn hash<H: Hasher>(&self, state: &mut H) {
-        self.components.hash(state);
+        self.parts.components.hash(state);
     }
 }
 
