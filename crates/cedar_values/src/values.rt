@@ -20,15 +20,22 @@ mod uids;
 /// A value, and where it was written, if that is known. Contracts see the value, as the language has
 /// it, and no place; so do `==`, order and hash. (Cedar language reference, "Data types".)
 #[cycle(value)]
-#[derive(Debug, Drop)]
+#[derive(Debug)]
 pub struct Value {
     value: ValueKind,
     loc: Option<Loc>,
 }
 
+impl Drop for Value {
+    #[cycle(value)]
+    fn drop(self) {
+        let Value { value: _, loc: _ } = self;
+    }
+}
+
 /// What a value is. Contracts see it through `value_of`.
 #[cycle(value)]
-#[derive(Debug, Drop)]
+#[derive(Debug)]
 pub enum ValueKind {
     /// A Boolean, a long, a text or an entity.
     Lit(Literal),
@@ -40,12 +47,31 @@ pub enum ValueKind {
     ExtensionValue(Rc<RepresentableExtensionValue>),
 }
 
+impl Drop for ValueKind {
+    #[cycle(value)]
+    fn drop(self) {
+        match self {
+            ValueKind::Lit(_) => {}
+            ValueKind::Set(_) => {}
+            ValueKind::Record(_fields) => {}
+            ValueKind::ExtensionValue(_) => {}
+        }
+    }
+}
+
 /// A finite set of values. Contracts see its members, each below the next in the order of values: so
 /// two sets are one exactly where they have the same members.
 #[cycle(value)]
-#[derive(Debug, Drop)]
+#[derive(Debug)]
 pub struct Set {
     authoritative: Rc<Vec<Value>>,
+}
+
+impl Drop for Set {
+    #[cycle(value)]
+    fn drop(self) {
+        let Set { authoritative: _ } = self;
+    }
 }
 
 impl Model for Value {
@@ -106,10 +132,8 @@ impl Value {
     pub fn with_maybe_source_loc(self, loc: Option<Loc>) -> Value
         ensures { result ≡ self }
     {
-        Value {
-            value: self.value,
-            loc,
-        }
+        let Value { value, loc: _ } = self;
+        Value { value, loc }
     }
 
     /// Which kind of value it is, and what it holds: a literal, a set by its members, a record by its

@@ -26,6 +26,3 @@ loop-key-preserved c = more (goal.at.loop-key-preserved c).In_ok-insert
 
 pub loop-key-preserved-in_ok-insert : goal.loop-key-preserved-in_ok-insert
 loop-key-preserved-in_ok-insert c = more (goal.at.loop-key-preserved-in_ok-insert c).In_ok-insert
-
-pub loop-key-preserved-in_ok-insert-2 : goal.loop-key-preserved-in_ok-insert-2
-loop-key-preserved-in_ok-insert-2 c = more (goal.at.loop-key-preserved-in_ok-insert-2 c).In_ok-insert
