@@ -49,15 +49,6 @@ read_entries-loop-key-preserved t c =
       read_next _ _ _ _ _ _ _ c.loop-key.invariant.3 (ap (λ es. map (λ e. e.1) (bare_entries es)) c.in-Some.ensures.steps) c.in_ok-value.ensures (ap (map (λ e. e.1)) put ∙ map-append (λ e. e.1) c.loop-key.fields.entries ((c.in_ok-clone.field-0, c.in_ok-value.value) ∷ [])),
     )
 
-pub read_entries-loop-key-preserved-in_ok-insert-2 : goal.read_entries-loop-key-preserved-in_ok-insert-2
-read_entries-loop-key-preserved-in_ok-insert-2 t c =
-    let put = put_next c.loop-key.fields.entries c.insert.new.self.entries c.loop-key.key-iterator c.next.new.self c.args.entries.now.entries c.in_ok-clone.field-0 c.in-Some.key.now c.in_ok-value.value c.in-Some.expr.now c.in_ok-insert.ensures.entries c.in_ok-clone.ensures.cases c.loop-key.invariant.2 c.in-Some.ensures.steps c.into_iter-key-iterator.ensures.into_iter_gives.5 in (
-      tt,
-      tt,
-      texts_next c.loop-key.fields.entries c.insert.new.self.entries c.loop-key.key-iterator c.next.new.self c.args.entries.now.entries c.in_ok-clone.field-0 c.in-Some.key.now c.in_ok-value.value c.in-Some.expr.now put c.in_ok-clone.ensures.cases c.loop-key.invariant.2 c.in-Some.ensures.steps,
-      read_next _ _ _ _ _ _ _ c.loop-key.invariant.3 (ap (λ es. map (λ e. e.1) (bare_entries es)) c.in-Some.ensures.steps) c.in_ok-value.ensures (ap (map (λ e. e.1)) put ∙ map-append (λ e. e.1) c.loop-key.fields.entries ((c.in_ok-clone.field-0, c.in_ok-value.value) ∷ [])),
-    )
-
 pub read_entries-returns-clause-values : goal.read_entries-returns-clause-values
 read_entries-returns-clause-values t c = read_end _ _ _ c.loop-key.invariant.3 (ap (λ es. map (λ e. e.1) (bare_entries es)) c.in-None.ensures.steps.0)
 
