@@ -1,5 +1,5 @@
 -- Uids that an edit touches are gathered, and cut, in turn.
-use Rattle.std.proofs.Common.{◌≡◌, Bool, true, false, ◌||◌, List, [], ◌∷◌, ◌++◌, Option, None, Some, cond, option_map, is_some, refl, sym, ap, subst, ◌∙◌, true≢false, Result, Ok, Err, OnOk, OnErr}
+use Rattle.std.proofs.Common.{◌≡◌, Bool, true, false, ◌||◌, List, [], ◌∷◌, ◌++◌, Option, None, Some, cond, option_map, is_some, refl, sym, ap, subst, ◌∙◌, true≢false}
 use Rattle.std.specs.Option.{option_map_or, IsSome}
 use Rattle.std.specs.FinSet as set
 use Rattle.std.specs.HashMap.{HashMap}
@@ -256,11 +256,6 @@ module _ {S : Type 0} (m n : HashMap Uid EntityData S) (at : Uid) where
   written_there e w is here uid =
       ap (λ es. lookup (same_uid uid) es) is
       ∙ lookup-set_value same_uid_equiv (same_uid at) (λ x y t. ap (λ u. same_uid u y) (uid_is at x t)) uid w m.entries (ap is_some (sym here))
-
--- the entity keeps its uid, whether it is cut or not
-pub uid_stays : {E : Type 0} (g : UidSet) (e w : EntityData) (r : Result (Unit {0}) E) → OnOk r (w ≡ without g e) → OnErr r (w ≡ e) → w.uid ≡ e.uid
-uid_stays g e w (Ok done) h k = ap (λ (x : EntityData). x.uid) h
-uid_stays g e w (Err error) h k = ap (λ (x : EntityData). x.uid) k
 
 module _ {S : Type 0} (m n : HashMap Uid EntityData S) (at : Uid) (g : UidSet) where
   pub cut_there : (e w : EntityData) → n.entries ≡ set_value (same_uid at) m.entries w → Some e ≡ in_map m at → w ≡ without g e → (uid : Uid) → in_map n uid ≡ cond (same_uid at uid) (option_map (without g) (in_map m uid)) (in_map m uid)

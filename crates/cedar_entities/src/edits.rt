@@ -104,14 +104,13 @@ fn cut_one(
     map: &mut HashMap<EntityUID, Entity>,
     at: &EntityUID,
     uids: &HashSet<EntityUID>,
-) -> Result<(), AllocError>
+)
     ensures beside { IsSameBeside (λ q. same_uid q at.now) (in_map map.old) (in_map map.new) }
-    ensures cut { OnOk result ((uid : Uid) → in_map map.new uid
-        ≡ cond (same_uid at.now uid) (option_map (without (set.from_list {R = uid_cmp} uids.now.keys)) (in_map map.old uid)) (in_map map.old uid)) }
+    ensures cut { (uid : Uid) → in_map map.new uid
+        ≡ cond (same_uid at.now uid) (option_map (without (set.from_list {R = uid_cmp} uids.now.keys)) (in_map map.old uid)) (in_map map.old uid) }
 {
-    match map.get_mut(at) {
-        Some(entity) => entity.remove_ancestors(uids),
-        None => Ok(()),
+    if let Some(entity) = map.get_mut(at) {
+        entity.remove_ancestors(uids);
     }
 }
 
@@ -120,15 +119,14 @@ pub(crate) fn cut_all(
     map: &mut HashMap<EntityUID, Entity>,
     touched: &[EntityUID],
     uids: &HashSet<EntityUID>,
-) -> Result<(), AllocError>
+)
     requires { Covers (in_map map.old) uids.now.keys touched.now }
     ensures beside { IsSameBeside (among touched.now) (in_map map.old) (in_map map.new) }
-    ensures cut { OnOk result ((uid : Uid) → in_map map.new uid ≡ option_map (without (set.from_list {R = uid_cmp} uids.now.keys)) (in_map map.old uid)) }
+    ensures cut { (uid : Uid) → in_map map.new uid ≡ option_map (without (set.from_list {R = uid_cmp} uids.now.keys)) (in_map map.old uid) }
 {
     for at in touched {
-        cut_one(map, at, uids)?;
+        cut_one(map, at, uids);
     }
-    Ok(())
 }
 
 /// Takes the entities of these uids away, and the uids from the ancestors of those that stay: of those touched, none
@@ -137,11 +135,10 @@ pub(crate) fn remove_all(
     map: &mut HashMap<EntityUID, Entity>,
     touched: &[EntityUID],
     uids: &HashSet<EntityUID>,
-) -> Result<(), AllocError>
+)
     requires { Covers (in_map map.old) uids.now.keys touched.now }
-    ensures { OnOk result ((uid : Uid) → in_map map.new uid ≡ removed_from (in_map map.old) (set.from_list {R = uid_cmp} uids.now.keys) uid) }
+    ensures { (uid : Uid) → in_map map.new uid ≡ removed_from (in_map map.old) (set.from_list {R = uid_cmp} uids.now.keys) uid }
 {
-    cut_all(map, touched, uids)?;
+    cut_all(map, touched, uids);
     drop_all(map, uids);
-    Ok(())
 }

@@ -355,7 +355,7 @@ impl Clone for Entity {
 // ---- changes
 
 impl Entity {
-    /// A copy that shares attributes, tags and the lists of ancestors; refused for memory alone.
+    /// A copy that shares attributes and tags; refused for memory alone.
     pub fn clone(&self, _alloc: Global) -> Result<Entity, AllocError>
         ensures { IfOk result (λ copy. copy ≡ self.now) }
     {
@@ -397,41 +397,31 @@ impl Entity {
         }) }
         ensures err { OnErr result (self.new ≡ self.old) }
     {
-        let mut indirect_ancestors = Clone::clone(&self.indirect_ancestors)?;
-        indirect_ancestors.remove(&uid)?;
-        self.parents.insert(uid)?;
-        self.indirect_ancestors = indirect_ancestors;
+        self.parents.insert(Clone::clone(&uid)?)?;
+        self.indirect_ancestors.remove(&uid);
         Ok(())
     }
 
-    /// Takes away an ancestor that is kept beside the parents, if it is one. Refused for memory alone; the entity
-    /// is then unchanged.
-    pub fn remove_indirect_ancestor(&mut self, uid: &EntityUID) -> Result<(), AllocError>
-        ensures removed { OnOk result (self.new ≡ record self.old { indirect = set.remove self.old.indirect uid.now }) }
-        ensures err { OnErr result (self.new ≡ self.old) }
+    /// Takes away an ancestor that is kept beside the parents, if it is one.
+    pub fn remove_indirect_ancestor(&mut self, uid: &EntityUID)
+        ensures { self.new ≡ record self.old { indirect = set.remove self.old.indirect uid.now } }
     {
-        self.indirect_ancestors.remove(uid)
+        self.indirect_ancestors.remove(uid);
     }
 
-    /// Takes away a parent, if it is one. Refused for memory alone; the entity is then unchanged.
-    pub fn remove_parent(&mut self, uid: &EntityUID) -> Result<(), AllocError>
-        ensures removed { OnOk result (self.new ≡ record self.old { parents = set.remove self.old.parents uid.now }) }
-        ensures err { OnErr result (self.new ≡ self.old) }
+    /// Takes away a parent, if it is one.
+    pub fn remove_parent(&mut self, uid: &EntityUID)
+        ensures { self.new ≡ record self.old { parents = set.remove self.old.parents uid.now } }
     {
-        self.parents.remove(uid)
+        self.parents.remove(uid);
     }
 
-    /// Takes these uids away from its parents and from the ancestors that are kept beside them. Refused for memory
-    /// alone; the entity is then unchanged.
-    pub fn remove_ancestors(&mut self, uids: &HashSet<EntityUID>) -> Result<(), AllocError>
-        ensures removed { OnOk result (self.new ≡ without (set.from_list uids.now.keys) self.old) }
-        ensures err { OnErr result (self.new ≡ self.old) }
+    /// Takes these uids away from its parents and from the ancestors that are kept beside them.
+    pub fn remove_ancestors(&mut self, uids: &HashSet<EntityUID>)
+        ensures { self.new ≡ without (set.from_list uids.now.keys) self.old }
     {
-        let parents = self.parents.without(uids)?;
-        let indirect_ancestors = self.indirect_ancestors.without(uids)?;
-        self.parents = parents;
-        self.indirect_ancestors = indirect_ancestors;
-        Ok(())
+        self.parents.remove_all(uids);
+        self.indirect_ancestors.remove_all(uids);
     }
 
     /// Takes away all ancestors that are kept beside the parents.

@@ -119,7 +119,7 @@ fn cut_and_close(
     ensures beside { OnErr result (IsSameBeside (among touched.now) (in_map map.old) (in_map map.new)) }
     ensures by_uid { IsByUid (in_map map.old) → IsByUid (in_map map.new) }
 {
-    cut_all(map, touched, uids)?;
+    cut_all(map, touched, uids);
     TCComputation::compute_at(alloc, map, touched)
 }
 

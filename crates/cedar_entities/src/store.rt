@@ -365,7 +365,7 @@ impl Entities {
             mode,
             is_closed,
         } = self;
-        remove_all(&mut map, &touched, uids)?;
+        remove_all(&mut map, &touched, uids);
         let stale = few(is_closed, touched, map.len());
         Entities::closed(alloc, map, mode, tc_computation, stale)
     }
@@ -424,7 +424,7 @@ impl Clone for Entities {
 impl Entities {
     ghost use Rattle.cedar_entities.specs.Store.{IsCopy};
 
-    /// A copy that shares names, attributes, tags and the lists of ancestors; refused for memory alone.
+    /// A copy that shares names, attributes and tags; refused for memory alone.
     pub fn clone(&self, _alloc: Global) -> Result<Entities, AllocError>
         ensures { IfOk result (IsCopy self.now) }
     {

@@ -26,7 +26,7 @@ fn copy_at(
     }
 }
 
-/// Copies of what stands at these uids, which share lists and attributes.
+/// Copies of what stands at these uids, which share attributes and tags.
 pub(crate) fn saved(
     alloc: Global,
     map: &HashMap<EntityUID, Entity>,

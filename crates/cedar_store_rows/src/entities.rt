@@ -157,12 +157,18 @@ pub(crate) fn edit(alloc: Global, case: &Case<'_>, entities: &mut Vec<Entity>) -
         "add-ancestor" => done(alloc, entity.add_indirect_ancestor(uid(alloc, case.one)?)),
         "add-edge" => done(alloc, entity.add_edge_to(uid(alloc, case.one)?)),
         "reset-edges" => done(alloc, entity.reset_edges()),
-        "remove-parent" => done(alloc, entity.remove_parent(&uid(alloc, case.one)?)),
-        "remove-ancestor" => done(
-            alloc,
-            entity.remove_indirect_ancestor(&uid(alloc, case.one)?),
-        ),
-        "remove-ancestors" => done(alloc, entity.remove_ancestors(&uids(alloc, case.one)?)),
+        "remove-parent" => {
+            entity.remove_parent(&uid(alloc, case.one)?);
+            text(alloc, "ok")
+        }
+        "remove-ancestor" => {
+            entity.remove_indirect_ancestor(&uid(alloc, case.one)?);
+            text(alloc, "ok")
+        }
+        "remove-ancestors" => {
+            entity.remove_ancestors(&uids(alloc, case.one)?);
+            text(alloc, "ok")
+        }
         _ => {
             let copy = entity.clone(alloc);
             push(alloc, entities, copy)

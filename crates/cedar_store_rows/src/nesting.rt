@@ -9,7 +9,7 @@ use std::alloc::Global;
 const LEVELS: u16 = 5;
 
 /// How many users there are to a group of one level.
-const USERS_TO_A_GROUP: u16 = 50;
+const USERS_TO_A_GROUP: u32 = 50;
 
 /// The uid of the entity of this number in a level; users are level 0.
 fn uid(alloc: Global, level: u16, number: u32) -> Result<EntityUID, ParseNameError> {
@@ -51,9 +51,9 @@ fn put_level(
 
 /// Puts so many users, and their groups, on the stack, and answers how many entities stand there.
 pub(crate) fn put_users(alloc: Global, word: &str, entities: &mut Vec<Entity>) -> Answer {
-    let users = word.parse::<u16>().unwrap_or(0);
-    let groups = u32::from((users / USERS_TO_A_GROUP).max(1));
-    put_level(alloc, 0, users.into(), groups, entities)?;
+    let users = word.parse::<u32>().unwrap_or(0);
+    let groups = (users / USERS_TO_A_GROUP).max(1);
+    put_level(alloc, 0, users, groups, entities)?;
     for level in 1..=LEVELS {
         put_level(alloc, level, groups, groups, entities)?;
     }

@@ -1,4 +1,4 @@
-//! Uids, each once, as one list in rising order that copies share.
+//! Uids, each once, as one list in rising order.
 #![tactic(auto)]
 
 mod iteration;

@@ -10,13 +10,12 @@ use cedar_literals::uids::EntityUID;
 use std::alloc::{AllocError, Global};
 use std::collections::HashSet;
 use std::marker::Model;
-use std::rc::RcSlice;
+use std::mem;
 
-/// Uids, each once, as one list in rising order. Copies share it, and a change makes a new list.
-/// Contracts see the set of them.
+/// Uids, each once, as one list in rising order. Contracts see the set of them.
 pub struct EntityUIDs {
     alloc: Global,
-    uids: Option<RcSlice<EntityUID>>,
+    uids: Vec<EntityUID>,
 }
 
 impl Drop for EntityUIDs {
@@ -26,19 +25,16 @@ impl Drop for EntityUIDs {
 }
 
 impl Model for EntityUIDs {
-    ghost use Rattle.std.specs.Prelude.{[]};
     ghost use Rattle.std.specs.FinSet as set;
-    ghost use Rattle.std.specs.Option.{option_map_or};
-    ghost use Rattle.std.specs.Rc.{rc_slice_items};
     ghost use Rattle.cedar_uid_lists.specs.Lists.{UidSet, uids_code, IsKept};
 
     ghost Value = { UidSet };
 
     ghost coded = { uids_code };
 
-    ghost view = { λ a. set.from_list (option_map_or rc_slice_items a.uids []) };
+    ghost view = { λ a. set.from_list a.uids.items };
 
-    ghost invariant = { λ a. IsKept (option_map_or rc_slice_items a.uids []) };
+    ghost invariant = { λ a. IsKept a.uids.items };
 }
 
 // ---- makers
@@ -48,18 +44,18 @@ impl EntityUIDs {
     pub fn new(alloc: Global) -> EntityUIDs
         ensures { result ≡ set.empty }
     {
-        EntityUIDs { alloc, uids: None }
+        EntityUIDs {
+            alloc,
+            uids: Vec::new(alloc),
+        }
     }
 
     // The uids of a list that rises.
-    fn of_rising(alloc: Global, uids: Vec<EntityUID>) -> Result<EntityUIDs, AllocError>
+    fn of_rising(alloc: Global, uids: Vec<EntityUID>) -> EntityUIDs
         requires { AreRising uids.items }
-        ensures { IfOk result (λ made. made ≡ set.from_list uids.items) }
+        ensures { result ≡ set.from_list uids.items }
     {
-        Ok(EntityUIDs {
-            alloc,
-            uids: Some(RcSlice::from_vec(uids)?),
-        })
+        EntityUIDs { alloc, uids }
     }
 
     /// The uids of a list, in any order and any number of times. It is sorted once; refused for memory alone.
@@ -69,7 +65,7 @@ impl EntityUIDs {
         let mut uids = uids;
         uids.sort()?;
         uids.dedup();
-        EntityUIDs::of_rising(alloc, uids)
+        Ok(EntityUIDs::of_rising(alloc, uids))
     }
 
     /// The uids of a set; refused for memory alone.
@@ -96,10 +92,7 @@ impl EntityUIDs {
         ensures listed { set.from_list result.now ≡ self.now }
         ensures small { length result.now < 2 ^ 63 }
     {
-        match &self.uids {
-            Some(uids) => uids.as_slice(),
-            None => &[],
-        }
+        self.uids.as_slice()
     }
 
     /// Whether the uid is one of them: a binary search.
@@ -159,17 +152,15 @@ impl Clone for EntityUIDs {
     ghost is_clone = { λ uids copy. copy ≡ uids };
 
     fn clone(&self) -> Result<EntityUIDs, AllocError> {
-        Ok(EntityUIDs {
-            alloc: self.alloc,
-            uids: self.uids.clone()?,
-        })
+        let uids = Vec::from_clones(self.alloc, self.as_slice())?;
+        Ok(EntityUIDs::of_rising(self.alloc, uids))
     }
 }
 
 // ---- changes
 
 impl EntityUIDs {
-    /// A copy that shares the list; refused for memory alone.
+    /// A copy, whose uids share their parts; refused for memory alone.
     pub fn clone(&self, _alloc: Global) -> Result<EntityUIDs, AllocError>
         ensures { IfOk result (λ copy. copy ≡ self.now) }
     {
@@ -198,35 +189,50 @@ impl EntityUIDs {
         self.extend(uids)
     }
 
-    /// Those that aren't in the set; a copy, where none of them is. Refused for memory alone.
-    pub fn without(&self, gone: &HashSet<EntityUID>) -> Result<EntityUIDs, AllocError>
-        ensures { IfOk result (λ left. left ≡ set.difference self.now (set.from_list gone.now.keys)) }
+    // The uids, each below the next.
+    fn into_vec(self) -> Vec<EntityUID>
+        ensures rising { AreRising result.items }
+        ensures listed { set.from_list result.items ≡ self }
     {
-        if !self.meets(gone) {
-            return self.clone(self.alloc);
+        let EntityUIDs { alloc: _, uids } = self;
+        uids
+    }
+
+    // The same; none stay here.
+    fn take(&mut self) -> Vec<EntityUID>
+        ensures rising { AreRising result.items }
+        ensures listed { set.from_list result.items ≡ self.old }
+    {
+        let none = EntityUIDs::new(self.alloc);
+        mem::replace(self, none).into_vec()
+    }
+
+    /// Takes the uids of a set away.
+    pub fn remove_all(&mut self, gone: &HashSet<EntityUID>)
+        ensures { self.new ≡ set.difference self.old (set.from_list gone.now.keys) }
+    {
+        if self.meets(gone) {
+            self.cut(gone);
         }
-        self.cut(gone)
     }
 
-    fn cut(&self, gone: &HashSet<EntityUID>) -> Result<EntityUIDs, AllocError>
-        ensures { IfOk result (λ left. left ≡ set.difference self.now (set.from_list gone.now.keys)) }
+    fn cut(&mut self, gone: &HashSet<EntityUID>)
+        ensures { self.new ≡ set.difference self.old (set.from_list gone.now.keys) }
     {
-        let mut left = Vec::from_clones(self.alloc, self.as_slice())?;
+        let mut left = self.take();
         left.retain(|uid| !gone.contains(uid));
-        EntityUIDs::of_rising(self.alloc, left)
+        *self = EntityUIDs::of_rising(self.alloc, left);
     }
 
-    /// Takes a uid away, if it is one of them. Refused for memory alone; nothing is then changed.
-    pub fn remove(&mut self, uid: &EntityUID) -> Result<(), AllocError>
-        ensures removed { OnOk result (self.new ≡ set.remove self.old uid.now) }
-        ensures err { OnErr result (self.new ≡ self.old) }
+    /// Takes a uid away, if it is one of them.
+    pub fn remove(&mut self, uid: &EntityUID)
+        ensures { self.new ≡ set.remove self.old uid.now }
     {
         if self.contains(uid) {
-            let mut left = Vec::from_clones(self.alloc, self.as_slice())?;
+            let mut left = self.take();
             left.retain(|kept| kept != uid);
-            *self = EntityUIDs::of_rising(self.alloc, left)?;
+            *self = EntityUIDs::of_rising(self.alloc, left);
         }
-        Ok(())
     }
 
     /// Takes all uids away.

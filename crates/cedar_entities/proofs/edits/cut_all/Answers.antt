@@ -25,7 +25,7 @@ loop-at-preserved c =
     let before = in_map c.args.map.now in
     let now = in_map c.loop-at.map in
     let next = in_map c.cut_one.new.map in (
-      cutting_goes_on before c.args.uids.now.keys now next (drop i touched) (drop (i + 1) touched) x step c.in_ok-cut_one.ensures.cut c.loop-at.invariant.0,
+      cutting_goes_on before c.args.uids.now.keys now next (drop i touched) (drop (i + 1) touched) x step c.cut_one.ensures.cut c.loop-at.invariant.0,
       passing_goes_on (λ u. u) before now next touched (drop i touched) (drop (i + 1) touched) x step c.cut_one.ensures.beside c.loop-at.invariant.1,
     )
 
@@ -36,12 +36,3 @@ returns-clause-cut c = λ uid.
 
 pub returns-clause-beside : goal.returns-clause-beside
 returns-clause-beside c = c.loop-at.invariant.1.beside
-
-pub returns-in_err-cut_one-clause-beside : goal.returns-in_err-cut_one-clause-beside
-returns-in_err-cut_one-clause-beside c =
-    let touched = c.args.touched.now in
-    let i = c.loop-at.at-index in
-    let x = c.at-item.result in
-    let here : c.loop-at.at-index < length c.args.touched.now = omega arith in
-    let step : drop i touched ≡ x ∷ drop (i + 1) touched = drop_more touched i x here ∙ ap (λ y. y ∷ drop (i + 1) touched) (sym c.at-item.is) in
-    (passing_goes_on (λ u. u) (in_map c.args.map.now) (in_map c.loop-at.map) (in_map c.cut_one.new.map) touched (drop i touched) (drop (i + 1) touched) x step c.cut_one.ensures.beside c.loop-at.invariant.1).beside

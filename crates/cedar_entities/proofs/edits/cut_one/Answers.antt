@@ -1,19 +1,17 @@
 -- One value of the map is changed, or none (Gathering, Beside).
-use Rattle.std.proofs.lemmas.Result.{on_ok_weaker}
 use Rattle.std.proofs.Common.{ap}
 use Rattle.std.specs.FinSet as set
 use Rattle.cedar_language.specs.Order.{same_uid}
+use Rattle.cedar_entities.specs.Data.{EntityData}
 use Rattle.cedar_entities.specs.Kept.{in_map}
 use Rattle.cedar_entities.proofs.Beside.{beside_written, beside_same}
-use Rattle.cedar_entities.proofs.Gathering.{written_there, uid_stays, cut_there, cut_nowhere}
+use Rattle.cedar_entities.proofs.Gathering.{written_there, cut_there, cut_nowhere}
 use Rattle.cedar_entities.proofs.edits.cut_one.Goals as goal
 
 pub returns-in-Some-clause-cut : goal.returns-in-Some-clause-cut
 returns-in-Some-clause-cut c =
     let w = c.remove_ancestors.new.self in
-    on_ok_weaker c.remove_ancestors.result
-    (λ removed. cut_there c.args.map.now (c.get_mut.follows.lender w) c.args.at.now (set.from_list c.args.uids.now.keys) c.in-Some.entity.now w (c.get_mut.follows.holds w).0 c.in-Some.ensures.value removed)
-    c.remove_ancestors.ensures.removed
+    cut_there c.args.map.now (c.get_mut.follows.lender w) c.args.at.now (set.from_list c.args.uids.now.keys) c.in-Some.entity.now w (c.get_mut.follows.holds w).0 c.in-Some.ensures.value c.remove_ancestors.ensures
 
 pub returns-in-Some-clause-beside : goal.returns-in-Some-clause-beside
 returns-in-Some-clause-beside c =
@@ -21,11 +19,11 @@ returns-in-Some-clause-beside c =
     let m = c.args.map.now in
     let n = c.get_mut.follows.lender w in
     beside_written (in_map m) (in_map n) c.args.at.now c.in-Some.entity.now w c.in-Some.ensures.value
-    (uid_stays (set.from_list c.args.uids.now.keys) c.in-Some.entity.now w c.remove_ancestors.result c.remove_ancestors.ensures.removed c.remove_ancestors.ensures.err)
+    (ap (λ (e : EntityData). e.uid) c.remove_ancestors.ensures)
     (written_there m n c.args.at.now c.in-Some.entity.now w (c.get_mut.follows.holds w).0 c.in-Some.ensures.value)
 
-pub returns-in-None-clause-cut : goal.returns-in-None-clause-cut
-returns-in-None-clause-cut c = cut_nowhere c.args.map.now c.get_mut.follows.lender-at-none c.args.at.now (set.from_list c.args.uids.now.keys) c.get_mut.follows.holds-at-none c.in-None.ensures.value
+pub returns-else-Some-clause-cut : goal.returns-else-Some-clause-cut
+returns-else-Some-clause-cut c = cut_nowhere c.args.map.now c.get_mut.follows.lender-at-none c.args.at.now (set.from_list c.args.uids.now.keys) c.get_mut.follows.holds-at-none c.else-Some.ensures.value
 
-pub returns-in-None-clause-beside : goal.returns-in-None-clause-beside
-returns-in-None-clause-beside c = beside_same (λ q. same_uid q c.args.at.now) (in_map c.args.map.now) (in_map c.get_mut.follows.lender-at-none) (λ uid. ap (λ m. in_map m uid) c.get_mut.follows.holds-at-none)
+pub returns-else-Some-clause-beside : goal.returns-else-Some-clause-beside
+returns-else-Some-clause-beside c = beside_same (λ q. same_uid q c.args.at.now) (in_map c.args.map.now) (in_map c.get_mut.follows.lender-at-none) (λ uid. ap (λ m. in_map m uid) c.get_mut.follows.holds-at-none)

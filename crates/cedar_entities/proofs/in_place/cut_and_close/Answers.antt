@@ -8,22 +8,22 @@ use Rattle.cedar_entities.specs.declared.closing.TCComputation.TheVariants.{Comp
 use Rattle.cedar_entities.proofs.Beside.{beside_through}
 use Rattle.cedar_entities.proofs.Dropping.{acyclic_cut}
 use Rattle.cedar_entities.proofs.InPlace.{acyclic_refused}
-use Rattle.cedar_entities.proofs.Passing.{on_err, err_weaker}
+use Rattle.cedar_entities.proofs.Passing.{err_weaker}
 use Rattle.cedar_entities.proofs.Untouched.{cut_beside}
 use Rattle.cedar_entities.proofs.in_place.cut_and_close.Goals as goal
 
 pub compute_at-requires : goal.compute_at-requires
-compute_at-requires c = cut_beside (in_map c.args.map.now) (in_map c.cut_all.new.map) c.args.uids.now.keys c.args.touched.now c.requires.closed c.requires.covers c.in_ok-cut_all.ensures.cut
+compute_at-requires c = cut_beside (in_map c.args.map.now) (in_map c.cut_all.new.map) c.args.uids.now.keys c.args.touched.now c.requires.closed c.requires.covers c.cut_all.ensures.cut
 
 pub returns-clause-edited : goal.returns-clause-edited
-returns-clause-edited c = subst (λ f. OnOk c.compute_at.result (IsComputed f (in_map c.compute_at.new.entities))) (λ i uid. c.in_ok-cut_all.ensures.cut uid i) c.compute_at.ensures.computed
+returns-clause-edited c = subst (λ f. OnOk c.compute_at.result (IsComputed f (in_map c.compute_at.new.entities))) (λ i uid. c.cut_all.ensures.cut uid i) c.compute_at.ensures.computed
 
 pub returns-clause-refused : goal.returns-clause-refused
 returns-clause-refused c =
     let old = in_map c.args.map.now in
     let gone = set.from_list c.args.uids.now.keys in
     acyclic_refused (cut_from old gone) (acyclic_cut old gone c.requires.closed.acyclic) c.compute_at.result
-    (subst (λ f. IfErr c.compute_at.result (IsClosureRefusal ComputeNow f)) (λ i uid. c.in_ok-cut_all.ensures.cut uid i) c.compute_at.ensures.refused)
+    (subst (λ f. IfErr c.compute_at.result (IsClosureRefusal ComputeNow f)) (λ i uid. c.cut_all.ensures.cut uid i) c.compute_at.ensures.refused)
 
 pub returns-clause-beside : goal.returns-clause-beside
 returns-clause-beside c =
@@ -31,9 +31,3 @@ returns-clause-beside c =
 
 pub returns-clause-by_uid : goal.returns-clause-by_uid
 returns-clause-by_uid c = λ by. c.compute_at.ensures.by_uid (c.cut_all.ensures.beside.by_uid by)
-
-pub returns-in_err-cut_all-clause-beside : goal.returns-in_err-cut_all-clause-beside
-returns-in_err-cut_all-clause-beside c = on_err c.from_residual.result c.cut_all.ensures.beside
-
-pub returns-in_err-cut_all-clause-by_uid : goal.returns-in_err-cut_all-clause-by_uid
-returns-in_err-cut_all-clause-by_uid c = c.cut_all.ensures.beside.by_uid

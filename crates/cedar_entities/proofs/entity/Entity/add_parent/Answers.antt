@@ -7,5 +7,5 @@ use Rattle.cedar_entities.proofs.entity.Entity.add_parent.Goals as goal
 pub returns-clause-added : goal.returns-clause-added
 returns-clause-added c =
     both_are _ c.args.self.now (λ s. set.insert s c.args.uid) (λ s. set.remove s c.args.uid) c.insert.new.self c.remove.new.self c.self.view_is
-    c.in_ok-insert.ensures.added
-    (c.in_ok-remove.ensures.removed ∙ ap (λ s. set.remove s c.args.uid) c.in_ok-indirect_ancestors.ensures.cases)
+    (c.in_ok-insert.ensures.added ∙ ap (λ u. set.insert c.self.inside.parents u) c.in_ok-clone.ensures.cases)
+    c.remove.ensures

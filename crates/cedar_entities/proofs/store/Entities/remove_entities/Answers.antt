@@ -12,7 +12,7 @@ use Rattle.cedar_entities.proofs.Edited.{leaves, only_memory}
 use Rattle.cedar_entities.proofs.store.Entities.remove_entities.Goals as goal
 
 pub closed-requires-clause-by_uid : goal.closed-requires-clause-by_uid
-closed-requires-clause-by_uid c = by_uid_along _ (in_map c.remove_all.new.map) c.in_ok-remove_all.ensures (removed_by_uid (found_in c.args.self) (set.from_list c.args.uids.now.keys) c.args.self.by_uid)
+closed-requires-clause-by_uid c = by_uid_along _ (in_map c.remove_all.new.map) c.remove_all.ensures (removed_by_uid (found_in c.args.self) (set.from_list c.args.uids.now.keys) c.args.self.by_uid)
 
 pub remove_all-requires : goal.remove_all-requires
 remove_all-requires c = subst (Covers (found_in c.args.self) c.args.uids.now.keys) (sym c.deref.ensures.value) c.in_ok-touched.ensures
@@ -23,10 +23,10 @@ closed-requires-clause-stale c =
     let gone = c.args.uids.now.keys in
     remove_stale (λ v. v.items) found (in_map c.remove_all.new.map) c.few-stale.result gone
     (some_weaker _ _ (λ some h. (kept_of_whole found (c.args.self.closed h.0), subst (Covers found gone) (sym h.1) c.in_ok-touched.ensures)) c.few-stale.result c.few-stale.ensures)
-    c.in_ok-remove_all.ensures
+    c.remove_all.ensures
 
 pub returns-clause-edited : goal.returns-clause-edited
-returns-clause-edited c = subst (λ f. Edits c.args.tc_computation f c.closed.result) (λ i uid. c.in_ok-remove_all.ensures uid i) c.closed.ensures.edited
+returns-clause-edited c = subst (λ f. Edits c.args.tc_computation f c.closed.result) (λ i uid. c.remove_all.ensures uid i) c.closed.ensures.edited
 
 pub returns-clause-removed : goal.returns-clause-removed
 returns-clause-removed c = λ now.

@@ -1,8 +1,6 @@
 -- A sorted list without doubles rises, and holds what it held (Listed).
-use Rattle.std.proofs.Common.{◌≡◌, ◌∙◌}
-use Rattle.std.specs.FinSet as set
+use Rattle.std.proofs.Common.{◌∙◌}
 use Rattle.std.proofs.lemmas.List.Filters.{dedup_is}
-use Rattle.std.proofs.lemmas.Result.{IfOk-weaker}
 use Rattle.cedar_language.specs.Order.{same_uid}
 use Rattle.cedar_uid_lists.proofs.Listed.{sorted_set, sorted_rises}
 use Rattle.cedar_uid_lists.proofs.uid_lists.EntityUIDs.from_vec.Goals as goal
@@ -17,6 +15,4 @@ pub returns : goal.returns
 returns c =
     let sorted = c.sort.new.self.items in
     let left = c.dedup.new.self.items in
-    IfOk-weaker c.of_rising.result (λ made. made ≡ set.from_list left) (λ made. made ≡ set.from_list c.args.uids.items)
-    (λ made is. is ∙ sorted_set c.args.uids.items sorted left c.in_ok-sort.ensures.permutation (dedup_is same_uid sorted left c.dedup.ensures.filtered))
-    c.of_rising.ensures
+    c.of_rising.ensures ∙ sorted_set c.args.uids.items sorted left c.in_ok-sort.ensures.permutation (dedup_is same_uid sorted left c.dedup.ensures.filtered)

@@ -1,7 +1,6 @@
 -- Filtering a list that rises leaves one that rises; a uid that isn't there leaves all.
-use Rattle.std.proofs.Common.{rules, ◌≡◌, not, sym, ap, subst, ◌∙◌}
+use Rattle.std.proofs.Common.{rules, not, sym, ap, subst, ◌∙◌}
 use Rattle.std.specs.FinSet as set
-use Rattle.std.specs.List.{filter}
 use Rattle.std.proofs.lemmas.Fn.{filter_same}
 use Rattle.std.proofs.lemmas.List.Kept.{IsStrictlySortedBy-filter}
 use Rattle.cedar_language.specs.Uid.{Uid}
@@ -13,19 +12,17 @@ use Rattle.cedar_uid_lists.proofs.uid_lists.EntityUIDs.remove.Goals as goal
 pub of_rising-requires : goal.of_rising-requires
 of_rising-requires c =
     let k = c.args.uid.now in
-    let us = c.as_slice.result.now in
-    let copied : c.in_ok-left.left.items ≡ us = c.in_ok-left.ensures.items_if_clones_equal (λ x y e. e) in
-    let kept = filter_same _ (λ (u : Uid). not (same_uid u k)) _ (λ x b f' t. search rules) c.in_ok-left.left.items c.retain.new.self.items c.retain.ensures.filtered in
-    subst AreRising (sym (kept ∙ ap (filter (λ u. not (same_uid u k))) copied)) (IsStrictlySortedBy-filter uid_cmp (λ u. not (same_uid u k)) us c.as_slice.ensures.rising)
+    let us = c.take-left.result.items in
+    let kept = filter_same _ (λ (u : Uid). not (same_uid u k)) _ (λ x b f' t. search rules) us c.retain.new.self.items c.retain.ensures.filtered in
+    subst AreRising (sym kept) (IsStrictlySortedBy-filter uid_cmp (λ u. not (same_uid u k)) us c.take-left.ensures.rising)
 
-pub returns-in_ok-self-inside-clause-removed : goal.returns-in_ok-self-inside-clause-removed
-returns-in_ok-self-inside-clause-removed c =
+pub returns-then-contains : goal.returns-then-contains
+returns-then-contains c =
     let k = c.args.uid.now in
-    let us = c.as_slice.result.now in
+    let us = c.take-left.result.items in
     let left = c.retain.new.self.items in
-    let copied : c.in_ok-left.left.items ≡ us = c.in_ok-left.ensures.items_if_clones_equal (λ x y e. e) in
-    let kept = filter_same _ (λ (u : Uid). not (same_uid u k)) _ (λ x b f' t. search rules) c.in_ok-left.left.items left c.retain.ensures.filtered in
-    c.drop.view_is ∙ c.in_ok-self-inside.ensures ∙ one_less us left k (kept ∙ ap (filter (λ u. not (same_uid u k))) copied) ∙ ap (λ s. set.remove s k) c.as_slice.ensures.listed
+    let kept = filter_same _ (λ (u : Uid). not (same_uid u k)) _ (λ x b f' t. search rules) us left c.retain.ensures.filtered in
+    c.drop.view_is ∙ c.of_rising.ensures ∙ one_less us left k kept ∙ ap (λ s. set.remove s k) c.take-left.ensures.listed
 
-pub returns-else-contains-clause-removed : goal.returns-else-contains-clause-removed
-returns-else-contains-clause-removed c = sym (remove_absent c.args.self.now c.args.uid.now (sym c.contains.ensures ∙ c.if-contains.false))
+pub returns-else-contains : goal.returns-else-contains
+returns-else-contains c = sym (remove_absent c.args.self.now c.args.uid.now (sym c.contains.ensures ∙ c.if-contains.false))
