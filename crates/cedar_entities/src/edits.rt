@@ -100,11 +100,7 @@ pub(crate) fn drop_all(map: &mut HashMap<EntityUID, Entity>, uids: &HashSet<Enti
 }
 
 // Takes the uids away from the ancestors of the entity at one uid.
-fn cut_one(
-    map: &mut HashMap<EntityUID, Entity>,
-    at: &EntityUID,
-    uids: &HashSet<EntityUID>,
-)
+fn cut_one(map: &mut HashMap<EntityUID, Entity>, at: &EntityUID, uids: &HashSet<EntityUID>)
     ensures beside { IsSameBeside (λ q. same_uid q at.now) (in_map map.old) (in_map map.new) }
     ensures cut { (uid : Uid) → in_map map.new uid
         ≡ cond (same_uid at.now uid) (option_map (without (set.from_list {R = uid_cmp} uids.now.keys)) (in_map map.old uid)) (in_map map.old uid) }
