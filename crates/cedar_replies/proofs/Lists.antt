@@ -1,9 +1,12 @@
 -- Lists of items, written one behind the other.
 use Rattle.std.proofs.Common.{◌≡◌, ℕ, ◌+◌, ◌<◌, Bool, List, [], ◌∷◌, ◌++◌, length, take, get_or, map, codes, Option, refl, sym, ap, subst, ◌∙◌, append_assoc, append-nil}
 use Rattle.std.proofs.lemmas.List.{take_more}
+use Rattle.cedar_frames.specs.Quoting.{escaped_all, quoted}
 use Rattle.cedar_frames.specs.Writing.{Puts}
 use Rattle.cedar_frames.proofs.Bytes.{puts_more}
+use Rattle.cedar_language.specs.Uid.{Text}
 use Rattle.cedar_world.specs.Lines.{further, listed}
+use Rattle.cedar_replies.specs.Lines.{reopened}
 
 further_more : (items : List (List ℕ)) (item : List ℕ) → further (items ++ item ∷ []) ≡ (further items ++ codes ",") ++ item
 further_more [] item = append-nil (codes "," ++ item)
@@ -40,6 +43,44 @@ items_listed f f0 f1 f2 f3 f4 a b c d e all x xs is opened first others closed =
     let begun = puts_more f0 f1 f2 a b c (codes "[") (f x) opened first in
     let filled = puts_more f0 f2 f3 a c d (codes "[" ++ f x) (further (map f xs)) begun others in
     subst (λ l. Puts f0 a f4 e (listed (map f l))) (sym is) (puts_more f0 f3 f4 a d e ((codes "[" ++ f x) ++ further (map f xs)) (codes "]") filled closed)
+
+-- ---- ids whose quotes are written together with what parts them
+
+reopened_more : (ids : List Text) (id : Text) → reopened (ids ++ id ∷ []) ≡ (reopened ids ++ codes "\",\"") ++ escaped_all id
+reopened_more [] id = append-nil (codes "\",\"" ++ escaped_all id)
+reopened_more (i ∷ ids) id =
+    ap (λ l. (codes "\",\"" ++ escaped_all i) ++ l) (reopened_more ids id)
+    ∙ sym (append_assoc (codes "\",\"" ++ escaped_all i) (reopened ids ++ codes "\",\"") (escaped_all id))
+    ∙ ap (λ l. l ++ escaped_all id) (sym (append_assoc (codes "\",\"" ++ escaped_all i) (reopened ids) (codes "\",\"")))
+
+-- one id more, behind what parts it from the one before
+pub id_more : (past : List ℕ) (ids : List Text) (i : ℕ) (id : Text) → i < length ids → id ≡ get_or ids i id
+    → ((past ++ reopened (take i ids)) ++ codes "\",\"") ++ escaped_all id ≡ past ++ reopened (take (i + 1) ids)
+id_more past ids i id h at =
+    let before = reopened (take i ids) in
+    let longer : reopened (take (i + 1) ids) ≡ (before ++ codes "\",\"") ++ escaped_all id =
+    ap reopened (take_more ids i id h ∙ ap (λ y. take i ids ++ y ∷ []) (sym at)) ∙ reopened_more (take i ids) id in
+    ap (λ l. l ++ escaped_all id) (append_assoc past before (codes "\",\""))
+    ∙ append_assoc past (before ++ codes "\",\"") (escaped_all id)
+    ∙ ap (λ l. past ++ l) (sym longer)
+
+-- a quote behind these closes them, and stands where one opened the first
+reopened_closed : (ids : List Text) → reopened ids ++ codes "\"" ≡ codes "\"" ++ further (map quoted ids)
+reopened_closed [] = refl
+reopened_closed (id ∷ ids) =
+    append_assoc (codes "\",\"" ++ escaped_all id) (reopened ids) (codes "\"")
+    ∙ ap (λ l. (codes "\",\"" ++ escaped_all id) ++ l) (reopened_closed ids)
+    ∙ ap (λ l. codes "\",\"" ++ l) (sym (append_assoc (escaped_all id) (codes "\"") (further (map quoted ids))))
+
+pub closed_is_listed : (id : Text) (ids : List Text) → ((codes "[\"" ++ escaped_all id) ++ reopened ids) ++ codes "\"]" ≡ listed (map quoted (id ∷ ids))
+closed_is_listed id ids =
+    let begun = codes "[\"" ++ escaped_all id in
+    sym (append_assoc (begun ++ reopened ids) (codes "\"") (codes "]"))
+    ∙ ap (λ l. l ++ codes "]") (
+    append_assoc begun (reopened ids) (codes "\"")
+    ∙ ap (λ l. begun ++ l) (reopened_closed ids)
+    ∙ ap (λ l. codes "[\"" ++ l) (sym (append_assoc (escaped_all id) (codes "\"") (further (map quoted ids))))
+    )
 
 -- what is written of each pair is written of each first part
 pub map_firsts : {A B : Type 0} (f : A → List ℕ) (es : List (A × B)) → map f (map (λ e. e.0) es) ≡ map (λ e. f e.0) es

@@ -1,4 +1,5 @@
 pub mod Erring
+pub mod Gathering
 pub mod Kinds
 pub mod Lines
 pub mod Refusals

@@ -4,6 +4,7 @@
 mod answer;
 mod erring;
 mod error_kind;
+mod gathering;
 mod lines;
 mod policy_ids;
 mod refusal;

@@ -1,16 +1,20 @@
 // Answer lines, put straight to the writer. They take no memory.
-ghost use Rattle.std.specs.Prelude.{◌≡◌, map};
+ghost use Rattle.std.specs.Prelude.{◌≡◌, ◌++◌, ℕ, List, map};
 ghost use Rattle.std.specs.Option.{option_map};
 ghost use Rattle.cedar_frames.specs.Writing.{Writes};
 ghost use Rattle.cedar_frames.specs.Quoting.{quoted};
+ghost use Rattle.cedar_frames.specs.declared.watched.Watched.{Watched as Device};
 ghost use Rattle.cedar_policy_parts.specs.Decisions.{decision_of};
 ghost use Rattle.cedar_world.specs.Lines.{further, listed, decision_name, answer_line, line_of};
-ghost use Rattle.cedar_replies.specs.Lines.{with_name};
+ghost use Rattle.cedar_replies.specs.Gathering.{WritesAll};
+ghost use Rattle.cedar_replies.specs.Lines.{reopened, with_name};
 ghost use Rattle.cedar_replies.specs.Replies.{answer_of, accepted, reply_of};
 
 use crate::answer::{Answer, Reply};
 use crate::error_kind::ErrorKind;
+use crate::gathering::{ROOM, gather, gather_escaped, put_gathered};
 use crate::refusal::Refusal;
+use arrayvec::ArrayString;
 use cedar_frames::{Watched, put, put_quoted};
 use cedar_policy_parts::{Decision, PolicyID};
 use std::io::Write;
@@ -26,13 +30,17 @@ fn decision_text(decision: Option<Decision>) -> &'static str
     }
 }
 
-/// Writes each id behind a comma.
-fn put_more_ids<W: Write>(writer: &mut Watched<W>, ids: &[PolicyID])
-    ensures { Writes W.contents writer.old writer.new (further (map quoted ids.now)) }
+/// Gathers each id behind the quote that closes the one before, a comma, and the quote that opens it.
+fn gather_more_ids<W: Write>(
+    writer: &mut Watched<W>,
+    gathered: &mut ArrayString<ROOM>,
+    ids: &[PolicyID],
+)
+    ensures { (start : Device W) (past : List ℕ) → WritesAll W.contents start writer.old gathered.old.bytes past → WritesAll W.contents start writer.new gathered.new.bytes (past ++ reopened ids.now) }
 {
     for id in ids {
-        put(writer, b",");
-        put_quoted(writer, id.as_str());
+        gather(writer, gathered, "\",\"");
+        gather_escaped(writer, gathered, id.as_str());
     }
 }
 
@@ -44,10 +52,12 @@ fn put_ids<W: Write>(writer: &mut Watched<W>, ids: &[PolicyID])
         put(writer, b"[]");
         return;
     };
-    put(writer, b"[");
-    put_quoted(writer, first.as_str());
-    put_more_ids(writer, others);
-    put(writer, b"]");
+    let mut gathered = ArrayString::new();
+    gather(writer, &mut gathered, "[\"");
+    gather_escaped(writer, &mut gathered, first.as_str());
+    gather_more_ids(writer, &mut gathered, others);
+    gather(writer, &mut gathered, "\"]");
+    put_gathered(writer, &gathered);
 }
 
 /// Writes an id with its kind.
