@@ -1,11 +1,11 @@
 -- What is told of a tree by what is lent of its parts.
-use Rattle.std.proofs.Common.{◌≡◌, ◌∙◌, ◌≤◌, ◌+◌, ℕ, suc, max, refl, sym, ap, subst, Bool, true, false, Option, Some, None, IfSome, arith}
+use Rattle.std.proofs.Common.{◌≡◌, ◌∙◌, ◌≤◌, ◌+◌, ℕ, suc, max, refl, sym, ap, subst, Bool, true, false, not, Option, Some, None, IfSome, arith}
 use Rattle.std.specs.Bool.{Decides, one_answer}
 use Rattle.std.specs.Cmp.Lexicographic.{bytes_decides}
 use Rattle.either.specs.declared.Either.{Either}
 use Rattle.either.specs.declared.Either.TheVariants.{Left}
 use Rattle.cedar_language.specs.Uid.{Text, Uid}
-use Rattle.cedar_language.specs.Tree.{Boolean, String, Entity, Literal, Operator, GetAttr, Tree, Lit, Var, Variable, If, And, Or}
+use Rattle.cedar_language.specs.Tree.{Boolean, String, Entity, Literal, Operator, Not, GetAttr, Tree, Lit, Var, Variable, If, And, Or}
 use Rattle.cedar_language.specs.Value.{Value, Plain, no_values, Gives}
 use Rattle.cedar_language.specs.Facts.{Facts}
 use Rattle.cedar_language.specs.Order.{same, same_text, same_uid, value_cmp}
@@ -56,6 +56,15 @@ module _ (ev : Evaluator) where
   pub tells_as : (d e : ℕ) (t u : Tree) (found : Option Lent) → d ≡ e → t ≡ u → IfSome found (λ l. Tells ev e u (value_lent l)) → IfSome found (λ l. Tells ev d t (value_lent l))
   tells_as d e t u found is same h =
       subst (λ s. IfSome found (λ l. Tells ev d s (value_lent l))) (sym same) (subst (λ n. IfSome found (λ l. Tells ev n u (value_lent l))) (sym is) h)
+
+  -- the same of a Boolean that is told
+  pub test_as : (d e : ℕ) (t u : Tree) (found : Option Bool) → d ≡ e → t ≡ u → IfSome found (λ b. Tells ev e u (Plain (Boolean b))) → IfSome found (λ b. Tells ev d t (Plain (Boolean b)))
+  test_as d e t u found is same h =
+      subst (λ s. IfSome found (λ b. Tells ev d s (Plain (Boolean b)))) (sym same) (subst (λ n. IfSome found (λ b. Tells ev n u (Plain (Boolean b)))) (sym is) h)
+
+  -- the same limit
+  pub tells_at : (d e : ℕ) (t : Tree) (v : Value) → d ≡ e → Tells ev e t v → Tells ev d t v
+  tells_at d e t v is h = subst (λ n. Tells ev n t v) (sym is) h
 
   -- the same value
   pub tells_same : (d : ℕ) (t : Tree) (v w : Value) → v ≡ w → Tells ev d t v → Tells ev d t w
@@ -146,6 +155,9 @@ module _ (ev : Evaluator) where
           ap (λ b. apply_answer facts holds op (and_next facts b (AllEvaluated no_values))) (h.value facts slots has) ∙ ap answer_of (k facts has);
       within = omega (arith, h.within);
     }
+
+    pub not_tells : (op : Operator) (t : Tree) (b : Bool) → op ≡ Not → Tells ev d t (Plain (Boolean b)) → Tells ev (d + 1) (unary op t) (Plain (Boolean (not b)))
+    not_tells op t b is h = one_tells op t (Plain (Boolean b)) (Plain (Boolean (not b))) h (λ facts has. ap (λ o. applied facts o (one (Plain (Boolean b)))) is)
 
     pub attribute_tells : (a b : Text) (t : Tree) (v : Value) (found : Option Lent) → b ≡ a → Tells ev d t v → ((facts : Facts) → HasFacts ev.entities.now facts → IfSome found (λ l. attribute facts b v ≡ Gives (value_lent l))) →
         IfSome found (λ l. Tells ev (d + 1) (unary (GetAttr a) t) (value_lent l))

@@ -8,7 +8,7 @@ ghost use Rattle.cedar_language.specs.Facts.{Facts};
 ghost use Rattle.cedar_language.specs.Tree as tree;
 ghost use Rattle.cedar_language.specs.Tree.{Boolean};
 ghost use Rattle.cedar_language.specs.Value.{Plain};
-ghost use Rattle.cedar_literals.specs.Operators.{binary_operator_of};
+ghost use Rattle.cedar_literals.specs.Operators.{unary_operator_of, binary_operator_of};
 ghost use Rattle.cedar_literals.specs.Variables.{variable_of};
 ghost use Rattle.cedar_operators.specs.Store.{HasFacts};
 ghost use Rattle.cedar_partial_evaluation.specs.Partial.{Evaluated, partial_in};
@@ -22,7 +22,7 @@ use crate::lent::Lent;
 use crate::lent_lookups::{attribute_lent, attribute_of_held};
 use crate::lent_operators::{test_of_one, test_of_two};
 use crate::operands::UnaryOperator;
-use cedar_literals::operators::BinaryOp;
+use cedar_literals::operators::{BinaryOp, UnaryOp};
 use cedar_literals::variables::Var;
 use cedar_trees::expr::{Expr, ExprKind};
 use std::rc::RcStr;
@@ -48,17 +48,27 @@ impl<'s, 'e, 'f> Evaluator<'s, 'e, 'f> {
 
     // The Boolean that an expression is.
     #[cycle(glance)]
-    #[tactic(auto, using(crate::proofs::Glanced::tells_same))]
+    #[tactic(auto, using(crate::proofs::Glanced::tells_same, crate::proofs::Glanced::test_as))]
     fn glance_test<'a>(&'a self, expr: &'a Expr, depth: u32) -> Option<bool>
         ensures { IfSome result (λ b. Tells self.now depth (bare expr.now) (Plain (Boolean b))) }
     {
-        let lent = self.glance_within(expr, depth)?;
-        let told = lent.truth()?;
-        Some(told)
+        match &expr.expr_kind {
+            ExprKind::Lit(_) | ExprKind::Var(_) | ExprKind::If { .. } | ExprKind::GetAttr { .. } =>
+                {
+                    let lent = self.glance_within(expr, depth)?;
+                    let told = lent.truth()?;
+                    Some(told)
+                }
+            _ => {
+                let below = depth.checked_sub(1)?;
+                self.glance_operator(expr, below)
+            }
+        }
     }
 
+    // The value that an expression is.
     #[cycle(glance)]
-    #[tactic(auto, using(crate::proofs::Glanced::tells_as, crate::proofs::Glanced::leaf_tells))]
+    #[tactic(auto, using(crate::proofs::Glanced::tells_as, crate::proofs::Glanced::leaf_tells, crate::proofs::Glanced::tells_at))]
     fn glance_within<'a>(&'a self, expr: &'a Expr, depth: u32) -> Option<Lent<'a>>
         ensures { IfSome result (λ lent. Tells self.now depth (bare expr.now) (value_lent lent)) }
     {
@@ -70,21 +80,34 @@ impl<'s, 'e, 'f> Evaluator<'s, 'e, 'f> {
                 then_expr,
                 else_expr,
             } => self.glance_if(test_expr, then_expr, else_expr, below),
-            ExprKind::And { left, right } => self.glance_and(left, right, below),
-            ExprKind::Or { left, right } => self.glance_or(left, right, below),
             ExprKind::GetAttr { expr, attr } => self.glance_attribute(expr, attr, below),
-            ExprKind::UnaryApp { op, arg } => {
-                self.glance_one(UnaryOperator::Applied(*op), arg, below)
+            _ => {
+                let told = self.glance_operator(expr, below)?;
+                Some(Lent::Bool(told))
             }
-            ExprKind::BinaryApp { op, arg1, arg2 } => self.glance_two(*op, arg1, arg2, below),
+        }
+    }
+
+    // What an operator gives that gives a Boolean, its operands being at this depth.
+    #[cycle(glance)]
+    #[inline(always)]
+    #[tactic(auto, using(crate::proofs::Glanced::test_as))]
+    fn glance_operator<'a>(&'a self, expr: &'a Expr, depth: u32) -> Option<bool>
+        ensures { IfSome result (λ b. Tells self.now (depth + 1) (bare expr.now) (Plain (Boolean b))) }
+    {
+        match &expr.expr_kind {
+            ExprKind::And { left, right } => self.glance_and(left, right, depth),
+            ExprKind::Or { left, right } => self.glance_or(left, right, depth),
+            ExprKind::UnaryApp { op, arg } => self.glance_unary(*op, arg, depth),
+            ExprKind::BinaryApp { op, arg1, arg2 } => self.glance_two(*op, arg1, arg2, depth),
             ExprKind::HasAttr { expr, attr } => {
-                self.glance_one(UnaryOperator::Has(attr), expr, below)
+                self.glance_one(UnaryOperator::Has(attr), expr, depth)
             }
             ExprKind::Like { expr, pattern } => {
-                self.glance_one(UnaryOperator::Like(pattern), expr, below)
+                self.glance_one(UnaryOperator::Like(pattern), expr, depth)
             }
             ExprKind::Is { expr, entity_type } => {
-                self.glance_one(UnaryOperator::Is(entity_type), expr, below)
+                self.glance_one(UnaryOperator::Is(entity_type), expr, depth)
             }
             _ => None,
         }
@@ -111,29 +134,43 @@ impl<'s, 'e, 'f> Evaluator<'s, 'e, 'f> {
 
     #[cycle(glance)]
     #[tactic(auto, using(crate::proofs::Glanced::and_stops, crate::proofs::Glanced::and_goes_on))]
-    fn glance_and<'a>(&'a self, left: &'a Expr, right: &'a Expr, depth: u32) -> Option<Lent<'a>>
-        ensures { IfSome result (λ lent. Tells self.now (depth + 1) (tree.And (bare left.now) (bare right.now)) (value_lent lent)) }
+    fn glance_and<'a>(&'a self, left: &'a Expr, right: &'a Expr, depth: u32) -> Option<bool>
+        ensures { IfSome result (λ b. Tells self.now (depth + 1) (tree.And (bare left.now) (bare right.now)) (Plain (Boolean b))) }
     {
         let holds = self.glance_test(left, depth)?;
         if holds {
             let also = self.glance_test(right, depth)?;
-            Some(Lent::Bool(also))
+            Some(also)
         } else {
-            Some(Lent::Bool(false))
+            Some(false)
         }
     }
 
     #[cycle(glance)]
     #[tactic(auto, using(crate::proofs::Glanced::or_stops, crate::proofs::Glanced::or_goes_on))]
-    fn glance_or<'a>(&'a self, left: &'a Expr, right: &'a Expr, depth: u32) -> Option<Lent<'a>>
-        ensures { IfSome result (λ lent. Tells self.now (depth + 1) (tree.Or (bare left.now) (bare right.now)) (value_lent lent)) }
+    fn glance_or<'a>(&'a self, left: &'a Expr, right: &'a Expr, depth: u32) -> Option<bool>
+        ensures { IfSome result (λ b. Tells self.now (depth + 1) (tree.Or (bare left.now) (bare right.now)) (Plain (Boolean b))) }
     {
         let decided = self.glance_test(left, depth)?;
         if decided {
-            Some(Lent::Bool(true))
+            Some(true)
         } else {
             let other = self.glance_test(right, depth)?;
-            Some(Lent::Bool(other))
+            Some(other)
+        }
+    }
+
+    #[cycle(glance)]
+    #[tactic(auto, using(crate::proofs::Glanced::not_tells))]
+    fn glance_unary<'a>(&'a self, op: UnaryOp, of: &'a Expr, depth: u32) -> Option<bool>
+        ensures { IfSome result (λ b. Tells self.now (depth + 1) (unary (unary_operator_of op) (bare of.now)) (Plain (Boolean b))) }
+    {
+        match op {
+            UnaryOp::Not => {
+                let holds = self.glance_test(of, depth)?;
+                Some(!holds)
+            }
+            UnaryOp::Neg | UnaryOp::IsEmpty => None,
         }
     }
 
@@ -150,28 +187,34 @@ impl<'s, 'e, 'f> Evaluator<'s, 'e, 'f> {
         attribute_lent(self.entities, lent, attr.as_str())
     }
 
-    // An operand: most are literals, which are read at once.
+    // An operand: most are literals, which are read at once, and attributes.
     #[cycle(glance)]
     #[inline(always)]
-    #[tactic(auto, using(crate::proofs::Glanced::literal_within))]
+    #[tactic(auto, using(crate::proofs::Glanced::literal_within, crate::proofs::Glanced::tells_as))]
     fn glance_operand<'a>(&'a self, expr: &'a Expr, depth: u32) -> Option<Lent<'a>>
         ensures { IfSome result (λ lent. Tells self.now depth (bare expr.now) (value_lent lent)) }
     {
-        if let ExprKind::Lit(literal) = &expr.expr_kind {
-            let _below = depth.checked_sub(1)?;
-            return Some(Lent::of_literal(literal));
+        match &expr.expr_kind {
+            ExprKind::Lit(literal) => {
+                let _below = depth.checked_sub(1)?;
+                Some(Lent::of_literal(literal))
+            }
+            ExprKind::GetAttr { expr, attr } => {
+                let below = depth.checked_sub(1)?;
+                self.glance_attribute(expr, attr, below)
+            }
+            _ => self.glance_within(expr, depth),
         }
-        self.glance_within(expr, depth)
     }
 
     #[cycle(glance)]
     #[tactic(auto, using(crate::proofs::Glanced::one_tells))]
-    fn glance_one<'a>(&'a self, op: UnaryOperator<'a>, of: &'a Expr, depth: u32) -> Option<Lent<'a>>
-        ensures { IfSome result (λ lent. Tells self.now (depth + 1) (unary (unary_operator op.entry) (bare of.now)) (value_lent lent)) }
+    fn glance_one<'a>(&'a self, op: UnaryOperator<'a>, of: &'a Expr, depth: u32) -> Option<bool>
+        ensures { IfSome result (λ b. Tells self.now (depth + 1) (unary (unary_operator op.entry) (bare of.now)) (Plain (Boolean b))) }
     {
         let lent = self.glance_operand(of, depth)?;
         let told = test_of_one(self.entities, op, lent)?;
-        Some(Lent::Bool(told))
+        Some(told)
     }
 
     #[cycle(glance)]
@@ -182,13 +225,13 @@ impl<'s, 'e, 'f> Evaluator<'s, 'e, 'f> {
         left: &'a Expr,
         right: &'a Expr,
         depth: u32,
-    ) -> Option<Lent<'a>>
-        ensures { IfSome result (λ lent. Tells self.now (depth + 1) (binary (binary_operator_of op) (bare left.now) (bare right.now)) (value_lent lent)) }
+    ) -> Option<bool>
+        ensures { IfSome result (λ b. Tells self.now (depth + 1) (binary (binary_operator_of op) (bare left.now) (bare right.now)) (Plain (Boolean b))) }
     {
         let first = self.glance_operand(left, depth)?;
         let second = self.glance_operand(right, depth)?;
         let told = test_of_two(self.entities, op, first, second)?;
-        Some(Lent::Bool(told))
+        Some(told)
     }
 
     // What an expression without parts is.

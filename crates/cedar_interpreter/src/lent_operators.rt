@@ -5,7 +5,7 @@ ghost use Rattle.cedar_language.specs.Facts.{Facts};
 ghost use Rattle.cedar_language.specs.Operators.{applied, truth, like_of, is_of, less_of, less_eq_of, contains_of, has_member};
 ghost use Rattle.cedar_language.specs.Order.{same, all_of};
 ghost use Rattle.cedar_language.specs.Pattern.{matches};
-ghost use Rattle.cedar_literals.specs.Operators.{unary_operator_of, binary_operator_of};
+ghost use Rattle.cedar_literals.specs.Operators.{binary_operator_of};
 ghost use Rattle.cedar_operators.specs.Operands.{one, two};
 ghost use Rattle.cedar_operators.specs.Store.{HasFacts};
 ghost use Rattle.cedar_interpreter.specs.Forms.{unary_operator};
@@ -16,30 +16,20 @@ use crate::lent_lookups::{has_lent, is_within};
 use crate::operands::UnaryOperator;
 use cedar_entities::store::Entities;
 use cedar_literals::literals::Literal;
-use cedar_literals::operators::{BinaryOp, UnaryOp};
+use cedar_literals::operators::BinaryOp;
 use cedar_literals::patterns::Pattern;
 use cedar_literals::uids::EntityType;
 use cedar_values::values::{Set, Value, ValueKind};
 
-/// What an operator of one operand gives, where that is a Boolean.
+/// What `has`, `like` or `is` gives.
 pub(crate) fn test_of_one(entities: &Entities, op: UnaryOperator<'_>, of: Lent<'_>) -> Option<bool>
     ensures { (facts : Facts) → HasFacts entities.now facts → IfSome result (λ b. applied facts (unary_operator op.entry) (one (value_lent of.entry)) ≡ truth b) }
 {
     match op {
-        UnaryOperator::Applied(op) => not_lent(op, of),
+        UnaryOperator::Applied(_) | UnaryOperator::HasPath(_) => None,
         UnaryOperator::Has(attr) => has_lent(entities, of, attr.as_str()),
-        UnaryOperator::HasPath(_) => None,
         UnaryOperator::Like(pattern) => like_lent(of, pattern),
         UnaryOperator::Is(entity_type) => is_lent(of, entity_type),
-    }
-}
-
-fn not_lent(op: UnaryOp, of: Lent<'_>) -> Option<bool>
-    ensures { (facts : Facts) → IfSome result (λ b. applied facts (unary_operator_of op) (one (value_lent of.entry)) ≡ truth b) }
-{
-    match op {
-        UnaryOp::Not => Some(!of.truth()?),
-        UnaryOp::Neg | UnaryOp::IsEmpty => None,
     }
 }
 
