@@ -14,6 +14,7 @@ pub mod Asked
 pub mod Asking
 pub mod Listed
 pub mod WithoutFalse
+pub mod SameReasons
 pub mod Answered
 pub mod AnsweredTold
 pub mod Named

@@ -2,12 +2,16 @@
 ghost use Rattle.std.specs.declared.rc.RcStr.{RcStr as Name};
 ghost use Rattle.std.specs.declared.alloc.Global.{Global as Memory};
 ghost use Rattle.std.specs.Prelude.{◌≡◌, List, IfOk};
+ghost use Rattle.cedar_evaluator.specs.Holding.{holding_in};
+ghost use Rattle.cedar_evaluator.specs.Responses.{judged_held};
+ghost use Rattle.cedar_language.specs.Answering.{in_must, in_may};
 ghost use Rattle.cedar_language.specs.Value.{Value as Valued};
 ghost use Rattle.cedar_partial_evaluation.specs.Question.{Extends};
 ghost use Rattle.cedar_policy_set.specs.Entries.{Entries};
 ghost use Rattle.cedar_replies.specs.Replies.{answer_of};
 ghost use Rattle.cedar_requests.specs.Holding.{request_parts};
 ghost use Rattle.cedar_world.specs.Answer.{ids_of};
+ghost use Rattle.cedar_world.specs.Answers.{ids_with};
 ghost use Rattle.cedar_world.specs.Asking.{Question};
 ghost use Rattle.cedar_world.specs.Setting.{Setting};
 ghost use Rattle.cedar_world.specs.World.{World};
@@ -29,7 +33,6 @@ use cedar_evaluator::authorizer::Authorizer;
 use cedar_evaluator::errors::{ConcretizationError, ReauthorizationError};
 use cedar_evaluator::partial_response::PartialResponse;
 use cedar_extensions::extensions::Extensions;
-use cedar_policy_parts::PolicyID;
 use cedar_policy_set::sets::PolicySet;
 use cedar_replies::{Answer, Erring, PolicyIds, Refusal};
 use cedar_requests::Request;
@@ -38,19 +41,19 @@ use std::alloc::{AllocError, Global};
 use std::collections::HashMap;
 use std::rc::RcStr;
 
-// The sets of two lists of ids; where they are the same list, it is sorted once.
-fn both_sets(
-    first: Vec<PolicyID>,
-    second: Vec<PolicyID>,
-) -> Result<(PolicyIds, PolicyIds), AllocError>
-    ensures { IfOk result (λ sets. (sets.0 ≡ ids_of first.items) × (sets.1 ≡ ids_of second.items)) }
+// The policies that must be reasons and those that may be, as a response tells them; where no policy is open,
+// these are the same.
+fn reasons(alloc: Global, response: &PartialResponse) -> Result<(PolicyIds, PolicyIds), AllocError>
+    ensures must { IfOk result (λ sets. sets.0 ≡ ids_of (ids_with (in_must (judged_held (holding_in response.now))) (judged_held (holding_in response.now)))) }
+    ensures may { IfOk result (λ sets. sets.1 ≡ ids_of (ids_with (in_may (judged_held (holding_in response.now))) (judged_held (holding_in response.now)))) }
 {
-    if first == second {
-        let ids = PolicyIds::new(first);
-        let copy = ids.clone()?;
-        return Ok((ids, copy));
+    let must = PolicyIds::new(response.must_be_determining_ids(alloc)?);
+    if response.residual_permits.is_empty() && response.residual_forbids.is_empty() {
+        let may = must.clone()?;
+        return Ok((must, may));
     }
-    Ok((PolicyIds::new(first), PolicyIds::new(second)))
+    let may = PolicyIds::new(response.may_be_determining_ids(alloc)?);
+    Ok((must, may))
 }
 
 // What a response says, as an answer tells it. It is refused `Depth` where some error is a limit that was
@@ -59,9 +62,7 @@ fn answer_by(alloc: Global, response: &PartialResponse) -> Result<Answer, Refusa
     ensures { SaysResponse response.now result }
 {
     let listed = listed_errors(alloc, response.errors.as_slice())?;
-    let must = response.must_be_determining_ids(alloc)?;
-    let may = response.may_be_determining_ids(alloc)?;
-    let (must, may) = both_sets(must, may)?;
+    let (must, may) = reasons(alloc, response)?;
     Ok(Answer {
         decision: response.decision(),
         must,

@@ -1,7 +1,6 @@
 -- What the response's readers give, and its errors by their names.
 use Rattle.std.proofs.Common.{◌∙◌, ap, map}
 use Rattle.std.proofs.lemmas.Result.{err_from_is_err_and}
-use Rattle.cedar_world.specs.Answer.{ids_of}
 use Rattle.cedar_evaluator.specs.Holding.{error_seen}
 use Rattle.cedar_asking.proofs.Answered.{unlisted}
 use Rattle.cedar_asking.proofs.answering.answer_by.Goals as goal
@@ -23,8 +22,8 @@ returns c = (
     kinds = c.in_ok-listed.ensures.0;
     errors = c.in_ok-listed.ensures.1 ∙ ap (map error_seen) c.as_slice.ensures.value;
     decided = c.decision.ensures;
-    must = c.in_ok-must-2.ensures.0 ∙ ap ids_of c.in_ok-must.ensures;
-    may = c.in_ok-must-2.ensures.1 ∙ ap ids_of c.in_ok-may.ensures;
+    must = c.in_ok-must.ensures.must;
+    may = c.in_ok-must.ensures.may;
     erring = c.in_ok-new.ensures;
   },
 )
