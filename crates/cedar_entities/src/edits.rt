@@ -105,8 +105,9 @@ fn cut_one(map: &mut HashMap<EntityUID, Entity>, at: &EntityUID, uids: &HashSet<
     ensures cut { (uid : Uid) → in_map map.new uid
         ≡ cond (same_uid at.now uid) (option_map (without (set.from_list {R = uid_cmp} uids.now.keys)) (in_map map.old uid)) (in_map map.old uid) }
 {
-    if let Some(entity) = map.get_mut(at) {
-        entity.remove_ancestors(uids);
+    match map.get_mut(at) {
+        Some(entity) => entity.remove_ancestors(uids),
+        None => {}
     }
 }
 

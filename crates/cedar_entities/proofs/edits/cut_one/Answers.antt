@@ -22,8 +22,8 @@ returns-in-Some-clause-beside c =
     (ap (λ (e : EntityData). e.uid) c.remove_ancestors.ensures)
     (written_there m n c.args.at.now c.in-Some.entity.now w (c.get_mut.follows.holds w).0 c.in-Some.ensures.value)
 
-pub returns-else-Some-clause-cut : goal.returns-else-Some-clause-cut
-returns-else-Some-clause-cut c = cut_nowhere c.args.map.now c.get_mut.follows.lender-at-none c.args.at.now (set.from_list c.args.uids.now.keys) c.get_mut.follows.holds-at-none c.else-Some.ensures.value
+pub returns-in-None-clause-cut : goal.returns-in-None-clause-cut
+returns-in-None-clause-cut c = cut_nowhere c.args.map.now c.get_mut.follows.lender-at-none c.args.at.now (set.from_list c.args.uids.now.keys) c.get_mut.follows.holds-at-none c.in-None.ensures.value
 
-pub returns-else-Some-clause-beside : goal.returns-else-Some-clause-beside
-returns-else-Some-clause-beside c = beside_same (λ q. same_uid q c.args.at.now) (in_map c.args.map.now) (in_map c.get_mut.follows.lender-at-none) (λ uid. ap (λ m. in_map m uid) c.get_mut.follows.holds-at-none)
+pub returns-in-None-clause-beside : goal.returns-in-None-clause-beside
+returns-in-None-clause-beside c = beside_same (λ q. same_uid q c.args.at.now) (in_map c.args.map.now) (in_map c.get_mut.follows.lender-at-none) (λ uid. ap (λ m. in_map m uid) c.get_mut.follows.holds-at-none)
