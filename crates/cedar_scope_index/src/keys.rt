@@ -1,0 +1,108 @@
+// By which entity of its scope a policy is found.
+ghost use Rattle.std.specs.Prelude.{◌≡◌};
+ghost use Rattle.std.specs.Option.{option_copied};
+ghost use Rattle.cedar_constraints.specs.Actions.{action_of};
+ghost use Rattle.cedar_constraints.specs.Asked.{constraint_of};
+ghost use Rattle.cedar_constraints.specs.References.{target_of};
+ghost use Rattle.cedar_policies.specs.Policies.{bindings_of, policy_syntax};
+ghost use Rattle.cedar_scope_index.specs.Naming.{target_bound, named_action};
+ghost use Rattle.cedar_scope_index.specs.Keys.{IsAskedAs, IsKey};
+
+use cedar_constraints::actions::ActionConstraint;
+use cedar_constraints::constraints::PrincipalOrResourceConstraint;
+use cedar_constraints::references::EntityReference;
+use cedar_literals::slots::SlotId;
+use cedar_literals::uids::EntityUID;
+use cedar_policies::policies::Policy;
+
+// What a scope asks of the principal, or of the resource.
+#[derive(Drop)]
+pub(crate) enum Asked<'p> {
+    // that it is this
+    Equal(&'p EntityUID),
+    // that it is in this
+    Within(&'p EntityUID),
+    // nothing by an entity
+    Unnamed,
+    // what its slot is bound to, which is bound to nothing
+    Open,
+}
+
+// The entity by which a policy is found, and where its scope names it.
+#[derive(Drop)]
+pub(crate) enum Key<'p> {
+    Principal(&'p EntityUID),
+    Action(&'p EntityUID),
+    Resource(&'p EntityUID),
+    Nothing,
+}
+
+// The entity that a scope names, or that its slot is bound to.
+fn target<'p>(named: &'p EntityReference, bound: Option<&'p EntityUID>) -> Option<&'p EntityUID>
+    ensures { option_copied result ≡ target_bound (option_copied bound.entry) (target_of named.now) }
+{
+    match named {
+        EntityReference::EUID(uid) => Some(uid.as_ref()),
+        EntityReference::Slot(_) => bound,
+    }
+}
+
+fn asked_by<'p>(
+    constraint: &'p PrincipalOrResourceConstraint,
+    bound: Option<&'p EntityUID>,
+) -> Asked<'p>
+    ensures { IsAskedAs (option_copied bound.entry) (constraint_of constraint.now) result }
+{
+    match constraint {
+        PrincipalOrResourceConstraint::Any | PrincipalOrResourceConstraint::Is(_) => Asked::Unnamed,
+        PrincipalOrResourceConstraint::Eq(named) => match target(named, bound) {
+            Some(uid) => Asked::Equal(uid),
+            None => Asked::Open,
+        },
+        PrincipalOrResourceConstraint::In(named) | PrincipalOrResourceConstraint::IsIn(_, named) =>
+            match target(named, bound) {
+                Some(uid) => Asked::Within(uid),
+                None => Asked::Open,
+            },
+    }
+}
+
+// The action that a scope names, where it names one alone.
+fn the_action(constraint: &ActionConstraint) -> Option<&EntityUID>
+    ensures { option_copied result ≡ named_action (action_of constraint.now) }
+{
+    let mut uids = constraint.iter_euids();
+    match (uids.next(), uids.next()) {
+        (Some(uid), None) => Some(uid.as_ref()),
+        _ => None,
+    }
+}
+
+// What says most comes first: what one variable is, then what one is in, then the action.
+pub(crate) fn key_of(policy: &Policy) -> Key<'_>
+    ensures { IsKey (bindings_of policy.now) (policy_syntax policy.now) result }
+{
+    let template = policy.template();
+    let bindings = policy.env();
+    let principal = asked_by(
+        template.principal_constraint().as_inner(),
+        bindings.get(&SlotId::principal()),
+    );
+    let resource = asked_by(
+        template.resource_constraint().as_inner(),
+        bindings.get(&SlotId::resource()),
+    );
+    match (principal, resource) {
+        (Asked::Open, _) => Key::Nothing,
+        (Asked::Equal(uid), _) => Key::Principal(uid),
+        (Asked::Within(_), Asked::Equal(uid)) => Key::Resource(uid),
+        (Asked::Within(uid), _) => Key::Principal(uid),
+        (Asked::Unnamed, Asked::Equal(uid) | Asked::Within(uid)) => Key::Resource(uid),
+        (Asked::Unnamed, Asked::Unnamed | Asked::Open) => {
+            match the_action(template.action_constraint()) {
+                Some(uid) => Key::Action(uid),
+                None => Key::Nothing,
+            }
+        }
+    }
+}
