@@ -1,7 +1,6 @@
 -- What is known of the ids policy0, policy1, .. stays known when ids are bound, and of the others when one is taken away.
-use Rattle.std.proofs.Common.{◌≡◌, ◌≢◌, ℕ, true, false, cond, ◌++◌, refl, sym, ap, ◌∙◌, true≢false, Option, None, Some, is_some}
+use Rattle.std.proofs.Common.{◌≡◌, ◌≢◌, ℕ, true, cond, ◌++◌, refl, sym, ap, ◌∙◌, true≢false, Option, None, Some, is_some, arith}
 use Rattle.cedar_language.specs.Uid.{Text}
-use Rattle.cedar_language.specs.Order.{same_text}
 use Rattle.cedar_world.specs.PolicyEdits.{numbered}
 use Rattle.cedar_policy_set.specs.Entries.{Entry, Entries, bound_at, is_bound, without, IsWhole}
 use Rattle.cedar_policy_set.specs.Numbers.{Counts, AreBound}
@@ -15,6 +14,9 @@ bound_more es more id h = by (bound_at es id) refl h
     by : (o : Option Entry) → bound_at es id ≡ o → is_some o ≡ true → is_bound (es ++ more) id ≡ true
     by None e g = absurd (true≢false (sym g))
     by (Some x) e g = ap is_some (found_first es more id x e)
+
+pub counts_none : (es : Entries) (n : Numbers) → n.below ≡ 0 → AreBound es n
+counts_none es n none k c = absurd (let below = c.0 in let never : ⊥ = omega arith in never)
 
 pub counts_more : (es more : Entries) (n : Numbers) → AreBound es n → AreBound (es ++ more) n
 counts_more es more n h k c = bound_more es more (numbered k) (h k c)

@@ -1,21 +1,23 @@
 -- What the edits of the map do to what contracts see of it.
-use Rattle.std.proofs.Common.{◌≡◌, ◌≢◌, ℕ, Bool, true, false, List, [], ◌∷◌, ◌++◌, map, refl, sym, ap, subst, ◌∙◌, Option, None, Some, is_some}
+use Rattle.std.proofs.Common.{◌≡◌, ◌≢◌, ℕ, true, false, List, [], ◌∷◌, ◌++◌, refl, sym, ap, subst, ◌∙◌, Option, None, Some, is_some}
 use Rattle.std.specs.List.{IsDistinct}
 use Rattle.std.specs.Option.{option_map}
 use Rattle.std.specs.Map.{lookup, keys_of, remove_entry}
-use Rattle.std.proofs.lemmas.List.{map-append}
 use Rattle.indexmap.specs.IndexMap.{insert_entry, insert_all}
 use Rattle.indexmap.proofs.MapLemmas.{absent_from_lookup, insert_entry-absent}
 use Rattle.cedar_language.specs.Uid.{Text}
 use Rattle.cedar_language.specs.Order.{same_text}
 use Rattle.cedar_grammar.specs.Policy.{Policy}
 use Rattle.cedar_world.specs.PolicyEdits.{numbered}
-use Rattle.cedar_policy_set.specs.Entries.{Entry, template, Entries, bound_at, without, HasItsTemplate, IsFull, IsWhole, has_links}
+use Rattle.cedar_scope_index.specs.declared.index.ScopeIndex.{ScopeIndex}
+use Rattle.cedar_policy_set.specs.Entries.{template, Entries, bound_at, without, HasItsTemplate, IsFull, IsWhole, has_links}
 use Rattle.cedar_policy_set.specs.declared.bounds.Bound.{Bound}
 use Rattle.cedar_policy_set.specs.Bounds.{entry_of, bound_id, entries_of, IsNamed, IsSound}
 use Rattle.cedar_policy_set.specs.Numbers.{Counts, AreBound}
 use Rattle.cedar_policy_set.specs.declared.numbers.Numbers.{Numbers}
+use Rattle.cedar_policy_set.specs.Scopes.{Covers}
 use Rattle.cedar_policy_set.proofs.Appending.{insert_all_apart}
+use Rattle.cedar_policy_set.proofs.Covering.{covers_more}
 use Rattle.cedar_policy_set.proofs.Counting.{counts_more, counts_without}
 use Rattle.cedar_policy_set.proofs.Views.{named_push, named_append, named_without, found_entry, keys_of_entries, entries_append, entries_without}
 use Rattle.cedar_policy_set.proofs.Wholes.{empty_is_whole, whole_push, whole_without}
@@ -45,6 +47,9 @@ module _ (es new : List (Text × Bound)) (seen : Entries) (view : entries_of es 
     pub counts_bind : (n : Numbers) → AreBound (entries_of es) n → AreBound (entries_of new) n
     counts_bind n h = subst (λ xs. AreBound xs n) (sym bind_is) (counts_more seen ((id, entry_of b) ∷ []) n (subst (λ xs. AreBound xs n) view h))
 
+    pub covers_bind : (x : ScopeIndex) → Covers (entries_of es) x → Covers (entries_of new) x
+    covers_bind x h = subst (λ xs. Covers xs x) (sym bind_is) (covers_more seen ((id, entry_of b) ∷ []) x (subst (λ xs. Covers xs x) view h))
+
     pub sound_bind : bound_id b ≡ id → HasItsTemplate seen (entry_of b) → IsFull (entry_of b) → IsSound new
     sound_bind named its full =
         record {
@@ -68,6 +73,9 @@ module _ (es new : List (Text × Bound)) (seen : Entries) (view : entries_of es 
 
     pub counts_append : (n : Numbers) → AreBound (entries_of es) n → AreBound (entries_of new) n
     counts_append n h = subst (λ xs. AreBound xs n) (sym append_is) (counts_more seen (entries_of more) n (subst (λ xs. AreBound xs n) view h))
+
+    pub covers_append : (x : ScopeIndex) → Covers (entries_of es) x → Covers (entries_of new) x
+    covers_append x h = subst (λ xs. Covers xs x) (sym append_is) (covers_more seen (entries_of more) x (subst (λ xs. Covers xs x) view h))
 
     pub sound_append : IsNamed more → IsSound new
     sound_append named =

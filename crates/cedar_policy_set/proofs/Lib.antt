@@ -1,6 +1,7 @@
 pub mod Additions
 pub mod Appending
 pub mod Counting
+pub mod Covering
 pub mod Distinct
 pub mod Edits
 pub mod Finding

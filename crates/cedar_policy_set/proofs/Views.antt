@@ -1,14 +1,17 @@
 -- What the map of a policy set holds, and what contracts see of it.
-use Rattle.std.proofs.Common.{◌≡◌, Bool, true, false, cond, List, [], ◌∷◌, ◌++◌, map, refl, sym, ap, subst, ◌∙◌, true≢false, Option, None, Some, is_some}
-use Rattle.std.specs.Option.{option_map, option_copied}
-use Rattle.std.specs.Prelude.{IfSome}
+use Rattle.std.proofs.Common.{◌≡◌, ℕ, zero, suc, Bool, true, false, cond, List, [], ◌∷◌, ◌++◌, map, refl, sym, ap, ◌∙◌, Option, None, Some, is_some}
+use Rattle.std.specs.Option.{option_map, option_map_or, option_copied}
+use Rattle.std.specs.List.{slice_get}
+use Rattle.std.specs.Prelude.{IfSome, if◌then◌else◌}
+use Rattle.std.proofs.lemmas.Option.{slice_get-map}
 use denote.Ref.{Bor}
 use Rattle.std.specs.Map.{lookup, keys_of, values_of, remove_entry}
 use Rattle.std.proofs.lemmas.List.{map-append}
 use Rattle.std.proofs.lemmas.Map.Made.{lookup-map_values, keys_of-map_values}
 use Rattle.cedar_language.specs.Uid.{Text}
 use Rattle.cedar_language.specs.Order.{same_text}
-use Rattle.cedar_policy_set.specs.Entries.{Entry, Entries, bound_at, without}
+use Rattle.cedar_policy_set.specs.Entries.{bound_at, without, is_policy}
+use Rattle.cedar_policy_set.specs.Scopes.{policy_stood}
 use Rattle.cedar_policy_set.specs.declared.bounds.Bound.{Bound}
 use Rattle.cedar_policy_set.specs.Bounds.{entry_of, bound_id, entries_of, seen, IsNamed}
 use Rattle.cedar_policy_set.proofs.Finding.{same_id, some_apart, remove_entry-map}
@@ -81,3 +84,18 @@ taken_named es h id (Some b) e = named_at es h id b (sym e)
 pub found_named : (es : List (Text × Bound)) → IsNamed es → (id : Text) (r : Option (Bor Bound)) → option_copied r ≡ lookup (same_text id) es → IfSome r (λ b. bound_id b.now ≡ id)
 found_named es h id None e = tt
 found_named es h id (Some b) e = named_at es h id b.now (sym e)
+
+-- what stands at a position stands under its own id
+named_there : (es : List (Text × Bound)) → IsNamed es → (p : ℕ) (id : Text) (b : Bound) → slice_get es p ≡ Some (id, b) → bound_id b ≡ id
+named_there [] h p id b at = absurd (some_apart (id, b) None refl at)
+named_there (e ∷ es) h zero id b at = ap bound_id (sym (ap (λ o. option_map_or (λ x. x.1) o b) at)) ∙ head_named e es h ∙ ap (λ o. option_map_or (λ x. x.0) o id) at
+named_there (e ∷ es) h (suc p) id b at = named_there es (tail_named e es h) p id b at
+
+pub stood_at : (es : List (Text × Bound)) → IsNamed es → (p : ℕ) (id : Text) (b : Bound) → slice_get es p ≡ Some (id, b) → policy_stood (slice_get (entries_of es) p) ≡ (if is_policy (entry_of b) then Some (bound_id b, entry_of b) else None)
+stood_at es h p id b at =
+    ap policy_stood (slice_get-map (λ e. (e.0, entry_of e.1)) es p)
+    ∙ ap (λ o. policy_stood (option_map (λ e. (e.0, entry_of e.1)) o)) at
+    ∙ ap (λ i. if is_policy (entry_of b) then Some (i, entry_of b) else None) (sym (named_there es h p id b at))
+
+pub stood_nowhere : (es : List (Text × Bound)) (p : ℕ) → slice_get es p ≡ None → policy_stood (slice_get (entries_of es) p) ≡ None
+stood_nowhere es p at = ap policy_stood (slice_get-map (λ e. (e.0, entry_of e.1)) es p) ∙ ap (λ o. policy_stood (option_map (λ e. (e.0, entry_of e.1)) o)) at

@@ -4,6 +4,7 @@ pub mod Bounds
 pub mod Numbers
 pub mod SameSets
 pub mod Refused
+pub mod Scopes
 pub mod Validated
 pub mod BoundsLeft
 pub mod Worlds

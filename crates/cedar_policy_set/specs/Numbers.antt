@@ -1,12 +1,9 @@
 -- What a policy set knows of the ids policy0, policy1, ..
-use Rattle.std.specs.Prelude.{◌≡◌, ℕ, ◌<◌, ◌≤◌, true, false, List}
+use Rattle.std.specs.Prelude.{◌≡◌, ℕ, ◌<◌, ◌≤◌, true, false}
 use Rattle.std.specs.BTreeSet.{contains}
 use Rattle.std.specs.Ordering.{nat_cmp}
-use Rattle.cedar_language.specs.Uid.{Text}
 use Rattle.cedar_world.specs.PolicyEdits.{numbered}
 use Rattle.cedar_policy_set.specs.Entries.{Entries, is_bound}
-use Rattle.cedar_policy_set.specs.Bounds.{entries_of, IsSound}
-use Rattle.cedar_policy_set.specs.declared.bounds.Bound.{Bound}
 use Rattle.cedar_policy_set.specs.declared.numbers.Numbers.{Numbers}
 
 -- each of policy{from}, .. is bound, up to policy{to}, which need not be
@@ -20,8 +17,3 @@ Counts n k = (k < n.below) × (contains nat_cmp n.freed k ≡ false)
 -- what counts as bound is bound
 abbrev pub AreBound : Entries → Numbers → Type 0
 AreBound es n = (k : ℕ) → Counts n k → is_bound es (numbered k) ≡ true
-
--- the entries are a policy set's, and what counts as bound is bound there
-pub record IsCounted (es : List (Text × Bound)) (n : Numbers) : Type 0 where
-  pub sound : IsSound es
-  pub counts : AreBound (entries_of es) n

@@ -4,7 +4,7 @@ ghost use Rattle.std.specs.Option.{option_copied};
 ghost use Rattle.std.specs.Map.{lookup};
 ghost use Rattle.cedar_language.specs.Order.{same_text};
 ghost use Rattle.cedar_templates.specs.Templates.{template_id, syntax_of};
-ghost use Rattle.cedar_policy_set.specs.Entries.{template as a_template, IsFull, is_link, is_link_to, is_of_template, is_static, own_template, slotted, named};
+ghost use Rattle.cedar_policy_set.specs.Entries.{template as a_template, IsFull, is_link, is_link_to, is_of_template, is_policy, is_static, own_template, slotted, named};
 ghost use Rattle.cedar_policy_set.specs.EntryNodes.{same_entry};
 ghost use Rattle.cedar_policy_set.specs.Bounds.{policy_entry, link_entry, policy_seen, template_seen};
 
@@ -127,6 +127,16 @@ impl Bound {
         match self {
             Bound::Policy(_) => false,
             Bound::Template(mine) => mine.has_same_syntax(template),
+        }
+    }
+
+    // The policy, where it is one.
+    pub(crate) fn as_policy(&self) -> Option<&Policy>
+        ensures { option_map policy_seen (option_copied result) ≡ (if is_policy (entry_of self.now) then Some (bound_id self.now, entry_of self.now) else None) }
+    {
+        match self {
+            Bound::Policy(policy) => Some(policy),
+            Bound::Template(_) => None,
         }
     }
 

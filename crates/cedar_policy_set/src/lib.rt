@@ -11,6 +11,7 @@ pub mod listing;
 pub mod numbers;
 mod reading;
 mod removing;
+mod scopes;
 pub mod sets;
 mod validating;
 pub mod worlds;

@@ -7,18 +7,30 @@ ghost use Rattle.cedar_grammar.specs.Policy.{Policy as PolicySyntax};
 use crate::bounds::Bound;
 use crate::numbers::Numbers;
 use cedar_policy_parts::PolicyID;
+use cedar_scope_index::index::ScopeIndex;
 use indexmap::IndexMap;
 use indexmap::map::{IntoValues, Values};
 use std::alloc::{AllocError, Global};
+use std::fmt;
 use std::marker::Model;
 
 /// Static policies, templates and links by their ids, in the order in which they came: a new one last, and
 /// a removal closes up. Each link names a template of the set and gives exactly its slots. Contracts see
 /// the ids, each with what it is bound to. (Cedar language reference, "Policies" and "Policy templates".)
-#[derive(Debug)]
 pub struct PolicySet {
-    bound: IndexMap<PolicyID, Bound>,
+    pub(crate) bound: IndexMap<PolicyID, Bound>,
     numbers: Numbers,
+    // covers a beginning of what is bound
+    pub(crate) scopes: ScopeIndex,
+}
+
+/// What is bound, without what is known of it beside.
+impl fmt::Debug for PolicySet {
+    fn fmt<W: fmt::Write>(&self, f: &mut fmt::Formatter<W>) -> fmt::Result {
+        f.debug_struct("PolicySet")
+            .field("bound", &self.bound)
+            .finish_non_exhaustive()
+    }
 }
 
 // Written by hand, so that a function which may return early lets go of a set by a call.
@@ -27,6 +39,7 @@ impl Drop for PolicySet {
         let PolicySet {
             bound: _bound,
             numbers: _numbers,
+            scopes: _scopes,
         } = self;
     }
 }
@@ -42,11 +55,11 @@ impl Model for PolicySet {
     ghost coded = { coded_list (coded× text_code entry_code) };
 
     ghost use Rattle.cedar_policy_set.specs.Bounds.{entries_of};
-    ghost use Rattle.cedar_policy_set.specs.Numbers.{IsCounted};
+    ghost use Rattle.cedar_policy_set.specs.Scopes.{IsKept};
 
     ghost view = { λ s. entries_of s.bound.entries };
 
-    ghost invariant = { λ s. IsCounted s.bound.entries s.numbers };
+    ghost invariant = { λ s. IsKept s.bound.entries s.numbers s.scopes };
 }
 
 /// Both bind the same ids to the same things, in whatever order; places don't count.
@@ -81,6 +94,7 @@ impl PolicySet {
         PolicySet {
             bound: IndexMap::new(alloc),
             numbers: Numbers::new(alloc),
+            scopes: ScopeIndex::new(alloc),
         }
     }
 
@@ -91,8 +105,12 @@ impl PolicySet {
         requires { IsSound bound.entries }
         ensures { result ≡ entries_of bound.entries }
     {
-        let numbers = Numbers::new(*bound.allocator());
-        PolicySet { bound, numbers }
+        let alloc = *bound.allocator();
+        PolicySet {
+            bound,
+            numbers: Numbers::new(alloc),
+            scopes: ScopeIndex::new(alloc),
+        }
     }
 
     /// What an id is bound to, if it is: a static policy, a link or a template.
@@ -149,6 +167,7 @@ impl PolicySet {
         let PolicySet {
             bound,
             numbers: _numbers,
+            scopes: _scopes,
         } = self;
         bound.into_values()
     }
@@ -200,6 +219,9 @@ impl PolicySet {
         ensures id { IfSome result (λ bound. bound_id bound ≡ id.now) }
     {
         self.numbers.take_away(id);
+        // The positions behind it move up, so what is known of them is let go of.
+        let scopes = ScopeIndex::new(*self.bound.allocator());
+        self.scopes = scopes;
         self.bound.shift_remove(id)
     }
 }

@@ -1,5 +1,5 @@
 -- Ids that are apart from those that are bound go to the end, and the caller says that the whole is a set.
-use Rattle.cedar_policy_set.proofs.Edits.{append_is, sound_append, counts_append}
+use Rattle.cedar_policy_set.proofs.Edits.{append_is, sound_append, counts_append, covers_append}
 use Rattle.cedar_policy_set.proofs.sets.PolicySet.bind_all.Goals as goal
 
 pub invariant_of-self-2 : goal.invariant_of-self-2
@@ -7,6 +7,7 @@ invariant_of-self-2 c =
     record {
       sound = sound_append _ _ _ c.self.view_is c.self.invariant.sound _ c.requires.whole c.in_ok-append.ensures.entries c.requires.named;
       counts = counts_append _ _ _ c.self.view_is c.self.invariant.sound _ c.requires.whole c.in_ok-append.ensures.entries _ c.self.invariant.counts;
+      covers = covers_append _ _ _ c.self.view_is c.self.invariant.sound _ c.requires.whole c.in_ok-append.ensures.entries _ c.self.invariant.covers;
     }
 
 pub returns-clause-appended : goal.returns-clause-appended

@@ -1,0 +1,12 @@
+-- What is covered stays so, and each turn leaves fewer positions.
+use Rattle.std.proofs.Common.{length, ◌-◌}
+use Rattle.cedar_scope_index.specs.Finding.{covered}
+use Rattle.cedar_policy_set.specs.Bounds.{entries_of}
+use Rattle.cedar_policy_set.specs.Scopes.{Covers}
+use Rattle.cedar_policy_set.proofs.scopes.cover.Given as goal
+
+abbrev pub invariant-loop-next : goal.invariant-loop-next
+invariant-loop-next l = Covers (entries_of l.bound.entries) l.scopes
+
+abbrev pub decreases-loop-next : goal.decreases-loop-next
+decreases-loop-next l = length l.bound.entries - covered l.scopes
