@@ -3,6 +3,7 @@
 #![tactic(auto)]
 
 pub mod expressions;
+mod indexes;
 pub mod scopes;
 pub mod sets;
 pub mod templates;

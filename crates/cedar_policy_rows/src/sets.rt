@@ -1,4 +1,5 @@
 // Policy sets, their edits, and how one is merged into another.
+use crate::indexes;
 use crate::templates::Policies;
 use crate::words::{Answer, Case, done, listed, no_case, put, said, text, told};
 use cedar_extensions::extensions::Extensions;
@@ -169,6 +170,11 @@ pub fn ask(alloc: Global, verb: &str, extensions: &Extensions<'_>, held: &mut Se
         "validate" => done(alloc, set.try_validate(alloc, extensions)),
         _ => given_up(alloc, mem::replace(set, PolicySet::new(alloc))),
     }
+}
+
+/// What the index of the set's scopes holds.
+pub fn index(alloc: Global, case: &Case<'_>, held: &mut Sets) -> Answer {
+    indexes::answer(alloc, case, &mut held.set)
 }
 
 /// Each id that is renamed, with its new one.

@@ -107,6 +107,7 @@ fn policies(alloc: Global, case: &Case<'_>, held: &mut Held) -> Answer {
         "add" => sets::add(alloc, case.verb, made, &mut held.sets),
         "collect" => sets::collect(alloc, case.verb, &mut made.policy, &mut held.sets),
         "in-set" => sets::edit(alloc, case, &mut held.bindings, &mut held.sets),
+        "index" => sets::index(alloc, case, &mut held.sets),
         "merged" => sets::merge(alloc, case.verb, &mut held.sets),
         _ => sets::ask(alloc, case.verb, table, &mut held.sets),
     }
