@@ -1,17 +1,25 @@
 -- What is looked up of an entity that is given is what the facts have of it.
-use Rattle.std.proofs.Common.{◌≡◌, ◌∙◌, sym, subst, Bor}
+use Rattle.std.proofs.Common.{◌≡◌, ◌∙◌, ℕ, IfSome, sym, ap, subst, Bor}
 use Rattle.std.specs.Prelude.{Option, Some, None}
 use Rattle.std.specs.Option.{option_map, option_copied}
 use Rattle.cedar_language.specs.Uid.{Uid}
+use Rattle.cedar_language.specs.Tree.{Entity, Variable}
+use Rattle.cedar_language.specs.Value.{Plain}
+use Rattle.cedar_partial_evaluation.specs.Partial.{Evaluated, LeafAnswers}
+use Rattle.cedar_constraints.specs.Bindings.{unbound}
 use Rattle.cedar_entities.specs.Data.{EntityData}
 use Rattle.cedar_entities.specs.Held.{held_of}
 use Rattle.cedar_entities.specs.Store.{held_at}
 use Rattle.cedar_entities.specs.declared.store.Entities.{Entities}
+use Rattle.cedar_extensions.specs.declared.extensions.Extensions.{Extensions}
 use Rattle.cedar_operators.specs.Store.{IsFound}
 use Rattle.cedar_operators.proofs.ByStore.{within_is}
 use Rattle.cedar_restricted.specs.PartialValues.{partial_of}
 use Rattle.cedar_restricted.specs.declared.partial_values.PartialValue.{PartialValue}
+use Rattle.cedar_interpreter.specs.Asking.{Inquiry, variable_asked, IsEvaluatorOf}
+use Rattle.cedar_interpreter.specs.Holding.{variable_held}
 use Rattle.cedar_interpreter.specs.Seen.{IsSeen, IsSeenFor, uid_standing}
+use Rattle.cedar_interpreter.specs.declared.evaluator.Evaluator.{Evaluator}
 
 held_as : (store : Entities) (uid : Uid) (o : Option (Bor EntityData)) → IsFound store uid o → held_at store uid ≡ option_map held_of (option_copied o)
 held_as store uid None found = found
@@ -25,3 +33,22 @@ seen_of store part u o is found = λ uid h.
     let stands : Some u ≡ Some uid = sym is ∙ h in
     let same : u ≡ uid = cc in
     subst (λ x. IsSeen store x (option_copied o)) same (found_seen store u o found)
+
+-- ---- of an inquiry that is asked
+
+if_some : {X : Type 0} {P Q : X → Type 0} (found : Option X) → ((x : X) → P x → Q x) → IfSome found P → IfSome found Q
+if_some None f h = tt
+if_some (Some x) f h = f x h
+
+module _ (ev : Evaluator) (i : Inquiry) (store : Entities) (table : Extensions) (depth : ℕ) (is : IsEvaluatorOf i store table depth ev) where
+  asked_as : (v : Variable) → variable_asked i.request v ≡ variable_held ev v
+  asked_as v = sym (ap (λ (holds : LeafAnswers). holds.variable v) (is.holds unbound))
+
+  seen_asked : (v : Variable) (uid : Uid) (seen : Option EntityData) → (variable_held ev v ≡ Evaluated (Plain (Entity uid))) × IsSeen ev.entities.now uid seen → (variable_asked i.request v ≡ Evaluated (Plain (Entity uid))) × IsSeen store uid seen
+  seen_asked v uid seen held = (asked_as v ∙ held.0, subst (λ s. IsSeen s uid seen) is.store held.1)
+
+  -- what an evaluator gives for a variable stands for it in what is asked
+  pub given_asked : {X : Type 0} (v : Variable) (uid_of : X → Uid) (seen_of : X → Option EntityData) (given : Option X) →
+      IfSome given (λ x. (variable_held ev v ≡ Evaluated (Plain (Entity (uid_of x)))) × IsSeen ev.entities.now (uid_of x) (seen_of x)) →
+      IfSome given (λ x. (variable_asked i.request v ≡ Evaluated (Plain (Entity (uid_of x)))) × IsSeen store (uid_of x) (seen_of x))
+  given_asked v uid_of seen_of given = if_some given (λ x. seen_asked v (uid_of x) (seen_of x))

@@ -1,13 +1,15 @@
 // The entities that a request gives. What a store holds of them is looked up once.
-ghost use Rattle.std.specs.Prelude.{◌≡◌, IfSome};
+ghost use Rattle.std.specs.Prelude.{◌≡◌, ℕ, IfSome};
 ghost use Rattle.std.specs.Option.{option_map, option_copied};
 ghost use Rattle.cedar_entities.specs.declared.store.Entities.{Entities as Store};
+ghost use Rattle.cedar_extensions.specs.declared.extensions.Extensions.{Extensions as Functions};
 ghost use Rattle.cedar_language.specs.Tree as tree;
 ghost use Rattle.cedar_language.specs.Value.{Plain};
 ghost use Rattle.cedar_literals.specs.Variables.{variable_of};
 ghost use Rattle.cedar_partial_evaluation.specs.Partial.{Evaluated};
 ghost use Rattle.cedar_restricted.specs.PartialValues.{partial_of};
 ghost use Rattle.cedar_requests.specs.Answers.{part_answer};
+ghost use Rattle.cedar_interpreter.specs.Asking.{Inquiry, variable_asked, IsEvaluatorOf};
 ghost use Rattle.cedar_interpreter.specs.Holding.{variable_held};
 ghost use Rattle.cedar_interpreter.specs.Seen.{IsSeen, IsSeenFor, AreSeen, uid_standing};
 
@@ -68,6 +70,14 @@ impl<'s> Seen<'s> {
 }
 
 impl<'s, 'e, 'f> Evaluator<'s, 'e, 'f> {
+    /// The entity that stands for the principal, the action or the resource, with what the store holds of it;
+    /// `None` where none is known to stand there. Nothing is looked up, and no memory taken.
+    pub fn given_entity(&self, var: Var) -> Option<(&Rc<EntityUID>, Option<&'s Entity>)>
+        ensures { (i : Inquiry) (store : Store) (table : Functions) (depth : ℕ) → IsEvaluatorOf i store table depth self.now → IfSome result (λ given. (variable_asked i.request (variable_of var) ≡ Evaluated (Plain (tree.Entity given.0.now.value))) × IsSeen store given.0.now.value (option_copied given.1)) }
+    {
+        self.given(var)
+    }
+
     /// The entity that stands for a variable, with what the store holds of it; none where what stands there
     /// isn't known. Nothing is looked up.
     pub(crate) fn given(&self, var: Var) -> Option<(&Rc<EntityUID>, Option<&'s Entity>)>
