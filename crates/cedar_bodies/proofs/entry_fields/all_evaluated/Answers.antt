@@ -27,15 +27,6 @@ loop-name-preserved-in_ok-insert-2 c = (
       (ap (λ b. c.loop-name.holds_unknown || b) c.is_residual.ensures) c.into_iter-name-iterator.ensures.into_iter_gives.5 c.in_ok-insert.ensures.entries,
 )
 
-pub loop-name-preserved-in_ok-insert-3 : goal.loop-name-preserved-in_ok-insert-3
-loop-name-preserved-in_ok-insert-3 c = (
-  tt,
-  tt,
-  goes_on c.args.extensions.now c.args.entries.now.entries c.loop-name.name-iterator c.next.new.self c.loop-name.values.entries c.loop-name.holds_unknown c.in-Some.name.now c.in-Some.expr.now c.loop-name.invariant.2 c.in-Some.ensures.steps
-      c.insert.new.self.entries c.in_ok-clone.field-0 c.in_ok-value.value (c.loop-name.holds_unknown || c.is_residual.result) c.args.depth c.in_ok-clone.ensures.cases c.in_ok-value.ensures.evaluated c.in_ok-value.ensures.built
-      (ap (λ b. c.loop-name.holds_unknown || b) c.is_residual.ensures) c.into_iter-name-iterator.ensures.into_iter_gives.5 c.in_ok-insert.ensures.entries,
-)
-
 pub loop-name-preserved : goal.loop-name-preserved
 loop-name-preserved c = (
   tt,
