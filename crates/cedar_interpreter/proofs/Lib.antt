@@ -13,3 +13,4 @@ pub mod Known
 pub mod Meant
 pub mod Asked
 pub mod Glanced
+pub mod Tested
