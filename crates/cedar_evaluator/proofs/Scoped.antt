@@ -22,8 +22,8 @@ use Rattle.cedar_entities.specs.Data.{EntityData}
 use Rattle.cedar_entities.specs.declared.store.Entities.{Entities}
 use Rattle.cedar_operators.specs.Operands.{two}
 use Rattle.cedar_operators.specs.Hierarchy.{is_within_entity}
-use Rattle.cedar_operators.specs.Store.{HasFacts, IsFound}
-use Rattle.cedar_operators.proofs.ByStore.{within_is}
+use Rattle.cedar_operators.specs.Store.{HasFacts}
+use Rattle.cedar_interpreter.specs.Seen.{IsSeen}
 use Rattle.cedar_evaluator.specs.Scopes.{IsDecided, IsGivenAs, target_bound, constraint_met, unasked}
 use Rattle.cedar_evaluator.specs.declared.scopes.GivenEntity.{GivenEntity}
 use Rattle.cedar_evaluator.proofs.ActionSets.{entities, all_listed, rising_uids}
@@ -128,9 +128,9 @@ module _ (facts : Facts) (holds : LeafAnswers) (u : Uid) (given : holds.variable
 
 -- ---- with what a store holds
 
-module _ (facts : Facts) (store : Entities) (has : HasFacts store facts) (u : Uid) (o : Option (Bor EntityData)) (found : IsFound store u o) where
+module _ (facts : Facts) (store : Entities) (has : HasFacts store facts) (u : Uid) (o : Option (Bor EntityData)) (seen : IsSeen store u (option_copied o)) where
   test_is : is_within_entity u (option_copied o) ≡ is_within facts u
-  test_is = λ i b. within_is store facts has u o found b i
+  test_is = λ i b. seen.1 facts has b i
 
   pub constraint_held : (holds : LeafAnswers) (v : Variable) (s : SlotId) (bound : Option Uid) (c : Constraint) → holds.variable v ≡ Evaluated (Plain (Entity u)) → holds.slot s ≡ answer_of (slot_outcome bound) →
       IsDecided facts holds (constraint_tree v s c) (constraint_met (is_within_entity u (option_copied o)) u bound c)

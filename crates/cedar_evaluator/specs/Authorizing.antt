@@ -26,6 +26,10 @@ table_of authorizer = authorizer.extensions.now
 abbrev pub limit_of : Authorizer → ℕ
 limit_of authorizer = authorizer.depth
 
+-- an evaluator that answers for the inquiry, and the scopes that it decides
+abbrev pub IsAsked : Inquiry → Entities → Extensions → ℕ → Evaluator × Scopes → Type 0
+IsAsked i store table depth asked = IsEvaluatorOf i store table depth asked.0 × AreScopesOf i store asked.1
+
 -- Of each static policy and link of the set, in its order, what was found of it is kept, and nothing else: of each group its policies, and
 -- the errors; no id stands in two groups.
 pub record Responds (i : Inquiry) (store : Entities) (table : Extensions) (depth : ℕ) (es : Entries) (response : PartialResponse) : Type 0 where

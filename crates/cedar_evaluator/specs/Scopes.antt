@@ -1,6 +1,6 @@
 -- What the scope of a policy asks, against the entities that a request gives.
 use Rattle.std.specs.Prelude.{◌≡◌, ⊤, Bool, true, Option, Some, None}
-use Rattle.std.specs.Option.{option_map}
+use Rattle.std.specs.Option.{option_copied, option_map}
 use Rattle.cedar_language.specs.Uid.{Uid}
 use Rattle.cedar_language.specs.Order.{same_name, same_uid}
 use Rattle.cedar_language.specs.Tree.{Boolean, Entity, Principal, Action, Resource, Tree}
@@ -10,8 +10,8 @@ use Rattle.cedar_grammar.specs.Policy.{Target, the_entity, the_slot, Constraint,
 use Rattle.cedar_world.specs.Scope.{and_then_met}
 use Rattle.cedar_partial_evaluation.specs.Partial.{Answer, Evaluated, LeafAnswers, partial_in}
 use Rattle.cedar_entities.specs.declared.store.Entities.{Entities}
-use Rattle.cedar_operators.specs.Store.{IsFound}
 use Rattle.cedar_interpreter.specs.Asking.{Inquiry, variable_asked}
+use Rattle.cedar_interpreter.specs.Seen.{IsSeen}
 use Rattle.cedar_evaluator.specs.declared.scopes.GivenEntity.{GivenEntity}
 use Rattle.cedar_evaluator.specs.declared.scopes.Scopes.{Scopes}
 
@@ -23,7 +23,7 @@ IsDecided facts holds t (Some b) = partial_in facts holds t ≡ Evaluated (Plain
 -- the entity that stands for a variable, and what the store holds of it
 abbrev pub IsGivenAs : Entities → Answer → Option GivenEntity → Type 0
 IsGivenAs store a None = ⊤
-IsGivenAs store a (Some g) = (a ≡ Evaluated (Plain (Entity g.uid.value))) × IsFound store g.uid.value g.entity
+IsGivenAs store a (Some g) = (a ≡ Evaluated (Plain (Entity g.uid.value))) × IsSeen store g.uid.value (option_copied g.entity)
 
 pub record AreScopesOf (i : Inquiry) (store : Entities) (s : Scopes) : Type 0 where
   pub principal : IsGivenAs store (variable_asked i.request Principal) s.principal

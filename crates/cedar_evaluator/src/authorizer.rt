@@ -5,7 +5,7 @@ ghost use Rattle.std.specs.Prelude.{◌≡◌, IfOk};
 ghost use Rattle.cedar_interpreter.specs.Asking.{untold};
 ghost use Rattle.cedar_requests.specs.Holding.{request_parts};
 ghost use Rattle.cedar_substitution.specs.Told.{told_for};
-ghost use Rattle.cedar_evaluator.specs.Authorizing.{table_of, limit_of, Responds, RespondsWithoutFalse, RespondsBy};
+ghost use Rattle.cedar_evaluator.specs.Authorizing.{table_of, limit_of, IsAsked, Responds, RespondsWithoutFalse, RespondsBy};
 
 use crate::groups::Groups;
 use crate::partial_response::PartialResponse;
@@ -45,6 +45,20 @@ impl<'e, 'f> Authorizer<'e, 'f> {
         Authorizer { extensions, depth }
     }
 
+    // The evaluator of a request, and the scopes that it decides; refused for memory alone.
+    fn asked<'s>(
+        &self,
+        alloc: Global,
+        request: &Request,
+        entities: &'s Entities,
+    ) -> Result<(Evaluator<'s, 'e, 'f>, Scopes<'s>), AllocError>
+        ensures { IfOk result (IsAsked (untold (request_parts request.now)) entities.now (table_of self.now) (limit_of self.now)) }
+    {
+        let evaluator = Evaluator::new(alloc, request, entities, self.extensions, self.depth)?;
+        let scopes = Scopes::new(entities, &evaluator)?;
+        Ok((evaluator, scopes))
+    }
+
     /// What each policy in force, a static policy or a link, comes to for this request. An error of one is
     /// kept with it, and counts as not satisfied, `RecursionLimit` among them; refused for memory alone.
     /// (Cedar language reference, "Authorization".)
@@ -57,8 +71,7 @@ impl<'e, 'f> Authorizer<'e, 'f> {
     ) -> Result<PartialResponse, AllocError>
         ensures { IfOk result (λ response. Responds (untold (request_parts request)) entities.now (table_of self.now) (limit_of self.now) policies.now response) }
     {
-        let evaluator = Evaluator::new(alloc, &request, entities, self.extensions, self.depth)?;
-        let scopes = Scopes::new(entities, &request)?;
+        let (evaluator, scopes) = self.asked(alloc, &request, entities)?;
         responded(alloc, &evaluator, &scopes, request, policies, true)
     }
 
@@ -73,9 +86,8 @@ impl<'e, 'f> Authorizer<'e, 'f> {
     ) -> Result<PartialResponse, AllocError>
         ensures { IfOk result (λ response. Responds (record { request = request_parts request; told = told_for told.now.entries }) entities.now (table_of self.now) (limit_of self.now) policies.now response) }
     {
-        let evaluator = Evaluator::new(alloc, &request, entities, self.extensions, self.depth)?;
+        let (evaluator, scopes) = self.asked(alloc, &request, entities)?;
         let evaluator = evaluator.with_told(told);
-        let scopes = Scopes::new(entities, &request)?;
         responded(alloc, &evaluator, &scopes, request, policies, true)
     }
 
@@ -92,8 +104,7 @@ impl<'e, 'f> Authorizer<'e, 'f> {
     ) -> Result<PartialResponse, AllocError>
         ensures { IfOk result (λ response. RespondsWithoutFalse (untold (request_parts request)) entities.now (table_of self.now) (limit_of self.now) policies.now response) }
     {
-        let evaluator = Evaluator::new(alloc, &request, entities, self.extensions, self.depth)?;
-        let scopes = Scopes::new(entities, &request)?;
+        let (evaluator, scopes) = self.asked(alloc, &request, entities)?;
         responded(alloc, &evaluator, &scopes, request, policies, false)
     }
 }

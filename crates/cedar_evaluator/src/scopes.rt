@@ -1,5 +1,5 @@
 // The scopes of policies, decided by the entities that a request gives.
-ghost use Rattle.std.specs.Prelude.{◌≡◌, Option, Some, IfOk, true, false};
+ghost use Rattle.std.specs.Prelude.{◌≡◌, ℕ, Some, IfOk, true, false};
 ghost use Rattle.std.specs.FinSet as set;
 ghost use Rattle.std.specs.List.{list_any};
 ghost use Rattle.std.specs.Option.{option_map, option_map_or, option_copied};
@@ -7,23 +7,20 @@ ghost use Rattle.cedar_language.specs.Facts.{Facts};
 ghost use Rattle.cedar_language.specs.Meaning.{slot_outcome};
 ghost use Rattle.cedar_language.specs.Order.{same_name, same_uid};
 ghost use Rattle.cedar_language.specs.Tree.{Variable, Principal, Action, Resource, SlotId as Slot, PrincipalSlot, ResourceSlot};
-ghost use Rattle.cedar_language.specs.Uid.{Text};
-ghost use Rattle.cedar_language.specs.Value.{Value};
 ghost use Rattle.cedar_grammar.specs.Policy.{constraint_tree, action_tree, scope_tree};
 ghost use Rattle.cedar_partial_evaluation.specs.Partial.{LeafAnswers, answer_of};
-ghost use Rattle.cedar_partial_evaluation.specs.Question.{part_held};
 ghost use Rattle.cedar_world.specs.Scope.{action_meets};
+ghost use Rattle.cedar_literals.specs.Variables.{variable_of};
 ghost use Rattle.cedar_constraints.specs.Actions.{action_of, held_uids};
 ghost use Rattle.cedar_constraints.specs.Asked.{constraint_of};
 ghost use Rattle.cedar_constraints.specs.References.{target_of};
 ghost use Rattle.cedar_entities.specs.Data.{ancestors_of};
 ghost use Rattle.cedar_entities.specs.declared.store.Entities.{Entities as Store};
+ghost use Rattle.cedar_extensions.specs.declared.extensions.Extensions.{Extensions};
 ghost use Rattle.cedar_operators.specs.Hierarchy.{is_within_entity};
 ghost use Rattle.cedar_operators.specs.Store.{HasFacts};
-ghost use Rattle.cedar_interpreter.specs.Asking.{Inquiry, request_held};
+ghost use Rattle.cedar_interpreter.specs.Asking.{Inquiry, variable_asked, request_held, IsEvaluatorOf};
 ghost use Rattle.cedar_policies.specs.Policies.{bindings_of, policy_syntax};
-ghost use Rattle.cedar_requests.specs.Holding.{request_parts};
-ghost use Rattle.cedar_requests.specs.Parts.{part_of};
 ghost use Rattle.cedar_evaluator.specs.Scopes.{IsDecided, IsGivenAs, AreScopesOf, target_bound, constraint_met, unasked};
 
 use cedar_constraints::actions::ActionConstraint;
@@ -31,10 +28,11 @@ use cedar_constraints::constraints::PrincipalOrResourceConstraint;
 use cedar_constraints::references::EntityReference;
 use cedar_entities::entity::Entity;
 use cedar_entities::store::Entities;
+use cedar_interpreter::Evaluator;
 use cedar_literals::slots::SlotId;
 use cedar_literals::uids::{EntityType, EntityUID};
+use cedar_literals::variables::Var;
 use cedar_policies::policies::Policy;
-use cedar_requests::{EntityUIDEntry, Request};
 use std::alloc::AllocError;
 use std::rc::Rc;
 
@@ -170,23 +168,19 @@ fn target<'p>(named: &'p EntityReference, bound: Option<&'p EntityUID>) -> Optio
     }
 }
 
-// What a request gives, with what a store holds of it.
+// The entity that stands for a variable in what an evaluator answers for.
 fn given<'s>(
-    entities: &'s Entities,
-    entry: &EntityUIDEntry,
+    evaluator: &Evaluator<'s, '_, '_>,
+    var: Var,
 ) -> Result<Option<GivenEntity<'s>>, AllocError>
-    ensures { IfOk result (λ g. (name : Text) → IsGivenAs entities.now (part_held (part_of entry.now) None name) g) }
+    ensures { IfOk result (λ g. (i : Inquiry) (store : Store) (table : Extensions) (depth : ℕ) → IsEvaluatorOf i store table depth evaluator.now → IsGivenAs store (variable_asked i.request (variable_of var)) g) }
 {
-    if entities.is_partial() {
-        return Ok(None);
-    }
-    match entry {
-        EntityUIDEntry::Known { euid, loc: _ } => {
-            let uid = euid.clone()?;
-            let entity = entities.get(euid);
+    match evaluator.given_entity(var) {
+        Some((uid, entity)) => {
+            let uid = uid.clone()?;
             Ok(Some(GivenEntity { uid, entity }))
         }
-        EntityUIDEntry::Unknown { ty: _, loc: _ } => Ok(None),
+        None => Ok(None),
     }
 }
 
@@ -231,13 +225,23 @@ fn action_meets(given: &Option<GivenEntity<'_>>, constraint: &ActionConstraint) 
 }
 
 impl<'s> Scopes<'s> {
-    /// What the request gives; refused for memory alone.
-    pub(crate) fn new(entities: &'s Entities, request: &Request) -> Result<Scopes<'s>, AllocError>
-        ensures { IfOk result (λ scopes. (told : Text → Option Value) → AreScopesOf (record { request = request_parts request.now; told = told }) entities.now scopes) }
+    /// What the request of an evaluator over these entities gives; refused for memory alone.
+    pub(crate) fn new(
+        entities: &Entities,
+        evaluator: &Evaluator<'s, '_, '_>,
+    ) -> Result<Scopes<'s>, AllocError>
+        ensures { IfOk result (λ scopes. (i : Inquiry) (store : Store) (table : Extensions) (depth : ℕ) → IsEvaluatorOf i store table depth evaluator.now → AreScopesOf i store scopes) }
     {
-        let principal = given(entities, request.principal())?;
-        let action = given(entities, request.action())?;
-        let resource = given(entities, request.resource())?;
+        if entities.is_partial() {
+            return Ok(Scopes {
+                principal: None,
+                action: None,
+                resource: None,
+            });
+        }
+        let principal = given(evaluator, Var::Principal)?;
+        let action = given(evaluator, Var::Action)?;
+        let resource = given(evaluator, Var::Resource)?;
         Ok(Scopes {
             principal,
             action,

@@ -9,4 +9,4 @@ use Rattle.cedar_evaluator.proofs.authorizer.Authorizer.is_authorized_core.Goals
 pub returns : goal.returns
 returns c =
     let i = untold (request_parts c.args.request) in
-    if_ok c.responded.result (λ response by. by i c.args.entities.now (table_of c.args.self.now) (limit_of c.args.self.now) refl c.in_ok-evaluator.ensures (c.in_ok-scopes.ensures i.told)) c.responded.ensures
+    if_ok c.responded.result (λ response by. by i c.args.entities.now (table_of c.args.self.now) (limit_of c.args.self.now) refl c.in_ok-evaluator.ensures.0 c.in_ok-evaluator.ensures.1) c.responded.ensures
