@@ -18,3 +18,8 @@ mod Again
 mod ActionSets
 mod Scoped
 mod Judged
+mod Unmet
+mod OutOfScope
+mod Thinned
+mod Listed
+mod Passed

@@ -12,3 +12,4 @@ pub mod Refusals
 pub mod Concretizing
 pub mod Reauthorizing
 pub mod Scopes
+pub mod Candidates

@@ -6,12 +6,13 @@ use Rattle.cedar_language.specs.Order.{same_name, same_uid}
 use Rattle.cedar_language.specs.Tree.{Boolean, Entity, Principal, Action, Resource, Tree}
 use Rattle.cedar_language.specs.Value.{Plain}
 use Rattle.cedar_language.specs.Facts.{Facts}
-use Rattle.cedar_grammar.specs.Policy.{Target, the_entity, the_slot, Constraint, anything, equals, within, of_type, of_type_within}
+use Rattle.cedar_grammar.specs.Policy.{Constraint, anything, equals, within, of_type, of_type_within}
 use Rattle.cedar_world.specs.Scope.{and_then_met}
 use Rattle.cedar_partial_evaluation.specs.Partial.{Answer, Evaluated, LeafAnswers, partial_in}
 use Rattle.cedar_entities.specs.declared.store.Entities.{Entities}
 use Rattle.cedar_interpreter.specs.Asking.{Inquiry, variable_asked}
 use Rattle.cedar_interpreter.specs.Seen.{IsSeen}
+pub use Rattle.cedar_scope_index.specs.Naming.{target_bound}
 use Rattle.cedar_evaluator.specs.declared.scopes.GivenEntity.{GivenEntity}
 use Rattle.cedar_evaluator.specs.declared.scopes.Scopes.{Scopes}
 
@@ -31,11 +32,6 @@ pub record AreScopesOf (i : Inquiry) (store : Entities) (s : Scopes) : Type 0 wh
   pub resource : IsGivenAs store (variable_asked i.request Resource) s.resource
 
 -- ---- what a constraint asks of an entity
-
--- the entity that it names, or that its slot is bound to
-abbrev pub target_bound : Option Uid → Target → Option Uid
-target_bound bound (the_entity u) = Some u
-target_bound bound the_slot = bound
 
 -- by a test of what the entity is in; not said where the slot isn't bound
 abbrev pub constraint_met : (Uid → Bool) → Uid → Option Uid → Constraint → Option Bool

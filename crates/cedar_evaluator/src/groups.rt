@@ -10,12 +10,14 @@ ghost use Rattle.cedar_policy_set.specs.Bounds.{policy_seen};
 ghost use Rattle.cedar_policy_set.specs.Entries.{Entries, policies_of};
 ghost use Rattle.cedar_requests.specs.Holding.{request_parts};
 ghost use Rattle.cedar_trees.specs.Bare.{bare};
+ghost use Rattle.cedar_evaluator.specs.Candidates.{policies_at};
 ghost use Rattle.cedar_evaluator.specs.Evaluations.{Satisfied, Unsatisfied, Erred, Open};
 ghost use Rattle.cedar_evaluator.specs.Grouping.{held_in, with_kept, kept_of, is_want, IsKeepable, Keeps, AreApart};
 ghost use Rattle.cedar_evaluator.specs.Holding.{holding_in, request_asked};
 ghost use Rattle.cedar_evaluator.specs.Responses.{Holding, without_false};
 ghost use Rattle.cedar_evaluator.specs.Scopes.{AreScopesOf};
 
+use crate::candidates::candidates;
 use crate::errors::AuthorizationError;
 use crate::judging::evaluated;
 use crate::partial_response::{ErrorState, PartialResponse};
@@ -125,9 +127,49 @@ impl Groups {
         ensures { IfOk result (λ groups. (i : Inquiry) (store : Store) (table : Extensions) (depth : ℕ) →
             IsEvaluatorOf i store table depth evaluator.now → AreScopesOf i store scopes.now → Keeps with_false i store table depth (policies_of policies.now) groups) }
     {
+        if with_false {
+            return Groups::of_all(alloc, evaluator, scopes, policies, with_false);
+        }
+        match candidates(alloc, scopes, policies)? {
+            Some(positions) => Groups::of_those_at(alloc, evaluator, scopes, policies, &positions),
+            None => Groups::of_all(alloc, evaluator, scopes, policies, with_false),
+        }
+    }
+
+    // The same, by a look at each policy.
+    fn of_all(
+        alloc: Global,
+        evaluator: &Evaluator<'_, '_, '_>,
+        scopes: &Scopes<'_>,
+        policies: &PolicySet,
+        with_false: bool,
+    ) -> Result<Groups, AllocError>
+        ensures { IfOk result (λ groups. (i : Inquiry) (store : Store) (table : Extensions) (depth : ℕ) →
+            IsEvaluatorOf i store table depth evaluator.now → AreScopesOf i store scopes.now → Keeps with_false i store table depth (policies_of policies.now) groups) }
+    {
         let mut groups = Groups::new(alloc);
         for policy in policies.policies() {
             groups.evaluate(alloc, evaluator, scopes, policy, with_false)?;
+        }
+        Ok(groups)
+    }
+
+    // What the policies at these positions come to, without those that aren't satisfied.
+    fn of_those_at(
+        alloc: Global,
+        evaluator: &Evaluator<'_, '_, '_>,
+        scopes: &Scopes<'_>,
+        policies: &PolicySet,
+        positions: &[usize],
+    ) -> Result<Groups, AllocError>
+        ensures { IfOk result (λ groups. (i : Inquiry) (store : Store) (table : Extensions) (depth : ℕ) →
+            IsEvaluatorOf i store table depth evaluator.now → AreScopesOf i store scopes.now → Keeps false i store table depth (policies_at policies.now positions.now) groups) }
+    {
+        let mut groups = Groups::new(alloc);
+        for position in positions {
+            if let Some(policy) = policies.policy_at(*position) {
+                groups.evaluate(alloc, evaluator, scopes, policy, false)?;
+            }
         }
         Ok(groups)
     }

@@ -10,6 +10,7 @@
 
 pub mod ast;
 pub mod authorizer;
+mod candidates;
 mod concretizing;
 pub mod errors;
 pub mod evaluation;

@@ -38,8 +38,8 @@ use std::rc::Rc;
 
 // An entity that a request gives, with what a store holds of it.
 pub(crate) struct GivenEntity<'s> {
-    uid: Rc<EntityUID>,
-    entity: Option<&'s Entity>,
+    pub(crate) uid: Rc<EntityUID>,
+    pub(crate) entity: Option<&'s Entity>,
 }
 
 impl Drop for GivenEntity<'_> {
@@ -51,9 +51,9 @@ impl Drop for GivenEntity<'_> {
 /// The entities that a request gives for the variables of scopes. Over a store that is partial none is
 /// given, since what isn't held there isn't known.
 pub(crate) struct Scopes<'s> {
-    principal: Option<GivenEntity<'s>>,
-    action: Option<GivenEntity<'s>>,
-    resource: Option<GivenEntity<'s>>,
+    pub(crate) principal: Option<GivenEntity<'s>>,
+    pub(crate) action: Option<GivenEntity<'s>>,
+    pub(crate) resource: Option<GivenEntity<'s>>,
 }
 
 impl Drop for Scopes<'_> {

@@ -5,7 +5,7 @@ use Rattle.cedar_interpreter.specs.Asking.{Inquiry, IsEvaluatorOf}
 use Rattle.cedar_policy_set.specs.Bounds.{policy_seen}
 use Rattle.cedar_evaluator.specs.Grouping.{Keeps}
 use Rattle.cedar_evaluator.specs.Scopes.{AreScopesOf}
-use Rattle.cedar_evaluator.proofs.groups.Groups.of_policies.Given as goal
+use Rattle.cedar_evaluator.proofs.groups.Groups.of_all.Given as goal
 
 -- the policies so far are kept
 abbrev pub invariant-loop-policy : goal.invariant-loop-policy

@@ -1,0 +1,139 @@
+-- A policy that an index finds is among the positions that were found, or out of scope.
+use Rattle.std.proofs.Common.{◌≡◌, ◌⊎◌, inl, inr, ℕ, ◌<◌, ◌≤◌, length, Bool, true, false, ◌||◌, Option, Some, List, refl, ◌∙◌, ap, subst, arith}
+use Rattle.std.specs.List.{slice_get}
+use Rattle.std.proofs.lemmas.Option.{slice_get_within}
+use Rattle.cedar_language.specs.Uid.{Text, Uid}
+use Rattle.cedar_language.specs.Order.{same_uid}
+use Rattle.cedar_language.specs.Tree.{Boolean, Principal, Action, Resource, PrincipalSlot, ResourceSlot}
+use Rattle.cedar_language.specs.Value.{Plain}
+use Rattle.cedar_language.specs.Facts.{Facts}
+use Rattle.cedar_grammar.specs.Build.{conjunction}
+use Rattle.cedar_grammar.specs.Policy.{Policy, constraint_tree, action_tree, scope_tree}
+use Rattle.cedar_partial_evaluation.specs.Partial.{Evaluated, LeafAnswers, partial_in}
+use Rattle.cedar_world.specs.Scope.{and_then_met, action_meets}
+use Rattle.cedar_world.specs.Syntax.{Bindings}
+use Rattle.cedar_constraints.specs.Bindings.{unbound}
+use Rattle.cedar_entities.specs.declared.store.Entities.{Entities}
+use Rattle.cedar_operators.specs.Store.{HasFacts}
+use Rattle.cedar_interpreter.specs.Asking.{Inquiry, variable_asked, request_held}
+use Rattle.cedar_policy_set.specs.Entries.{Entry, Entries, static_policy, template, link, is_policy}
+use Rattle.cedar_policy_set.specs.Scopes.{IsEntryFound, Covers}
+use Rattle.cedar_scope_index.specs.Finding.{IsFound, by_nothing, by_principal, by_action, by_resource, covered, is_listed}
+use Rattle.cedar_scope_index.specs.Naming.{named, is_settled, named_action}
+use Rattle.cedar_scope_index.specs.declared.index.ScopeIndex.{ScopeIndex}
+use Rattle.cedar_evaluator.specs.Candidates.{AreAmong, HasFound, IsOutOfScope, is_in_given}
+use Rattle.cedar_evaluator.specs.Scopes.{IsDecided, IsGivenAs, constraint_met}
+use Rattle.cedar_evaluator.specs.declared.scopes.GivenEntity.{GivenEntity}
+use Rattle.cedar_evaluator.proofs.Scoped.{both_decided, constraint_held, action_held}
+use Rattle.cedar_evaluator.proofs.Unmet.{false_behind, unmet, action_unmet, settled}
+
+itself_in : (g : GivenEntity) (n : Uid) → same_uid g.uid.value n ≡ true → is_in_given g n ≡ true
+itself_in g n is = by_test (same_uid g.uid.value n) _ is
+  where
+    by_test : (b c : Bool) → b ≡ true → (b || c) ≡ true
+    by_test true c h = refl
+    by_test false c h = absurd (cc h)
+
+-- ---- what is asked of the three entities that are given, from the left
+
+module _ (facts : Facts) (holds : LeafAnswers) (b : Bindings) (s : Policy) (p a r : GivenEntity)
+    (principal : IsDecided facts holds (constraint_tree Principal PrincipalSlot s.principal) (constraint_met (is_in_given p) p.uid.value b.principal s.principal))
+    (action : IsDecided facts holds (action_tree s.action) (Some (action_meets (λ _. is_in_given a) s.action a.uid.value)))
+    (resource : IsDecided facts holds (constraint_tree Resource ResourceSlot s.resource) (constraint_met (is_in_given r) r.uid.value b.resource s.resource)) where
+  abbrev principal_met : Option Bool
+  principal_met = constraint_met (is_in_given p) p.uid.value b.principal s.principal
+
+  abbrev action_met : Bool
+  action_met = action_meets (λ _. is_in_given a) s.action a.uid.value
+
+  abbrev resource_met : Option Bool
+  resource_met = constraint_met (is_in_given r) r.uid.value b.resource s.resource
+
+  scope_false : and_then_met (and_then_met principal_met (Some action_met)) resource_met ≡ Some false → partial_in facts holds (scope_tree s) ≡ Evaluated (Plain (Boolean false))
+  scope_false is =
+      subst (IsDecided facts holds (scope_tree s)) is
+      (both_decided facts holds (conjunction (constraint_tree Principal PrincipalSlot s.principal) (action_tree s.action)) (constraint_tree Resource ResourceSlot s.resource) (and_then_met principal_met (Some action_met)) resource_met
+      (both_decided facts holds (constraint_tree Principal PrincipalSlot s.principal) (action_tree s.action) principal_met (Some action_met) principal action) resource)
+
+  principal_out : (n : Uid) → named b.principal s.principal ≡ Some n → is_in_given p n ≡ false → partial_in facts holds (scope_tree s) ≡ Evaluated (Plain (Boolean false))
+  principal_out n names out =
+      scope_false (ap (λ o. and_then_met (and_then_met o (Some action_met)) resource_met) (unmet (is_in_given p) p.uid.value n (itself_in p n) out b.principal s.principal names))
+
+  action_out : (n : Uid) → is_settled b.principal s.principal ≡ true → named_action s.action ≡ Some n → is_in_given a n ≡ false → partial_in facts holds (scope_tree s) ≡ Evaluated (Plain (Boolean false))
+  action_out n bound names out =
+      let (before, is) = settled (is_in_given p) p.uid.value b.principal s.principal bound in
+      scope_false
+      (ap (λ o. and_then_met (and_then_met o (Some action_met)) resource_met) is
+      ∙ ap (λ c. and_then_met (and_then_met (Some before) (Some c)) resource_met) (action_unmet (is_in_given a) a.uid.value n (itself_in a n) out s.action names)
+      ∙ ap (λ o. and_then_met o resource_met) (false_behind before))
+
+  resource_out : (n : Uid) → is_settled b.principal s.principal ≡ true → named b.resource s.resource ≡ Some n → is_in_given r n ≡ false → partial_in facts holds (scope_tree s) ≡ Evaluated (Plain (Boolean false))
+  resource_out n bound names out =
+      let (before, is) = settled (is_in_given p) p.uid.value b.principal s.principal bound in
+      scope_false
+      (ap (λ o. and_then_met (and_then_met o (Some action_met)) resource_met) is
+      ∙ ap (and_then_met (and_then_met (Some before) (Some action_met))) (unmet (is_in_given r) r.uid.value n (itself_in r n) out b.resource s.resource names)
+      ∙ behind_both before action_met)
+    where
+      behind_both : (b c : Bool) → and_then_met (and_then_met (Some b) (Some c)) (Some false) ≡ Some false
+      behind_both true c = false_behind c
+      behind_both false c = refl
+
+-- ---- what an index finds
+
+abbrev IsOut : Inquiry → Entities → Bindings → Policy → Type 0
+IsOut i store b s = (facts : Facts) → HasFacts store facts → partial_in facts (request_held i b) (scope_tree s) ≡ Evaluated (Plain (Boolean false))
+
+-- the test decides: where it holds the position is listed, and else the policy is out
+listed_or : (Out : Type 0) (test : Uid → Bool) (n : Uid) (ps : List ℕ) (q : ℕ) → (test n ≡ true → is_listed ps q ≡ true) → (test n ≡ false → Out) → (is_listed ps q ≡ true) ⊎ Out
+listed_or Out test n ps q listed out = by_test (test n) refl
+  where
+    by_test : (c : Bool) → test n ≡ c → (is_listed ps q ≡ true) ⊎ Out
+    by_test true e = inl (listed e)
+    by_test false e = inr (out e)
+
+module _ (i : Inquiry) (store : Entities) (p a r : GivenEntity)
+    (principal : IsGivenAs store (variable_asked i.request Principal) (Some p))
+    (action : IsGivenAs store (variable_asked i.request Action) (Some a))
+    (resource : IsGivenAs store (variable_asked i.request Resource) (Some r)) where
+  module _ (facts : Facts) (has : HasFacts store facts) (b : Bindings) (s : Policy) where
+    abbrev holds : LeafAnswers
+    holds = request_held i b
+
+    by_principal_given : IsDecided facts holds (constraint_tree Principal PrincipalSlot s.principal) (constraint_met (is_in_given p) p.uid.value b.principal s.principal)
+    by_principal_given = constraint_held facts store has p.uid.value p.entity principal.1 holds Principal PrincipalSlot b.principal s.principal principal.0 refl
+
+    by_action_given : IsDecided facts holds (action_tree s.action) (Some (action_meets (λ _. is_in_given a) s.action a.uid.value))
+    by_action_given = action_held facts store has a.uid.value a.entity action.1 holds s.action action.0
+
+    by_resource_given : IsDecided facts holds (constraint_tree Resource ResourceSlot s.resource) (constraint_met (is_in_given r) r.uid.value b.resource s.resource)
+    by_resource_given = constraint_held facts store has r.uid.value r.entity resource.1 holds Resource ResourceSlot b.resource s.resource resource.0 refl
+
+  module _ (x : ScopeIndex) (ps : List ℕ) (found : HasFound x p a r ps) where
+    among_or_out : (q : ℕ) (b : Bindings) (s : Policy) → IsFound x q b s → (is_listed ps q ≡ true) ⊎ IsOut i store b s
+    among_or_out q b s (by_nothing listed) = inl (found.others q listed)
+    among_or_out q b s (by_principal n names listed) =
+        listed_or (IsOut i store b s) (is_in_given p) n ps q (λ e. found.principals n e q listed)
+        (λ e facts has. principal_out facts (request_held i b) b s p a r (by_principal_given facts has b s) (by_action_given facts has b s) (by_resource_given facts has b s) n names e)
+    among_or_out q b s (by_action n bound names listed) =
+        listed_or (IsOut i store b s) (is_in_given a) n ps q (λ e. found.actions n e q listed)
+        (λ e facts has. action_out facts (request_held i b) b s p a r (by_principal_given facts has b s) (by_action_given facts has b s) (by_resource_given facts has b s) n bound names e)
+    among_or_out q b s (by_resource n bound names listed) =
+        listed_or (IsOut i store b s) (is_in_given r) n ps q (λ e. found.resources n e q listed)
+        (λ e facts has. resource_out facts (request_held i b) b s p a r (by_principal_given facts has b s) (by_action_given facts has b s) (by_resource_given facts has b s) n bound names e)
+
+    entry_among_or_out : (q : ℕ) (e : Entry) → IsEntryFound x q e → is_policy e ≡ true → (is_listed ps q ≡ true) ⊎ IsOutOfScope i store e
+    entry_among_or_out q (static_policy s) found_there is = among_or_out q unbound s found_there
+    entry_among_or_out q (template s) found_there is = absurd (cc is)
+    entry_among_or_out q (link t s b) found_there is = among_or_out q b s found_there
+
+  -- where the index covers all entries, a policy stands among what was found, or is out of scope
+  pub found_or_out : (x : ScopeIndex) (es : Entries) (ps qs : List ℕ) → HasFound x p a r ps → Covers es x → length es ≤ covered x → AreAmong ps qs →
+      (q : ℕ) (e : Text × Entry) → slice_get es q ≡ Some e → is_policy e.1 ≡ true → (is_listed qs q ≡ true) ⊎ IsOutOfScope i store e.1
+  found_or_out x es ps qs found covers whole among q e at is =
+      let inside : q < covered x = let here = slice_get_within es q e at in omega (arith, here, whole) in
+      kept (entry_among_or_out x ps found q e.1 (covers.found q e inside at) is)
+    where
+      kept : {Out : Type 0} → (is_listed ps q ≡ true) ⊎ Out → (is_listed qs q ≡ true) ⊎ Out
+      kept (inl h) = inl (among q h)
+      kept (inr h) = inr h

@@ -1,0 +1,92 @@
+-- Policies that are out of scope aren't satisfied: without those that aren't, what is kept of all is what is kept of the others.
+use Rattle.std.proofs.Common.{◌≡◌, ℕ, ◌+◌, ◌<◌, length, get_or, take, false, Option, Some, None, List, [], ◌∷◌, ◌++◌, refl, sym, ◌∙◌, ap}
+use Rattle.std.specs.List.{cons_option, filter_map, slice_get}
+use Rattle.std.proofs.lemmas.List.{append-nil, take_more}
+use Rattle.std.proofs.lemmas.List.Elements.{filter_map-append}
+use Rattle.cedar_language.specs.Uid.{Text}
+use Rattle.cedar_language.specs.Answering.{Effect, Permit, Forbid}
+use Rattle.cedar_entities.specs.declared.store.Entities.{Entities}
+use Rattle.cedar_extensions.specs.declared.extensions.Extensions.{Extensions}
+use Rattle.cedar_grammar.specs.Policy.{scope_tree}
+use Rattle.cedar_interpreter.specs.Asking.{Inquiry, request_held}
+use Rattle.cedar_policy_set.specs.Entries.{Entry, Entries, policies_of}
+use Rattle.cedar_policy_set.specs.Scopes.{policy_stood}
+use Rattle.cedar_policy_set.specs.Texts.{syntax_in}
+use Rattle.cedar_evaluator.specs.Candidates.{IsOutOfScope, AreCandidates, policies_at}
+use Rattle.cedar_evaluator.specs.Evaluations.{Unsatisfied, bindings_in, Kept, IsKept, AreKept}
+use Rattle.cedar_evaluator.specs.Grouping.{Keeps}
+use Rattle.cedar_evaluator.specs.Responses.{Holding, if_effect, satisfied_id, open_id, error_id, holding_of, without_false}
+use Rattle.cedar_evaluator.specs.declared.groups.Groups.{Groups}
+use Rattle.cedar_evaluator.proofs.Scoped.{out_of_scope}
+use Rattle.cedar_evaluator.proofs.Thinned.{Thinned, nothing, kept, left_out, thinned}
+
+-- ---- what is kept of one more policy
+
+-- one more policy before those that are held, but for the false ones
+abbrev with_first : Kept → Holding → Holding
+with_first k h = record {
+  satisfied_permits = cons_option (if_effect Permit k.effect (satisfied_id k.id k.found)) h.satisfied_permits;
+  false_permits = [];
+  open_permits = cons_option (if_effect Permit k.effect (open_id k.id k.found)) h.open_permits;
+  satisfied_forbids = cons_option (if_effect Forbid k.effect (satisfied_id k.id k.found)) h.satisfied_forbids;
+  false_forbids = [];
+  open_forbids = cons_option (if_effect Forbid k.effect (open_id k.id k.found)) h.open_forbids;
+  errors = cons_option (error_id k.id k.found) h.errors;
+}
+
+first_same : (k : Kept) (js ks : List Kept) → without_false (holding_of js) ≡ without_false (holding_of ks) → without_false (holding_of (k ∷ js)) ≡ without_false (holding_of (k ∷ ks))
+first_same k js ks h = ap (with_first k) h
+
+none_kept : (id : Text) (effect : Effect) (ks : List Kept) → without_false (holding_of (record { id = id; effect = effect; found = Unsatisfied } ∷ ks)) ≡ without_false (holding_of ks)
+none_kept id Permit ks = refl
+none_kept id Forbid ks = refl
+
+-- ---- of the policies of a set
+
+abbrev unsatisfied : Text × Entry → Kept
+unsatisfied e = record { id = e.0; effect = (syntax_in e.1).effect; found = Unsatisfied }
+
+module _ (i : Inquiry) (store : Entities) (table : Extensions) (depth : ℕ) where
+  out_kept : (e : Text × Entry) → IsOutOfScope i store e.1 → IsKept i store table depth e (unsatisfied e)
+  out_kept e out = record {
+    id = refl;
+    effect = refl;
+    found = λ facts served. out_of_scope facts (request_held i (bindings_in e.1)) (scope_tree (syntax_in e.1)) (syntax_in e.1).body (out facts served.entities);
+    limit = λ met. absurd (cc met);
+  }
+
+  -- what is kept of all, where these are kept of those that may be in scope
+  record KeptOfAll (es : Entries) (ks : List Kept) : Type 0 where
+    all : List Kept
+    each : AreKept i store table depth es all
+    same : without_false (holding_of all) ≡ without_false (holding_of ks)
+
+  kept_of_all : {es fs : Entries} → Thinned (IsOutOfScope i store) es fs → (ks : List Kept) → AreKept i store table depth fs ks → KeptOfAll es ks
+  kept_of_all nothing [] each = record { all = []; each = tt; same = refl }
+  kept_of_all nothing (k ∷ ks) each = absurd each
+  kept_of_all (kept e rest) [] each = absurd each
+  kept_of_all (kept e rest) (k ∷ ks) each =
+      let others = kept_of_all rest ks each.1 in
+      record { all = k ∷ others.all; each = (each.0, others.each); same = first_same k others.all ks others.same }
+  kept_of_all (left_out e out rest) ks each =
+      let others = kept_of_all rest ks each in
+      record { all = unsatisfied e ∷ others.all; each = (out_kept e out, others.each); same = none_kept e.0 (syntax_in e.1).effect others.all ∙ others.same }
+
+  -- where nothing is asked of policies that aren't satisfied, the candidates are enough
+  pub candidates_keep : (es : Entries) (ps : List ℕ) (g : Groups) → AreCandidates i store es ps → Keeps false i store table depth (policies_at es ps) g → Keeps false i store table depth (policies_of es) g
+  candidates_keep es ps g candidates keeps =
+      let all = kept_of_all (thinned (IsOutOfScope i store) es ps candidates.rising candidates.whole) keeps.kept keeps.each in
+      record { kept = all.all; each = all.each; holds = keeps.holds ∙ sym all.same }
+
+-- ---- the candidates in turn
+
+more_at : (es : Entries) (ps : List ℕ) (k d : ℕ) → k < length ps → policies_at es (take (k + 1) ps) ≡ policies_at es (take k ps) ++ cons_option (policy_stood (slice_get es (get_or ps k d))) []
+more_at es ps k d inside =
+    let at : ℕ → Option (Text × Entry) = λ p. policy_stood (slice_get es p) in
+    ap (filter_map at) (take_more ps k d inside) ∙ filter_map-append at (take k ps) (get_or ps k d ∷ [])
+
+pub next_at : (es : Entries) (ps : List ℕ) (k d : ℕ) (e : Text × Entry) → k < length ps → policy_stood (slice_get es (get_or ps k d)) ≡ Some e → policies_at es (take (k + 1) ps) ≡ policies_at es (take k ps) ++ e ∷ []
+next_at es ps k d e inside stands = more_at es ps k d inside ∙ ap (λ o. policies_at es (take k ps) ++ cons_option o []) stands
+
+pub none_at : (es : Entries) (ps : List ℕ) (k d : ℕ) → k < length ps → policy_stood (slice_get es (get_or ps k d)) ≡ None → policies_at es (take (k + 1) ps) ≡ policies_at es (take k ps)
+none_at es ps k d inside stands = more_at es ps k d inside ∙ ap (λ o. policies_at es (take k ps) ++ cons_option o []) stands ∙ append-nil (policies_at es (take k ps))

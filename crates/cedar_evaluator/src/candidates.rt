@@ -1,0 +1,119 @@
+// Which policies of a set may be in scope of a request: those that its index finds by the entities that are given.
+ghost use Rattle.std.specs.Prelude.{◌≡◌, IsTrue, IfOk, OnOk, IfSome};
+ghost use Rattle.std.specs.FinSet as set;
+ghost use Rattle.std.specs.List.Sorted.{IsStrictlyIncreasing};
+ghost use Rattle.cedar_entities.specs.Data.{ancestors_of};
+ghost use Rattle.cedar_entities.specs.declared.store.Entities.{Entities as Store};
+ghost use Rattle.cedar_interpreter.specs.Asking.{Inquiry};
+ghost use Rattle.cedar_evaluator.specs.Candidates.{is_in_given, AreAmong, HasListed, HasFound, AreCandidates};
+ghost use Rattle.cedar_evaluator.specs.Scopes.{AreScopesOf};
+
+use crate::scopes::{GivenEntity, Scopes};
+use cedar_entities::entity::Entity;
+use cedar_policy_set::sets::PolicySet;
+use cedar_scope_index::index::ScopeIndex;
+use cedar_scope_index::positions::Positions;
+use std::alloc::{AllocError, Global};
+
+/// Positions in a set, each below the next, outside of which no policy is in scope of a request. None are told
+/// where the set's index doesn't cover it whole, where the request doesn't give all three entities, or where one
+/// of them has more ancestors than the set has entries. Refused for memory alone.
+pub(crate) fn candidates(
+    alloc: Global,
+    scopes: &Scopes<'_>,
+    policies: &PolicySet,
+) -> Result<Option<Vec<usize>>, AllocError>
+    ensures { IfOk result (λ found. IfSome found (λ positions. (i : Inquiry) (store : Store) → AreScopesOf i store scopes.now → AreCandidates i store policies.now positions.items)) }
+{
+    let (Some(principal), Some(action), Some(resource)) = (
+        &scopes.principal,
+        &scopes.action,
+        &scopes.resource,
+    ) else {
+        return Ok(None);
+    };
+    let index = policies.scopes();
+    let len = policies.len();
+    if index.len() < len {
+        return Ok(None);
+    }
+    match found_by(alloc, index, principal, action, resource, len)? {
+        Some(found) => Ok(Some(in_order(found))),
+        None => Ok(None),
+    }
+}
+
+// What is listed under these entities and those that they are in, and what is listed under none; not told where one
+// of them has more ancestors than `most`.
+fn found_by(
+    alloc: Global,
+    index: &ScopeIndex,
+    principal: &GivenEntity<'_>,
+    action: &GivenEntity<'_>,
+    resource: &GivenEntity<'_>,
+    most: usize,
+) -> Result<Option<Vec<usize>>, AllocError>
+    ensures { IfOk result (λ found. IfSome found (λ positions. HasFound index.now principal.now action.now resource.now positions.items)) }
+{
+    let mut found = Vec::new(alloc);
+    found.extend_from_slice(index.others())?;
+    if add_found(&mut found, index.principals(), principal, most)?
+        && add_found(&mut found, index.actions(), action, most)?
+        && add_found(&mut found, index.resources(), resource, most)?
+    {
+        Ok(Some(found))
+    } else {
+        Ok(None)
+    }
+}
+
+// Adds what is listed under an entity and under its ancestors; false where these are more than `most`.
+fn add_found(
+    found: &mut Vec<usize>,
+    listed: &Positions,
+    given: &GivenEntity<'_>,
+    most: usize,
+) -> Result<bool, AllocError>
+    ensures kept { OnOk result (AreAmong found.old.items found.new.items) }
+    ensures added { IfOk result (λ whole. IsTrue whole → HasListed listed.now (is_in_given given.now) found.new.items) }
+{
+    if listed.is_empty() {
+        return Ok(true);
+    }
+    found.extend_from_slice(listed.at(&given.uid))?;
+    match given.entity {
+        Some(entity) => add_of_ancestors(found, listed, entity, most),
+        None => Ok(true),
+    }
+}
+
+// Adds what is listed under each ancestor of an entity; false where these are more than `most`.
+fn add_of_ancestors(
+    found: &mut Vec<usize>,
+    listed: &Positions,
+    entity: &Entity,
+    most: usize,
+) -> Result<bool, AllocError>
+    ensures kept { OnOk result (AreAmong found.old.items found.new.items) }
+    ensures added { IfOk result (λ whole. IsTrue whole → HasListed listed.now (set.contains (ancestors_of entity.now)) found.new.items) }
+{
+    let mut left = most;
+    for ancestor in entity.ancestors() {
+        if left == 0 {
+            return Ok(false);
+        }
+        left -= 1;
+        found.extend_from_slice(listed.at(ancestor))?;
+    }
+    Ok(true)
+}
+
+// The same positions, each below the next.
+fn in_order(mut positions: Vec<usize>) -> Vec<usize>
+    ensures rising { IsStrictlyIncreasing result.items }
+    ensures kept { AreAmong positions.items result.items }
+{
+    positions.sort_unstable();
+    positions.dedup();
+    positions
+}
