@@ -63,6 +63,15 @@ impl HeldPolicies {
         &self.set
     }
 
+    /// Sees to it that a question finds the policies by what their scopes name, in place of looking at each. What
+    /// was found so before stays, and what came since is added. Refused for memory alone; no policy changes either
+    /// way.
+    pub fn index(&mut self, alloc: Global) -> Result<(), AllocError>
+        ensures { self.new ≡ self.old }
+    {
+        self.set.index_scopes(alloc)
+    }
+
     /// Puts the policies of a text, each under its own number, to those that are held; answers the ids
     /// under which they now stand, in the text's order. A policy whose number is bound here to something
     /// else gets the next number that is free here and in the text. Refused for memory alone, and then

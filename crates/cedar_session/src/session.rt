@@ -275,6 +275,16 @@ impl<'e, 'f> Session<'e, 'f> {
         ensures step { Step (setting_of self.old) (world_of self.old) AskVerb text.now (ask_reply result) (world_of self.new) }
         ensures setting { setting_of self.new ≡ setting_of self.old }
     {
+        self.policies.index(self.allocator)?;
+        self.ask_indexed(text)
+    }
+
+    // The same by the policies as they are indexed.
+    fn ask_indexed(&mut self, text: &str) -> Result<Answer, Refusal>
+        requires { length text.now ≤ body_limit }
+        ensures step { Step (setting_of self.old) (world_of self.old) AskVerb text.now (ask_reply result) (world_of self.new) }
+        ensures setting { setting_of self.new ≡ setting_of self.old }
+    {
         cedar_world::texts_are_one();
         cedar_world::calls_are_found();
         self.extensions.names_are_defined();

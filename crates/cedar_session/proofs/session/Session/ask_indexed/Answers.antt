@@ -9,7 +9,7 @@ use Rattle.cedar_session.proofs.Kept.{bare, begins}
 use Rattle.cedar_session.proofs.Texts.{read_tree, serves}
 use Rattle.cedar_session.proofs.Untyped.{question_untyped}
 use Rattle.cedar_session.proofs.Asking.{unread_ask, unasked, unanswered, answered}
-use Rattle.cedar_session.proofs.session.Session.ask.Goals as goal
+use Rattle.cedar_session.proofs.session.Session.ask_indexed.Goals as goal
 
 pub returns-in_err-body-clause-step : goal.returns-in_err-body-clause-step
 returns-in_err-body-clause-step c =
