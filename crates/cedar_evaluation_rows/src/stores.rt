@@ -52,7 +52,8 @@ pub(crate) fn none(alloc: Global) -> Stores {
     }
 }
 
-fn user(alloc: Global, id: &str) -> Result<EntityUID, ParseNameError> {
+/// The user of this id.
+pub(crate) fn user(alloc: Global, id: &str) -> Result<EntityUID, ParseNameError> {
     EntityUID::with_eid_and_type(alloc, "User", id)
 }
 
