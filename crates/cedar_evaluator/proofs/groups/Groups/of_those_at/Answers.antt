@@ -1,5 +1,5 @@
 -- Each position in turn: its policy is kept, if one stands there.
-use Rattle.std.proofs.Common.{◌+◌, false, take, sym, ◌∙◌, ap, subst}
+use Rattle.std.proofs.Common.{ℕ, ◌+◌, List, false, take, take_all, sym, ◌∙◌, ap, subst}
 use Rattle.std.specs.Option.{option_copied, option_map}
 use Rattle.cedar_policy_set.specs.Bounds.{policy_seen}
 use Rattle.cedar_policy_set.specs.Entries.{Entries}
@@ -24,3 +24,9 @@ loop-position-preserved c = λ i store table depth is scopes.
           subst (Keeps false i store table depth (policies_at es (take (k + 1) ps))) (sym w.groups-is)
           (subst (λ (fs : Entries). Keeps false i store table depth fs c.loop-position.groups) (sym (none_at es ps k 0 c.loop-position-test.true (sym c.policy_at.ensures ∙ ap (λ o. option_map policy_seen (option_copied o)) w.in_default.is))) before)
     ]
+
+pub returns : goal.returns
+returns c = λ i store table depth is scopes.
+    let es = c.args.policies.now in
+    let ps = c.args.positions.now in
+    subst (λ (qs : List ℕ). Keeps false i store table depth (policies_at es qs) c.loop-position.groups) (take_all c.loop-position.position-index ps c.loop-position-test.false) (c.loop-position.invariant i store table depth is scopes)
