@@ -31,6 +31,8 @@ pub(crate) fn held<'a>(entities: &'a Entities, uid: &EntityUID) -> Option<&'a En
 }
 
 /// The value of an attribute of a record, or of an entity that is held.
+// Inlined, since most conditions ask it for each policy.
+#[inline(always)]
 pub(crate) fn attribute_lent<'a>(
     entities: &'a Entities,
     of: Lent<'a>,

@@ -53,6 +53,8 @@ fn is_lent(of: Lent<'_>, entity_type: &EntityType) -> Option<bool>
 }
 
 /// What an operator of two operands gives, where that is a Boolean.
+// Inlined, since most conditions ask it for each policy.
+#[inline(always)]
 pub(crate) fn test_of_two(
     entities: &Entities,
     op: BinaryOp,

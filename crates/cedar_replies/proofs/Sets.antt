@@ -89,6 +89,10 @@ same_after_dedup ids q =
     (λ h. list_any-from_Contains equiv q ids (Contains-from_dedup same_text ids q (Contains-from_any tells q _ h)))
     (λ h. list_any-from_Contains equiv q _ (Contains-dedup nat_list_eq_equiv same_tells ids q (Contains-from_any tells q ids h)))
 
+-- another order leaves the same set
+pub moved_ids : (ids moved : List Text) → IsPermutation ids moved → ids_of moved ≡ ids_of ids
+moved_ids ids moved h = same_ids _ _ (λ q. sym (list_any-IsPermutation (text_eq q) ids moved h))
+
 -- a sort and a `dedup` leave the same set, in order
 pub sorted_ids : (ids sorted : List Text) → IsPermutation ids sorted → ids_of (dedup same_text sorted) ≡ ids_of ids
 sorted_ids ids sorted moved = same_ids _ _ (λ q. same_after_dedup sorted q ∙ sym (list_any-IsPermutation (text_eq q) ids sorted moved))

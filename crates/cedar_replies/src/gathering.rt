@@ -55,6 +55,8 @@ pub(crate) fn gather<W: Write>(
 }
 
 /// The same of a text as it stands inside quotes.
+// Inlined, since an answer asks it for each id.
+#[inline(always)]
 pub(crate) fn gather_escaped<W: Write>(
     writer: &mut Watched<W>,
     gathered: &mut ArrayString<ROOM>,

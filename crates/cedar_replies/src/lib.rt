@@ -8,6 +8,7 @@ mod gathering;
 mod lines;
 mod policy_ids;
 mod refusal;
+mod runs;
 
 pub use answer::{Answer, Reply};
 pub use erring::Erring;

@@ -3,6 +3,7 @@ ghost use Rattle.std.specs.Prelude.{◌≡◌};
 ghost use Rattle.std.specs.FinMap as finite;
 ghost use Rattle.cedar_world.specs.Answer.{ids_of};
 
+use crate::runs::{merge_runs, rise};
 use cedar_policy_parts::PolicyID;
 use std::alloc::AllocError;
 use std::marker::Model;
@@ -35,6 +36,10 @@ impl PolicyIds {
     pub fn new(mut ids: Vec<PolicyID>) -> PolicyIds
         ensures { result ≡ ids_of ids.items }
     {
+        merge_runs(ids.as_mut_slice());
+        if rise(ids.as_slice()) {
+            return PolicyIds { ids };
+        }
         ids.sort_unstable();
         ids.dedup();
         PolicyIds { ids }

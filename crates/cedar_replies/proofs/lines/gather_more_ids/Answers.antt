@@ -1,5 +1,5 @@
 -- What is gathered is that of the ids so far; each turn adds one more behind what parts it from the one before.
-use Rattle.std.proofs.Common.{◌≡◌, ◌++◌, take, take_all, append-nil, sym, ap, subst, codes}
+use Rattle.std.proofs.Common.{◌≡◌, ◌++◌, take, take_all, append-nil, sym, subst, codes}
 use Rattle.cedar_replies.specs.Gathering.{WritesAll}
 use Rattle.cedar_replies.specs.Lines.{reopened}
 use Rattle.cedar_replies.proofs.Lists.{id_more}

@@ -1,6 +1,5 @@
 -- A stable sort puts the first of each id before its others, and a dedup keeps it: the same map, in order.
-use Rattle.std.proofs.Common.{◌≡◌, rules}
-use Rattle.std.specs.List.{dedup}
+use Rattle.std.proofs.Common.{rules}
 use Rattle.std.specs.List.Sorted.{IsSortedBy, IsStableBy}
 use Rattle.std.proofs.lemmas.Fn.{dedup_same}
 use Rattle.std.proofs.lemmas.List.Sorted.{answers_always, ranks_by}
