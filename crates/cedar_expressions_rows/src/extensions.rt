@@ -1,5 +1,8 @@
 // What tables of extension functions and the functions answer.
+ghost use Rattle.std.specs.Prelude.{◌≡◌, IfOk, true};
 ghost use Rattle.std.specs.Iterator.{IsFinite};
+ghost use Rattle.std.specs.List.{flat_map};
+ghost use Rattle.cedar_extensions.specs.Holding.{extension_functions, are_named};
 
 use cedar_expressions::ast::{
     CallStyle, Extension, ExtensionFunction, ExtensionOutputValue, FunctionTypes, Name,
@@ -18,12 +21,61 @@ use cedar_tree_rows::trees::type_of;
 use std::alloc::{AllocError, Global};
 use std::collections::HashMap;
 
-/// Takes another table.
-pub(crate) fn taken(alloc: Global, verb: &str, table: &mut Extensions<'static>) -> Answer {
-    *table = match verb {
-        "all_available" => Extensions::all_available(alloc)?,
-        _ => Extensions::none(alloc),
-    };
+// An extension of this name, with the built-in `unknown` alone.
+fn with_unknown(alloc: Global, name: &str) -> Result<Extension, ParseNameError>
+    ensures { IfOk result (λ extension. are_named (extension_functions extension) ≡ true) }
+{
+    let name = Name::from_normalized_str(alloc, name)?;
+    let unknown = Name::parse_unqualified_name(alloc, "unknown")?;
+    let style = CallStyle::FunctionStyle;
+    let ty = SchemaType::String;
+    let function = ExtensionFunction::partial_eval_unknown(alloc, unknown, style, ty)?;
+    Ok(Extension::new(name, vec![in alloc; function]?, Vec::new(alloc)))
+}
+
+// Two such extensions; one where the other name is empty.
+fn with_unknowns(alloc: Global, one: &str, other: &str) -> Result<Vec<Extension>, ParseNameError>
+    ensures { IfOk result (λ extensions. are_named (flat_map extension_functions extensions.items) ≡ true) }
+{
+    let extension = with_unknown(alloc, one)?;
+    if other.is_empty() {
+        return Ok(vec![in alloc; extension]?);
+    }
+    Ok(vec![in alloc; extension, with_unknown(alloc, other)?]?)
+}
+
+fn taken_of(alloc: Global, extensions: Vec<Extension>, table: &mut Extensions<'static>) -> Answer
+    requires { are_named (flat_map extension_functions extensions.items) ≡ true }
+{
+    match Extensions::specific_extensions(alloc, extensions) {
+        Ok(made) => {
+            *table = made;
+            said(alloc, table.holds_unknown())
+        }
+        Err(error) => refused_for(alloc, error),
+    }
+}
+
+fn specific(alloc: Global, one: &str, other: &str, table: &mut Extensions<'static>) -> Answer {
+    match with_unknowns(alloc, one, other) {
+        Ok(extensions) => taken_of(alloc, extensions, table),
+        Err(error) => error.to_string(alloc),
+    }
+}
+
+/// Takes another table; of extensions of these names, where they are handed in.
+pub(crate) fn taken(
+    alloc: Global,
+    verb: &str,
+    one: &str,
+    other: &str,
+    table: &mut Extensions<'static>,
+) -> Answer {
+    match verb {
+        "all_available" => *table = Extensions::all_available(alloc)?,
+        "specific_extensions" => return specific(alloc, one, other, table),
+        _ => *table = Extensions::none(alloc),
+    }
     said(alloc, table.holds_unknown())
 }
 

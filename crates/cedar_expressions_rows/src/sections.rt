@@ -83,7 +83,7 @@ fn judged(
         "failed" => errors::called(alloc, verb, one, other, errors),
         "left" => errors::left(alloc, verb, one, other, &mut held.stack, errors),
         "error" => errors::asked(alloc, verb, one, errors),
-        "take" => extensions::taken(alloc, verb, &mut held.table),
+        "take" => extensions::taken(alloc, verb, one, other, &mut held.table),
         "table" => extensions::sought(alloc, verb, one, &held.table),
         "make-function" => extensions::made(alloc, verb, one, &mut held.functions),
         "function" => extensions::asked(alloc, verb, &held.functions, &held.values),

@@ -9,8 +9,7 @@ use Rattle.cedar_language.specs.Operators.{takes}
 use Rattle.cedar_shapes.specs.Parts.{listed}
 use Rattle.cedar_shapes.specs.Positions.{positions}
 use Rattle.cedar_extensions.specs.Causes.{Cause, NoFunction, OtherCount}
-use Rattle.cedar_extensions.specs.Tables.{function_called}
-use Rattle.cedar_extensions.specs.declared.extensions.Extensions.{Extensions}
+use Rattle.cedar_extensions.specs.Table.{Table}
 
 -- a call: the name that it calls, and how many arguments it has
 abbrev pub call_in : Tree → Option (Name × ℕ)
@@ -30,11 +29,11 @@ abbrev pub is_taken_by : Option Function → ℕ → Bool
 is_taken_by None n = false
 is_taken_by (Some f) n = takes f.takes n
 
-abbrev pub call_fits : Extensions → Name × ℕ → Bool
-call_fits table c = is_taken_by (function_called table c.0) c.1
+abbrev pub call_fits : Table → Name × ℕ → Bool
+call_fits table c = is_taken_by (table.function c.0) c.1
 
 -- each call names a function of the table, and has as many arguments as that function takes
-abbrev pub CallsFit : Extensions → Tree → Type 0
+abbrev pub CallsFit : Table → Tree → Type 0
 CallsFit table t = list_all (call_fits table) (calls_in t) ≡ true
 
 -- what is wrong with a call
@@ -46,10 +45,10 @@ abbrev pub fault_by : Option Function → Name × ℕ → Option Cause
 fault_by None c = Some (NoFunction c.0)
 fault_by (Some f) c = fault_of_count f.takes c
 
-abbrev pub fault_of : Extensions → Name × ℕ → Option Cause
-fault_of table c = fault_by (function_called table c.0) c
+abbrev pub fault_of : Table → Name × ℕ → Option Cause
+fault_of table c = fault_by (table.function c.0) c
 
 -- what is wrong with the first of these calls that doesn't fit
-abbrev pub first_fault : Extensions → List (Name × ℕ) → Option Cause
+abbrev pub first_fault : Table → List (Name × ℕ) → Option Cause
 first_fault table [] = None
 first_fault table (c ∷ cs) = option_or (fault_of table c) (first_fault table cs)

@@ -6,8 +6,10 @@ pub mod Functions
 pub mod Holding
 pub mod Defining
 pub mod Tables
+pub mod Table
 pub mod Lookups
 pub mod Collecting
 pub mod TableRefusals
+pub mod Making
 pub mod Calls
 pub mod ValidationRefusals

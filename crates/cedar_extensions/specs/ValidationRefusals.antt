@@ -5,7 +5,7 @@ use Rattle.cedar_language.specs.Tree.{Tree}
 use Rattle.cedar_extensions.specs.Causes.{Cause, lookup_cause, miscounted}
 use Rattle.cedar_extensions.specs.declared.lookups.ExtensionFunctionLookupError.{ExtensionFunctionLookupError}
 use Rattle.cedar_extensions.specs.declared.lookups.ExtensionFunctionLookupError.TheVariants as lookup
-use Rattle.cedar_extensions.specs.declared.extensions.Extensions.{Extensions}
+use Rattle.cedar_extensions.specs.Table.{Table}
 use Rattle.cedar_extensions.specs.Calls.{CallsFit, calls_in, call_fits, fault_of, first_fault}
 use Rattle.cedar_extensions.specs.declared.validation_errors.ExprValidationError.{ExprValidationError}
 use Rattle.cedar_extensions.specs.declared.validation_errors.ExprValidationError.TheVariants.{FuncDoesNotExist, WrongNumArguments, Memory}
@@ -22,11 +22,11 @@ Refuses wrong (WrongNumArguments e) = wrong ≡ Some (miscounted e)
 Refuses wrong (Memory e) = ⊤
 
 -- a call fits the table, or what is wrong with it is told
-abbrev pub Checks : {A : Type 0} → Extensions → Name × ℕ → Result A ExprValidationError → Type 0
+abbrev pub Checks : {A : Type 0} → Table → Name × ℕ → Result A ExprValidationError → Type 0
 Checks table c (Ok u) = call_fits table c ≡ true
 Checks table c (Err e) = Refuses (fault_of table c) e
 
 -- each call of the tree fits the table, or what is wrong with the first other one is told
-abbrev pub Validates : {A : Type 0} → Extensions → Tree → Result A ExprValidationError → Type 0
+abbrev pub Validates : {A : Type 0} → Table → Tree → Result A ExprValidationError → Type 0
 Validates table t (Ok u) = CallsFit table t
 Validates table t (Err e) = Refuses (first_fault table (calls_in t)) e

@@ -5,9 +5,13 @@ ghost use Rattle.cedar_extensions.specs.Holding.{extension_functions, are_named}
 
 use crate::available::partial_evaluation;
 use crate::extension::{Extension, find_among};
-use crate::functions::ExtensionFunction;
+use crate::functions::{ExtensionFunction, SchemaType};
 use crate::iteration::{ExtNames, ExtTypes, Funcs, OrderedTypes};
 use crate::lookups::{ExtensionFunctionLookupError, FuncDoesNotExistError};
+use crate::making::{first_repeated, function_names, types_made};
+use crate::table_errors::{
+    ExtensionInitializationError, FuncMultiplyDefinedError, MultipleConstructorsSameSignatureError,
+};
 use cedar_literals::types::Type;
 use cedar_names::names::Name;
 use cedar_shapes::types::FunctionTypes;
@@ -35,6 +39,7 @@ impl<'a> Extensions<'a> {
     ghost use Rattle.cedar_extensions.specs.Functions.{extension_type_of};
     ghost use Rattle.cedar_extensions.specs.Holding.{extension_name, ordered_types, found_in};
     ghost use Rattle.cedar_extensions.specs.Lookups.{Finds, IsUnknownAlone};
+    ghost use Rattle.cedar_extensions.specs.Making.{MakesTable};
     ghost use Rattle.cedar_extensions.specs.Tables.{extensions_in, functions_in, holds_unknown, function_called, functions_left, names_left, type_names_left, ordered_left};
 
     /// Every extension there is: the one of the built-in `unknown` alone. Refused for memory alone.
@@ -45,6 +50,33 @@ impl<'a> Extensions<'a> {
     {
         Ok(Extensions {
             extensions: vec![in alloc; partial_evaluation(alloc)?]?,
+            lender: PhantomData,
+        })
+    }
+
+    /// The table of these extensions. Refused `FuncMultiplyDefined` where two of all their functions have
+    /// one name, with the first name that another function has before it; else
+    /// `MultipleConstructorsSameSignature`, likewise, where two functions that aren't methods make values
+    /// of one extension type from one text; and `Memory`. Names count as `==` has them, which looks past
+    /// their places. (Cedar language reference, "Extension functions".)
+    pub fn specific_extensions(
+        alloc: Global,
+        extensions: Vec<Extension>,
+    ) -> Result<Extensions<'a>, ExtensionInitializationError>
+        requires named { are_named (flat_map extension_functions extensions.items) ≡ true }
+        ensures { MakesTable extensions.items result }
+    {
+        if let Some(name) = first_repeated(alloc, function_names(alloc, &extensions)?)? {
+            let error = FuncMultiplyDefinedError::new(name);
+            return Err(ExtensionInitializationError::from(error));
+        }
+        if let Some(name) = first_repeated(alloc, types_made(alloc, &extensions)?)? {
+            let return_type = SchemaType::Extension { name };
+            let error = MultipleConstructorsSameSignatureError::new(return_type);
+            return Err(ExtensionInitializationError::from(error));
+        }
+        Ok(Extensions {
+            extensions,
             lender: PhantomData,
         })
     }

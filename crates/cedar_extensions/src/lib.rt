@@ -12,6 +12,7 @@ pub mod functions;
 pub mod iteration;
 pub mod lookups;
 mod makers;
+mod making;
 pub mod missing;
 pub mod operands;
 pub mod table_errors;

@@ -1,5 +1,6 @@
 // Expressions against tables of extension functions.
 ghost use Rattle.cedar_trees.specs.Bare.{bare};
+ghost use Rattle.cedar_extensions.specs.Table.{as_table};
 ghost use Rattle.cedar_extensions.specs.ValidationRefusals.{Validates, Checks};
 
 use crate::calls::WrongNumArgumentsError;
@@ -13,6 +14,7 @@ use std::alloc::Global;
 /// Expressions whose calls of extension functions can be checked before they are evaluated.
 pub trait ExprValidation {
     ghost use Rattle.cedar_language.specs.Tree.{Tree};
+    ghost use Rattle.cedar_extensions.specs.Table.{as_table};
     ghost use Rattle.cedar_extensions.specs.ValidationRefusals.{Validates};
 
     // its bare tree
@@ -28,7 +30,7 @@ pub trait ExprValidation {
         alloc: Global,
         extensions: &Extensions<'_>,
     ) -> Result<(), ExprValidationError>
-        ensures { Validates extensions.now (tree self.now) result };
+        ensures { Validates (as_table extensions.now) (tree self.now) result };
 }
 
 impl<T> ExprValidation for Expr<T> {
@@ -50,7 +52,7 @@ fn validated<T>(
     expr: &Expr<T>,
     extensions: &Extensions<'_>,
 ) -> Result<(), ExprValidationError>
-    ensures { Validates extensions.now (bare expr.now) result }
+    ensures { Validates (as_table extensions.now) (bare expr.now) result }
 {
     for part in ExprIterator::new(alloc, expr)? {
         if let ExprKind::ExtensionFunctionApp { fn_name, args } = &part.expr_kind {
@@ -67,7 +69,7 @@ fn check_call(
     actual: usize,
     extensions: &Extensions<'_>,
 ) -> Result<(), ExprValidationError>
-    ensures { Checks extensions.now (name.now, actual) result }
+    ensures { Checks (as_table extensions.now) (name.now, actual) result }
 {
     let function = extensions.func(alloc, name)?;
     let Some(expected) = function.arity() else {

@@ -1,0 +1,14 @@
+-- What a table of extensions gives to an evaluation. (Cedar language reference, "Extension functions".)
+use Rattle.std.specs.Prelude.{Bool, Option}
+use Rattle.cedar_language.specs.Uid.{Name}
+use Rattle.cedar_language.specs.Facts.{Function}
+use Rattle.cedar_extensions.specs.Tables.{function_called, holds_unknown}
+use Rattle.cedar_extensions.specs.declared.extensions.Extensions.{Extensions}
+
+-- what each name calls, and whether the built-in function that names unknowns is among the functions
+pub record Table : Type 0 where
+  pub function : Name → Option Function
+  pub has_unknown : Bool
+
+abbrev pub as_table : Extensions → Table
+as_table extensions = record { function = function_called extensions; has_unknown = holds_unknown extensions }
