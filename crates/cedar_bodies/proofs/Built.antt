@@ -1,5 +1,5 @@
 -- The values that restricted trees are evaluated to are built: no function of a table gives an extension value.
-use Rattle.std.proofs.Common.{◌≡◌, ◌∙◌, ℕ, refl, sym, subst, Bool, true, false, ◌&&◌, cond, Option, Some, None, option_map, List, [], ◌∷◌, ◌++◌, Ordering, Ok}
+use Rattle.std.proofs.Common.{◌≡◌, ◌∙◌, ℕ, refl, ap, sym, subst, Bool, true, false, ◌&&◌, cond, Option, Some, None, option_map, List, [], ◌∷◌, ◌++◌, Ordering, Ok}
 use Rattle.std.specs.FinMap as finite
 use Rattle.std.specs.FinMap.{get-empty}
 use Rattle.std.specs.List.{AllByRecursion}
@@ -8,6 +8,7 @@ use Rattle.std.specs.declared.cmp.Ordering.TheVariants as ordering
 use Rattle.either.specs.declared.Either.{Either}
 use Rattle.either.specs.declared.Either.TheVariants.{Left, Right}
 use Rattle.cedar_language.proofs.Rising.{rising_rises}
+use Rattle.cedar_language.specs.Facts as language
 use Rattle.cedar_language.specs.Facts.{Facts}
 use Rattle.cedar_language.specs.Operators.{called, count, or_fails, takes}
 use Rattle.cedar_language.specs.Order.{text_cmp, value_cmp, placed, put, rising}
@@ -19,10 +20,11 @@ use Rattle.cedar_language.specs.Value.{Value, Plain, Values, no_values, a_value,
 use Rattle.cedar_partial_evaluation.specs.Partial.{Answer, Evaluated, ResidualTree, Failed, Answers, AllEvaluated, SomeResiduals, SomeFailed, answer_of, and_next, apply_answer, partial_in, all_partial_in}
 use Rattle.cedar_partial_evaluation.specs.Question.{name_held}
 use Rattle.cedar_world.specs.Bodies.{named, all_named, named_call, unknown_or}
-use Rattle.cedar_world.specs.Functions.{is_the_unknown, one_string, unknown_function}
+use Rattle.cedar_world.specs.Functions.{is_the_unknown, one_string}
 use Rattle.cedar_extensions.specs.Functions.{meaning_in, meaning_of}
 use Rattle.cedar_extensions.specs.Holding.{found_in}
-use Rattle.cedar_extensions.specs.Tables.{functions_in, function_called, holds_unknown}
+use Rattle.cedar_extensions.specs.Table.{Table, as_table}
+use Rattle.cedar_extensions.specs.Tables.{functions_in}
 use Rattle.cedar_extensions.specs.declared.extensions.Extensions.{Extensions}
 use Rattle.cedar_extensions.specs.declared.functions.ExtensionFunction.{ExtensionFunction}
 use Rattle.cedar_extensions.specs.declared.functions.Function.{Function}
@@ -31,7 +33,7 @@ use Rattle.cedar_restricted.specs.PartialValues.{partial_of}
 use Rattle.cedar_restricted.specs.declared.partial_values.PartialValue.{PartialValue}
 use Rattle.cedar_restricted_evaluation.specs.Evaluations as evaluation
 use Rattle.cedar_restricted_evaluation.specs.Evaluations.{HasFunctions, nothing_told, named_by, answer_in, IsAnswer}
-use Rattle.cedar_bodies.specs.Built.{IsBuilt, AreBuilt, IsBuiltPart, AreBuiltEntries}
+use Rattle.cedar_bodies.specs.Built.{IsBuilt, AreBuilt, IsBuiltPart, AreBuiltEntries, GivesBuilt}
 
 -- ---- sets
 
@@ -50,7 +52,28 @@ rising_built (a_value v vs) h = put_built v (rising vs) h.0 (rising_built vs h.1
 
 -- ---- calls
 
-abbrev IsBuiltOutcome : Outcome → Type 0
+abbrev IsBuiltOption : Option Value → Type 0
+IsBuiltOption (Some v) = IsBuilt v
+IsBuiltOption None = Unit {0}
+
+text_built : (vs : Values) → IsBuiltOption (one_string vs)
+text_built (a_value (Plain (String s)) no_values) = tt
+text_built vs = tt
+
+-- the built-in function gives a text, and a table has no other
+answer_built : (g : Function) (vs : Values) → IsBuiltOption ((meaning_in g).answer vs)
+answer_built function.Unknown vs = text_built vs
+
+given_built : (o : Option ExtensionFunction) (f : language.Function) (vs : Values) (v : Value) → option_map meaning_of o ≡ Some f → f.answer vs ≡ Some v → IsBuilt v
+given_built None f vs v is h = cc
+given_built (Some g) f vs v is h =
+    let same : meaning_of g ≡ f = cc in
+    subst IsBuiltOption (ap (λ (x : language.Function). x.answer vs) same ∙ h) (answer_built g.function vs)
+
+pub gives_built : (extensions : Extensions) → GivesBuilt (as_table extensions)
+gives_built extensions n f vs v is h = given_built (found_in (functions_in extensions) n) f vs v is h
+
+abbrev pub IsBuiltOutcome : Outcome → Type 0
 IsBuiltOutcome (Gives v) = IsBuilt v
 IsBuiltOutcome (Fails k) = Unit {0}
 
@@ -58,17 +81,16 @@ either_built : (b : Bool) (o p : Outcome) → IsBuiltOutcome o → IsBuiltOutcom
 either_built true o p h k = h
 either_built false o p h k = k
 
-text_built : (vs : Values) → IsBuiltOutcome (or_fails FailedExtensionFunctionExecution (one_string vs))
-text_built (a_value (Plain (String s)) no_values) = tt
-text_built vs = tt
+option_built : (o : Option Value) → ((v : Value) → o ≡ Some v → IsBuilt v) → IsBuiltOutcome (or_fails FailedExtensionFunctionExecution o)
+option_built None h = tt
+option_built (Some v) h = h v refl
 
--- the built-in function gives a text, and a table has no other
-answer_built : (g : Function) (vs : Values) → IsBuiltOutcome (called (Some (meaning_in g)) vs)
-answer_built function.Unknown vs = either_built (takes unknown_function.takes (count vs)) (or_fails FailedExtensionFunctionExecution (one_string vs)) (Fails WrongNumArguments) (text_built vs) tt
+outcome_of : (o : Option language.Function) (vs : Values) → ((f : language.Function) (v : Value) → o ≡ Some f → f.answer vs ≡ Some v → IsBuilt v) → IsBuiltOutcome (called o vs)
+outcome_of None vs h = tt
+outcome_of (Some f) vs h = either_built (takes f.takes (count vs)) (or_fails FailedExtensionFunctionExecution (f.answer vs)) (Fails WrongNumArguments) (option_built (f.answer vs) (λ v is. h f v refl is)) tt
 
-call_built : (o : Option ExtensionFunction) (vs : Values) → IsBuiltOutcome (called (option_map meaning_of o) vs)
-call_built None vs = tt
-call_built (Some f) vs = answer_built f.function vs
+pub call_built : (table : Table) → GivesBuilt table → (n : Name) (vs : Values) → IsBuiltOutcome (called (table.function n) vs)
+call_built table gives n vs = outcome_of (table.function n) vs (λ f v is h. gives n f vs v is h)
 
 -- ---- answers
 
@@ -97,7 +119,7 @@ and_right false b h = cc
 both : (a b : Bool) → a ≡ true → b ≡ true → (a && b) ≡ true
 both a b h k = rw (h, k) refl
 
-module _ (table : Extensions) (facts : Facts) (has : HasFunctions table facts) where
+module _ (table : Table) (gives : GivesBuilt table) (facts : Facts) (has : HasFunctions table facts) where
   unknown_built : (n : Text) (ty : Option ValueType) → IsBuiltAnswer (partial_in facts nothing_told (Unknown n ty))
   unknown_built n ty = subst (λ o. IsBuiltAnswer (name_held o n ty)) (sym (get-empty text_cmp n)) tt
 
@@ -122,7 +144,7 @@ module _ (table : Extensions) (facts : Facts) (has : HasFunctions table facts) w
 
   function_built : (f : Name) (as_ : Answers) → IsBuiltAnswer (apply_answer facts nothing_told (Call f) as_)
   function_built f (AllEvaluated vs) =
-      outcome_built (called (facts.function f) vs) (subst (λ o. IsBuiltOutcome (called o vs)) (sym (has f)) (call_built (found_in (functions_in table) f) vs))
+      outcome_built (called (facts.function f) vs) (subst (λ o. IsBuiltOutcome (called o vs)) (sym (has f)) (call_built table gives f vs))
   function_built f (SomeResiduals rs) = tt
   function_built f (SomeFailed k) = tt
 
@@ -170,11 +192,11 @@ named_by_restricted false t h = h
 -- ---- what an evaluation gives
 
 -- the functions of a table alone
-abbrev functions_of : Extensions → Facts
+abbrev functions_of : Table → Facts
 functions_of table = record {
   entity = λ uid. None;
   reaches = λ a b. false;
-  function = function_called table;
+  function = table.function;
   written = λ e. record { function = []; arguments = no_trees };
 }
 
@@ -182,16 +204,12 @@ part_built : (facts : Facts) (a : Answer) → IsBuiltAnswer a → (p : Either Va
 part_built facts a h (Left v) is = subst IsBuiltAnswer is h
 part_built facts a h (Right r) is = tt
 
-pub value_built : (table : Extensions) (depth : ℕ) (t : Tree) → is_restricted t ≡ true → (p : PartialValue) → evaluation.Answers table depth t (Ok p) → IsBuiltPart (partial_of p)
-value_built table depth t restricted p h =
+pub value_built : (table : Table) → GivesBuilt table → (depth : ℕ) (t : Tree) → is_restricted t ≡ true → (p : PartialValue) → evaluation.Answers table depth t (Ok p) → IsBuiltPart (partial_of p)
+value_built table gives depth t restricted p h =
     part_built (functions_of table) (answer_in table (functions_of table) t)
-    (tree_built table (functions_of table) (λ n. refl) (named_by (holds_unknown table) t) (named_by_restricted (holds_unknown table) t restricted)) (partial_of p) (h (functions_of table) (λ n. refl))
+    (tree_built table gives (functions_of table) (λ n. refl) (named_by table.has_unknown t) (named_by_restricted table.has_unknown t restricted)) (partial_of p) (h (functions_of table) (λ n. refl))
 
 -- ---- values at their names
-
-abbrev IsBuiltOption : Option Value → Type 0
-IsBuiltOption (Some v) = IsBuilt v
-IsBuiltOption None = Unit {0}
 
 picked : (b : Bool) (v : Value) (o : Option Value) → IsBuilt v → IsBuiltOption o → IsBuiltOption (cond b (Some v) o)
 picked true v o h k = h

@@ -28,8 +28,8 @@ use Rattle.cedar_extensions.specs.Giving.{FailsBy}
 use Rattle.cedar_extensions.specs.declared.evaluation_error.EvaluationError.{EvaluationError}
 use Rattle.cedar_extensions.specs.Functions.{function_name, meaning_of, names_unknown}
 use Rattle.cedar_extensions.specs.Holding.{found_in, is_named, are_named}
-use Rattle.cedar_extensions.specs.Tables as tables
-use Rattle.cedar_extensions.specs.Tables.{functions_in, function_called}
+use Rattle.cedar_extensions.specs.Table.{Table, as_table}
+use Rattle.cedar_extensions.specs.Tables.{functions_in}
 use Rattle.cedar_extensions.specs.declared.extensions.Extensions.{Extensions}
 use Rattle.cedar_extensions.specs.declared.functions.Function.{Function}
 use Rattle.cedar_extensions.specs.declared.functions.Function.TheVariants as function
@@ -83,9 +83,9 @@ called_is_named fs h n vs v None is gives = cc
 called_is_named fs h n vs v (Some f) is gives = found_is_named n f fs h is
 
 -- the built-in function is all that today's tables hold
-pub no_text : (table : Extensions) → are_named (functions_in table) ≡ true → (by : Setting) → HasFunctions table (functions_alone by.functions) → GiveNoText by.functions
-no_text table h by has n vs s gives =
-    called_is_named (functions_in table) h n vs (Plain (String s)) (found_in (functions_in table) n) refl (sym (ap (λ o. called o vs) (has n)) ∙ gives)
+pub no_text : (extensions : Extensions) → are_named (functions_in extensions) ≡ true → (by : Setting) → HasFunctions (as_table extensions) (functions_alone by.functions) → GiveNoText by.functions
+no_text extensions h by has n vs s gives =
+    called_is_named (functions_in extensions) h n vs (Plain (String s)) (found_in (functions_in extensions) n) refl (sym (ap (λ o. called o vs) (has n)) ∙ gives)
 
 -- ---- trees without calls of `unknown`
 
@@ -113,34 +113,34 @@ names_as false t r h = sym (unnamed t r (h refl))
 -- ---- one tree
 
 -- nothing is held but the functions
-abbrev functions_of : Extensions → Facts
+abbrev functions_of : Table → Facts
 functions_of table = record {
   entity = λ uid. None;
   reaches = λ a b. false;
-  function = function_called table;
+  function = table.function;
   written = λ e. record { function = []; arguments = no_trees };
 }
 
-module _ (read : TreesAreRead) (table : Extensions) (functions_named : are_named (functions_in table) ≡ true) (depth : ℕ) (t : Tree) (restricted : is_restricted t ≡ true) where
-  answered : (by : Setting) → Serves table by (holds_call t) → (a : Answer) → answer_in table (functions_alone by.functions) t ≡ a → IsRead by (named t) a
+module _ (read : TreesAreRead) (extensions : Extensions) (functions_named : are_named (functions_in extensions) ≡ true) (depth : ℕ) (t : Tree) (restricted : is_restricted t ≡ true) where
+  answered : (by : Setting) → Serves (as_table extensions) by (holds_call t) → (a : Answer) → answer_in (as_table extensions) (functions_alone by.functions) t ≡ a → IsRead by (named t) a
   answered by serves a is =
-      subst (IsRead by (named t)) (ap (partial_in (functions_alone by.functions) nothing_told) (sym (names_as (tables.holds_unknown table) t restricted serves.held)) ∙ is)
-      (read by (no_text table functions_named by serves.functions) t restricted)
+      subst (IsRead by (named t)) (ap (partial_in (functions_alone by.functions) nothing_told) (sym (names_as (as_table extensions).has_unknown t restricted serves.held)) ∙ is)
+      (read by (no_text extensions functions_named by serves.functions) t restricted)
 
-  pub part_read : (by : Setting) → Serves table by (holds_call t) → (p : Either Value Tree) → IsAnswer (functions_alone by.functions) (answer_in table (functions_alone by.functions) t) p → IsRead by (named t) (part_answer p)
+  pub part_read : (by : Setting) → Serves (as_table extensions) by (holds_call t) → (p : Either Value Tree) → IsAnswer (functions_alone by.functions) (answer_in (as_table extensions) (functions_alone by.functions) t) p → IsRead by (named t) (part_answer p)
   part_read by serves (Left v) h = answered by serves (Evaluated v) h
   part_read by serves (Right r) h = answered by serves (ResidualTree h.0) h.1
 
-  pub value_is : (p : PartialValue) → evaluation.Answers table depth t (Ok p) → IsEvaluated table depth t (Ok p)
+  pub value_is : (p : PartialValue) → evaluation.Answers (as_table extensions) depth t (Ok p) → IsEvaluated (as_table extensions) depth t (Ok p)
   value_is p h by serves = part_read by serves (partial_of p) (h (functions_alone by.functions) serves.functions)
 
-  pub failure_is : (f : Failure) → ((facts : Facts) → HasFunctions table facts → FailsBy (depth < height t) (λ k. answer_in table facts t ≡ Failed k) f) → IsEvaluated table depth t (Err (refusal_by f))
+  pub failure_is : (f : Failure) → ((facts : Facts) → HasFunctions (as_table extensions) facts → FailsBy (depth < height t) (λ k. answer_in (as_table extensions) facts t ≡ Failed k) f) → IsEvaluated (as_table extensions) depth t (Err (refusal_by f))
   failure_is (OfKind k) h = λ by serves. answered by serves (Failed k) (h (functions_alone by.functions) serves.functions)
-  failure_is LimitMet h = h (functions_of table) (λ n. refl)
+  failure_is LimitMet h = h (functions_of (as_table extensions)) (λ n. refl)
   failure_is MemoryRanOut h = tt
 
-  pub refusal_is : (e : EvaluationError) (r : Refusal) → r ≡ refusal_by (failure_of e) → evaluation.Answers table depth t (Err e) → IsEvaluated table depth t (Err r)
-  refusal_is e r is h = subst (λ x. IsEvaluated table depth t (Err x)) (sym is) (failure_is (failure_of e) h)
+  pub refusal_is : (e : EvaluationError) (r : Refusal) → r ≡ refusal_by (failure_of e) → evaluation.Answers (as_table extensions) depth t (Err e) → IsEvaluated (as_table extensions) depth t (Err r)
+  refusal_is e r is h = subst (λ x. IsEvaluated (as_table extensions) depth t (Err x)) (sym is) (failure_is (failure_of e) h)
 
 -- ---- the loop
 
@@ -151,7 +151,7 @@ Exprs = List (RcStr Global × Expr (Unit {0}))
 abbrev pub Seen : Entries → List (Text × Value) → Type 0
 Seen made vs = seen_entries made ≡ as_entries vs
 
-module _ (table : Extensions) where
+module _ (table : Table) where
   pub record IsUnderway (all rest : Exprs) (made : Entries) (flag : Bool) : Type 0 where
     pub names : texts made ++ texts rest ≡ texts all
     pub inside : (test : Tree → Bool) → some_field test (bare_entries rest) ≡ true → some_field test (bare_entries all) ≡ true

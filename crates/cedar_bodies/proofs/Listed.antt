@@ -10,7 +10,7 @@ use Rattle.cedar_world.specs.Bodies.{EntityBody, holds_call, entity_bodies}
 use Rattle.cedar_world.specs.EntityEdits.{Version}
 use Rattle.cedar_world.specs.Setting.{Setting}
 use Rattle.cedar_world.specs.Values.{some_entry, holds_unknown, errs_alone, versions}
-use Rattle.cedar_extensions.specs.declared.extensions.Extensions.{Extensions}
+use Rattle.cedar_extensions.specs.Table.{Table}
 use Rattle.cedar_replies.specs.declared.refusal.Refusal.{Refusal}
 use Rattle.cedar_replies.specs.declared.refusal.Refusal.TheVariants as refusal
 use Rattle.cedar_entities.specs.Data.{EntityData}
@@ -35,7 +35,7 @@ or_first a b h = ap (λ x. x || b) h
 pub left_at : (bs : List code.EntityBody) (i : ℕ) (b : code.EntityBody) → i < length bs → b ≡ get_or bs i b → map written_of (drop i bs) ≡ written_of b ∷ map written_of (drop (i + 1) bs)
 left_at bs i b lt is = rw (add-one, drop-cons bs i b lt, ← is) refl
 
-module _ (table : Extensions) where
+module _ (table : Table) where
   pub record IsUnderway (all rest : List EntityBody) (made : List EntityData) (flag : Bool) : Type 0 where
     pub inside : (test : Tree → Bool) → some_entry test rest ≡ true → some_entry test all ≡ true
     pub show_versions : flag ≡ false → ShowVersions made

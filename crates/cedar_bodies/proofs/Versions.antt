@@ -13,7 +13,7 @@ use Rattle.cedar_world.specs.EntityEdits.{Version}
 use Rattle.cedar_world.specs.Orders.{TextMap}
 use Rattle.cedar_world.specs.Setting.{Setting}
 use Rattle.cedar_world.specs.Values.{some_field, version_with}
-use Rattle.cedar_extensions.specs.declared.extensions.Extensions.{Extensions}
+use Rattle.cedar_extensions.specs.Table.{Table}
 use Rattle.cedar_restricted.specs.declared.partial_values.PartialValue.{PartialValue}
 use Rattle.cedar_replies.specs.declared.refusal.Refusal.{Refusal}
 use Rattle.cedar_replies.specs.declared.refusal.Refusal.TheVariants as refusal
@@ -50,7 +50,7 @@ or_first a b h = ap (λ x. x || b) h
 abbrev Values : Type 0
 Values = BTreeMap (RcStr Global) PartialValue
 
-module _ (table : Extensions) (depth : ℕ) (b : EntityBody) where
+module _ (table : Table) (depth : ℕ) (b : EntityBody) where
   for_attributes : (by : Setting) → Serves table by (some_in holds_call b) → Serves table by (some_field holds_call b.attributes)
   for_attributes by serves = record { functions = serves.functions; held = λ unset. or_left _ _ (serves.held unset) }
 

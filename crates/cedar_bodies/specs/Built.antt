@@ -4,12 +4,14 @@ use Rattle.std.specs.FinMap as finite
 use Rattle.std.specs.List.{AllByRecursion}
 use Rattle.either.specs.declared.Either.{Either}
 use Rattle.either.specs.declared.Either.TheVariants.{Left, Right}
+use Rattle.cedar_language.specs.Facts.{Function}
 use Rattle.cedar_language.specs.Order.{IsRising}
 use Rattle.cedar_language.specs.Tree.{Tree}
-use Rattle.cedar_language.specs.Uid.{Text, Uid}
+use Rattle.cedar_language.specs.Uid.{Text, Name, Uid}
 use Rattle.cedar_language.specs.Value.{Value, Plain, SetOf, RecordOf, ExtensionOf, Values, no_values, a_value}
 use Rattle.cedar_world.specs.World as world
 use Rattle.cedar_world.specs.EntityEdits.{Version}
+use Rattle.cedar_extensions.specs.Table.{Table}
 
 -- literals, sets that rise, and records of such values
 abbrev mutual
@@ -31,6 +33,10 @@ IsBuiltPart (Right r) = Unit {0}
 -- the value at each name
 abbrev pub AreBuiltEntries : List (Text × Value) → Type 0
 AreBuiltEntries es = AllByRecursion (λ (e : Text × Value). IsBuilt e.1) es
+
+-- each value that a function of the table gives
+abbrev pub GivesBuilt : Table → Type 0
+GivesBuilt table = (n : Name) (f : Function) (vs : Values) (v : Value) → table.function n ≡ Some f → f.answer vs ≡ Some v → IsBuilt v
 
 -- ---- entities
 

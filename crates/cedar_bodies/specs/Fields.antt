@@ -14,8 +14,7 @@ use Rattle.cedar_partial_evaluation.specs.Partial.{Answer, Evaluated, ResidualTr
 use Rattle.cedar_world.specs.Bodies.{Fields, named, holds_call}
 use Rattle.cedar_world.specs.Setting.{Setting, functions_alone}
 use Rattle.cedar_world.specs.Values.{some_field, holds_unknown, errs_alone, values}
-use Rattle.cedar_extensions.specs.Tables as tables
-use Rattle.cedar_extensions.specs.declared.extensions.Extensions.{Extensions}
+use Rattle.cedar_extensions.specs.Table.{Table}
 use Rattle.cedar_restricted.specs.PartialValues.{partial_of}
 use Rattle.cedar_restricted.specs.declared.partial_values.PartialValue.{PartialValue}
 use Rattle.cedar_replies.specs.declared.refusal.Refusal.{Refusal}
@@ -37,16 +36,16 @@ deeper depth t = nat_lt depth (height t)
 -- ---- one tree
 
 -- The functions are those of the table, and `unknown` isn't called where the table lacks it.
-pub record Serves (table : Extensions) (by : Setting) (calls_unknown : Bool) : Type 0 where
+pub record Serves (table : Table) (by : Setting) (calls_unknown : Bool) : Type 0 where
   pub functions : HasFunctions table (functions_alone by.functions)
-  pub held : tables.holds_unknown table ≡ false → calls_unknown ≡ false
+  pub held : table.has_unknown ≡ false → calls_unknown ≡ false
 
 abbrev pub part_answer : Either Value Tree → Answer
 part_answer (Left v) = Evaluated v
 part_answer (Right r) = ResidualTree r
 
 -- a value is the tree's, and a residual holds an unknown; a refusal is that of some part, or the tree is deeper than the limit
-abbrev pub IsEvaluated : Extensions → ℕ → Tree → Result PartialValue Refusal → Type 0
+abbrev pub IsEvaluated : Table → ℕ → Tree → Result PartialValue Refusal → Type 0
 IsEvaluated table depth t (Ok p) = (by : Setting) → Serves table by (holds_call t) → IsRead by (named t) (part_answer (partial_of p))
 IsEvaluated table depth t (Err Evaluation) = (by : Setting) → Serves table by (holds_call t) → errs_alone by (named t) ≡ true
 IsEvaluated table depth t (Err Depth) = depth < height t
@@ -85,11 +84,11 @@ module _ (by : Setting) (fs : Fields) where
     pub unknown : hold_unknowns ≡ true
 
 -- what is found is built values, those of the trees
-pub record AreFound (table : Extensions) (fs : Fields) (found : List (Text × Attribute)) : Type 0 where
+pub record AreFound (table : Table) (fs : Fields) (found : List (Text × Attribute)) : Type 0 where
   pub hold_values : HoldValues found
   pub are_values : (by : Setting) → Serves table by (some_field holds_call fs) → AreValues by fs found
 
-abbrev pub AreEvaluated : Extensions → ℕ → Fields → Result (Option (BTreeMap (RcStr Global) PartialValue)) Refusal → Type 0
+abbrev pub AreEvaluated : Table → ℕ → Fields → Result (Option (BTreeMap (RcStr Global) PartialValue)) Refusal → Type 0
 AreEvaluated table depth fs (Ok (Some m)) = AreFound table fs (seen_entries m.entries)
 AreEvaluated table depth fs (Ok None) = (by : Setting) → Serves table by (some_field holds_call fs) → AreOpen by fs
 AreEvaluated table depth fs (Err Evaluation) = (by : Setting) → Serves table by (some_field holds_call fs) → err by fs ≡ true

@@ -7,7 +7,7 @@ use Rattle.cedar_world.specs.Bodies.{EntityBody, holds_call, entity_bodies}
 use Rattle.cedar_world.specs.EntityEdits.{Version}
 use Rattle.cedar_world.specs.Setting.{Setting}
 use Rattle.cedar_world.specs.Values.{some_entry, holds_unknown, errs_alone, versions}
-use Rattle.cedar_extensions.specs.declared.extensions.Extensions.{Extensions}
+use Rattle.cedar_extensions.specs.Table.{Table}
 use Rattle.cedar_replies.specs.declared.refusal.Refusal.{Refusal}
 use Rattle.cedar_replies.specs.declared.refusal.Refusal.TheVariants.{Depth, Shape, Evaluation, NotAValue, Memory}
 use Rattle.cedar_entities.specs.Data.{EntityData}
@@ -38,12 +38,12 @@ abbrev pub ShowVersions : List EntityData → Type 0
 ShowVersions es = (vs : List Version) × (es ≡ as_entities vs) × AreBuiltVersions vs
 
 -- the entities are versions, those of the bodies
-pub record AreFound (table : Extensions) (bs : List EntityBody) (es : List EntityData) : Type 0 where
+pub record AreFound (table : Table) (bs : List EntityBody) (es : List EntityData) : Type 0 where
   pub show_versions : ShowVersions es
   pub are_versions : (by : Setting) → Serves table by (some_entry holds_call bs) → AreVersions by (all_named bs) es
 
 -- of bodies as they are written
-abbrev pub AreMade : Extensions → ℕ → List EntityBody → Result (Option (Vec EntityData)) Refusal → Type 0
+abbrev pub AreMade : Table → ℕ → List EntityBody → Result (Option (Vec EntityData)) Refusal → Type 0
 AreMade table depth bs (Ok (Some es)) = AreFound table bs es.items
 AreMade table depth bs (Ok None) = (by : Setting) → Serves table by (some_entry holds_call bs) → AreOpen by (all_named bs)
 AreMade table depth bs (Err Evaluation) = (by : Setting) → Serves table by (some_entry holds_call bs) → some_entry (errs_alone by) (all_named bs) ≡ true

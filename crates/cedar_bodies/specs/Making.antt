@@ -7,7 +7,7 @@ use Rattle.cedar_world.specs.Bodies.{EntityBody, holds_call}
 use Rattle.cedar_world.specs.EntityEdits.{Version}
 use Rattle.cedar_world.specs.Setting.{Setting}
 use Rattle.cedar_world.specs.Values.{some_field, holds_unknown, errs_alone, values, version_with}
-use Rattle.cedar_extensions.specs.declared.extensions.Extensions.{Extensions}
+use Rattle.cedar_extensions.specs.Table.{Table}
 use Rattle.cedar_replies.specs.declared.refusal.Refusal.{Refusal}
 use Rattle.cedar_replies.specs.declared.refusal.Refusal.TheVariants.{Depth, Evaluation, Memory}
 use Rattle.cedar_entities.specs.Data.{EntityData, UidSet}
@@ -40,11 +40,11 @@ abbrev pub ShowsVersion : EntityData → Type 0
 ShowsVersion e = (v : Version) × (e ≡ as_entity v) × IsBuiltVersion v
 
 -- the entity is a version, that of the body
-pub record IsFound (table : Extensions) (b : EntityBody) (e : EntityData) : Type 0 where
+pub record IsFound (table : Table) (b : EntityBody) (e : EntityData) : Type 0 where
   pub shows_version : ShowsVersion e
   pub is_version : (by : Setting) → Serves table by (some_in holds_call b) → IsVersion by (named_body b) e
 
-abbrev pub IsMade : Extensions → ℕ → EntityBody → Result (Option EntityData) Refusal → Type 0
+abbrev pub IsMade : Table → ℕ → EntityBody → Result (Option EntityData) Refusal → Type 0
 IsMade table depth b (Ok (Some e)) = IsFound table b e
 IsMade table depth b (Ok None) = (by : Setting) → Serves table by (some_in holds_call b) → IsOpen by (named_body b)
 IsMade table depth b (Err Evaluation) = (by : Setting) → Serves table by (some_in holds_call b) → some_in (errs_alone by) (named_body b) ≡ true

@@ -1,5 +1,6 @@
 // The evaluation of attributes, or of tags.
 ghost use Rattle.std.specs.Prelude.{◌≡◌, false};
+ghost use Rattle.cedar_extensions.specs.Table.{as_table};
 ghost use Rattle.cedar_restricted.specs.PartialValues.{partial_of};
 ghost use Rattle.cedar_restricted.specs.Splitting.{is_residual as is_residual_part};
 ghost use Rattle.cedar_world.specs.Values.{some_field};
@@ -37,7 +38,7 @@ pub fn all_evaluated(
     depth: u32,
 ) -> Result<Option<BTreeMap<RcStr, PartialValue>>, Refusal>
     requires { some_field unrestricted (fields_in entries.now) ≡ false }
-    ensures { AreEvaluated extensions.now depth (fields_in entries.now) result }
+    ensures { AreEvaluated (as_table extensions.now) depth (fields_in entries.now) result }
 {
     let mut values = BTreeMap::new(alloc);
     let mut holds_unknown = false;
@@ -62,7 +63,7 @@ pub fn evaluated_fields(
     depth: u32,
 ) -> Result<Option<BTreeMap<RcStr, PartialValue>>, Refusal>
     requires { some_field unrestricted (lent_fields entries) ≡ false }
-    ensures { AreEvaluated extensions.now depth (lent_fields entries.entry) result }
+    ensures { AreEvaluated (as_table extensions.now) depth (lent_fields entries.entry) result }
 {
     match entries {
         None => Ok(Some(BTreeMap::new(alloc))),

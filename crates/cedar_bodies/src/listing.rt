@@ -1,5 +1,6 @@
 // Entities that bodies list.
 ghost use Rattle.std.specs.Prelude.{◌≡◌, IfOk, false, map};
+ghost use Rattle.cedar_extensions.specs.Table.{as_table};
 ghost use Rattle.cedar_restricted.specs.Views.{borrowed_tree};
 ghost use Rattle.cedar_world.specs.Bodies.{holds_call};
 ghost use Rattle.cedar_world.specs.Setting.{Setting};
@@ -24,7 +25,7 @@ fn entities_of(
     depth: u32,
 ) -> Result<Option<Vec<Entity>>, Refusal>
     requires { some_entry unrestricted (map written_of bodies.now) ≡ false }
-    ensures { AreMade extensions.now depth (map written_of bodies.now) result }
+    ensures { AreMade (as_table extensions.now) depth (map written_of bodies.now) result }
 {
     let mut entities = Vec::new(alloc);
     let mut holds_unknown = false;
@@ -54,7 +55,7 @@ pub fn listed_entities(
     extensions: &Extensions<'_>,
     depth: u32,
 ) -> Result<Vec<Entity>, Refusal>
-    ensures listed { (by : Setting) → Serves extensions.now by (holds_call (borrowed_tree body.entry)) → AreListed by depth (borrowed_tree body.entry) result }
+    ensures listed { (by : Setting) → Serves (as_table extensions.now) by (holds_call (borrowed_tree body.entry)) → AreListed by depth (borrowed_tree body.entry) result }
     ensures versions { IfOk result (λ entities. ShowVersions entities.items) }
 {
     let Some(bodies) = entity_bodies(alloc, body.as_expr())? else {

@@ -1,5 +1,6 @@
 // Entities that are made of bodies.
 ghost use Rattle.std.specs.Prelude.{◌≡◌, IfOk, false, []};
+ghost use Rattle.cedar_extensions.specs.Table.{as_table};
 ghost use Rattle.cedar_entities.specs.Attributes.{attributes_of};
 ghost use Rattle.cedar_world.specs.Values.{some_field};
 ghost use Rattle.cedar_bodies.specs.Entities.{written_of, lent_fields};
@@ -57,7 +58,7 @@ pub fn entity_of(
 ) -> Result<Option<Entity>, Refusal>
     requires attributes { some_field unrestricted (lent_fields body.now.attrs) ≡ false }
     requires tags { some_field unrestricted (lent_fields body.now.tags) ≡ false }
-    ensures { IsMade extensions.now depth (written_of body.now) result }
+    ensures { IsMade (as_table extensions.now) depth (written_of body.now) result }
 {
     let attrs = evaluated_fields(alloc, body.attrs, extensions, depth)?;
     let tags = evaluated_fields(alloc, body.tags, extensions, depth)?;

@@ -1,6 +1,7 @@
 // The evaluation of one attribute or tag.
 ghost use Rattle.std.specs.Prelude.{◌≡◌, IfOk, true};
 ghost use Rattle.cedar_language.specs.Restricted.{is_restricted};
+ghost use Rattle.cedar_extensions.specs.Table.{as_table};
 ghost use Rattle.cedar_extensions.specs.Failures.{failure_by, failure_of};
 ghost use Rattle.cedar_extensions.specs.Causes.{lookup_cause};
 ghost use Rattle.cedar_restricted.specs.PartialValues.{partial_of};
@@ -49,7 +50,7 @@ pub fn evaluated(
     depth: u32,
 ) -> Result<PartialValue, Refusal>
     requires { is_restricted (bare expr.now) ≡ true }
-    ensures evaluated { IsEvaluated extensions.now depth (bare expr.now) result }
+    ensures evaluated { IsEvaluated (as_table extensions.now) depth (bare expr.now) result }
     ensures built { IfOk result (λ value. IsBuiltPart (partial_of value)) }
 {
     let tree = BorrowedRestrictedExpr::new_unchecked(expr);

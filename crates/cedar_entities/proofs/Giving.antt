@@ -14,7 +14,7 @@ use Rattle.cedar_language.specs.Height.{height}
 use Rattle.cedar_language.specs.Order.{text_cmp}
 use Rattle.cedar_language.specs.OrderLaws.{text_cmp_total}
 use Rattle.cedar_extensions.specs.declared.evaluation_error.EvaluationError.{EvaluationError}
-use Rattle.cedar_extensions.specs.declared.extensions.Extensions.{Extensions}
+use Rattle.cedar_extensions.specs.Table.{Table}
 use Rattle.cedar_restricted.specs.PartialValues.{partial_of}
 use Rattle.cedar_restricted.specs.declared.partial_values.PartialValue.{PartialValue}
 use Rattle.cedar_restricted.proofs.Rising.{key_cmp, texts, put_next, texts_next}
@@ -27,7 +27,7 @@ use Rattle.cedar_entities.specs.Refused.{IsError, HaveValues, IsFirstRefused}
 abbrev pub Exprs : Type 0
 Exprs = List (RcStr Global × RestrictedExpr)
 
-module _ (table : Extensions) where
+module _ (table : Table) where
   given_next : (es : Expressions) (gs : List (Text × Attribute)) (k : Text) (t : Tree) (a : Attribute) → AreGiven table es gs → IsGiven table t a → AreGiven table (es ++ (k, t) ∷ []) (gs ++ (k, a) ∷ [])
   given_next [] [] k t a h g = (refl, g, tt)
   given_next [] (b ∷ gs) k t a h g = absurd h

@@ -7,8 +7,7 @@ use Rattle.cedar_language.specs.Uid.{Name}
 use Rattle.cedar_language.specs.Facts.{Function}
 use Rattle.cedar_language.specs.Operators.{takes}
 use Rattle.cedar_extensions.specs.Causes.{Cause, OtherCount}
-use Rattle.cedar_extensions.specs.Tables.{function_called}
-use Rattle.cedar_extensions.specs.declared.extensions.Extensions.{Extensions}
+use Rattle.cedar_extensions.specs.Table.{Table}
 use Rattle.cedar_extensions.specs.Calls.{is_taken_by, call_fits, fault_of_count, fault_by, fault_of, first_fault}
 use Rattle.cedar_extensions.specs.ValidationRefusals.{Refuses}
 use Rattle.cedar_extensions.specs.declared.validation_errors.ExprValidationError.{ExprValidationError}
@@ -32,11 +31,11 @@ right_true : (a b : Bool) → (a && b) ≡ true → b ≡ true
 right_true true b h = h
 right_true false b h = absurd (true≢false (sym h))
 
-module _ (table : Extensions) where
+module _ (table : Table) where
   no_fault : (cs : List (Name × ℕ)) → list_all (call_fits table) cs ≡ true → first_fault table cs ≡ None
   no_fault [] fit = refl
   no_fault (c ∷ cs) fit =
-      ap (λ f. option_or f (first_fault table cs)) (right_by (function_called table c.0) c (left_true (call_fits table c) (list_all (call_fits table) cs) fit))
+      ap (λ f. option_or f (first_fault table cs)) (right_by (table.function c.0) c (left_true (call_fits table c) (list_all (call_fits table) cs) fit))
       ∙ no_fault cs (right_true (call_fits table c) (list_all (call_fits table) cs) fit)
 
   or_assoc : (o p q : Option Cause) → option_or (option_or o p) q ≡ option_or o (option_or p q)

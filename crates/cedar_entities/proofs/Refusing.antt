@@ -5,7 +5,7 @@ use Rattle.std.specs.Rc.{rc_str_bytes}
 use Rattle.std.specs.declared.rc.RcStr.{RcStr}
 use Rattle.cedar_language.specs.Uid.{Uid}
 use Rattle.cedar_extensions.specs.declared.evaluation_error.EvaluationError.{EvaluationError}
-use Rattle.cedar_extensions.specs.declared.extensions.Extensions.{Extensions}
+use Rattle.cedar_extensions.specs.Table.{Table}
 use Rattle.cedar_entities.specs.Attributes.{Entries, seen_entries, attributes_of}
 use Rattle.cedar_entities.specs.Data.{UidSet, EntityData}
 use Rattle.cedar_entities.specs.Evaluated.{Expressions, AreGiven, HoldsWhatIsGiven, IsEvaluated}
@@ -18,7 +18,7 @@ pub at_err : {T E : Type 0} (P : Result T E → Type 0) (Made : E → Type 0) (r
 at_err P Made (Ok x) h on = absurd h
 at_err P Made (Err e) h on = on e h
 
-module _ (table : Extensions) (depth : ℕ) where
+module _ (table : Table) (depth : ℕ) where
   pub refused_at : (es : Expressions) (uid u : Uid) → u ≡ uid → (b : Bool) (k : RcStr Global) (x : EvaluationError) (r : EntityCreationError)
       → IfNoValue r (λ e. (e.uid ≡ u) × (e.was_attr ≡ b) × (e.attr_or_tag ≡ k) × (e.err ≡ x)) → IsFirstRefused table depth es (rc_str_bytes k) x
       → IfNoValue r (λ e. (e.uid ≡ uid) × (e.was_attr ≡ b) × IsFirstRefused table depth es (rc_str_bytes e.attr_or_tag) e.err)
@@ -35,7 +35,7 @@ module _ (table : Extensions) (depth : ℕ) where
     tag_refused values (Evaluation e) h = (h.0 ∙ is, subst (λ b. IsRefusedAmong b table depth attributes tags (rc_str_bytes e.attr_or_tag) e.err) (sym h.1) (values, h.2))
     tag_refused values (Memory e) h = tt
 
-pub evaluated : (table : Extensions) (uid : Uid) (attributes tags : Expressions) (fs gs : Entries) (parents indirect : UidSet) (made : EntityData)
+pub evaluated : (table : Table) (uid : Uid) (attributes tags : Expressions) (fs gs : Entries) (parents indirect : UidSet) (made : EntityData)
     → made ≡ record { uid = uid; attributes = attributes_of fs; tags = attributes_of gs; parents = parents; indirect = indirect }
     → AreGiven table attributes (seen_entries fs) → AreGiven table tags (seen_entries gs) → IsEvaluated table uid attributes tags parents indirect made
 evaluated table uid attributes tags fs gs parents indirect made is given tagged = record {

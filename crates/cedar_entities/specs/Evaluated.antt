@@ -10,7 +10,7 @@ use Rattle.cedar_language.specs.Height.{height}
 use Rattle.cedar_language.specs.Meaning.{Request, meaning}
 use Rattle.cedar_language.specs.Order.{text_cmp}
 use Rattle.cedar_grammar.specs.Build.{Keyed}
-use Rattle.cedar_extensions.specs.declared.extensions.Extensions.{Extensions}
+use Rattle.cedar_extensions.specs.Table.{Table}
 use Rattle.cedar_restricted_evaluation.specs.Evaluations.{HasFunctions, IsKnown, IsMeant, IsAnswer, IsLeft, answer_in}
 use Rattle.cedar_entities.specs.Attributes.{Attribute, AttributeMap}
 use Rattle.cedar_entities.specs.Data.{UidSet, EntityData}
@@ -20,13 +20,13 @@ abbrev pub Expressions : Type 0
 Expressions = List (Keyed Tree)
 
 -- What a tree gives: where nothing in it is unknown, its meaning; and always what partial evaluation answers.
-pub record IsGiven (table : Extensions) (t : Tree) (a : Attribute) : Type 0 where
+pub record IsGiven (table : Table) (t : Tree) (a : Attribute) : Type 0 where
   pub meant : IsKnown table t → (facts : Facts) → HasFunctions table facts → (request : Request) → IsMeant (meaning facts request t) a
   pub answer : (facts : Facts) → HasFunctions table facts → IsAnswer facts (answer_in table facts t) a
   pub left : IsLeft a
 
 -- each in turn is what the expression of its name gives
-abbrev pub AreGiven : Extensions → Expressions → List (Text × Attribute) → Type 0
+abbrev pub AreGiven : Table → Expressions → List (Text × Attribute) → Type 0
 AreGiven table [] [] = ⊤
 AreGiven table (e ∷ es) (a ∷ gs) = (a.0 ≡ e.0) × IsGiven table e.1 a.1 × AreGiven table es gs
 AreGiven table es gs = ⊥
@@ -36,12 +36,12 @@ abbrev pub AreWithin : ℕ → Expressions → Type 0
 AreWithin depth es = AllByRecursion (λ e. height e.1 ≤ depth) es
 
 -- each name has what its expression gives, and no other name has anything
-abbrev pub HoldsWhatIsGiven : Extensions → Expressions → AttributeMap → Type 0
+abbrev pub HoldsWhatIsGiven : Table → Expressions → AttributeMap → Type 0
 HoldsWhatIsGiven table es held =
     (name : Text) → MatchOption (finite.find text_cmp name es) (finite.get held name ≡ None) (λ t. IsSomeAnd (finite.get held name) (IsGiven table t))
 
 -- the entity of these parts
-pub record IsEvaluated (table : Extensions) (uid : Uid) (attributes tags : Expressions) (parents indirect : UidSet) (e : EntityData) : Type 0 where
+pub record IsEvaluated (table : Table) (uid : Uid) (attributes tags : Expressions) (parents indirect : UidSet) (e : EntityData) : Type 0 where
   pub is_of : e.uid ≡ uid
   pub has_attributes : HoldsWhatIsGiven table attributes e.attributes
   pub has_tags : HoldsWhatIsGiven table tags e.tags

@@ -5,7 +5,7 @@ use Rattle.std.specs.Rc.{rc_str_bytes}
 use Rattle.cedar_language.specs.Uid.{Text, Uid}
 use Rattle.cedar_language.specs.Tree.{Tree}
 use Rattle.cedar_extensions.specs.declared.evaluation_error.EvaluationError.{EvaluationError}
-use Rattle.cedar_extensions.specs.declared.extensions.Extensions.{Extensions}
+use Rattle.cedar_extensions.specs.Table.{Table}
 use Rattle.cedar_restricted_evaluation.specs.Evaluations.{MeansKnown, Answers}
 use Rattle.cedar_entities.specs.Attributes.{Attribute}
 use Rattle.cedar_entities.specs.Evaluated.{Expressions, IsGiven}
@@ -14,19 +14,19 @@ use Rattle.cedar_entities.specs.declared.evaluation_errors.EntityCreationError.{
 use Rattle.cedar_entities.specs.declared.evaluation_errors.EntityCreationError.TheVariants.{Evaluation, Memory}
 
 -- an evaluation of the tree may err so
-pub record IsError (table : Extensions) (depth : ℕ) (t : Tree) (e : EvaluationError) : Type 0 where
+pub record IsError (table : Table) (depth : ℕ) (t : Tree) (e : EvaluationError) : Type 0 where
   pub meant : MeansKnown table depth t (Err e)
   pub answer : Answers table depth t (Err e)
 
 -- the tree gives something
-abbrev pub HasValue : Extensions → Tree → Type 0
+abbrev pub HasValue : Table → Tree → Type 0
 HasValue table t = (a : Attribute) × IsGiven table t a
 
-abbrev pub HaveValues : Extensions → Expressions → Type 0
+abbrev pub HaveValues : Table → Expressions → Type 0
 HaveValues table es = AllByRecursion (λ e. HasValue table e.1) es
 
 -- the first expression that gives nothing is that of this name, and it errs so
-pub record IsFirstRefused (table : Extensions) (depth : ℕ) (es : Expressions) (name : Text) (e : EvaluationError) : Type 0 where
+pub record IsFirstRefused (table : Table) (depth : ℕ) (es : Expressions) (name : Text) (e : EvaluationError) : Type 0 where
   pub before : Expressions
   pub tree : Tree
   pub behind : Expressions
@@ -40,10 +40,10 @@ IfNoValue (Evaluation e) P = P e
 IfNoValue (Memory e) P = ⊤
 
 -- an attribute is refused, or a tag where all attributes have values
-abbrev pub IsRefusedAmong : Bool → Extensions → ℕ → Expressions → Expressions → Text → EvaluationError → Type 0
+abbrev pub IsRefusedAmong : Bool → Table → ℕ → Expressions → Expressions → Text → EvaluationError → Type 0
 IsRefusedAmong true table depth attributes tags name e = IsFirstRefused table depth attributes name e
 IsRefusedAmong false table depth attributes tags name e = HaveValues table attributes × IsFirstRefused table depth tags name e
 
-abbrev pub IsCreationRefusal : Extensions → ℕ → Uid → Expressions → Expressions → EntityCreationError → Type 0
+abbrev pub IsCreationRefusal : Table → ℕ → Uid → Expressions → Expressions → EntityCreationError → Type 0
 IsCreationRefusal table depth uid attributes tags refusal =
     IfNoValue refusal (λ e. (e.uid ≡ uid) × IsRefusedAmong e.was_attr table depth attributes tags (rc_str_bytes e.attr_or_tag) e.err)

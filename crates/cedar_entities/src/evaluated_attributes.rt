@@ -1,6 +1,7 @@
 //! The evaluation of attributes and tags.
 ghost use Rattle.std.specs.Prelude.{◌≡◌, IfOk, IfErr};
 ghost use Rattle.std.specs.Rc.{rc_str_bytes};
+ghost use Rattle.cedar_extensions.specs.Table.{as_table};
 ghost use Rattle.cedar_entities.specs.Attributes.{seen_entries};
 ghost use Rattle.cedar_restricted.specs.Views.{restricted_entries};
 ghost use Rattle.cedar_entities.specs.Evaluated.{AreGiven, AreWithin};
@@ -27,10 +28,10 @@ pub fn evaluate_all(
     extensions: &Extensions<'_>,
     depth: u32,
 ) -> Result<BTreeMap<RcStr, PartialValue>, EntityCreationError>
-    ensures given { IfOk result (λ values. AreGiven extensions.now (restricted_entries exprs.entries) (seen_entries values.entries)) }
+    ensures given { IfOk result (λ values. AreGiven (as_table extensions.now) (restricted_entries exprs.entries) (seen_entries values.entries)) }
     ensures limit { IfOk result (λ values. AreWithin depth (restricted_entries exprs.entries)) }
     ensures refused { IfErr result (λ error. IfNoValue error (λ e. (e.uid ≡ uid) × (e.was_attr ≡ was_attr)
-        × IsFirstRefused extensions.now depth (restricted_entries exprs.entries) (rc_str_bytes e.attr_or_tag) e.err)) }
+        × IsFirstRefused (as_table extensions.now) depth (restricted_entries exprs.entries) (rc_str_bytes e.attr_or_tag) e.err)) }
 {
     let mut values = BTreeMap::new(alloc);
     for (name, expr) in exprs {

@@ -1,6 +1,7 @@
 //! Entities that are made of expressions.
 ghost use Rattle.std.specs.Prelude.{IfOk, IfErr};
 ghost use Rattle.std.specs.FinSet as set;
+ghost use Rattle.cedar_extensions.specs.Table.{as_table};
 ghost use Rattle.cedar_entities.specs.Data.{EntityData};
 ghost use Rattle.cedar_restricted.specs.Views.{restricted_entries};
 ghost use Rattle.cedar_entities.specs.Evaluated.{IsEvaluated, AreWithin};
@@ -36,11 +37,11 @@ pub trait EvaluateEntity: Sized {
         extensions: &Extensions<'_>,
         depth: u32,
     ) -> Result<Self, EntityCreationError>
-        ensures evaluated { IfOk result (λ made. IsEvaluated extensions.now uid (restricted_entries attrs.entries) (restricted_entries tags.entries)
+        ensures evaluated { IfOk result (λ made. IsEvaluated (as_table extensions.now) uid (restricted_entries attrs.entries) (restricted_entries tags.entries)
             (set.from_list parents.keys) (set.from_list indirect_ancestors.keys) (held made)) }
         ensures attributes_limit { IfOk result (λ made. AreWithin depth (restricted_entries attrs.entries)) }
         ensures tags_limit { IfOk result (λ made. AreWithin depth (restricted_entries tags.entries)) }
-        ensures refused { IfErr result (IsCreationRefusal extensions.now depth uid (restricted_entries attrs.entries) (restricted_entries tags.entries)) };
+        ensures refused { IfErr result (IsCreationRefusal (as_table extensions.now) depth uid (restricted_entries attrs.entries) (restricted_entries tags.entries)) };
 }
 
 impl EvaluateEntity for Entity {

@@ -1,4 +1,5 @@
 //! Attributes and tags against tables of extension functions.
+ghost use Rattle.cedar_extensions.specs.Table.{as_table};
 ghost use Rattle.cedar_restricted.specs.PartialValues.{partial_of};
 ghost use Rattle.cedar_entities.specs.Attributes.{seen_entries};
 ghost use Rattle.cedar_entities.specs.Calls.{calls_at, calls_among};
@@ -18,7 +19,7 @@ fn validate_attribute(
     attribute: &PartialValue,
     extensions: &Extensions<'_>,
 ) -> Result<(), ExprValidationError>
-    ensures { ValidatesCalls extensions.now (calls_at (partial_of attribute.now)) result }
+    ensures { ValidatesCalls (as_table extensions.now) (calls_at (partial_of attribute.now)) result }
 {
     match attribute {
         PartialValue::Value(_value) => Ok(()),
@@ -32,7 +33,7 @@ pub(crate) fn validate_all(
     attributes: btree_map::Iter<'_, RcStr, PartialValue>,
     extensions: &Extensions<'_>,
 ) -> Result<(), ExprValidationError>
-    ensures { ValidatesCalls extensions.now (calls_among (seen_entries attributes.entry)) result }
+    ensures { ValidatesCalls (as_table extensions.now) (calls_among (seen_entries attributes.entry)) result }
 {
     for (_name, attribute) in attributes {
         validate_attribute(alloc, attribute, extensions)?;

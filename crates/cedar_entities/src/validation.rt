@@ -1,5 +1,6 @@
 //! Entities and their stores against tables of extension functions.
 ghost use Rattle.std.specs.Prelude.{◌≡◌, List, IfOk};
+ghost use Rattle.cedar_extensions.specs.Table.{as_table};
 ghost use Rattle.cedar_entities.specs.Data.{EntityData};
 ghost use Rattle.cedar_entities.specs.Store.{entities_in};
 ghost use Rattle.cedar_entities.specs.Calls.{entity_calls, entities_calls};
@@ -28,7 +29,7 @@ pub trait EntityValidation: Sized {
         alloc: Global,
         extensions: &Extensions<'_>,
     ) -> Result<(), ExprValidationError>
-        ensures { ValidatesCalls extensions.now (entity_calls (held self.now)) result };
+        ensures { ValidatesCalls (as_table extensions.now) (entity_calls (held self.now)) result };
 
     /// The entity itself, where `try_validate` accepts it; else refused as that is.
     fn validate(
@@ -36,7 +37,7 @@ pub trait EntityValidation: Sized {
         alloc: Global,
         extensions: &Extensions<'_>,
     ) -> Result<Self, ExprValidationError>
-        ensures validated { ValidatesCalls extensions.now (entity_calls (held self)) result }
+        ensures validated { ValidatesCalls (as_table extensions.now) (entity_calls (held self)) result }
         ensures itself { IfOk result (λ entity. entity ≡ self) };
 }
 
@@ -74,7 +75,7 @@ pub trait EntitiesValidation {
         alloc: Global,
         extensions: &Extensions<'_>,
     ) -> Result<(), ExprValidationError>
-        ensures { ValidatesCalls extensions.now (entities_calls (held self.now)) result };
+        ensures { ValidatesCalls (as_table extensions.now) (entities_calls (held self.now)) result };
 }
 
 impl EntitiesValidation for Entities {

@@ -4,6 +4,7 @@ ghost use Rattle.std.specs.FinMap as finite;
 ghost use Rattle.cedar_restricted.specs.Views.{borrowed_tree};
 ghost use Rattle.cedar_world.specs.Bodies.{holds_call};
 ghost use Rattle.cedar_world.specs.Setting.{Setting};
+ghost use Rattle.cedar_extensions.specs.Table.{as_table};
 ghost use Rattle.cedar_entities.specs.Store.{held_at, is_partial_store, IsClosed};
 ghost use Rattle.cedar_entities.specs.Shown.{Shows};
 ghost use Rattle.cedar_bodies.specs.Built.{HoldBuilt};
@@ -81,7 +82,7 @@ impl HeldEntities {
         extensions: &Extensions<'_>,
         depth: u32,
     ) -> Result<(), Refusal>
-        ensures { (by : Setting) → Serves extensions.now by (holds_call (borrowed_tree body.entry)) → PutsBody by depth (borrowed_tree body.entry) self.old result self.new }
+        ensures { (by : Setting) → Serves (as_table extensions.now) by (holds_call (borrowed_tree body.entry)) → PutsBody by depth (borrowed_tree body.entry) self.old result self.new }
     {
         let versions = listed_entities(alloc, body, extensions, depth)?;
         put_into(alloc, &mut self.store, versions)
@@ -99,7 +100,7 @@ impl HeldEntities {
         extensions: &Extensions<'_>,
         depth: u32,
     ) -> Result<(), Refusal>
-        ensures { (by : Setting) → Serves extensions.now by (holds_call (borrowed_tree body.entry)) → AddsBody by depth (borrowed_tree body.entry) self.old result self.new }
+        ensures { (by : Setting) → Serves (as_table extensions.now) by (holds_call (borrowed_tree body.entry)) → AddsBody by depth (borrowed_tree body.entry) self.old result self.new }
     {
         let versions = listed_entities(alloc, body, extensions, depth)?;
         add_to(alloc, &mut self.store, versions)

@@ -2,7 +2,7 @@
 use Rattle.std.specs.Prelude.{◌≡◌, ◌≢◌, ◌⊎◌, ⊤, [], ◌∷◌, Result, Ok, Err}
 use Rattle.cedar_language.specs.Uid.{Text}
 use Rattle.cedar_grammar.specs.Policy.{Policy, slots}
-use Rattle.cedar_extensions.specs.declared.extensions.Extensions.{Extensions}
+use Rattle.cedar_extensions.specs.Table.{Table}
 use Rattle.cedar_templates.specs.Validation.{Validates}
 use Rattle.cedar_templates.specs.declared.errors.TemplateValidationError.{TemplateValidationError}
 use Rattle.cedar_policy_set.specs.Entries.{Entry, static_policy, template, link, Entries}
@@ -20,7 +20,7 @@ abbrev pub accepted : Result Unit PolicySetValidationError
 accepted = Ok tt
 
 -- the template is valid, or is refused for why it isn't
-abbrev pub ValidatesTemplate : {A : Type 0} → Extensions → Text → Policy → Result A PolicySetValidationError → Type 0
+abbrev pub ValidatesTemplate : {A : Type 0} → Table → Text → Policy → Result A PolicySetValidationError → Type 0
 ValidatesTemplate table id s (Ok a) = Validates table s (Ok a)
 ValidatesTemplate table id s (Err (InvalidTemplate i error)) = (i ≡ id) × Validates table s (refused_by error)
 ValidatesTemplate table id s (Err (LinkToSlotlessTemplate i)) = ⊥
@@ -33,17 +33,17 @@ ValidatesLink id s (Err (InvalidTemplate i error)) = ⊥
 ValidatesLink id s (Err (LinkToSlotlessTemplate i)) = (i ≡ id) × (slots s ≡ [])
 ValidatesLink id s (Err (Memory e)) = ⊤
 
-abbrev pub ValidatesOne : {A : Type 0} → Extensions → Text → Entry → Result A PolicySetValidationError → Type 0
+abbrev pub ValidatesOne : {A : Type 0} → Table → Text → Entry → Result A PolicySetValidationError → Type 0
 ValidatesOne table id (static_policy s) r = ValidatesTemplate table id s r
 ValidatesOne table id (template s) r = ValidatesTemplate table id s r
 ValidatesOne table id (link t s b) r = ValidatesLink id s r
 
-abbrev pub StopsAtInvalid : {A : Type 0} → Extensions → Text × Entry → Result A PolicySetValidationError → Type 0
+abbrev pub StopsAtInvalid : {A : Type 0} → Table → Text × Entry → Result A PolicySetValidationError → Type 0
 StopsAtInvalid table e (Ok a) = ⊥
 StopsAtInvalid table e (Err error) = ValidatesOne table e.0 e.1 (refused_for error)
 
 -- Each is valid in turn, up to the first that isn't, for which the set is refused.
-abbrev pub ValidatesAll : {A : Type 0} → Extensions → Entries → Result A PolicySetValidationError → Type 0
+abbrev pub ValidatesAll : {A : Type 0} → Table → Entries → Result A PolicySetValidationError → Type 0
 ValidatesAll table [] (Ok a) = ⊤
 ValidatesAll table [] (Err error) = ⊥
 ValidatesAll table (e ∷ es) r = (ValidatesOne table e.0 e.1 accepted × ValidatesAll table es r) ⊎ StopsAtInvalid table e r

@@ -1,6 +1,6 @@
 // Whether what a policy set binds is valid.
 ghost use Rattle.std.specs.Prelude.{◌≡◌, true};
-ghost use Rattle.cedar_extensions.specs.declared.extensions.Extensions.{Extensions};
+ghost use Rattle.cedar_extensions.specs.Table.{Table, as_table};
 ghost use Rattle.cedar_templates.specs.Templates.{template_id, syntax_of};
 ghost use Rattle.cedar_policies.specs.Policies.{policy_id};
 ghost use Rattle.cedar_policy_set.specs.Entries.{is_link};
@@ -24,7 +24,7 @@ impl PolicySet {
         alloc: Global,
         extensions: &Extensions<'_>,
     ) -> Result<(), PolicySetValidationError>
-        ensures { ValidatesAll extensions.now self.now result }
+        ensures { ValidatesAll (as_table extensions.now) self.now result }
     {
         for bound in self.values() {
             validate(alloc, bound, extensions)?;
@@ -39,7 +39,7 @@ fn validate(
     bound: &Bound,
     extensions: &Extensions<'_>,
 ) -> Result<(), PolicySetValidationError>
-    ensures { ValidatesOne extensions.now (bound_id bound.now) (entry_of bound.now) result }
+    ensures { ValidatesOne (as_table extensions.now) (bound_id bound.now) (entry_of bound.now) result }
 {
     match bound {
         Bound::Template(template) => validate_template(alloc, template, extensions),
@@ -56,7 +56,7 @@ fn validate_template(
     template: &Template,
     extensions: &Extensions<'_>,
 ) -> Result<(), PolicySetValidationError>
-    ensures { ValidatesTemplate extensions.now (template_id template.now) (syntax_of template.now) result }
+    ensures { ValidatesTemplate (as_table extensions.now) (template_id template.now) (syntax_of template.now) result }
 {
     match template.try_validate(alloc, extensions) {
         Ok(()) => Ok(()),
@@ -71,7 +71,7 @@ fn validate_template(
 // Whether the link is of a template that has slots.
 fn validate_link(link: &Policy) -> Result<(), PolicySetValidationError>
     requires { is_link (policy_entry link.now) ≡ true }
-    ensures { (table : Extensions) → ValidatesOne table (policy_id link.now) (policy_entry link.now) result }
+    ensures { (table : Table) → ValidatesOne table (policy_id link.now) (policy_entry link.now) result }
 {
     if link.template().is_static() {
         let id = link.id().clone()?;

@@ -9,18 +9,17 @@ use Rattle.cedar_language.specs.Value.{Value}
 use Rattle.cedar_language.specs.Facts.{Facts}
 use Rattle.cedar_partial_evaluation.specs.Like.{IsLike, itself, writes_too, if_like, and_like, or_like, apply_like}
 use Rattle.cedar_partial_evaluation.specs.Partial.{Answer, Evaluated, ResidualTree, Failed, Answers, AllEvaluated, SomeResiduals, SomeFailed, LeafAnswers, apply_answer, partial_in, all_partial_in}
-use Rattle.cedar_extensions.specs.Tables.{holds_unknown, function_called}
-use Rattle.cedar_extensions.specs.declared.extensions.Extensions.{Extensions}
+use Rattle.cedar_extensions.specs.Table.{Table}
 use Rattle.cedar_restricted_evaluation.specs.Evaluations.{IsAnswer, nothing_told, named_by, all_named_by, answer_in}
 use Rattle.cedar_requests.specs.Contexts.{is_record}
 use Rattle.cedar_requests.specs.Creating.{is_record_part, is_record_value}
 
 -- the table's functions, and nothing else
-abbrev pub functions_of : Extensions → Facts
+abbrev pub functions_of : Table → Facts
 functions_of table = record {
   entity = λ u. None;
   reaches = λ a b. false;
-  function = function_called table;
+  function = table.function;
   written = λ e. record { function = []; arguments = no_trees };
 }
 
@@ -38,8 +37,8 @@ named_record : (facts : Facts) (b : Bool) (ks : List Text) (ts : Trees) → IsRe
 named_record facts true ks ts = applied_record facts nothing_told ks (all_partial_in facts nothing_told (all_named_by true ts))
 named_record facts false ks ts = applied_record facts nothing_told ks (all_partial_in facts nothing_told ts)
 
-record_answer : (facts : Facts) (table : Extensions) (t : Tree) → is_record t ≡ true → IsRecordAnswer (answer_in table facts t)
-record_answer facts table (Apply (MakeRecord ks) ts) h = named_record facts (holds_unknown table) ks ts
+record_answer : (facts : Facts) (table : Table) (t : Tree) → is_record t ≡ true → IsRecordAnswer (answer_in table facts t)
+record_answer facts table (Apply (MakeRecord ks) ts) h = named_record facts table.has_unknown ks ts
 record_answer facts table t h = cc
 
 same_operator : (op : Operator) (ts us : Trees) → is_record (Apply op us) ≡ true → is_record (Apply op ts) ≡ true
@@ -59,5 +58,5 @@ part_of_record facts a (Left v) h is = subst IsRecordAnswer is h
 part_of_record facts a (Right r) h (t, is, like) = like_record facts r t like (subst IsRecordAnswer is h)
 
 -- the answer of a record, seen in a table's functions alone
-pub record_stays : (table : Extensions) (t : Tree) (p : Either Value Tree) → is_record t ≡ true → IsAnswer (functions_of table) (answer_in table (functions_of table) t) p → is_record_part p ≡ true
+pub record_stays : (table : Table) (t : Tree) (p : Either Value Tree) → is_record t ≡ true → IsAnswer (functions_of table) (answer_in table (functions_of table) t) p → is_record_part p ≡ true
 record_stays table t p h is = part_of_record (functions_of table) (answer_in table (functions_of table) t) p (record_answer (functions_of table) table t h) is

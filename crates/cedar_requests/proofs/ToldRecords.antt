@@ -13,7 +13,7 @@ use Rattle.cedar_extensions.specs.Failures.{Failure, OfKind, LimitMet, MemoryRan
 use Rattle.cedar_extensions.specs.Giving.{FailsBy}
 use Rattle.cedar_extensions.specs.declared.evaluation_error.EvaluationError.{EvaluationError}
 use Rattle.cedar_extensions.specs.declared.evaluation_error.EvaluationError.TheVariants as evaluation
-use Rattle.cedar_extensions.specs.declared.extensions.Extensions.{Extensions}
+use Rattle.cedar_extensions.specs.Table.{Table}
 use Rattle.cedar_restricted_evaluation.specs.Evaluations.{HasFunctions, IsKnown, answer_in}
 use Rattle.cedar_substitution.specs.Typed.{SubstitutesValues}
 use Rattle.cedar_requests.specs.Creating.{MeansContext, AnswersContext}
@@ -21,7 +21,7 @@ use Rattle.cedar_requests.specs.Telling.{IsMistyping, IsMistypingOf, ErrsAs, OfS
 use Rattle.cedar_requests.specs.declared.contexts.Context.{Context}
 use Rattle.cedar_requests.proofs.RecordsStay.{functions_of}
 
-module _ (table : Extensions) (depth : ℕ) (told : List (RcStr Global × Value)) (t : Tree) where
+module _ (table : Table) (depth : ℕ) (told : List (RcStr Global × Value)) (t : Tree) where
   pub mistyping_refused : (types : Option (ValueType × ValueType)) (e : EvaluationError) → IsMistypingOf types (Some e) → TellsRecord table depth told t types (Err e)
   mistyping_refused None e h = absurd h
   mistyping_refused (Some types) e h = subst (λ x. FailsBy ⊥ (λ k. IsMistyping types e) (failure_by x)) (sym h) h

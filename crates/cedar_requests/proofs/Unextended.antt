@@ -15,6 +15,7 @@ use Rattle.cedar_partial_evaluation.specs.Question.{settled_names}
 use Rattle.cedar_partial_evaluation.specs.Settling.{Is, Settlings, SomeOpen, SomeErrs, AllAre, kindless, apply_settled, all_settled_in}
 use Rattle.cedar_extensions.specs.Functions.{meaning_in, meaning_of}
 use Rattle.cedar_extensions.specs.Holding.{found_in}
+use Rattle.cedar_extensions.specs.Table.{as_table}
 use Rattle.cedar_extensions.specs.Tables.{functions_in}
 use Rattle.cedar_extensions.specs.declared.extensions.Extensions.{Extensions}
 use Rattle.cedar_extensions.specs.declared.functions.ExtensionFunction.{ExtensionFunction}
@@ -49,9 +50,9 @@ not_settled (Gives (ExtensionOf x)) e h is = h
 not_settled (Gives v) e h is = cc
 not_settled (Fails k) e h is = cc
 
-module _ (table : Extensions) (facts : Facts) (has : HasFunctions table facts) where
+module _ (extensions : Extensions) (facts : Facts) (has : HasFunctions (as_table extensions) facts) where
   of_call : (f : Name) (vs : Values) → IsNoExtension (called (facts.function f) vs)
-  of_call f vs = subst (λ o. IsNoExtension (called o vs)) (sym (has f)) (of_table (found_in (functions_in table) f) vs)
+  of_call f vs = subst (λ o. IsNoExtension (called o vs)) (sym (has f)) (of_table (found_in (functions_in extensions) f) vs)
 
   call_settled : (f : Name) (e : Extension) (xs : Settlings) → apply_settled facts (Call f) xs ≡ Is (ExtensionOf e) → ⊥
   call_settled f e SomeOpen h = cc

@@ -15,7 +15,7 @@ use Rattle.cedar_trees.specs.declared.errors.ExpressionConstructionError.{Expres
 use Rattle.cedar_trees.specs.declared.errors.ExpressionConstructionError.TheVariants.{DuplicateKey, Memory}
 use Rattle.cedar_extensions.specs.Giving.{GivesBy}
 use Rattle.cedar_extensions.specs.declared.evaluation_error.EvaluationError.{EvaluationError}
-use Rattle.cedar_extensions.specs.declared.extensions.Extensions.{Extensions}
+use Rattle.cedar_extensions.specs.Table.{Table}
 use Rattle.cedar_restricted_evaluation.specs.Evaluations.{HasFunctions, IsKnown, IsMeant, IsAnswer, answer_in}
 use Rattle.cedar_requests.specs.Contexts.{context_part, is_record}
 use Rattle.cedar_requests.specs.declared.contexts.Context.{Context}
@@ -32,13 +32,13 @@ is_record_part (Right t) = is_record t
 
 -- where nothing in the tree is unknown, it is what the tree means, whatever is asked. Want of memory says nothing of that, and
 -- the limit may be met only where the tree is higher.
-abbrev pub MeansContext : Extensions → ℕ → Tree → Result Context EvaluationError → Type 0
+abbrev pub MeansContext : Table → ℕ → Tree → Result Context EvaluationError → Type 0
 MeansContext table depth t result =
     IsKnown table t → (facts : Facts) → HasFunctions table facts → (request : Request) →
     GivesBy (λ c. IsMeant (meaning facts request t) (context_part c)) (λ k. meaning facts request t ≡ Fails k) (depth < height t) result
 
 -- and always what partial evaluation answers where no unknown has a value
-abbrev pub AnswersContext : Extensions → ℕ → Tree → Result Context EvaluationError → Type 0
+abbrev pub AnswersContext : Table → ℕ → Tree → Result Context EvaluationError → Type 0
 AnswersContext table depth t result =
     (facts : Facts) → HasFunctions table facts →
     GivesBy (λ c. IsAnswer facts (answer_in table facts t) (context_part c)) (λ k. answer_in table facts t ≡ Failed k) (depth < height t) result
@@ -59,14 +59,14 @@ IsRefusedUnlessRecord t (Err (refusal.Evaluation e)) = is_record t ≡ true
 IsRefusedUnlessRecord t (Err (refusal.ExpressionConstruction e)) = ⊥
 IsRefusedUnlessRecord t (Err (refusal.Memory e)) = ⊤
 
-pub record Creates (table : Extensions) (depth : ℕ) (t : Tree) (result : Result Context ContextCreationError) : Type 0 where
+pub record Creates (table : Table) (depth : ℕ) (t : Tree) (result : Result Context ContextCreationError) : Type 0 where
   pub written : IsRefusedUnlessRecord t result
   pub meaning : OnEvaluation (MeansContext table depth t) result
   pub answer : OnEvaluation (AnswersContext table depth t) result
   pub limit : IfOk result (λ c. height t ≤ depth)
 
 -- the record of entries is made first, and is refused for a key that stands twice
-abbrev pub CreatesOf : Extensions → ℕ → Result Tree Text → Result Context ContextCreationError → Type 0
+abbrev pub CreatesOf : Table → ℕ → Result Tree Text → Result Context ContextCreationError → Type 0
 CreatesOf table depth (Ok t) result = Creates table depth t result
 CreatesOf table depth (Err k) (Ok c) = ⊥
 CreatesOf table depth (Err k) (Err (refusal.ExpressionConstruction (DuplicateKey e))) = (rc_str_bytes e.key ≡ k) × (e.context.now ≡ codes "in context")

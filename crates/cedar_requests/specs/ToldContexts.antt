@@ -15,7 +15,7 @@ use Rattle.cedar_partial_evaluation.specs.Question.{Told, AreMadeTold, held_name
 use Rattle.cedar_partial_evaluation.specs.ReadUnknowns.{calls_unknown}
 use Rattle.cedar_partial_evaluation.specs.Unknowns.{EachUnknown}
 use Rattle.cedar_extensions.specs.Giving.{GivesBy}
-use Rattle.cedar_extensions.specs.Tables.{holds_unknown}
+use Rattle.cedar_extensions.specs.Table.{as_table}
 use Rattle.cedar_extensions.specs.declared.evaluation_error.EvaluationError.{EvaluationError}
 use Rattle.cedar_extensions.specs.declared.extensions.Extensions.{Extensions}
 use Rattle.cedar_restricted_evaluation.specs.Evaluations.{HasFunctions}
@@ -38,8 +38,8 @@ StatesNoType t = EachUnknown (λ n ty. ty ≡ None) t
 -- table has `unknown`, no call of it is left.
 abbrev pub ToldContextsAreEvaluated : Type 0
 ToldContextsAreEvaluated =
-    (table : Extensions) (depth : ℕ) (entries : List (RcStr Global × Value)) (told : Told) → HoldTold entries told
-    → (t : Tree) → is_restricted t ≡ true → StatesNoType t → (holds_unknown table ≡ true → calls_unknown t ≡ false)
-    → (result : Result Context EvaluationError) → TellsContext table depth entries (Right t) result
-    → (facts : Facts) → HasFunctions table facts → AreMadeTold facts told
+    (extensions : Extensions) (depth : ℕ) (entries : List (RcStr Global × Value)) (told : Told) → HoldTold entries told
+    → (t : Tree) → is_restricted t ≡ true → StatesNoType t → ((as_table extensions).has_unknown ≡ true → calls_unknown t ≡ false)
+    → (result : Result Context EvaluationError) → TellsContext (as_table extensions) depth entries (Right t) result
+    → (facts : Facts) → HasFunctions (as_table extensions) facts → AreMadeTold facts told
     → GivesBy (λ c. part_answer (context_part c) ≡ partial_in facts (held_names told) t) (λ k. partial_in facts (held_names told) t ≡ Failed k) (OfSubstituted entries t (λ u. depth < height u)) result

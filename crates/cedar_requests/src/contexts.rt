@@ -102,6 +102,7 @@ impl Context {
 }
 
 impl Context {
+    ghost use Rattle.cedar_extensions.specs.Table.{as_table};
     ghost use Rattle.cedar_requests.specs.Contexts.{context_part};
     ghost use Rattle.cedar_requests.specs.Telling.{TellsContext};
 
@@ -119,7 +120,7 @@ impl Context {
         extensions: &Extensions<'_>,
         depth: u32,
     ) -> Result<Context, EvaluationError>
-        ensures { TellsContext extensions.now depth told.now.entries (context_part self) result }
+        ensures { TellsContext (as_table extensions.now) depth told.now.entries (context_part self) result }
     {
         match self {
             Context::Value(entries) => Ok(Context::Value(entries)),

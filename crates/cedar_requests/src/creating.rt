@@ -2,6 +2,7 @@
 ghost use Rattle.std.specs.Prelude.{◌≡◌};
 ghost use Rattle.cedar_trees.specs.Bare.{bare};
 ghost use Rattle.cedar_trees.specs.Records.{record_made};
+ghost use Rattle.cedar_extensions.specs.Table.{as_table};
 ghost use Rattle.cedar_restricted.specs.Views.{borrowed_tree, restricted_entries};
 ghost use Rattle.cedar_requests.specs.Contexts.{is_record as is_record_tree};
 ghost use Rattle.cedar_requests.specs.Creating.{Creates, CreatesOf, DuplicateInContext};
@@ -30,7 +31,7 @@ impl Context {
         extensions: &Extensions<'_>,
         depth: u32,
     ) -> Result<Context, ContextCreationError>
-        ensures { Creates extensions.now depth (borrowed_tree expr.entry) result }
+        ensures { Creates (as_table extensions.now) depth (borrowed_tree expr.entry) result }
     {
         if !is_record(expr.as_expr()) {
             return Err(ContextCreationError::NotARecord(NotARecord {
@@ -48,7 +49,7 @@ impl Context {
         extensions: &Extensions<'_>,
         depth: u32,
     ) -> Result<Context, ContextCreationError>
-        ensures { CreatesOf extensions.now depth (record_made (restricted_entries pairs.items)) result }
+        ensures { CreatesOf (as_table extensions.now) depth (record_made (restricted_entries pairs.items)) result }
     {
         match RestrictedExpr::record(alloc, pairs) {
             Ok(record) => Context::from_expr(alloc, record.as_borrowed(), extensions, depth),

@@ -5,6 +5,7 @@ ghost use Rattle.cedar_language.specs.Height.{height};
 ghost use Rattle.cedar_language.specs.Value.{RecordOf};
 ghost use Rattle.cedar_trees.specs.Bare.{bare, bare_entries, record_tree};
 ghost use Rattle.cedar_values.specs.Kinds.{keys_of, values_of};
+ghost use Rattle.cedar_extensions.specs.Table.{as_table};
 ghost use Rattle.cedar_restricted.specs.PartialValues.{partial_of};
 ghost use Rattle.cedar_restricted.specs.Views.{borrowed_tree};
 ghost use Rattle.cedar_restricted_evaluation.specs.Evaluations.{IsLeft};
@@ -32,8 +33,8 @@ pub(crate) fn evaluated(
     depth: u32,
 ) -> Result<Context, EvaluationError>
     requires { is_record (borrowed_tree expr) ≡ true }
-    ensures meaning { MeansContext extensions.now depth (borrowed_tree expr.entry) result }
-    ensures answer { AnswersContext extensions.now depth (borrowed_tree expr.entry) result }
+    ensures meaning { MeansContext (as_table extensions.now) depth (borrowed_tree expr.entry) result }
+    ensures answer { AnswersContext (as_table extensions.now) depth (borrowed_tree expr.entry) result }
     ensures limit { IfOk result (λ context. height (borrowed_tree expr.entry) ≤ depth) }
 {
     let found = interpret_restricted(alloc, expr, extensions, depth)?;

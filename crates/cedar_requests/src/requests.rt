@@ -2,6 +2,7 @@
 ghost use Rattle.std.specs.Prelude.{◌≡◌, IfOk, option_map, Some};
 ghost use Rattle.std.specs.Option.{option_copied};
 ghost use Rattle.cedar_partial_evaluation.specs.Question.{Given};
+ghost use Rattle.cedar_extensions.specs.Table.{as_table};
 ghost use Rattle.cedar_requests.specs.Parts.{part_of};
 ghost use Rattle.cedar_requests.specs.Contexts.{context_part};
 ghost use Rattle.cedar_requests.specs.Holding.{request_parts, request_type};
@@ -72,7 +73,7 @@ impl Request {
           action = Given action.0;
           resource = Given resource.0;
           context = Some (context_part context);
-        }) extensions.now result }
+        }) (as_table extensions.now) result }
     {
         let principal = EntityUIDEntry::known(alloc, principal.0, principal.1)?;
         let action = EntityUIDEntry::known(alloc, action.0, action.1)?;
@@ -105,7 +106,7 @@ impl Request {
           action = part_of action;
           resource = part_of resource;
           context = option_map context_part context;
-        }) extensions.now (verdict result) }
+        }) (as_table extensions.now) (verdict result) }
     {
         let request = Request::new_unchecked(principal, action, resource, context);
         accepted(request, schema, extensions)
@@ -204,7 +205,7 @@ fn accepted<S: RequestSchema>(
     extensions: &Extensions<'_>,
 ) -> Result<Request, S::Error>
     ensures held { IfOk result (λ kept. request_parts kept ≡ request_parts request) }
-    ensures schema { IsAnswerOf S.validates (option_copied schema.entry) (request_parts request) extensions.now (verdict result) }
+    ensures schema { IsAnswerOf S.validates (option_copied schema.entry) (request_parts request) (as_table extensions.now) (verdict result) }
 {
     let Some(schema) = schema else {
         return Ok(request);

@@ -15,7 +15,7 @@ pub trait RequestSchema {
     ghost use Rattle.cedar_language.specs.Uid as language;
     ghost use Rattle.cedar_language.specs.Tree as tree;
     ghost use Rattle.cedar_language.specs.Value as value;
-    ghost use Rattle.cedar_extensions.specs.declared.extensions.Extensions as table;
+    ghost use Rattle.cedar_extensions.specs.Table as table;
     ghost use Rattle.cedar_requests.specs.Contexts.{context_part};
     ghost use Rattle.cedar_requests.specs.Holding.{RequestParts, request_parts};
 
@@ -23,10 +23,10 @@ pub trait RequestSchema {
     type Error: Drop;
 
     // holds of each answer that the schema may give of a request
-    ghost validates: { Self → RequestParts → table.Extensions → Result (Unit {0}) Self.Error → Type 0 };
+    ghost validates: { Self → RequestParts → table.Table → Result (Unit {0}) Self.Error → Type 0 };
 
     // of a context at an action
-    ghost validates_context: { Self → either.Either value.Value tree.Tree → language.Uid → table.Extensions → Result (Unit {0}) Self.Error → Type 0 };
+    ghost validates_context: { Self → either.Either value.Value tree.Tree → language.Uid → table.Table → Result (Unit {0}) Self.Error → Type 0 };
 
     // and of a principal, an action and a resource, each of which may be missing
     ghost validates_scope: { Self → Option language.Uid → Option language.Uid → Option language.Uid → Result (Unit {0}) Self.Error → Type 0 };
@@ -37,7 +37,7 @@ pub trait RequestSchema {
         request: &Request,
         extensions: &Extensions<'_>,
     ) -> Result<(), Self::Error>
-        ensures { validates self.now (request_parts request.now) extensions.now result };
+        ensures { validates self.now (request_parts request.now) (table.as_table extensions.now) result };
 
     /// Accepts the context of a request for this action, or says why it doesn't.
     fn validate_context(
@@ -46,7 +46,7 @@ pub trait RequestSchema {
         action: &EntityUID,
         extensions: &Extensions<'_>,
     ) -> Result<(), Self::Error>
-        ensures { validates_context self.now (context_part context.now) action.now extensions.now result };
+        ensures { validates_context self.now (context_part context.now) action.now (table.as_table extensions.now) result };
 
     /// Accepts the principal, the action and the resource, those that are given, or says why it doesn't.
     fn validate_scope_variables(

@@ -4,6 +4,7 @@ ghost use Rattle.std.specs.Option.{option_copied};
 ghost use Rattle.cedar_language.specs.Restricted.{is_restricted};
 ghost use Rattle.cedar_trees.specs.Bare.{bare};
 ghost use Rattle.cedar_trees.specs.Unknowns.{unknown_type};
+ghost use Rattle.cedar_extensions.specs.Table.{as_table};
 ghost use Rattle.cedar_substitution.specs.Typed.{mistyped as mistyped_value, mistyped_in};
 ghost use Rattle.cedar_requests.specs.Contexts.{is_record};
 ghost use Rattle.cedar_requests.specs.Telling.{IsMistypingOf, TellsRecord};
@@ -34,7 +35,7 @@ pub(crate) fn record_told(
 ) -> Result<Context, EvaluationError>
     requires record { is_record (bare expr.now) ≡ true }
     requires restricted { is_restricted (bare expr.now) ≡ true }
-    ensures { TellsRecord extensions.now depth told.now.entries (bare expr.now) (mistyped_in told.now.entries (bare expr.now)) result }
+    ensures { TellsRecord (as_table extensions.now) depth told.now.entries (bare expr.now) (mistyped_in told.now.entries (bare expr.now)) result }
 {
     if let Some(error) = mistyped(alloc, expr, told)? {
         return Err(error);

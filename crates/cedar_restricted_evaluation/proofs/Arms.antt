@@ -30,10 +30,8 @@ use Rattle.cedar_trees.proofs.Bares.{bare_is, bare-Unknown, bare-Set, bare-Recor
 use Rattle.cedar_extensions.specs.Failures.{failure_of}
 use Rattle.cedar_extensions.specs.Giving.{fails_on}
 use Rattle.cedar_extensions.specs.declared.evaluation_error.EvaluationError.{EvaluationError}
-use Rattle.cedar_extensions.specs.Holding.{are_named}
 use Rattle.cedar_names.specs.declared.places.Place.{Place}
-use Rattle.cedar_extensions.specs.Tables.{functions_in, holds_unknown, function_called}
-use Rattle.cedar_extensions.specs.declared.extensions.Extensions.{Extensions}
+use Rattle.cedar_extensions.specs.Table.{Table}
 use Rattle.cedar_values.specs.Kinds.{keys_of, values_of}
 use Rattle.cedar_restricted.proofs.Rising.{texts, keys_are}
 use Rattle.cedar_restricted.specs.Expressing.{is_ground, are_ground}
@@ -42,7 +40,7 @@ use Rattle.cedar_restricted.specs.Splitting.{ExpressEach, is_residual}
 use Rattle.cedar_restricted.specs.declared.partial_values.PartialValue.{PartialValue}
 use Rattle.cedar_restricted_evaluation.specs.Evaluations.{HasFunctions, nothing_told, named_by, all_named_by, answer_in}
 use Rattle.cedar_restricted_evaluation.specs.Findings.{IsCalled, Calls, IsFound, Errs, Evaluates, answers_in, AreFound, SomeErrs}
-use Rattle.cedar_restricted_evaluation.proofs.Naming.{held_is_found, by_naming, names_unknown_so}
+use Rattle.cedar_restricted_evaluation.proofs.Naming.{by_naming, names_unknown_so}
 use Rattle.cedar_restricted_evaluation.proofs.Gathering.{rising_plain, all_values, all_plain, one_text, some_residuals, all_restricted, some_waits}
 
 -- ---- leaves
@@ -58,17 +56,17 @@ named_unknown false n ty = refl
 still_unknown : (facts : Facts) (n : Text) (ty : Option ValueType) → partial_in facts nothing_told (Unknown n ty) ≡ ResidualTree (Unknown n ty)
 still_unknown facts n ty = ap (λ o. name_held o n ty) (get-empty text_cmp n)
 
-module _ (table : Extensions) where
+module _ (table : Table) where
   pub literal_found : (l : Literal) → IsFound table (Lit l) (Left (Plain l))
   literal_found l = record {
-    answer = λ facts has. ap (partial_in facts nothing_told) (named_lit (holds_unknown table) l);
+    answer = λ facts has. ap (partial_in facts nothing_told) (named_lit table.has_unknown l);
     plain = refl;
     text = λ s e. cc;
   }
 
   pub unknown_found : (n : Text) (ty : Option ValueType) → IsFound table (Unknown n ty) (Right (Unknown n ty))
   unknown_found n ty = record {
-    answer = λ facts has. ap (partial_in facts nothing_told) (named_unknown (holds_unknown table) n ty) ∙ still_unknown facts n ty;
+    answer = λ facts has. ap (partial_in facts nothing_told) (named_unknown table.has_unknown n ty) ∙ still_unknown facts n ty;
     restricted = refl;
     waits = refl;
   }
@@ -96,9 +94,9 @@ record_named ks false us = refl
 pub record_builds : (ks : List Text) → Builds (MakeRecord ks)
 record_builds ks = record { named = record_named ks; waits = λ facts rs. refl; restricted = λ rs. refl; ground = λ rs. refl }
 
-module _ (table : Extensions) (op : Operator) (builds : Builds op) (ts : List Tree) where
+module _ (table : Table) (op : Operator) (builds : Builds op) (ts : List Tree) where
   applied_answer : (facts : Facts) → answer_in table facts (Apply op (trees ts)) ≡ apply_answer facts nothing_told op (answers_in table facts (trees ts))
-  applied_answer facts = ap (partial_in facts nothing_told) (builds.named (holds_unknown table) (trees ts))
+  applied_answer facts = ap (partial_in facts nothing_told) (builds.named table.has_unknown (trees ts))
 
   pub build_errs : (k : Kind) → SomeErrs table ts k → Errs table (Apply op (trees ts)) k
   build_errs k e = λ facts has. applied_answer facts ∙ ap (apply_answer facts nothing_told op) (e facts has)
@@ -114,14 +112,14 @@ module _ (table : Extensions) (op : Operator) (builds : Builds op) (ts : List Tr
     built_answer : (vs : List Value) → ps ≡ map Left vs → (facts : Facts) → HasFunctions table facts → answer_in table facts (Apply op (trees ts)) ≡ answer_of (applied facts op (all_of vs))
     built_answer vs is facts has = applied_answer facts ∙ ap (apply_answer facts nothing_told op) (all_values table ts ps vs found is facts has)
 
-pub set_found : (table : Extensions) (ts : List Tree) (ps : List (Either Value Tree)) → AreFound table ts ps → (vs : List Value) → ps ≡ map Left vs → IsFound table (Apply MakeSet (trees ts)) (Left (set_of (all_of vs)))
+pub set_found : (table : Table) (ts : List Tree) (ps : List (Either Value Tree)) → AreFound table ts ps → (vs : List Value) → ps ≡ map Left vs → IsFound table (Apply MakeSet (trees ts)) (Left (set_of (all_of vs)))
 set_found table ts ps found vs is = record {
   answer = built_answer table MakeSet set_builds ts ps found vs is;
   plain = rising_plain (all_of vs) (all_plain table ts ps vs found is);
   text = λ s e. cc;
 }
 
-pub record_found : (table : Extensions) (ks : List Text) (ts : List Tree) (ps : List (Either Value Tree)) → AreFound table ts ps → (vs : List Value) → ps ≡ map Left vs → IsFound table (Apply (MakeRecord ks) (trees ts)) (Left (RecordOf ks (all_of vs)))
+pub record_found : (table : Table) (ks : List Text) (ts : List Tree) (ps : List (Either Value Tree)) → AreFound table ts ps → (vs : List Value) → ps ≡ map Left vs → IsFound table (Apply (MakeRecord ks) (trees ts)) (Left (RecordOf ks (all_of vs)))
 record_found table ks ts ps found vs is = record {
   answer = built_answer table (MakeRecord ks) (record_builds ks) ts ps found vs is;
   plain = all_plain table ts ps vs found is;
@@ -146,7 +144,7 @@ called_text (a_value v (a_value w ws)) s h = absurd (two_arguments v w ws s h)
 one_literal : (facts : Facts) (us : Trees) (n : Text) → us ≡ a_tree (Lit (String n)) no_trees → all_partial_in facts nothing_told us ≡ AllEvaluated (a_value (Plain (String n)) no_values)
 one_literal facts us n e = ap (all_partial_in facts nothing_told) e
 
-module _ (table : Extensions) (f : Name) where
+module _ (table : Table) (f : Name) where
   -- a call whose arguments have these answers, and name nothing where the function has no such answer
   call_answer : (facts : Facts) (us : Trees) (b : Bool) (as_ : Answers) (a : Answer) → all_partial_in facts nothing_told (all_named_by b us) ≡ as_ → apply_answer facts nothing_told (Call f) as_ ≡ a
       → ((n : Text) → b ≡ true → is_the_unknown f ≡ true → as_ ≡ AllEvaluated (a_value (Plain (String n)) no_values) → ⊥)
@@ -158,41 +156,41 @@ module _ (table : Extensions) (f : Name) where
       (ap (apply_answer facts nothing_told (Call f)) is ∙ gives)
 
   pub call_errs : (ts : List Tree) (k : Kind) → SomeErrs table ts k → Errs table (Apply (Call f) (trees ts)) k
-  call_errs ts k e = λ facts has. call_answer facts (trees ts) (holds_unknown table) (SomeFailed k) (Failed k) (e facts has) refl (λ n b i is. cc)
+  call_errs ts k e = λ facts has. call_answer facts (trees ts) table.has_unknown (SomeFailed k) (Failed k) (e facts has) refl (λ n b i is. cc)
 
   module _ (ts : List Tree) (ps : List (Either Value Tree)) (found : AreFound table ts ps) where
     pub call_waits : (us : List Tree) → (list_any is_residual ps ≡ true) × ExpressEach ps us → IsFound table (Apply (Call f) (trees ts)) (Right (Apply (Call f) (trees us)))
     call_waits us split = record {
-      answer = λ facts has. call_answer facts (trees ts) (holds_unknown table) (SomeResiduals (trees us)) (ResidualTree (Apply (Call f) (trees us))) (some_residuals table ts ps us found split facts has) refl (λ n b i is. cc);
+      answer = λ facts has. call_answer facts (trees ts) table.has_unknown (SomeResiduals (trees us)) (ResidualTree (Apply (Call f) (trees us))) (some_residuals table ts ps us found split facts has) refl (λ n b i is. cc);
       restricted = all_restricted table ts ps us found split;
       waits = some_waits table ts ps us found split;
     }
 
-    module _ (vs : List Value) (is : ps ≡ map Left vs) (held : is_the_unknown f ≡ true → holds_unknown table ≡ true → function_called table f ≡ Some unknown_function) where
-      function_answer : (facts : Facts) → HasFunctions table facts → apply_answer facts nothing_told (Call f) (AllEvaluated (all_of vs)) ≡ answer_of (called (function_called table f) (all_of vs))
+    module _ (vs : List Value) (is : ps ≡ map Left vs) (held : is_the_unknown f ≡ true → table.has_unknown ≡ true → table.function f ≡ Some unknown_function) where
+      function_answer : (facts : Facts) → HasFunctions table facts → apply_answer facts nothing_told (Call f) (AllEvaluated (all_of vs)) ≡ answer_of (called (table.function f) (all_of vs))
       function_answer facts has = ap (λ o. answer_of (called o (all_of vs))) (has f)
 
       evaluated_inside : (us ws : Values) → AllEvaluated us ≡ AllEvaluated ws → us ≡ ws
       evaluated_inside us ws e = cc
 
-      names_nothing : (k : Kind) → called (function_called table f) (all_of vs) ≡ Fails k → (n : Text) → holds_unknown table ≡ true → is_the_unknown f ≡ true → AllEvaluated (all_of vs) ≡ AllEvaluated (a_value (Plain (String n)) no_values) → ⊥
+      names_nothing : (k : Kind) → called (table.function f) (all_of vs) ≡ Fails k → (n : Text) → table.has_unknown ≡ true → is_the_unknown f ≡ true → AllEvaluated (all_of vs) ≡ AllEvaluated (a_value (Plain (String n)) no_values) → ⊥
       names_nothing k e n b i same =
-          let gives : called (function_called table f) (all_of vs) ≡ Gives (Plain (String n)) = ap (λ o. called o (all_of vs)) (held i b) ∙ ap (called (Some unknown_function)) (evaluated_inside (all_of vs) (a_value (Plain (String n)) no_values) same) in
+          let gives : called (table.function f) (all_of vs) ≡ Gives (Plain (String n)) = ap (λ o. called o (all_of vs)) (held i b) ∙ ap (called (Some unknown_function)) (evaluated_inside (all_of vs) (a_value (Plain (String n)) no_values) same) in
           cc
 
-      pub call_fails : (k : Kind) → called (function_called table f) (all_of vs) ≡ Fails k → Errs table (Apply (Call f) (trees ts)) k
-      call_fails k e = λ facts has. call_answer facts (trees ts) (holds_unknown table) (AllEvaluated (all_of vs)) (Failed k) (all_values table ts ps vs found is facts has) (function_answer facts has ∙ ap answer_of e) (names_nothing k e)
+      pub call_fails : (k : Kind) → called (table.function f) (all_of vs) ≡ Fails k → Errs table (Apply (Call f) (trees ts)) k
+      call_fails k e = λ facts has. call_answer facts (trees ts) table.has_unknown (AllEvaluated (all_of vs)) (Failed k) (all_values table ts ps vs found is facts has) (function_answer facts has ∙ ap answer_of e) (names_nothing k e)
 
       pub call_found : (p : Either Value Tree) → IsCalled table f (all_of vs) p → IsFound table (Apply (Call f) (trees ts)) p
       call_found (Left v) h = record {
-        answer = λ facts has. call_answer facts (trees ts) (holds_unknown table) (AllEvaluated (all_of vs)) (Evaluated v) (all_values table ts ps vs found is facts has) (function_answer facts has ∙ ap answer_of h.gives) (λ n b i same. true≢false (sym i ∙ h.other));
+        answer = λ facts has. call_answer facts (trees ts) table.has_unknown (AllEvaluated (all_of vs)) (Evaluated v) (all_values table ts ps vs found is facts has) (function_answer facts has ∙ ap answer_of h.gives) (λ n b i same. true≢false (sym i ∙ h.other));
         plain = h.plain;
         text = λ s e. absurd (h.no_text s e);
       }
       call_found (Right r) h =
           let gives : called (Some unknown_function) (all_of vs) ≡ Gives (Plain (String h.name)) = ap (λ o. called o (all_of vs)) (sym (held h.built_in h.held)) ∙ h.gives in
           let written : trees ts ≡ a_tree (Lit (String h.name)) no_trees = one_text table ts ps vs found is h.name (called_text (all_of vs) h.name gives) in
-          let named_so : named_by (holds_unknown table) (Apply (Call f) (trees ts)) ≡ Unknown h.name None = ap (λ b. named_by b (Apply (Call f) (trees ts))) h.held ∙ names_unknown_so f h.name (all_named (trees ts)) h.built_in (ap all_named written) in
+          let named_so : named_by table.has_unknown (Apply (Call f) (trees ts)) ≡ Unknown h.name None = ap (λ b. named_by b (Apply (Call f) (trees ts))) h.held ∙ names_unknown_so f h.name (all_named (trees ts)) h.built_in (ap all_named written) in
           record {
             answer = λ facts has. ap (partial_in facts nothing_told) named_so ∙ still_unknown facts h.name None ∙ ap ResidualTree (sym h.unknown);
             restricted = ap is_restricted h.unknown;
@@ -220,16 +218,16 @@ module _ (entries : List (RcStr Global × Expr (Unit {0}))) where
 
 -- ---- what is made of the parts
 
-module _ (table : Extensions) where
+module _ (table : Table) where
   pub unknown_kept : (e : Expr (Unit {0})) (u v : code.Unknown) (p q : Either Value Tree) → e.expr_kind ≡ kind.Unknown u → unknown_name v ≡ unknown_name u → unknown_type v ≡ unknown_type u → q ≡ Right (Unknown (unknown_name v) (unknown_type v)) → p ≡ q → IsFound table (bare e) p
   unknown_kept e u v p q is name ty made same =
       let whole : bare e ≡ Unknown (unknown_name v) (unknown_type v) = bare_is (Unit {0}) e ∙ ap bare_kind is ∙ bare-Unknown (Unit {0}) u ∙ ap (λ n. Unknown n (unknown_type u)) (sym name) ∙ ap (Unknown (unknown_name v)) (sym ty) in
       subst (λ t. IsFound table t p) (sym whole) (subst (λ r. IsFound table (Unknown (unknown_name v) (unknown_type v)) r) (sym (same ∙ made)) (unknown_found table (unknown_name v) (unknown_type v)))
 
   -- what a function of the table answers is found of its call
-  pub call_made : (f : Name) (ts : List Tree) (ps : List (Either Value Tree)) → AreFound table ts ps → (vs : List Value) → ps ≡ map Left vs → are_named (functions_in table) ≡ true → (deep : Type 0) (r : Result PartialValue EvaluationError) → Calls table f (all_of vs) r → Evaluates table (Apply (Call f) (trees ts)) deep r
-  call_made f ts ps found vs is named deep (Ok p) h = call_found table f ts ps found vs is (λ i b. held_is_found f i (functions_in table) named b) (partial_of p) h
-  call_made f ts ps found vs is named deep (Err e) h = fails_on (failure_of e) (call_fails table f ts ps found vs is (λ i b. held_is_found f i (functions_in table) named b)) (λ d. absurd d) h
+  pub call_made : (f : Name) (ts : List Tree) (ps : List (Either Value Tree)) → AreFound table ts ps → (vs : List Value) → ps ≡ map Left vs → (is_the_unknown f ≡ true → table.has_unknown ≡ true → table.function f ≡ Some unknown_function) → (deep : Type 0) (r : Result PartialValue EvaluationError) → Calls table f (all_of vs) r → Evaluates table (Apply (Call f) (trees ts)) deep r
+  call_made f ts ps found vs is held deep (Ok p) h = call_found table f ts ps found vs is held (partial_of p) h
+  call_made f ts ps found vs is held deep (Err e) h = fails_on (failure_of e) (call_fails table f ts ps found vs is held) (λ d. absurd d) h
 
   -- another way to write what is found
   pub found_as : (t : Tree) (p q : Either Value Tree) → p ≡ q → IsFound table t q → IsFound table t p
@@ -247,7 +245,7 @@ module _ (e : Expr (Unit {0})) where
   pub tree-Record : (m : Rc (BTreeMap (RcStr Global) (Expr (Unit {0}))) Global) (entries : List (RcStr Global × Expr (Unit {0}))) → e.expr_kind ≡ kind.Record m → entries ≡ m.value.entries → bare e ≡ record_tree (bare_entries entries)
   tree-Record m entries is same = bare_is (Unit {0}) e ∙ ap bare_kind is ∙ bare-Record (Unit {0}) m ∙ ap (λ es. record_tree (bare_entries es)) (sym same)
 
-module _ (table : Extensions) (t u : Tree) (deep : Type 0) (depth : ℕ) (is : t ≡ u) (below : deep → depth < height u) where
+module _ (table : Table) (t u : Tree) (deep : Type 0) (depth : ℕ) (is : t ≡ u) (below : deep → depth < height u) where
   pub lifted : (r : Result PartialValue EvaluationError) → Evaluates table u deep r → Evaluates table t (depth < height t) r
   lifted (Ok p) h = subst (λ x. IsFound table x (partial_of p)) (sym is) h
   lifted (Err e) h = fails_on (failure_of e) (λ k f. subst (λ x. Errs table x k) (sym is) f) (λ d. subst (λ x. depth < height x) (sym is) (below d)) h

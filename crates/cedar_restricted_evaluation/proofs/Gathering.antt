@@ -21,8 +21,7 @@ use Rattle.cedar_grammar.specs.Build.{trees}
 use Rattle.cedar_extensions.specs.Failures.{Failure, failure_of}
 use Rattle.cedar_extensions.specs.Giving.{FailsBy, GivesBy, fails_on}
 use Rattle.cedar_extensions.specs.declared.evaluation_error.EvaluationError.{EvaluationError}
-use Rattle.cedar_extensions.specs.Tables.{holds_unknown}
-use Rattle.cedar_extensions.specs.declared.extensions.Extensions.{Extensions}
+use Rattle.cedar_extensions.specs.Table.{Table}
 use Rattle.cedar_restricted.specs.Expressing.{is_ground, are_ground, Expresses, ExpressAll}
 use Rattle.cedar_restricted.specs.Laws.{holds_extension, hold_extension}
 use Rattle.cedar_restricted.specs.Splitting.{ExpressEach, is_residual}
@@ -86,7 +85,7 @@ pub named_none : (b : Bool) → all_named_by b no_trees ≡ no_trees
 named_none true = refl
 named_none false = refl
 
-module _ (table : Extensions) where
+module _ (table : Table) where
   part_is : (t : Tree) (p : Either Value Tree) → IsFound table t p → (facts : Facts) → HasFunctions table facts → answer_in table facts t ≡ part_answer p
   part_is t (Left v) h facts has = h.answer facts has
   part_is t (Right r) h facts has = h.answer facts has
@@ -101,10 +100,10 @@ module _ (table : Extensions) where
 
   module _ (facts : Facts) where
     answers_none : answers_in table facts no_trees ≡ AllEvaluated no_values
-    answers_none = ap (all_partial_in facts nothing_told) (named_none (holds_unknown table))
+    answers_none = ap (all_partial_in facts nothing_told) (named_none table.has_unknown)
 
     answers_cons : (t : Tree) (ts : Trees) → answers_in table facts (a_tree t ts) ≡ and_next facts (answer_in table facts t) (answers_in table facts ts)
-    answers_cons t ts = ap (all_partial_in facts nothing_told) (named_cons (holds_unknown table) t ts)
+    answers_cons t ts = ap (all_partial_in facts nothing_told) (named_cons table.has_unknown t ts)
 
     answers_are : HasFunctions table facts → (ts : List Tree) (ps : List (Either Value Tree)) → AreFound table ts ps → answers_in table facts (trees ts) ≡ gather facts ps
     answers_are has [] [] h = answers_none

@@ -16,8 +16,7 @@ use Rattle.cedar_world.specs.Functions.{is_the_unknown}
 use Rattle.cedar_extensions.specs.Failures.{failure_of}
 use Rattle.cedar_extensions.specs.Giving.{fails_on}
 use Rattle.cedar_extensions.specs.declared.evaluation_error.EvaluationError.{EvaluationError}
-use Rattle.cedar_extensions.specs.Tables.{holds_unknown}
-use Rattle.cedar_extensions.specs.declared.extensions.Extensions.{Extensions}
+use Rattle.cedar_extensions.specs.Table.{Table}
 use Rattle.cedar_restricted.specs.Expressing.{is_ground, are_ground}
 use Rattle.cedar_restricted.specs.PartialValues.{partial_of}
 use Rattle.cedar_restricted.specs.declared.partial_values.PartialValue.{PartialValue}
@@ -111,10 +110,10 @@ fails_so : (o : Outcome) (k : Kind) → answer_of o ≡ Failed k → o ≡ Fails
 fails_so (Gives w) k e = cc
 fails_so (Fails l) k e = cc
 
-module _ (table : Extensions) (t : Tree) where
+module _ (table : Table) (t : Tree) where
   known_answer : KnownIsMeaning → IsKnown table t → (facts : Facts) (request : Request) → answer_in table facts t ≡ answer_of (meaning facts request t)
   known_answer law known facts request =
-      ap (partial_in facts nothing_told) (names_nothing (holds_unknown table) t known.0 known.1)
+      ap (partial_in facts nothing_told) (names_nothing table.has_unknown t known.0 known.1)
       ∙ alike facts nothing_told (leaf_answers_of request) t known.0
       ∙ law facts request t
 

@@ -14,6 +14,7 @@ use Rattle.cedar_world.specs.Bodies.{unknown_or, named_call}
 use Rattle.cedar_world.specs.Functions.{the_unknown, is_the_unknown, unknown_function}
 use Rattle.cedar_extensions.specs.Functions.{function_name, meaning_in, meaning_of, names_unknown, is_unknown, output_value, IsOutput}
 use Rattle.cedar_extensions.specs.Tables.{functions_in}
+use Rattle.cedar_extensions.specs.Table.{as_table}
 use Rattle.cedar_extensions.specs.declared.extensions.Extensions.{Extensions}
 use Rattle.cedar_extensions.specs.declared.functions.ExtensionOutputValue.{ExtensionOutputValue}
 use Rattle.cedar_extensions.specs.declared.functions.ExtensionOutputValue.TheVariants as output
@@ -66,18 +67,18 @@ held_is_found n is (g ∷ gs) h e =
     ap (λ b. option_map meaning_of (cond b (Some g) (found_in gs n))) same ∙ ap Some (means_unknown g.function)
 
 -- the unknown that it gives
-pub unknown_called : (table : Extensions) (n : Name) (vs : Values) (f : ExtensionFunction) (o : ExtensionOutputValue) (u : code.Unknown) (p : Either Value Tree)
-    → are_named (functions_in table) ≡ true → found_in (functions_in table) n ≡ Some f → called (Some (meaning_of f)) vs ≡ Gives (output_value o) → IsOutput (is_unknown f) o
-    → o ≡ output.Unknown u → p ≡ Right (Unknown (unknown_name u) (unknown_type u)) → IsCalled table n vs p
-unknown_called table n vs f o u p named found gives shape same is =
+pub unknown_called : (extensions : Extensions) (n : Name) (vs : Values) (f : ExtensionFunction) (o : ExtensionOutputValue) (u : code.Unknown) (p : Either Value Tree)
+    → are_named (functions_in extensions) ≡ true → found_in (functions_in extensions) n ≡ Some f → called (Some (meaning_of f)) vs ≡ Gives (output_value o) → IsOutput (is_unknown f) o
+    → o ≡ output.Unknown u → p ≡ Right (Unknown (unknown_name u) (unknown_type u)) → IsCalled (as_table extensions) n vs p
+unknown_called extensions n vs f o u p named found gives shape same is =
     let there : IsOutput (is_unknown f) (output.Unknown u) = subst (λ o. IsOutput (is_unknown f) o) same shape in
     let untyped : unknown_type u ≡ None = subst (λ b. IsOutput b (output.Unknown u)) (is_built_in f.function) there in
-    subst (λ q. IsCalled table n vs q) (sym is) (record {
+    subst (λ q. IsCalled (as_table extensions) n vs q) (sym is) (record {
       name = unknown_name u;
       unknown = ap (λ ty. Unknown (unknown_name u) ty) untyped;
       gives = ap (λ g. called (option_map meaning_of g) vs) found ∙ gives ∙ ap (λ o. Gives (output_value o)) same;
-      built_in = found_is_named n f (functions_in table) named found;
-      held = found_is_held n f (functions_in table) found;
+      built_in = found_is_named n f (functions_in extensions) named found;
+      held = found_is_held n f (functions_in extensions) found;
     })
 
 -- ---- calls that name unknowns

@@ -16,21 +16,20 @@ use Rattle.cedar_partial_evaluation.specs.Question.{held_names}
 use Rattle.cedar_world.specs.Bodies.{named, all_named, holds_call}
 use Rattle.cedar_extensions.specs.Giving.{GivesBy}
 use Rattle.cedar_extensions.specs.declared.evaluation_error.EvaluationError.{EvaluationError}
-use Rattle.cedar_extensions.specs.Tables.{holds_unknown, function_called}
-use Rattle.cedar_extensions.specs.declared.extensions.Extensions.{Extensions}
+use Rattle.cedar_extensions.specs.Table.{Table}
 use Rattle.cedar_restricted.specs.Expressing.{is_ground}
 use Rattle.cedar_restricted.specs.PartialValues.{partial_of}
 use Rattle.cedar_restricted.specs.declared.partial_values.PartialValue.{PartialValue}
 
 -- the functions are those of the table; a restricted tree looks at nothing else that is held
-abbrev pub HasFunctions : Extensions → Facts → Type 0
-HasFunctions table facts = (n : Name) → facts.function n ≡ function_called table n
+abbrev pub HasFunctions : Table → Facts → Type 0
+HasFunctions table facts = (n : Name) → facts.function n ≡ table.function n
 
 -- ---- where nothing is unknown
 
 -- no unknown stands in the tree, nor a call that names one
-abbrev pub IsKnown : Extensions → Tree → Type 0
-IsKnown table t = (is_ground t ≡ true) × ((holds_unknown table && holds_call t) ≡ false)
+abbrev pub IsKnown : Table → Tree → Type 0
+IsKnown table t = (is_ground t ≡ true) × ((table.has_unknown && holds_call t) ≡ false)
 
 -- a value is what is meant; no residual is
 abbrev pub IsMeant : Outcome → Either Value Tree → Type 0
@@ -39,7 +38,7 @@ IsMeant o (Right r) = ⊥
 
 -- what is answered of a tree without unknowns is what it means, whatever is asked. Want of memory says nothing of that, and
 -- the limit may be met only where the tree is higher.
-abbrev pub MeansKnown : Extensions → ℕ → Tree → Result PartialValue EvaluationError → Type 0
+abbrev pub MeansKnown : Table → ℕ → Tree → Result PartialValue EvaluationError → Type 0
 MeansKnown table depth t result =
     IsKnown table t → (facts : Facts) → HasFunctions table facts → (request : Request) →
     GivesBy (λ p. IsMeant (meaning facts request t) (partial_of p)) (λ k. meaning facts request t ≡ Fails k) (depth < height t) result
@@ -58,8 +57,8 @@ abbrev pub all_named_by : Bool → Trees → Trees
 all_named_by true ts = all_named ts
 all_named_by false ts = ts
 
-abbrev pub answer_in : Extensions → Facts → Tree → Answer
-answer_in table facts t = partial_in facts nothing_told (named_by (holds_unknown table) t)
+abbrev pub answer_in : Table → Facts → Tree → Answer
+answer_in table facts t = partial_in facts nothing_told (named_by table.has_unknown t)
 
 -- a value is the answer's, and a residual differs from the answer's at most in how it writes extension values
 abbrev pub IsAnswer : Facts → Answer → Either Value Tree → Type 0
@@ -67,7 +66,7 @@ IsAnswer facts a (Left v) = a ≡ Evaluated v
 IsAnswer facts a (Right r) = (t : Tree) × (a ≡ ResidualTree t) × IsLike facts r t
 
 -- the same of every tree, against partial evaluation
-abbrev pub Answers : Extensions → ℕ → Tree → Result PartialValue EvaluationError → Type 0
+abbrev pub Answers : Table → ℕ → Tree → Result PartialValue EvaluationError → Type 0
 Answers table depth t result =
     (facts : Facts) → HasFunctions table facts →
     GivesBy (λ p. IsAnswer facts (answer_in table facts t) (partial_of p)) (λ k. answer_in table facts t ≡ Failed k) (depth < height t) result

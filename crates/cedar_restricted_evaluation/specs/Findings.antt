@@ -14,8 +14,7 @@ use Rattle.cedar_grammar.specs.Build.{trees}
 use Rattle.cedar_world.specs.Functions.{is_the_unknown}
 use Rattle.cedar_extensions.specs.Giving.{GivesBy}
 use Rattle.cedar_extensions.specs.declared.evaluation_error.EvaluationError.{EvaluationError}
-use Rattle.cedar_extensions.specs.Tables.{holds_unknown, function_called}
-use Rattle.cedar_extensions.specs.declared.extensions.Extensions.{Extensions}
+use Rattle.cedar_extensions.specs.Table.{Table}
 use Rattle.cedar_restricted.specs.Expressing.{is_ground}
 use Rattle.cedar_restricted.specs.Laws.{holds_extension}
 use Rattle.cedar_restricted.specs.PartialValues.{partial_of}
@@ -25,9 +24,9 @@ use Rattle.cedar_restricted_evaluation.specs.Evaluations.{HasFunctions, nothing_
 -- ---- calls
 
 -- a value is what the function gives, and an unknown is named by the text that the built-in function gives
-abbrev pub IsCalled : Extensions → Name → Values → Either Value Tree → Type 0
+abbrev pub IsCalled : Table → Name → Values → Either Value Tree → Type 0
 IsCalled table n vs (Left v) = record {
-  gives : called (function_called table n) vs ≡ Gives v;
+  gives : called (table.function n) vs ≡ Gives v;
   other : is_the_unknown n ≡ false;
   plain : holds_extension v ≡ false;
   no_text : (s : Text) → v ≡ Plain (String s) → ⊥;
@@ -35,18 +34,18 @@ IsCalled table n vs (Left v) = record {
 IsCalled table n vs (Right r) = record {
   name : Text;
   unknown : r ≡ Unknown name None;
-  gives : called (function_called table n) vs ≡ Gives (Plain (String name));
+  gives : called (table.function n) vs ≡ Gives (Plain (String name));
   built_in : is_the_unknown n ≡ true;
-  held : holds_unknown table ≡ true;
+  held : table.has_unknown ≡ true;
 }
 
-abbrev pub Calls : Extensions → Name → Values → Result PartialValue EvaluationError → Type 0
-Calls table n vs result = GivesBy (λ p. IsCalled table n vs (partial_of p)) (λ k. called (function_called table n) vs ≡ Fails k) ⊥ result
+abbrev pub Calls : Table → Name → Values → Result PartialValue EvaluationError → Type 0
+Calls table n vs result = GivesBy (λ p. IsCalled table n vs (partial_of p)) (λ k. called (table.function n) vs ≡ Fails k) ⊥ result
 
 -- ---- trees
 
 -- a text is found of its literal alone, so that the name of an unknown is one that is written
-abbrev pub IsFound : Extensions → Tree → Either Value Tree → Type 0
+abbrev pub IsFound : Table → Tree → Either Value Tree → Type 0
 IsFound table t (Left v) = record {
   answer : (facts : Facts) → HasFunctions table facts → answer_in table facts t ≡ Evaluated v;
   plain : holds_extension v ≡ false;
@@ -58,25 +57,25 @@ IsFound table t (Right r) = record {
   waits : is_ground r ≡ false;
 }
 
-abbrev pub Errs : Extensions → Tree → Kind → Type 0
+abbrev pub Errs : Table → Tree → Kind → Type 0
 Errs table t k = (facts : Facts) → HasFunctions table facts → answer_in table facts t ≡ Failed k
 
-abbrev pub Evaluates : Extensions → Tree → Type 0 → Result PartialValue EvaluationError → Type 0
+abbrev pub Evaluates : Table → Tree → Type 0 → Result PartialValue EvaluationError → Type 0
 Evaluates table t deep result = GivesBy (λ p. IsFound table t (partial_of p)) (Errs table t) deep result
 
 -- ---- trees one after another
 
-abbrev pub answers_in : Extensions → Facts → Trees → Answers
-answers_in table facts ts = all_partial_in facts nothing_told (all_named_by (holds_unknown table) ts)
+abbrev pub answers_in : Table → Facts → Trees → Answers
+answers_in table facts ts = all_partial_in facts nothing_told (all_named_by table.has_unknown ts)
 
 -- each is found, at its place
-abbrev pub AreFound : Extensions → List Tree → List (Either Value Tree) → Type 0
+abbrev pub AreFound : Table → List Tree → List (Either Value Tree) → Type 0
 AreFound table [] [] = ⊤
 AreFound table (t ∷ ts) (p ∷ ps) = IsFound table t p × AreFound table ts ps
 AreFound table ts ps = ⊥
 
-abbrev pub SomeErrs : Extensions → List Tree → Kind → Type 0
+abbrev pub SomeErrs : Table → List Tree → Kind → Type 0
 SomeErrs table ts k = (facts : Facts) → HasFunctions table facts → answers_in table facts (trees ts) ≡ SomeFailed k
 
-abbrev pub EvaluateAll : Extensions → List Tree → Type 0 → Result (Vec PartialValue) EvaluationError → Type 0
+abbrev pub EvaluateAll : Table → List Tree → Type 0 → Result (Vec PartialValue) EvaluationError → Type 0
 EvaluateAll table ts deep result = GivesBy (λ ps. AreFound table ts (map partial_of ps.items)) (SomeErrs table ts) deep result

@@ -1,5 +1,6 @@
 // Calls of extension functions.
 ghost use Rattle.cedar_language.specs.Order.{all_of};
+ghost use Rattle.cedar_extensions.specs.Table.{as_table};
 ghost use Rattle.cedar_restricted_evaluation.specs.Findings.{Calls};
 
 use cedar_extensions::evaluation_error::EvaluationError;
@@ -24,7 +25,7 @@ pub fn call(
     place: Option<Loc>,
     extensions: &Extensions<'_>,
 ) -> Result<PartialValue, EvaluationError>
-    ensures { Calls extensions.now name.now (all_of args.now) result }
+    ensures { Calls (as_table extensions.now) name.now (all_of args.now) result }
 {
     match answer(alloc, name, args, extensions) {
         Ok(answer) => Ok(answer.with_maybe_source_loc(place)),
@@ -38,7 +39,7 @@ fn answer(
     args: &[Value],
     extensions: &Extensions<'_>,
 ) -> Result<PartialValue, EvaluationError>
-    ensures { Calls extensions.now name.now (all_of args.now) result }
+    ensures { Calls (as_table extensions.now) name.now (all_of args.now) result }
 {
     let function = extensions.func(alloc, name)?;
     match function.call(alloc, args)? {

@@ -7,6 +7,7 @@ ghost use Rattle.cedar_grammar.specs.Build.{trees, keys};
 ghost use Rattle.cedar_restricted.specs.PartialValues.{partial_of};
 ghost use Rattle.cedar_restricted.specs.Views.{borrowed_tree};
 ghost use Rattle.cedar_trees.specs.Bare.{bare, bare_entries};
+ghost use Rattle.cedar_extensions.specs.Table.{as_table};
 ghost use Rattle.cedar_restricted_evaluation.specs.Evaluations.{MeansKnown, Answers, IsLeft};
 ghost use Rattle.cedar_restricted_evaluation.specs.Findings.{Evaluates, EvaluateAll};
 
@@ -43,8 +44,8 @@ pub fn interpret_restricted(
     extensions: &Extensions<'_>,
     depth: u32,
 ) -> Result<PartialValue, EvaluationError>
-    ensures meaning { MeansKnown extensions.now depth (borrowed_tree expr.entry) result }
-    ensures answer { Answers extensions.now depth (borrowed_tree expr.entry) result }
+    ensures meaning { MeansKnown (as_table extensions.now) depth (borrowed_tree expr.entry) result }
+    ensures answer { Answers (as_table extensions.now) depth (borrowed_tree expr.entry) result }
     ensures left { IfOk result (λ partial. IsLeft (partial_of partial)) }
     ensures limit { IfOk result (λ partial. height (borrowed_tree expr.entry) ≤ depth) }
 {
@@ -60,7 +61,7 @@ fn interpret(
     depth: u32,
 ) -> Result<PartialValue, EvaluationError>
     requires { is_restricted (bare expr.now) ≡ true }
-    ensures found { Evaluates extensions.now (bare expr.now) (depth < height (bare expr.now)) result }
+    ensures found { Evaluates (as_table extensions.now) (bare expr.now) (depth < height (bare expr.now)) result }
     ensures limit { IfOk result (λ found. height (bare expr.now) ≤ depth) }
 {
     let place = place(alloc, expr)?;
@@ -104,7 +105,7 @@ fn interpret_set(
     depth: u32,
 ) -> Result<PartialValue, EvaluationError>
     requires { are_restricted (trees (map bare items.now)) ≡ true }
-    ensures found { Evaluates extensions.now (Apply MakeSet (trees (map bare items.now))) (depth < heights (trees (map bare items.now))) result }
+    ensures found { Evaluates (as_table extensions.now) (Apply MakeSet (trees (map bare items.now))) (depth < heights (trees (map bare items.now))) result }
     ensures limit { IfOk result (λ found. heights (trees (map bare items.now)) ≤ depth) }
 {
     let items = interpret_items(alloc, items, extensions, depth)?;
@@ -126,7 +127,7 @@ fn interpret_record(
     depth: u32,
 ) -> Result<PartialValue, EvaluationError>
     requires { are_restricted (trees (map (λ e. e.1) (bare_entries entries.now.entries))) ≡ true }
-    ensures found { Evaluates extensions.now (Apply (MakeRecord (keys (bare_entries entries.now.entries))) (trees (map (λ e. e.1) (bare_entries entries.now.entries)))) (depth < heights (trees (map (λ e. e.1) (bare_entries entries.now.entries)))) result }
+    ensures found { Evaluates (as_table extensions.now) (Apply (MakeRecord (keys (bare_entries entries.now.entries))) (trees (map (λ e. e.1) (bare_entries entries.now.entries)))) (depth < heights (trees (map (λ e. e.1) (bare_entries entries.now.entries)))) result }
     ensures limit { IfOk result (λ found. heights (trees (map (λ e. e.1) (bare_entries entries.now.entries))) ≤ depth) }
 {
     let items = interpret_entries(alloc, entries, extensions, depth)?;
@@ -152,7 +153,7 @@ fn interpret_call(
     depth: u32,
 ) -> Result<PartialValue, EvaluationError>
     requires { are_restricted (trees (map bare args.now)) ≡ true }
-    ensures found { Evaluates extensions.now (Apply (Call name.now) (trees (map bare args.now))) (depth < heights (trees (map bare args.now))) result }
+    ensures found { Evaluates (as_table extensions.now) (Apply (Call name.now) (trees (map bare args.now))) (depth < heights (trees (map bare args.now))) result }
     ensures limit { IfOk result (λ found. heights (trees (map bare args.now)) ≤ depth) }
 {
     let args = interpret_items(alloc, args, extensions, depth)?;
@@ -173,7 +174,7 @@ fn interpret_items(
     depth: u32,
 ) -> Result<Vec<PartialValue>, EvaluationError>
     requires { are_restricted (trees (map bare items.now)) ≡ true }
-    ensures found { EvaluateAll extensions.now (map bare items.now) (depth < heights (trees (map bare items.now))) result }
+    ensures found { EvaluateAll (as_table extensions.now) (map bare items.now) (depth < heights (trees (map bare items.now))) result }
     ensures limit { IfOk result (λ found. heights (trees (map bare items.now)) ≤ depth) }
 {
     let mut answers = Vec::new(alloc);
@@ -192,7 +193,7 @@ fn interpret_entries(
     depth: u32,
 ) -> Result<Vec<PartialValue>, EvaluationError>
     requires { are_restricted (trees (map (λ e. e.1) (bare_entries entries.now.entries))) ≡ true }
-    ensures found { EvaluateAll extensions.now (map (λ e. e.1) (bare_entries entries.now.entries)) (depth < heights (trees (map (λ e. e.1) (bare_entries entries.now.entries)))) result }
+    ensures found { EvaluateAll (as_table extensions.now) (map (λ e. e.1) (bare_entries entries.now.entries)) (depth < heights (trees (map (λ e. e.1) (bare_entries entries.now.entries)))) result }
     ensures limit { IfOk result (λ found. heights (trees (map (λ e. e.1) (bare_entries entries.now.entries))) ≤ depth) }
 {
     let mut answers = Vec::new(alloc);

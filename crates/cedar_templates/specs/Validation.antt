@@ -7,7 +7,7 @@ use Rattle.cedar_grammar.specs.Policy.{Policy}
 use Rattle.cedar_shapes.specs.Leaves.{slots_among}
 use Rattle.cedar_shapes.specs.Positions.{positions}
 use Rattle.cedar_extensions.specs.Causes.{Cause}
-use Rattle.cedar_extensions.specs.declared.extensions.Extensions.{Extensions}
+use Rattle.cedar_extensions.specs.Table.{Table}
 use Rattle.cedar_extensions.specs.Calls.{calls_in, call_fits, first_fault}
 use Rattle.cedar_extensions.specs.ValidationRefusals.{Refuses}
 use Rattle.cedar_extensions.specs.declared.validation_errors.ExprValidationError.{ExprValidationError}
@@ -62,7 +62,7 @@ HoldsNoSlot t (Err (InvalidExpression e)) = ⊥
 HoldsNoSlot t (Err (Memory e)) = ⊤
 
 -- the expression holds no slot, and its calls fit the table; refused for the first slot, for the first other call, or for memory
-abbrev pub ValidatesClauses : {A : Type 0} → Extensions → Tree → Result A TemplateValidationError → Type 0
+abbrev pub ValidatesClauses : {A : Type 0} → Table → Tree → Result A TemplateValidationError → Type 0
 ValidatesClauses table t (Ok a) = (slots_in t ≡ []) × (list_all (call_fits table) (calls_in t) ≡ true)
 ValidatesClauses table t (Err (InvalidActionType e)) = ⊥
 ValidatesClauses table t (Err (SlotsInConditionClause e)) = IsClausesSlot (slots_in t) e
@@ -72,7 +72,7 @@ ValidatesClauses table t (Err (Memory e)) = ⊤
 
 -- The scope's actions are actions, the clauses hold no slot, and their calls fit the table; refused for the
 -- first of these that isn't so, or for memory.
-abbrev pub Validates : {A : Type 0} → Extensions → Policy → Result A TemplateValidationError → Type 0
+abbrev pub Validates : {A : Type 0} → Table → Policy → Result A TemplateValidationError → Type 0
 Validates table p (Ok a) = (others (uids_of p.action) ≡ []) × (clause_slots p.body ≡ []) × (list_all (call_fits table) (clause_calls p.body) ≡ true)
 Validates table p (Err (InvalidActionType e)) = others (uids_of p.action) ≡ e.euids.head.value ∷ held_uids e.euids.tail.items
 Validates table p (Err (SlotsInConditionClause e)) = (others (uids_of p.action) ≡ []) × IsClausesSlot (clause_slots p.body) e

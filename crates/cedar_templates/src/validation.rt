@@ -1,5 +1,6 @@
 // What a template must fulfil to be taken.
 ghost use Rattle.cedar_trees.specs.Bare.{bare};
+ghost use Rattle.cedar_extensions.specs.Table.{as_table};
 ghost use Rattle.cedar_templates.specs.Templates.{syntax_of};
 ghost use Rattle.cedar_templates.specs.Validation.{Validates, ValidatesClauses, HoldsNoSlot};
 
@@ -24,7 +25,7 @@ impl Template {
         alloc: Global,
         extensions: &Extensions<'_>,
     ) -> Result<(), TemplateValidationError>
-        ensures { Validates extensions.now (syntax_of self.now) result }
+        ensures { Validates (as_table extensions.now) (syntax_of self.now) result }
     {
         self.action_constraint().check_action_types(alloc)?;
         match self.non_scope_constraints() {
@@ -40,7 +41,7 @@ fn check_clauses(
     expr: &Expr,
     extensions: &Extensions<'_>,
 ) -> Result<(), TemplateValidationError>
-    ensures { ValidatesClauses extensions.now (bare expr.now) result }
+    ensures { ValidatesClauses (as_table extensions.now) (bare expr.now) result }
 {
     check_no_slot(alloc, expr)?;
     expr.try_validate(alloc, extensions)?;

@@ -1,3 +1,4 @@
+use Rattle.cedar_extensions.specs.Table.{as_table}
 use Rattle.cedar_bodies.proofs.Entries.{IsUnderway}
 use Rattle.cedar_bodies.proofs.entry_fields.all_evaluated.Given as goal
 
@@ -5,4 +6,4 @@ abbrev pub invariant-loop-name : goal.invariant-loop-name
 invariant-loop-name l =
     goal.iterator-loop-name.can_next l.name-iterator ×
     goal.iterator-loop-name.is_finite l.name-iterator ×
-    IsUnderway l.extensions l.entries.entries l.name-iterator l.values.entries l.holds_unknown
+    IsUnderway (as_table l.extensions) l.entries.entries l.name-iterator l.values.entries l.holds_unknown

@@ -1,7 +1,8 @@
 use Rattle.std.proofs.Common.{map, drop}
+use Rattle.cedar_extensions.specs.Table.{as_table}
 use Rattle.cedar_bodies.specs.Entities.{written_of}
 use Rattle.cedar_bodies.proofs.Listed.{IsUnderway}
 use Rattle.cedar_bodies.proofs.listing.entities_of.Given as goal
 
 abbrev pub invariant-loop-body : goal.invariant-loop-body
-invariant-loop-body l = IsUnderway l.extensions (map written_of l.bodies) (map written_of (drop l.body-index l.bodies)) l.entities.items l.holds_unknown
+invariant-loop-body l = IsUnderway (as_table l.extensions) (map written_of l.bodies) (map written_of (drop l.body-index l.bodies)) l.entities.items l.holds_unknown

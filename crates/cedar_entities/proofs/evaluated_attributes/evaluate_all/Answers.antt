@@ -1,6 +1,7 @@
 -- The lemmas of Giving and Refusing: each entry passed has its value, and the first without one is refused.
 use Rattle.std.proofs.Common.{◌≤◌, refl, subst}
 use Rattle.cedar_language.specs.Height.{height}
+use Rattle.cedar_extensions.specs.Table.{as_table}
 use Rattle.cedar_restricted.specs.Views.{restricted_tree, restricted_entries}
 use Rattle.cedar_restricted.specs.PartialValues.{partial_of}
 use Rattle.cedar_entities.specs.Evaluated.{IsGiven}
@@ -11,7 +12,7 @@ use Rattle.cedar_entities.proofs.evaluated_attributes.evaluate_all.Goals as goal
 
 pub returns-in-Err-clause-refused : goal.returns-in-Err-clause-refused
 returns-in-Err-clause-refused c =
-    let table = c.args.extensions.now in
+    let table = as_table c.args.extensions.now in
     let errs : IsError table c.args.depth (restricted_tree c.in-Some.expr) c.in-Err.err =
     subst (λ t. IsError table c.args.depth t c.in-Err.err) c.as_borrowed.ensures (record { meant = c.in-Err.ensures.meaning; answer = c.in-Err.ensures.answer }) in
     refused_at table c.args.depth (restricted_entries c.args.exprs.entries) c.args.uid c.args.uid refl c.args.was_attr c.in-Some.name c.in-Err.err c.refusal.result c.refusal.ensures
@@ -19,7 +20,7 @@ returns-in-Err-clause-refused c =
 
 pub loop-name-preserved : goal.loop-name-preserved
 loop-name-preserved c =
-    let table = c.args.extensions.now in
+    let table = as_table c.args.extensions.now in
     let given : IsGiven table (restricted_tree c.in-Some.expr) (partial_of c.in-Ok.value) =
     subst (λ t. IsGiven table t (partial_of c.in-Ok.value)) c.as_borrowed.ensures (record { meant = c.in-Ok.ensures.meaning; answer = c.in-Ok.ensures.answer; left = c.in-Ok.ensures.left }) in
     let within : height (restricted_tree c.in-Some.expr) ≤ c.args.depth = subst (λ t. height t ≤ c.args.depth) c.as_borrowed.ensures c.in-Ok.ensures.limit in (

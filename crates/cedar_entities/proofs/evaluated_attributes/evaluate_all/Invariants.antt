@@ -1,3 +1,4 @@
+use Rattle.cedar_extensions.specs.Table.{as_table}
 use Rattle.cedar_restricted.specs.Views.{restricted_entries}
 use Rattle.cedar_entities.specs.Evaluated.{AreWithin}
 use Rattle.cedar_entities.proofs.Giving.{IsUnderway}
@@ -5,5 +6,5 @@ use Rattle.cedar_entities.proofs.evaluated_attributes.evaluate_all.Given as goal
 
 abbrev pub invariant-loop-name : goal.invariant-loop-name
 invariant-loop-name l =
-    IsUnderway l.extensions l.fn.exprs.entries l.name-iterator l.values.entries ×
+    IsUnderway (as_table l.extensions) l.fn.exprs.entries l.name-iterator l.values.entries ×
     (AreWithin l.depth (restricted_entries l.name-iterator) → AreWithin l.depth (restricted_entries l.fn.exprs.entries))

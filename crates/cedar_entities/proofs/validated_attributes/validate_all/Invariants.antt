@@ -1,5 +1,6 @@
 use Rattle.std.proofs.Common.{Result}
 use Rattle.cedar_entities.specs.Attributes.{seen_entries}
+use Rattle.cedar_extensions.specs.Table.{as_table}
 use Rattle.cedar_extensions.specs.declared.validation_errors.ExprValidationError.{ExprValidationError}
 use Rattle.cedar_entities.specs.Calls.{calls_among}
 use Rattle.cedar_entities.specs.Validated.{ValidatesCalls}
@@ -7,4 +8,4 @@ use Rattle.cedar_entities.proofs.validated_attributes.validate_all.Given as goal
 
 -- what the calls that are left answer, all answer
 abbrev pub invariant-loop-name : goal.invariant-loop-name
-invariant-loop-name l = (r : Result Unit ExprValidationError) → ValidatesCalls l.extensions (calls_among (seen_entries l._name-iterator)) r → ValidatesCalls l.extensions (calls_among (seen_entries l.fn.attributes)) r
+invariant-loop-name l = (r : Result Unit ExprValidationError) → ValidatesCalls (as_table l.extensions) (calls_among (seen_entries l._name-iterator)) r → ValidatesCalls (as_table l.extensions) (calls_among (seen_entries l.fn.attributes)) r

@@ -1,6 +1,7 @@
 -- The answer of a record is a record (RecordsStay), and a context shows what was found.
 use Rattle.std.proofs.Common.{sym, refl, subst}
 use Rattle.std.specs.Prelude.{Err}
+use Rattle.cedar_extensions.specs.Table.{as_table}
 use Rattle.cedar_restricted.specs.PartialValues.{partial_of}
 use Rattle.cedar_restricted.specs.Views.{borrowed_tree}
 use Rattle.cedar_language.specs.Meaning.{meaning}
@@ -12,17 +13,17 @@ use Rattle.cedar_requests.proofs.evaluating.evaluated.Goals as goal
 
 pub returns-in_err-found-clause-meaning : goal.returns-in_err-found-clause-meaning
 returns-in_err-found-clause-meaning c =
-    let Means = MeansContext c.args.extensions.now c.args.depth (borrowed_tree c.args.expr) in
+    let Means = MeansContext (as_table c.args.extensions.now) c.args.depth (borrowed_tree c.args.expr) in
     at_err Means _ c.from_residual.result c.from_residual.ensures.1 (λ e is. subst (λ y. Means (Err y)) (sym is) c.in_err-found.ensures.meaning)
 
 pub returns-in_err-found-clause-answer : goal.returns-in_err-found-clause-answer
 returns-in_err-found-clause-answer c =
-    let Answers = AnswersContext c.args.extensions.now c.args.depth (borrowed_tree c.args.expr) in
+    let Answers = AnswersContext (as_table c.args.extensions.now) c.args.depth (borrowed_tree c.args.expr) in
     at_err Answers _ c.from_residual.result c.from_residual.ensures.1 (λ e is. subst (λ y. Answers (Err y)) (sym is) c.in_err-found.ensures.answer)
 
 pub context_of-requires-clause-record : goal.context_of-requires-clause-record
 context_of-requires-clause-record c =
-    record_stays c.args.extensions.now (borrowed_tree c.args.expr) (partial_of c.in_ok-found.found) c.requires (c.in_ok-found.ensures.answer (functions_of c.args.extensions.now) (λ n. refl))
+    record_stays (as_table c.args.extensions.now) (borrowed_tree c.args.expr) (partial_of c.in_ok-found.found) c.requires (c.in_ok-found.ensures.answer (functions_of (as_table c.args.extensions.now)) (λ n. refl))
 
 pub returns-clause-meaning : goal.returns-clause-meaning
 returns-clause-meaning c = λ known facts has request.

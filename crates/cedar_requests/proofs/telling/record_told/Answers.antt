@@ -2,6 +2,7 @@
 use Rattle.std.proofs.Common.{◌≡◌, true, sym, subst}
 use Rattle.std.specs.Prelude.{None}
 use Rattle.cedar_trees.specs.Bare.{bare}
+use Rattle.cedar_extensions.specs.Table.{as_table}
 use Rattle.cedar_restricted.specs.Views.{borrowed_tree}
 use Rattle.cedar_substitution.specs.Typed.{SubstitutesValues, mistyped_in}
 use Rattle.cedar_requests.specs.Contexts.{is_record}
@@ -27,5 +28,5 @@ returns c =
     let t = bare c.args.expr.now in
     let u = borrowed_tree c.new_unchecked-expr.result in
     let fitting : IsMistypingOf (mistyped_in c.args.told.now.entries (bare c.args.expr.now)) None = rw c.in_default.is at c.in_ok-error.ensures in
-    tells c.args.extensions.now c.args.depth told t u (subst (SubstitutesValues told t) (sym c.new_unchecked-expr.ensures) c.in_ok-expr.ensures)
+    tells (as_table c.args.extensions.now) c.args.depth told t u (subst (SubstitutesValues told t) (sym c.new_unchecked-expr.ensures) c.in_ok-expr.ensures)
     (mistyped_in told t) c.evaluated.result fitting c.evaluated.ensures.meaning c.evaluated.ensures.answer

@@ -4,18 +4,19 @@ use Rattle.cedar_grammar.specs.Build.{trees}
 use Rattle.cedar_trees.specs.Bare.{bare, bare_entries}
 use Rattle.cedar_restricted.specs.PartialValues.{partial_of}
 use Rattle.cedar_restricted_evaluation.proofs.Gathering.{Remains}
+use Rattle.cedar_extensions.specs.Table.{as_table}
 use Rattle.cedar_restricted_evaluation.proofs.interpreting.+interpret.Given as goal
 
 abbrev pub invariant-interpret_items-loop-item : goal.invariant-interpret_items-loop-item
 invariant-interpret_items-loop-item l =
-    Remains l.extensions (map bare (drop l.item-index l.items)) (map partial_of l.answers.items) (map bare l.items) ×
+    Remains (as_table l.extensions) (map bare (drop l.item-index l.items)) (map partial_of l.answers.items) (map bare l.items) ×
     (heights (trees (map bare (drop l.item-index l.items))) ≤ l.depth → heights (trees (map bare l.items)) ≤ l.depth)
 
 abbrev pub invariant-interpret_entries-loop-key : goal.invariant-interpret_entries-loop-key
 invariant-interpret_entries-loop-key l =
     goal.iterator-interpret_entries-loop-key.can_next l._key-iterator ×
     goal.iterator-interpret_entries-loop-key.is_finite l._key-iterator ×
-    Remains l.extensions (map (λ e. e.1) (bare_entries l._key-iterator)) (map partial_of l.answers.items) (map (λ e. e.1) (bare_entries l.entries.entries)) ×
+    Remains (as_table l.extensions) (map (λ e. e.1) (bare_entries l._key-iterator)) (map partial_of l.answers.items) (map (λ e. e.1) (bare_entries l.entries.entries)) ×
     (heights (trees (map (λ e. e.1) (bare_entries l._key-iterator))) ≤ l.depth → heights (trees (map (λ e. e.1) (bare_entries l.entries.entries))) ≤ l.depth)
 
 abbrev pub decreases-interpret : goal.decreases-interpret

@@ -1,6 +1,7 @@
 -- A tag is refused only where all attributes have values; the parts are those of the entity that is made.
 use Rattle.std.proofs.Common.{IfErr, sym, subst}
 use Rattle.std.specs.FinSet as set
+use Rattle.cedar_extensions.specs.Table.{as_table}
 use Rattle.cedar_entities.specs.Attributes.{seen_entries}
 use Rattle.cedar_restricted.specs.Views.{restricted_entries}
 use Rattle.cedar_entities.specs.Refused.{IsCreationRefusal}
@@ -10,7 +11,7 @@ use Rattle.cedar_entities.proofs.evaluation.EntityEvaluateEntity.new.Goals as go
 
 pub returns-in_err-tags-clause-refused : goal.returns-in_err-tags-clause-refused
 returns-in_err-tags-clause-refused c =
-    let table = c.args.extensions.now in
+    let table = as_table c.args.extensions.now in
     let attributes = restricted_entries c.args.attrs.entries in
     let tags = restricted_entries c.args.tags.entries in
     let Refused = IsCreationRefusal table c.args.depth c.args.uid attributes tags in
@@ -20,5 +21,5 @@ returns-in_err-tags-clause-refused c =
 
 pub returns-clause-evaluated : goal.returns-clause-evaluated
 returns-clause-evaluated c =
-    evaluated c.args.extensions.now c.args.uid (restricted_entries c.args.attrs.entries) (restricted_entries c.args.tags.entries) c.in_ok-attrs.attrs.entries c.in_ok-tags.tags.entries
+    evaluated (as_table c.args.extensions.now) c.args.uid (restricted_entries c.args.attrs.entries) (restricted_entries c.args.tags.entries) c.in_ok-attrs.attrs.entries c.in_ok-tags.tags.entries
     (set.from_list c.args.parents.keys) (set.from_list c.args.indirect_ancestors.keys) c.in_ok-new_with_attr_partial_value.field-0 c.in_ok-new_with_attr_partial_value.ensures c.in_ok-attrs.ensures.given c.in_ok-tags.ensures.given

@@ -1,4 +1,5 @@
 use Rattle.std.proofs.Common.{Result}
+use Rattle.cedar_extensions.specs.Table.{as_table}
 use Rattle.cedar_extensions.specs.declared.validation_errors.ExprValidationError.{ExprValidationError}
 use Rattle.cedar_entities.specs.Store.{entities_in}
 use Rattle.cedar_entities.specs.Calls.{entities_calls}
@@ -7,4 +8,4 @@ use Rattle.cedar_entities.proofs.validation.EntitiesEntitiesValidation.try_valid
 
 -- what the calls that are left answer, all answer
 abbrev pub invariant-loop-entity : goal.invariant-loop-entity
-invariant-loop-entity l = (r : Result Unit ExprValidationError) → ValidatesCalls l.extensions (entities_calls l.entity-iterator) r → ValidatesCalls l.extensions (entities_calls (entities_in l.self)) r
+invariant-loop-entity l = (r : Result Unit ExprValidationError) → ValidatesCalls (as_table l.extensions) (entities_calls l.entity-iterator) r → ValidatesCalls (as_table l.extensions) (entities_calls (entities_in l.self)) r

@@ -1,9 +1,10 @@
 -- What goes on from here answers the whole.
 use Rattle.std.proofs.Common.{◌≡◌, Result}
+use Rattle.cedar_extensions.specs.Table.{as_table}
 use Rattle.cedar_policy_set.specs.Bounds.{seen}
 use Rattle.cedar_policy_set.specs.Validated.{ValidatesAll}
 use Rattle.cedar_policy_set.specs.declared.errors.PolicySetValidationError.{PolicySetValidationError}
 use Rattle.cedar_policy_set.proofs.sets.PolicySet.try_validate.Given as goal
 
 abbrev pub invariant-loop-bound : goal.invariant-loop-bound
-invariant-loop-bound l = (r : Result Unit PolicySetValidationError) → ValidatesAll l.extensions (seen l.bound-iterator) r → ValidatesAll l.extensions l.self r
+invariant-loop-bound l = (r : Result Unit PolicySetValidationError) → ValidatesAll (as_table l.extensions) (seen l.bound-iterator) r → ValidatesAll (as_table l.extensions) l.self r
