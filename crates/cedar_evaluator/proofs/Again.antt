@@ -5,7 +5,7 @@ use Rattle.std.specs.declared.alloc.Global.{Global}
 use Rattle.std.specs.declared.rc.RcStr.{RcStr}
 use Rattle.cedar_language.specs.Value.{Value}
 use Rattle.cedar_entities.specs.declared.store.Entities.{Entities as Store}
-use Rattle.cedar_extensions.specs.declared.extensions.Extensions.{Extensions}
+use Rattle.cedar_extensions.specs.Table.{Table}
 use Rattle.cedar_interpreter.specs.Asking.{Inquiry}
 use Rattle.cedar_policy_set.specs.Entries.{Entries, policies_of}
 use Rattle.cedar_policy_set.specs.declared.errors.PolicySetError.{PolicySetError}
@@ -23,7 +23,7 @@ use Rattle.cedar_evaluator.specs.declared.errors.ConcretizationError.{Concretiza
 use Rattle.cedar_evaluator.specs.declared.errors.ConcretizationError.TheVariants.{ValueError, VarConfictError, EntityTypeConfictError, ValueEval, Memory}
 use Rattle.cedar_evaluator.specs.declared.partial_response.PartialResponse.{PartialResponse}
 
-module _ (store : Store) (table : Extensions) (depth : ℕ) (entries : List (RcStr Global × Value)) (response : PartialResponse) where
+module _ (store : Store) (table : Table) (depth : ℕ) (entries : List (RcStr Global × Value)) (response : PartialResponse) where
   abbrev inquiry : RequestParts → Inquiry
   inquiry request = record { request = request; told = told_for entries }
 

@@ -1,19 +1,16 @@
 -- How a policy stands, by its scope and its clauses.
-use Rattle.std.proofs.Common.{◌≡◌, ◌<◌, ℕ, suc, Bool, true, false, ◌&&◌, Option, Some, None, refl, sym, ◌∙◌, ap, subst, arith}
-use Rattle.std.specs.Prelude.{Result}
+use Rattle.std.proofs.Common.{◌≡◌, ◌<◌, ℕ, suc, Bool, true, false, Option, Some, None, refl, sym, ◌∙◌, ap, subst, arith}
+use Rattle.std.specs.Prelude.{Result, IfSome}
 use Rattle.either.specs.declared.Either.{Either}
 use Rattle.either.specs.declared.Either.TheVariants.{Left}
-use Rattle.cedar_language.specs.Answering.{Erring}
 use Rattle.cedar_language.specs.Facts.{Facts}
 use Rattle.cedar_language.specs.Height.{height}
-use Rattle.cedar_language.specs.Tree.{Boolean, Long, String, Entity, Tree, Lit, And}
-use Rattle.cedar_language.specs.Value.{Plain, SetOf, RecordOf, ExtensionOf, Kind}
+use Rattle.cedar_language.specs.Tree.{Boolean, Tree, Lit, And}
+use Rattle.cedar_language.specs.Value.{Plain}
 use Rattle.cedar_grammar.specs.Build.{conjunction}
 use Rattle.cedar_grammar.specs.Policy as grammar
 use Rattle.cedar_grammar.specs.Policy.{scope_tree, with_body, condition}
-use Rattle.cedar_partial_evaluation.specs.Alike.{Alike, itself, and_alike}
-use Rattle.cedar_partial_evaluation.specs.Early.{standing_of_answer}
-use Rattle.cedar_partial_evaluation.specs.Partial.{Answer, Evaluated, ResidualTree, Failed, last_answer, partial_in}
+use Rattle.cedar_partial_evaluation.specs.Partial.{Answer, Evaluated, LeafAnswers, last_answer, partial_in}
 use Rattle.cedar_constraints.specs.Bindings.{Bindings}
 use Rattle.cedar_extensions.specs.declared.evaluation_error.EvaluationError.{EvaluationError}
 use Rattle.cedar_interpreter.specs.Holding.{held_by, Serves, Deep}
@@ -21,37 +18,30 @@ use Rattle.cedar_interpreter.specs.declared.evaluator.Evaluator.{Evaluator}
 use Rattle.cedar_interpreter.proofs.Serving.{serves_and_right, deep_and_right}
 use Rattle.cedar_trees.specs.declared.expr.Expr.{Expr}
 use Rattle.cedar_evaluator.specs.Evaluating.{found_by, JudgesAt}
-use Rattle.cedar_evaluator.specs.Evaluations.{Finds, Open}
-use Rattle.cedar_evaluator.proofs.Scoped.{right_decides}
+use Rattle.cedar_evaluator.specs.Evaluations.{Finds}
+use Rattle.cedar_evaluator.specs.Scopes.{IsDecided}
+use Rattle.cedar_evaluator.proofs.Scoped.{right_decides, both_decided}
 
--- ---- `true &&` before what was found
-
-pub erring_behind : (b : Answer) (k : Kind) → standing_of_answer b ≡ Erring k → standing_of_answer (last_answer (And (Lit (Boolean true))) b) ≡ Erring k
-erring_behind (Evaluated (Plain (Boolean true))) k e = absurd (cc e)
-erring_behind (Evaluated (Plain (Boolean false))) k e = absurd (cc e)
-erring_behind (Evaluated (Plain (Long n))) k e = e
-erring_behind (Evaluated (Plain (String t))) k e = e
-erring_behind (Evaluated (Plain (Entity u))) k e = e
-erring_behind (Evaluated (SetOf vs)) k e = e
-erring_behind (Evaluated (RecordOf ks vs)) k e = e
-erring_behind (Evaluated (ExtensionOf x)) k e = e
-erring_behind (ResidualTree r) k e = absurd (cc e)
-erring_behind (Failed j) k e = e
-
-pub boolean_behind : (facts : Facts) (b : Answer) (s : Bool) → Finds facts b (found_by (Left s)) → Finds facts (last_answer (And (Lit (Boolean true))) b) (found_by (Left s))
-boolean_behind facts b true h = ap (last_answer (And (Lit (Boolean true)))) h
-boolean_behind facts b false h = ap (last_answer (And (Lit (Boolean true)))) h
+-- ---- what the scope tells, and the clauses behind it
 
 pub told_finds : (facts : Facts) (b : Answer) (s : Bool) → b ≡ Evaluated (Plain (Boolean s)) → Finds facts b (found_by (Left s))
 told_finds facts b true h = h
 told_finds facts b false h = h
 
-pub open_behind : (facts : Facts) (b : Answer) (rest made : Tree) → made ≡ And (Lit (Boolean true)) rest → Finds facts b (Open rest) → Finds facts (last_answer (And (Lit (Boolean true))) b) (Open made)
-open_behind facts b rest made is (t, left, alike) = (
-  And (Lit (Boolean true)) t,
-  ap (last_answer (And (Lit (Boolean true)))) left,
-  subst (λ (r : Tree). Alike facts r (And (Lit (Boolean true)) t)) (sym is) (and_alike itself alike),
-)
+module _ (facts : Facts) (holds : LeafAnswers) (s : grammar.Policy) where
+  pub scope_decided : (o : Option Bool) (a b : Bool) → o ≡ Some a → a ≡ b → IsDecided facts holds (scope_tree s) o → partial_in facts holds (scope_tree s) ≡ Evaluated (Plain (Boolean b))
+  scope_decided o a b is same decided = subst (λ (x : Bool). IsDecided facts holds (scope_tree s) (Some x)) same (subst (IsDecided facts holds (scope_tree s)) is decided)
+
+  module _ (scope : partial_in facts holds (scope_tree s) ≡ Evaluated (Plain (Boolean true))) where
+    pub told_by_scope : s.body ≡ None → partial_in facts holds (condition s) ≡ Evaluated (Plain (Boolean true))
+    told_by_scope body = ap (λ (o : Option Tree). partial_in facts holds (with_body (scope_tree s) o)) body ∙ scope
+
+    conjoined_told : (t : Tree) (o : Option Bool) → IfSome o (λ b. partial_in facts holds t ≡ Evaluated (Plain (Boolean b))) → IsDecided facts holds (conjunction (scope_tree s) t) o
+    conjoined_told t None told = tt
+    conjoined_told t (Some b) told = both_decided facts holds (scope_tree s) t (Some true) (Some b) scope told
+
+    pub told_by_clauses : (t : Tree) → s.body ≡ Some t → (o : Option Bool) → IfSome o (λ b. partial_in facts holds t ≡ Evaluated (Plain (Boolean b))) → IsDecided facts holds (condition s) o
+    told_by_clauses t body o told = subst (λ (c : Option Tree). IsDecided facts holds (with_body (scope_tree s) c) o) (sym body) (conjoined_told t o told)
 
 -- ---- the clauses, from the condition
 

@@ -5,17 +5,17 @@ use Rattle.std.specs.Map.{keys_of}
 use Rattle.std.proofs.lemmas.List.{append-nil}
 use Rattle.std.proofs.lemmas.List.Elements.{filter_map-append}
 use Rattle.std.proofs.lemmas.Map.Made.{keys_of-map_values}
-use Rattle.cedar_language.specs.Answering.{Permit, Forbid}
+use Rattle.cedar_language.specs.Answering.{Effect, Permit, Forbid}
 use Rattle.cedar_language.specs.Order.{same_text}
 use Rattle.cedar_language.specs.Uid.{Text}
 use Rattle.cedar_entities.specs.declared.store.Entities.{Entities}
-use Rattle.cedar_extensions.specs.declared.extensions.Extensions.{Extensions}
+use Rattle.cedar_extensions.specs.Table.{Table}
 use Rattle.cedar_interpreter.specs.Asking.{Inquiry}
 use Rattle.cedar_policy_set.specs.Entries.{Entry, Entries, policies_of}
 use Rattle.cedar_requests.specs.Holding.{RequestParts}
 use Rattle.cedar_trees.specs.Bare.{bare}
 use Rattle.cedar_evaluator.specs.Authorizing.{RespondsWith}
-use Rattle.cedar_evaluator.specs.Evaluations.{Kept, IsKept, AreKept}
+use Rattle.cedar_evaluator.specs.Evaluations.{Satisfied, Unsatisfied, Kept, IsKept, AreKept}
 use Rattle.cedar_evaluator.specs.Grouping.{held_in, and_then, with_kept, held_with, Keeps, AreApart}
 use Rattle.cedar_evaluator.specs.Holding.{request_asked, has_erred, holding_in}
 use Rattle.cedar_evaluator.specs.Responses.{Holding, if_effect, satisfied_id, false_id, open_id, error_id, holding_of, without_false}
@@ -49,8 +49,22 @@ Adds with_false k g more = (h : Holding) → held_in g ≡ held_with with_false 
 pub adds_any : (with_false : Bool) (k : Kept) (g more : Groups) → with_false ≡ true → held_in more ≡ with_kept k (held_in g) → Adds with_false k g more
 adds_any with_false k g more is held = subst (λ b. Adds b k g more) (sym is) (λ h same. held ∙ ap (with_kept k) same)
 
-pub adds_true : (with_false : Bool) (k : Kept) (g more : Groups) → with_false ≡ false → ((h : Holding) → held_in g ≡ without_false h → held_in more ≡ without_false (with_kept k h)) → Adds with_false k g more
-adds_true with_false k g more is held = subst (λ b. Adds b k g more) (sym is) held
+-- of a satisfied policy nothing is left out
+satisfied_kept : (id : Text) (effect : Effect) (h : Holding) → with_kept (record { id = id; effect = effect; found = Satisfied }) (without_false h) ≡ without_false (with_kept (record { id = id; effect = effect; found = Satisfied }) h)
+satisfied_kept id Permit h = refl
+satisfied_kept id Forbid h = refl
+
+pub adds_satisfied : (id own_id : Text) (effect own_effect : Effect) (g more : Groups) → id ≡ own_id → effect ≡ own_effect → held_in more ≡ with_kept (record { id = id; effect = effect; found = Satisfied }) (held_in g) →
+    Adds false (record { id = own_id; effect = own_effect; found = Satisfied }) g more
+adds_satisfied id own_id effect own_effect g more same_id same_effect held h same =
+    held
+    ∙ (λ i. with_kept (record { id = same_id i; effect = same_effect i; found = Satisfied }) (same i))
+    ∙ satisfied_kept own_id own_effect h
+
+-- and one that isn't satisfied is left out
+pub adds_unsatisfied : (id : Text) (effect : Effect) (g : Groups) → Adds false (record { id = id; effect = effect; found = Unsatisfied }) g g
+adds_unsatisfied id Permit g h same = same
+adds_unsatisfied id Forbid g h same = same
 
 none_kept : (with_false : Bool) → held_with with_false (holding_of []) ≡ holding_of []
 none_kept true = refl
@@ -87,7 +101,7 @@ holds_apart false ks apart = record {
 
 -- ---- of the policies of a set
 
-module _ (with_false : Bool) (i : Inquiry) (store : Entities) (table : Extensions) (depth : ℕ) where
+module _ (with_false : Bool) (i : Inquiry) (store : Entities) (table : Table) (depth : ℕ) where
   each_more : (es : Entries) (ks : List Kept) (e : Text × Entry) (k : Kept) → AreKept i store table depth es ks → IsKept i store table depth e k → AreKept i store table depth (es ++ e ∷ []) (ks ++ k ∷ [])
   each_more [] [] e k each this = (this, tt)
   each_more [] (j ∷ ks) e k each this = absurd each

@@ -1,21 +1,24 @@
 -- What is kept of a policy that was evaluated for a request.
-use Rattle.std.proofs.Common.{◌≡◌, ℕ, ◌<◌, Bool, true, refl, sym, ◌∙◌, ap, subst}
-use Rattle.std.specs.Prelude.{Result}
+use Rattle.std.proofs.Common.{◌≡◌, ℕ, ◌<◌, Bool, true, false, refl, sym, ◌∙◌, ap, subst}
+use Rattle.std.specs.Prelude.{Result, Ok}
 use Rattle.either.specs.declared.Either.{Either}
+use Rattle.either.specs.declared.Either.TheVariants.{Left}
 use Rattle.cedar_language.specs.Facts.{Facts}
 use Rattle.cedar_language.specs.Height.{height}
-use Rattle.cedar_language.specs.Tree.{Variable, Tree}
+use Rattle.cedar_language.specs.Tree.{Boolean, Variable, Tree}
+use Rattle.cedar_language.specs.Value.{Plain}
 use Rattle.cedar_grammar.specs.Policy as grammar
 use Rattle.cedar_partial_evaluation.specs.Mentions.{mentions_only}
-use Rattle.cedar_partial_evaluation.specs.Partial.{LeafAnswers, partial_in}
+use Rattle.cedar_partial_evaluation.specs.Partial.{Evaluated, LeafAnswers, partial_in}
 use Rattle.cedar_entities.specs.declared.store.Entities.{Entities}
 use Rattle.cedar_extensions.specs.declared.evaluation_error.EvaluationError.{EvaluationError}
-use Rattle.cedar_extensions.specs.declared.extensions.Extensions.{Extensions}
+use Rattle.cedar_extensions.specs.Table.{Table}
 use Rattle.cedar_interpreter.specs.Asking.{Inquiry, request_held, IsEvaluatorOf}
 use Rattle.cedar_interpreter.specs.Holding.{is_evaluated, is_held, Serves, Deep, depth_of}
 use Rattle.cedar_interpreter.specs.Meeting.{IsLimit}
 use Rattle.cedar_interpreter.specs.Operating.{NamesNothing}
 use Rattle.cedar_interpreter.specs.declared.evaluator.Evaluator.{Evaluator}
+use Rattle.cedar_operators.specs.Store.{HasFacts}
 use Rattle.cedar_policies.specs.Policies.{policy_template, policy_syntax, link_of, bindings_of}
 use Rattle.cedar_policies.specs.declared.policies.Policy.{Policy}
 use Rattle.cedar_policy_set.specs.Bounds.{policy_entry, policy_seen}
@@ -27,9 +30,10 @@ use Rattle.cedar_evaluator.specs.Evaluations.{Finds, bindings_in, condition_in, 
 use Rattle.cedar_evaluator.specs.Grouping.{found_in, kept_of, IsKeepable}
 use Rattle.cedar_evaluator.proofs.Answered.{finds, limit_met}
 use Rattle.cedar_evaluator.proofs.Entered.{syntax_entered, bindings_entered}
+use Rattle.cedar_evaluator.proofs.Judged.{told_finds}
 
 module _
-    (i : Inquiry) (store : Entities) (table : Extensions) (depth : ℕ) (ev : Evaluator) (is : IsEvaluatorOf i store table depth ev)
+    (i : Inquiry) (store : Entities) (table : Table) (depth : ℕ) (ev : Evaluator) (is : IsEvaluatorOf i store table depth ev)
     (p : Policy) (answer : Result (Either Bool (Expr (Unit {0}))) EvaluationError)
     (found : (facts : Facts) → IsServed i store table depth facts (condition_of p) → JudgesAt facts (partial_in facts (request_held i (bindings_of p)) (condition_of p)) answer)
     (limit : IsLimit answer → Deep ev (depth_of ev) (condition_of p))
@@ -67,3 +71,17 @@ module _
         let deep : depth_of ev < height (condition_of p) = limit (limit_met answer met) facts (serves facts served) (known mentions) in
         subst (λ (t : Tree). depth < height t) (sym condition_is) (subst (λ (d : ℕ). d < height (condition_of p)) is.limit deep);
   }
+
+-- ---- of a policy of which it is told whether it is satisfied
+
+told_keepable : (s : Bool) → IsKeepable (Ok (Left s))
+told_keepable true h = cc
+told_keepable false h = cc
+
+pub is_kept_told : (i : Inquiry) (store : Entities) (table : Table) (depth : ℕ) (ev : Evaluator) → IsEvaluatorOf i store table depth ev → (p : Policy) (b s : Bool) → b ≡ s
+    → ((facts : Facts) → HasFacts store facts → partial_in facts (request_held i (bindings_of p)) (condition_of p) ≡ Evaluated (Plain (Boolean b)))
+    → IsKept i store table depth (policy_seen p) (kept_of p (Ok (Left s)))
+is_kept_told i store table depth ev is p b s same told =
+    is_kept i store table depth ev is p (Ok (Left s))
+    (λ facts served. told_finds facts _ s (told facts served.entities ∙ ap (λ x. Evaluated (Plain (Boolean x))) same))
+    (λ met. absurd met) (told_keepable s)

@@ -6,7 +6,7 @@ use Rattle.std.proofs.lemmas.List.Elements.{filter_map-append}
 use Rattle.cedar_language.specs.Uid.{Text}
 use Rattle.cedar_language.specs.Answering.{Effect, Permit, Forbid}
 use Rattle.cedar_entities.specs.declared.store.Entities.{Entities}
-use Rattle.cedar_extensions.specs.declared.extensions.Extensions.{Extensions}
+use Rattle.cedar_extensions.specs.Table.{Table}
 use Rattle.cedar_grammar.specs.Policy.{scope_tree}
 use Rattle.cedar_interpreter.specs.Asking.{Inquiry, request_held}
 use Rattle.cedar_policy_set.specs.Entries.{Entry, Entries, policies_of}
@@ -46,7 +46,7 @@ none_kept id Forbid ks = refl
 abbrev unsatisfied : Text × Entry → Kept
 unsatisfied e = record { id = e.0; effect = (syntax_in e.1).effect; found = Unsatisfied }
 
-module _ (i : Inquiry) (store : Entities) (table : Extensions) (depth : ℕ) where
+module _ (i : Inquiry) (store : Entities) (table : Table) (depth : ℕ) where
   out_kept : (e : Text × Entry) → IsOutOfScope i store e.1 → IsKept i store table depth e (unsatisfied e)
   out_kept e out = record {
     id = refl;

@@ -10,7 +10,7 @@ use Rattle.cedar_language.specs.Value.{Value}
 use Rattle.cedar_partial_evaluation.specs.Question.{Part}
 use Rattle.cedar_literals.specs.Variables.{variable_text}
 use Rattle.cedar_substitution.specs.Told.{told_for}
-use Rattle.cedar_extensions.specs.declared.extensions.Extensions.{Extensions}
+use Rattle.cedar_extensions.specs.Table.{Table}
 use Rattle.cedar_extensions.specs.declared.evaluation_error.EvaluationError.{EvaluationError}
 use Rattle.cedar_extensions.specs.declared.evaluation_error.EvaluationError.TheVariants as evaluation
 use Rattle.cedar_requests.specs.Holding.{RequestParts}
@@ -25,7 +25,7 @@ use Rattle.cedar_evaluator.specs.declared.errors.ConcretizationError.TheVariants
 pub told_part : (name : Text) (p q : Part) (o x : Option Value) (result : Result EntityUIDEntry ConcretizationError) → p ≡ q → o ≡ x → TellsPart name p o result → TellsPart name q x result
 told_part name p q o x result e f h = subst (λ (y : Option Value). TellsPart name q y result) f (subst (λ (s : Part). TellsPart name s o result) e h)
 
-module _ (table : Extensions) (depth : ℕ) (entries : List (RcStr Global × Value)) where
+module _ (table : Table) (depth : ℕ) (entries : List (RcStr Global × Value)) where
   -- an error of the evaluation of the context; want of memory stays what it is
   pub evaluation_refused : (c : Option (Either Value Tree)) (p : Either Value Tree) → c ≡ Some p → told_for entries (codes "context") ≡ None → (e : EvaluationError) → TellsContext table depth entries p (Err e) → TellsMaybeContext table depth entries c (Err (by_evaluation e))
   evaluation_refused c p is none evaluation.Memory h = tt

@@ -4,7 +4,7 @@ use Rattle.std.specs.List.{IsDistinct}
 use Rattle.std.specs.Map.{keys_of}
 use Rattle.cedar_language.specs.Order.{same_text}
 use Rattle.cedar_entities.specs.declared.store.Entities.{Entities}
-use Rattle.cedar_extensions.specs.declared.extensions.Extensions.{Extensions}
+use Rattle.cedar_extensions.specs.Table.{Table, as_table}
 use Rattle.cedar_policy_set.specs.Entries.{Entries, policies_of}
 use Rattle.cedar_requests.specs.Holding.{RequestParts}
 use Rattle.cedar_interpreter.specs.Asking.{Inquiry, IsEvaluatorOf}
@@ -19,20 +19,20 @@ use Rattle.cedar_evaluator.specs.declared.partial_response.PartialResponse.{Part
 use Rattle.cedar_evaluator.specs.declared.scopes.Scopes.{Scopes}
 
 -- the functions that conditions may call
-abbrev pub table_of : Authorizer → Extensions
-table_of authorizer = authorizer.extensions.now
+abbrev pub table_of : Authorizer → Table
+table_of authorizer = as_table authorizer.extensions.now
 
 -- no evaluation nests deeper
 abbrev pub limit_of : Authorizer → ℕ
 limit_of authorizer = authorizer.depth
 
 -- an evaluator that answers for the inquiry, and the scopes that it decides
-abbrev pub IsAsked : Inquiry → Entities → Extensions → ℕ → Evaluator × Scopes → Type 0
+abbrev pub IsAsked : Inquiry → Entities → Table → ℕ → Evaluator × Scopes → Type 0
 IsAsked i store table depth asked = IsEvaluatorOf i store table depth asked.0 × AreScopesOf i store asked.1
 
 -- Of each static policy and link of the set, in its order, what was found of it is kept, and nothing else: of each group its policies, and
 -- the errors; no id stands in two groups.
-pub record Responds (i : Inquiry) (store : Entities) (table : Extensions) (depth : ℕ) (es : Entries) (response : PartialResponse) : Type 0 where
+pub record Responds (i : Inquiry) (store : Entities) (table : Table) (depth : ℕ) (es : Entries) (response : PartialResponse) : Type 0 where
   pub kept : List Kept
   pub each : AreKept i store table depth (policies_of es) kept
   pub holds : holding_in response ≡ holding_of kept
@@ -40,7 +40,7 @@ pub record Responds (i : Inquiry) (store : Entities) (table : Extensions) (depth
   pub apart : IsDistinct same_text (keys_of (residuals_with is_any response))
 
 -- The same, but no policy that isn't satisfied stands in a group: of one that errs the error alone is kept.
-pub record RespondsWithoutFalse (i : Inquiry) (store : Entities) (table : Extensions) (depth : ℕ) (es : Entries) (response : PartialResponse) : Type 0 where
+pub record RespondsWithoutFalse (i : Inquiry) (store : Entities) (table : Table) (depth : ℕ) (es : Entries) (response : PartialResponse) : Type 0 where
   pub kept : List Kept
   pub each : AreKept i store table depth (policies_of es) kept
   pub holds : holding_in response ≡ without_false (holding_of kept)
@@ -48,10 +48,10 @@ pub record RespondsWithoutFalse (i : Inquiry) (store : Entities) (table : Extens
   pub apart : IsDistinct same_text (keys_of (residuals_with is_any response))
 
 -- with the policies that aren't satisfied, or without them
-abbrev pub RespondsWith : Bool → Inquiry → Entities → Extensions → ℕ → Entries → PartialResponse → Type 0
+abbrev pub RespondsWith : Bool → Inquiry → Entities → Table → ℕ → Entries → PartialResponse → Type 0
 RespondsWith true i store table depth es response = Responds i store table depth es response
 RespondsWith false i store table depth es response = RespondsWithoutFalse i store table depth es response
 
 -- by an evaluator and what is decided of scopes, to each inquiry of this request that these answer for
 abbrev pub RespondsBy : Bool → Evaluator → Scopes → RequestParts → Entries → PartialResponse → Type 0
-RespondsBy with_false ev scopes r es response = (i : Inquiry) (store : Entities) (table : Extensions) (depth : ℕ) → i.request ≡ r → IsEvaluatorOf i store table depth ev → AreScopesOf i store scopes → RespondsWith with_false i store table depth es response
+RespondsBy with_false ev scopes r es response = (i : Inquiry) (store : Entities) (table : Table) (depth : ℕ) → i.request ≡ r → IsEvaluatorOf i store table depth ev → AreScopesOf i store scopes → RespondsWith with_false i store table depth es response

@@ -9,7 +9,7 @@ use Rattle.cedar_language.specs.Value.{NonValue}
 use Rattle.cedar_entities.specs.declared.store.Entities.{Entities}
 use Rattle.cedar_extensions.specs.Causes.{Cause, Residual, cause_of}
 use Rattle.cedar_extensions.specs.Failures.{Failure, OfKind}
-use Rattle.cedar_extensions.specs.declared.extensions.Extensions.{Extensions}
+use Rattle.cedar_extensions.specs.Table.{Table}
 use Rattle.cedar_interpreter.specs.Asking.{Inquiry}
 use Rattle.cedar_policy_parts.specs.Decisions.{decision_of}
 use Rattle.cedar_policy_set.specs.Entries.{Entries, policies_of}
@@ -57,7 +57,7 @@ pub record IsConcrete (h : Holding) (whole : Response) : Type 0 where
   pub errors : map error_seen whole.diagnostics.errors.items ≡ all_errors h
 
 -- of what was found of each static policy and link of the set, in its order
-pub record Answers (i : Inquiry) (store : Entities) (table : Extensions) (depth : ℕ) (es : Entries) (whole : Response) : Type 0 where
+pub record Answers (i : Inquiry) (store : Entities) (table : Table) (depth : ℕ) (es : Entries) (whole : Response) : Type 0 where
   pub kept : List Kept
   pub each : AreKept i store table depth (policies_of es) kept
   pub concrete : IsConcrete (holding_of kept) whole

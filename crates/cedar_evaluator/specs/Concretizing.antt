@@ -13,7 +13,7 @@ use Rattle.cedar_partial_evaluation.specs.Unknowns.{fits}
 use Rattle.cedar_literals.specs.Variables.{variable_text}
 use Rattle.cedar_restricted.specs.PartialValues.{partial_of}
 use Rattle.cedar_substitution.specs.Told.{told_for}
-use Rattle.cedar_extensions.specs.declared.extensions.Extensions.{Extensions}
+use Rattle.cedar_extensions.specs.Table.{Table}
 use Rattle.cedar_operators.specs.Operands.{uid_in}
 use Rattle.cedar_requests.specs.Contexts.{context_part}
 use Rattle.cedar_requests.specs.Creating.{is_record_value}
@@ -87,14 +87,14 @@ part_told p None = p
 part_told p (Some v) = part_with p (uid_in v)
 
 -- a record that is told stands where no context is given; one that is given has the values told for its unknowns
-abbrev pub ContextTold : Extensions → ℕ → List (RcStr Global × Value) → Option (Either Value Tree) → Option (Either Value Tree) → Type 0
+abbrev pub ContextTold : Table → ℕ → List (RcStr Global × Value) → Option (Either Value Tree) → Option (Either Value Tree) → Type 0
 ContextTold table depth entries None None = told_for entries (codes "context") ≡ None
 ContextTold table depth entries None (Some p) = (v : Value) × (told_for entries (codes "context") ≡ Some v) × (p ≡ Left v)
 ContextTold table depth entries (Some p) (Some q) = (c : contexts.Context) × (context_part c ≡ q) × TellsContext table depth entries p (Ok c)
 ContextTold table depth entries (Some p) None = ⊥
 
 -- the request more is r with all that is told of it
-pub record IsConcreteRequest (table : Extensions) (depth : ℕ) (entries : List (RcStr Global × Value)) (r more : RequestParts) : Type 0 where
+pub record IsConcreteRequest (table : Table) (depth : ℕ) (entries : List (RcStr Global × Value)) (r more : RequestParts) : Type 0 where
   pub no_conflict : first_conflict (told_for entries) r ≡ None
   pub principal : more.principal ≡ part_told r.principal (told_for entries (codes "principal"))
   pub action : more.action ≡ part_told r.action (told_for entries (codes "action"))
@@ -139,7 +139,7 @@ pub record IsFirst (told : Text → Option Value) (r : RequestParts) (name : Tex
   pub first : first_conflict told r ≡ Some (v, conflict)
 
 -- why the values aren't taken: the first conflict, with what is told and what stands there; or else why the context errs
-abbrev pub IsRefused : Extensions → ℕ → List (RcStr Global × Value) → RequestParts → ConcretizationError → Type 0
+abbrev pub IsRefused : Table → ℕ → List (RcStr Global × Value) → RequestParts → ConcretizationError → Type 0
 IsRefused table depth entries r (ValueError name kind given) = (v : Variable) × IsFirst (told_for entries) r (rc_str_bytes name) given v NotOfKind × (kind.now ≡ kind_of v)
 IsRefused table depth entries r (VarConfictError name existing given) = (v : Variable) × IsFirst (told_for entries) r (rc_str_bytes name) given v AlreadyGiven × (held_of r v ≡ Some (partial_of existing))
 IsRefused table depth entries r (EntityTypeConfictError name existing given) = (v : Variable) × IsFirst (told_for entries) r (rc_str_bytes name) given v OfOtherType × (type_of r v ≡ Some existing)
@@ -162,7 +162,7 @@ TellsPart name p told (Ok entry) = (part_conflict p told ≡ None) × (part_of e
 TellsPart name p told (Err error) = TellsConflict name (codes "entity") told (part_held p) (part_type p) (part_conflict p told) error
 
 -- a context with what is told of it and for its unknowns
-abbrev pub TellsMaybeContext : Extensions → ℕ → List (RcStr Global × Value) → Option (Either Value Tree) → Result (Option contexts.Context) ConcretizationError → Type 0
+abbrev pub TellsMaybeContext : Table → ℕ → List (RcStr Global × Value) → Option (Either Value Tree) → Result (Option contexts.Context) ConcretizationError → Type 0
 TellsMaybeContext table depth entries c (Ok made) = (context_conflict c (told_for entries (codes "context")) ≡ None) × ContextTold table depth entries c (option_map context_part made)
 TellsMaybeContext table depth entries c (Err (ValueEval e)) = (context_conflict c (told_for entries (codes "context")) ≡ None) × ((p : Either Value Tree) × (c ≡ Some p) × TellsContext table depth entries p (Err e))
 TellsMaybeContext table depth entries c (Err error) = TellsConflict (codes "context") (codes "record") (told_for entries (codes "context")) c None (context_conflict c (told_for entries (codes "context"))) error
@@ -172,7 +172,7 @@ abbrev pub TellsGivenContext : Option (Either Value Tree) → Value → Result c
 TellsGivenContext c v (Ok made) = (context_conflict c (Some v) ≡ None) × (c ≡ None) × (context_part made ≡ Left v)
 TellsGivenContext c v (Err error) = TellsConflict (codes "context") (codes "record") (Some v) c None (context_conflict c (Some v)) error
 
-abbrev pub Concretizes : Extensions → ℕ → List (RcStr Global × Value) → RequestParts → Result Request ConcretizationError → Type 0
+abbrev pub Concretizes : Table → ℕ → List (RcStr Global × Value) → RequestParts → Result Request ConcretizationError → Type 0
 Concretizes table depth entries r (Ok more) = IsConcreteRequest table depth entries r (request_parts more)
 Concretizes table depth entries r (Err error) = IsRefused table depth entries r error
 

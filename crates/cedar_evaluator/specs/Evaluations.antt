@@ -12,7 +12,7 @@ use Rattle.cedar_partial_evaluation.specs.Mentions.{mentions_only}
 use Rattle.cedar_partial_evaluation.specs.Partial.{Answer, Evaluated, ResidualTree, partial_in}
 use Rattle.cedar_constraints.specs.Bindings.{Bindings, unbound}
 use Rattle.cedar_extensions.specs.Failures.{Failure, OfKind, LimitMet, MemoryRanOut}
-use Rattle.cedar_extensions.specs.declared.extensions.Extensions.{Extensions}
+use Rattle.cedar_extensions.specs.Table.{Table}
 use Rattle.cedar_entities.specs.declared.store.Entities.{Entities}
 use Rattle.cedar_operators.specs.Store.{HasFacts}
 use Rattle.cedar_interpreter.specs.Asking.{Inquiry, variable_asked, request_held}
@@ -54,7 +54,7 @@ pub record Kept : Type 0 where
   pub effect : Effect
   pub found : Found
 
-module _ (i : Inquiry) (store : Entities) (table : Extensions) (depth : ℕ) where
+module _ (i : Inquiry) (store : Entities) (table : Table) (depth : ℕ) where
   -- these are the facts by which the inquiry is answered, and no call in the tree names an unknown
   pub record IsServed (facts : Facts) (t : Tree) : Type 0 where
     pub entities : HasFacts store facts

@@ -8,7 +8,7 @@ use Rattle.cedar_language.specs.Order.{same_text}
 use Rattle.cedar_entities.specs.declared.store.Entities.{Entities}
 use Rattle.cedar_extensions.specs.Failures.{Failure, OfKind, LimitMet, MemoryRanOut, failure_of}
 use Rattle.cedar_extensions.specs.declared.evaluation_error.EvaluationError.{EvaluationError}
-use Rattle.cedar_extensions.specs.declared.extensions.Extensions.{Extensions}
+use Rattle.cedar_extensions.specs.Table.{Table}
 use Rattle.cedar_interpreter.specs.Asking.{Inquiry}
 use Rattle.cedar_policies.specs.Policies.{policy_id, policy_syntax}
 use Rattle.cedar_policies.specs.declared.policies.Policy.{Policy}
@@ -75,7 +75,7 @@ held_with true h = h
 held_with false h = without_false h
 
 -- of each policy what was found of it is kept, and nothing else
-pub record Keeps (with_false : Bool) (i : Inquiry) (store : Entities) (table : Extensions) (depth : ℕ) (es : Entries) (g : Groups) : Type 0 where
+pub record Keeps (with_false : Bool) (i : Inquiry) (store : Entities) (table : Table) (depth : ℕ) (es : Entries) (g : Groups) : Type 0 where
   pub kept : List Kept
   pub each : AreKept i store table depth es kept
   pub holds : held_in g ≡ held_with with_false (holding_of kept)

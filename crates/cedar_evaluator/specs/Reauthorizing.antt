@@ -7,7 +7,7 @@ use Rattle.std.specs.declared.rc.RcStr.{RcStr}
 use Rattle.cedar_language.specs.Order.{same_text}
 use Rattle.cedar_language.specs.Value.{Value}
 use Rattle.cedar_substitution.specs.Told.{told_for}
-use Rattle.cedar_extensions.specs.declared.extensions.Extensions.{Extensions}
+use Rattle.cedar_extensions.specs.Table.{Table}
 use Rattle.cedar_entities.specs.declared.store.Entities.{Entities as Store}
 use Rattle.cedar_policy_set.specs.Entries.{Entries}
 use Rattle.cedar_policy_set.specs.declared.errors.PolicySetError.{PolicySetError}
@@ -29,7 +29,7 @@ IsNoSet es (WantOfMemory e) = ⊤
 
 -- Of each policy that is left, in the order of the response, what is found of it for the request with what is told is kept, and nothing
 -- else: of each group its policies, and the errors; no id stands in two groups.
-pub record IsReauthorized (store : Store) (table : Extensions) (depth : ℕ) (entries : List (RcStr Global × Value)) (response again : PartialResponse) : Type 0 where
+pub record IsReauthorized (store : Store) (table : Table) (depth : ℕ) (entries : List (RcStr Global × Value)) (response again : PartialResponse) : Type 0 where
   pub request : RequestParts
   pub concrete : IsConcreteRequest table depth entries (request_asked response) request
   pub kept : List Kept
@@ -39,7 +39,7 @@ pub record IsReauthorized (store : Store) (table : Extensions) (depth : ℕ) (en
   pub apart : IsDistinct same_text (keys_of (residuals_with is_any again))
 
 -- the response made anew, or why there is none: an id stands twice among the policies that are left, or the values aren't taken
-abbrev pub Reauthorizes : Store → Extensions → ℕ → List (RcStr Global × Value) → PartialResponse → Result PartialResponse ReauthorizationError → Type 0
+abbrev pub Reauthorizes : Store → Table → ℕ → List (RcStr Global × Value) → PartialResponse → Result PartialResponse ReauthorizationError → Type 0
 Reauthorizes store table depth entries response (Ok again) = IsReauthorized store table depth entries response again
 Reauthorizes store table depth entries response (Err (answering.PolicySetError e)) = IsDistinct same_text (keys_of (residuals_with is_any response)) → ⊥
 Reauthorizes store table depth entries response (Err (answering.ConcretizationError e)) = IsRefused table depth entries (request_asked response) e

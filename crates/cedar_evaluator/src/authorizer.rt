@@ -2,6 +2,7 @@
 //! `Authorizer::new`, and then `is_authorized`, or `is_authorized_core` where parts of the request may be
 //! unknown; `is_authorized_without_false` where nothing is asked of the policies that aren't satisfied.
 ghost use Rattle.std.specs.Prelude.{◌≡◌, IfOk};
+ghost use Rattle.cedar_extensions.specs.Table.{as_table};
 ghost use Rattle.cedar_interpreter.specs.Asking.{untold};
 ghost use Rattle.cedar_requests.specs.Holding.{request_parts};
 ghost use Rattle.cedar_substitution.specs.Told.{told_for};
@@ -39,7 +40,7 @@ impl Drop for Authorizer<'_, '_> {
 impl<'e, 'f> Authorizer<'e, 'f> {
     /// The authorizer with these functions and this limit of depth, the outermost expression being at 1.
     pub fn new(extensions: &'e Extensions<'f>, depth: u32) -> Authorizer<'e, 'f>
-        ensures table { table_of result ≡ extensions.now }
+        ensures table { table_of result ≡ as_table extensions.now }
         ensures limit { limit_of result ≡ depth }
     {
         Authorizer { extensions, depth }

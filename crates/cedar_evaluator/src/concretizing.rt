@@ -2,6 +2,7 @@
 ghost use Rattle.std.specs.Prelude.{◌≡◌, false, Some, IfOk, MatchOption, option_map};
 ghost use Rattle.std.specs.Option.{option_copied};
 ghost use Rattle.cedar_language.specs.Value.{RecordOf};
+ghost use Rattle.cedar_extensions.specs.Table.{as_table};
 ghost use Rattle.cedar_operators.specs.Operands.{uid_in};
 ghost use Rattle.cedar_partial_evaluation.specs.Question.{Missing};
 ghost use Rattle.cedar_restricted.specs.PartialValues.{partial_of};
@@ -38,7 +39,7 @@ pub(crate) fn concretized(
     extensions: &Extensions<'_>,
     depth: u32,
 ) -> Result<Request, ConcretizationError>
-    ensures { Concretizes extensions.now depth told.now.entries (request_parts request.now) result }
+    ensures { Concretizes (as_table extensions.now) depth told.now.entries (request_parts request.now) result }
 {
     let principal = entry_told(
         alloc,
@@ -108,7 +109,7 @@ fn context_told(
     extensions: &Extensions<'_>,
     depth: u32,
 ) -> Result<Option<Context>, ConcretizationError>
-    ensures { TellsMaybeContext extensions.now depth told.now.entries (option_map (λ given. context_part given.now) context.entry) result }
+    ensures { TellsMaybeContext (as_table extensions.now) depth told.now.entries (option_map (λ given. context_part given.now) context.entry) result }
 {
     if let Some(value) = told.get("context") {
         return Ok(Some(given_context(alloc, context, value)?));

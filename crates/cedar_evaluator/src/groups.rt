@@ -2,7 +2,7 @@
 ghost use Rattle.std.specs.Prelude.{◌≡◌, ℕ, false, [], ◌∷◌, ◌++◌, IfOk, OnOk};
 ghost use Rattle.cedar_entities.specs.declared.store.Entities.{Entities as Store};
 ghost use Rattle.cedar_extensions.specs.Failures.{failure_of};
-ghost use Rattle.cedar_extensions.specs.declared.extensions.Extensions.{Extensions};
+ghost use Rattle.cedar_extensions.specs.Table.{Table};
 ghost use Rattle.cedar_interpreter.specs.Asking.{Inquiry, IsEvaluatorOf};
 ghost use Rattle.cedar_policies.specs.Policies.{policy_id};
 ghost use Rattle.cedar_policy_parts.specs.Effects.{effect_of};
@@ -19,7 +19,7 @@ ghost use Rattle.cedar_evaluator.specs.Scopes.{AreScopesOf};
 
 use crate::candidates::candidates;
 use crate::errors::AuthorizationError;
-use crate::judging::evaluated;
+use crate::judging::{evaluated, evaluated_in_full, told};
 use crate::partial_response::{ErrorState, PartialResponse};
 use crate::scopes::Scopes;
 use cedar_extensions::evaluation_error::EvaluationError;
@@ -124,7 +124,7 @@ impl Groups {
         policies: &PolicySet,
         with_false: bool,
     ) -> Result<Groups, AllocError>
-        ensures { IfOk result (λ groups. (i : Inquiry) (store : Store) (table : Extensions) (depth : ℕ) →
+        ensures { IfOk result (λ groups. (i : Inquiry) (store : Store) (table : Table) (depth : ℕ) →
             IsEvaluatorOf i store table depth evaluator.now → AreScopesOf i store scopes.now → Keeps with_false i store table depth (policies_of policies.now) groups) }
     {
         if with_false {
@@ -144,7 +144,7 @@ impl Groups {
         policies: &PolicySet,
         with_false: bool,
     ) -> Result<Groups, AllocError>
-        ensures { IfOk result (λ groups. (i : Inquiry) (store : Store) (table : Extensions) (depth : ℕ) →
+        ensures { IfOk result (λ groups. (i : Inquiry) (store : Store) (table : Table) (depth : ℕ) →
             IsEvaluatorOf i store table depth evaluator.now → AreScopesOf i store scopes.now → Keeps with_false i store table depth (policies_of policies.now) groups) }
     {
         let mut groups = Groups::new(alloc);
@@ -162,13 +162,13 @@ impl Groups {
         policies: &PolicySet,
         positions: &[usize],
     ) -> Result<Groups, AllocError>
-        ensures { IfOk result (λ groups. (i : Inquiry) (store : Store) (table : Extensions) (depth : ℕ) →
+        ensures { IfOk result (λ groups. (i : Inquiry) (store : Store) (table : Table) (depth : ℕ) →
             IsEvaluatorOf i store table depth evaluator.now → AreScopesOf i store scopes.now → Keeps false i store table depth (policies_at policies.now positions.now) groups) }
     {
         let mut groups = Groups::new(alloc);
         for position in positions {
             if let Some(policy) = policies.policy_at(*position) {
-                groups.evaluate(alloc, evaluator, scopes, policy, false)?;
+                groups.evaluate_without_false(alloc, evaluator, scopes, policy)?;
             }
         }
         Ok(groups)
@@ -183,16 +183,57 @@ impl Groups {
         policy: &Policy,
         with_false: bool,
     ) -> Result<(), AllocError>
-        ensures { OnOk result ((i : Inquiry) (store : Store) (table : Extensions) (depth : ℕ) →
+        ensures { OnOk result ((i : Inquiry) (store : Store) (table : Table) (depth : ℕ) →
             IsEvaluatorOf i store table depth evaluator.now → AreScopesOf i store scopes.now → (es : Entries) →
             Keeps with_false i store table depth es self.old → Keeps with_false i store table depth (es ++ policy_seen policy.now ∷ []) self.new) }
     {
-        let answer = evaluated(alloc, evaluator, scopes, policy);
         if with_false {
+            let answer = evaluated(alloc, evaluator, scopes, policy);
             self.keep(alloc, policy, answer)
         } else {
-            self.keep_without_false(alloc, policy, answer)
+            self.evaluate_without_false(alloc, evaluator, scopes, policy)
         }
+    }
+
+    // The same, but nothing is kept of a policy that isn't satisfied. Of most policies it is told whether they
+    // are, and then no answer of an evaluation is made and taken apart.
+    fn evaluate_without_false(
+        &mut self,
+        alloc: Global,
+        evaluator: &Evaluator<'_, '_, '_>,
+        scopes: &Scopes<'_>,
+        policy: &Policy,
+    ) -> Result<(), AllocError>
+        ensures { OnOk result ((i : Inquiry) (store : Store) (table : Table) (depth : ℕ) →
+            IsEvaluatorOf i store table depth evaluator.now → AreScopesOf i store scopes.now → (es : Entries) →
+            Keeps false i store table depth es self.old → Keeps false i store table depth (es ++ policy_seen policy.now ∷ []) self.new) }
+    {
+        match told(evaluator, scopes, policy) {
+            Some(false) => Ok(()),
+            Some(true) => {
+                let id = copied(policy.id())?;
+                let annotations = policy.annotations_arc().clone()?;
+                self.keep_satisfied(policy.effect(), id, annotations)
+            }
+            None => self.evaluate_in_full(alloc, evaluator, scopes, policy),
+        }
+    }
+
+    // The same of a policy of which that isn't told. Not inlined, since few are evaluated in full.
+    #[inline(never)]
+    fn evaluate_in_full(
+        &mut self,
+        alloc: Global,
+        evaluator: &Evaluator<'_, '_, '_>,
+        scopes: &Scopes<'_>,
+        policy: &Policy,
+    ) -> Result<(), AllocError>
+        ensures { OnOk result ((i : Inquiry) (store : Store) (table : Table) (depth : ℕ) →
+            IsEvaluatorOf i store table depth evaluator.now → AreScopesOf i store scopes.now → (es : Entries) →
+            Keeps false i store table depth es self.old → Keeps false i store table depth (es ++ policy_seen policy.now ∷ []) self.new) }
+    {
+        let answer = evaluated_in_full(alloc, evaluator, scopes, policy);
+        self.keep_without_false(alloc, policy, answer)
     }
 
     // Keeps what one more policy comes to; want of memory is handed on.

@@ -117,6 +117,15 @@ fn push_keys<V>(ids: &mut Vec<PolicyID>, group: &IndexMap<PolicyID, V>) -> Resul
     Ok(())
 }
 
+// The ids of a group, in a list with room for them.
+fn keys<V>(alloc: Global, group: &IndexMap<PolicyID, V>) -> Result<Vec<PolicyID>, AllocError>
+    ensures { IfOk result (λ ids. ids.items ≡ keys_of group.now.entries) }
+{
+    let mut ids = Vec::with_capacity(alloc, group.len())?;
+    push_keys(&mut ids, group)?;
+    Ok(ids)
+}
+
 impl PartialResponse {
     /// What is found of the policies for a request, by their groups. Of an id that stands twice in a group the
     /// last is kept, in the place of the first. Refused for memory alone.
@@ -168,13 +177,11 @@ impl PartialResponse {
     pub fn must_be_determining_ids(&self, alloc: Global) -> Result<Vec<PolicyID>, AllocError>
         ensures { IfOk result (λ ids. ids.items ≡ ids_with (in_must (judged_held (holding_in self.now))) (judged_held (holding_in self.now))) }
     {
-        let mut ids = Vec::new(alloc);
         if self.has_forbids() {
-            push_keys(&mut ids, &self.satisfied_forbids)?;
+            keys(alloc, &self.satisfied_forbids)
         } else {
-            push_keys(&mut ids, &self.satisfied_permits)?;
+            keys(alloc, &self.satisfied_permits)
         }
-        Ok(ids)
     }
 
     /// The ids of the policies that are reasons for some values of the unknown parts, as far as this response
@@ -182,13 +189,13 @@ impl PartialResponse {
     pub fn may_be_determining_ids(&self, alloc: Global) -> Result<Vec<PolicyID>, AllocError>
         ensures { IfOk result (λ ids. ids.items ≡ ids_with (in_may (judged_held (holding_in self.now))) (judged_held (holding_in self.now))) }
     {
-        let mut ids = Vec::new(alloc);
-        if has_any(&self.satisfied_forbids) {
-            push_keys(&mut ids, &self.satisfied_forbids)?;
+        let mut ids = if has_any(&self.satisfied_forbids) {
+            keys(alloc, &self.satisfied_forbids)?
         } else {
-            push_keys(&mut ids, &self.satisfied_permits)?;
+            let mut ids = keys(alloc, &self.satisfied_permits)?;
             push_keys(&mut ids, &self.residual_permits)?;
-        }
+            ids
+        };
         push_keys(&mut ids, &self.residual_forbids)?;
         Ok(ids)
     }

@@ -1,4 +1,5 @@
-// The scopes of policies, decided by the entities that a request gives.
+// The scopes of policies, decided by the entities that a request gives. What looks at a scope is inlined, since
+// each policy in force is asked so.
 ghost use Rattle.std.specs.Prelude.{◌≡◌, ℕ, Some, IfOk, true, false};
 ghost use Rattle.std.specs.FinSet as set;
 ghost use Rattle.std.specs.List.{list_any};
@@ -16,7 +17,7 @@ ghost use Rattle.cedar_constraints.specs.Asked.{constraint_of};
 ghost use Rattle.cedar_constraints.specs.References.{target_of};
 ghost use Rattle.cedar_entities.specs.Data.{ancestors_of};
 ghost use Rattle.cedar_entities.specs.declared.store.Entities.{Entities as Store};
-ghost use Rattle.cedar_extensions.specs.declared.extensions.Extensions.{Extensions};
+ghost use Rattle.cedar_extensions.specs.Table.{Table};
 ghost use Rattle.cedar_operators.specs.Hierarchy.{is_within_entity};
 ghost use Rattle.cedar_operators.specs.Store.{HasFacts};
 ghost use Rattle.cedar_interpreter.specs.Asking.{Inquiry, variable_asked, request_held, IsEvaluatorOf};
@@ -124,6 +125,7 @@ impl<'s> GivenEntity<'s> {
     }
 
     // Whether it is as a scope asks; not said where a slot isn't bound.
+    #[inline(always)]
     fn meets(
         &self,
         constraint: &PrincipalOrResourceConstraint,
@@ -173,7 +175,7 @@ fn given<'s>(
     evaluator: &Evaluator<'s, '_, '_>,
     var: Var,
 ) -> Result<Option<GivenEntity<'s>>, AllocError>
-    ensures { IfOk result (λ g. (i : Inquiry) (store : Store) (table : Extensions) (depth : ℕ) → IsEvaluatorOf i store table depth evaluator.now → IsGivenAs store (variable_asked i.request (variable_of var)) g) }
+    ensures { IfOk result (λ g. (i : Inquiry) (store : Store) (table : Table) (depth : ℕ) → IsEvaluatorOf i store table depth evaluator.now → IsGivenAs store (variable_asked i.request (variable_of var)) g) }
 {
     match evaluator.given_entity(var) {
         Some((uid, entity)) => {
@@ -198,6 +200,7 @@ fn without_entity(constraint: &PrincipalOrResourceConstraint) -> Option<bool>
 }
 
 // What a scope asks of the principal or of the resource, as far as it is decided.
+#[inline(always)]
 fn part_meets(
     given: &Option<GivenEntity<'_>>,
     constraint: &PrincipalOrResourceConstraint,
@@ -230,7 +233,7 @@ impl<'s> Scopes<'s> {
         entities: &Entities,
         evaluator: &Evaluator<'s, '_, '_>,
     ) -> Result<Scopes<'s>, AllocError>
-        ensures { IfOk result (λ scopes. (i : Inquiry) (store : Store) (table : Extensions) (depth : ℕ) → IsEvaluatorOf i store table depth evaluator.now → AreScopesOf i store scopes) }
+        ensures { IfOk result (λ scopes. (i : Inquiry) (store : Store) (table : Table) (depth : ℕ) → IsEvaluatorOf i store table depth evaluator.now → AreScopesOf i store scopes) }
     {
         if entities.is_partial() {
             return Ok(Scopes {
@@ -249,6 +252,7 @@ impl<'s> Scopes<'s> {
         })
     }
 
+    #[inline(always)]
     fn principal_meets(&self, policy: &Policy) -> Option<bool>
         ensures { (i : Inquiry) (store : Store) (facts : Facts) → AreScopesOf i store self.now → HasFacts store facts → IsDecided facts (request_held i (bindings_of policy.now)) (constraint_tree Principal PrincipalSlot (policy_syntax policy.now).principal) result }
     {
@@ -257,12 +261,14 @@ impl<'s> Scopes<'s> {
         part_meets(&self.principal, constraint.as_inner(), bound)
     }
 
+    #[inline(always)]
     fn action_meets(&self, policy: &Policy) -> Option<bool>
         ensures { (i : Inquiry) (store : Store) (facts : Facts) → AreScopesOf i store self.now → HasFacts store facts → IsDecided facts (request_held i (bindings_of policy.now)) (action_tree (policy_syntax policy.now).action) result }
     {
         action_meets(&self.action, policy.action_constraint())
     }
 
+    #[inline(always)]
     fn resource_meets(&self, policy: &Policy) -> Option<bool>
         ensures { (i : Inquiry) (store : Store) (facts : Facts) → AreScopesOf i store self.now → HasFacts store facts → IsDecided facts (request_held i (bindings_of policy.now)) (constraint_tree Resource ResourceSlot (policy_syntax policy.now).resource) result }
     {
@@ -273,6 +279,7 @@ impl<'s> Scopes<'s> {
 
     /// Whether the scope of a policy holds, read from the left: the principal, the action, the resource. Not
     /// said where the request doesn't give what decides it.
+    #[inline(always)]
     pub(crate) fn hold(&self, policy: &Policy) -> Option<bool>
         ensures { (i : Inquiry) (store : Store) (facts : Facts) → AreScopesOf i store self.now → HasFacts store facts → IsDecided facts (request_held i (bindings_of policy.now)) (scope_tree (policy_syntax policy.now)) result }
     {
@@ -284,6 +291,7 @@ impl<'s> Scopes<'s> {
     }
 
     // The same of a policy whose principal is as its scope asks.
+    #[inline(always)]
     fn hold_behind_principal(&self, policy: &Policy) -> Option<bool>
         ensures { (i : Inquiry) (store : Store) (facts : Facts) → AreScopesOf i store self.now → HasFacts store facts → IsDecided facts (request_held i (bindings_of policy.now)) (constraint_tree Principal PrincipalSlot (policy_syntax policy.now).principal) (Some true) → IsDecided facts (request_held i (bindings_of policy.now)) (scope_tree (policy_syntax policy.now)) result }
     {

@@ -11,7 +11,7 @@ use Rattle.cedar_partial_evaluation.specs.Partial.{Answer, answer_of, LeafAnswer
 use Rattle.cedar_partial_evaluation.specs.Question.{name_held}
 use Rattle.cedar_constraints.specs.Bindings.{Bindings, binding_of}
 use Rattle.cedar_entities.specs.declared.store.Entities.{Entities}
-use Rattle.cedar_extensions.specs.declared.extensions.Extensions.{Extensions}
+use Rattle.cedar_extensions.specs.Table.{Table, as_table}
 use Rattle.cedar_operators.specs.Store.{HasFacts}
 use Rattle.cedar_requests.specs.Holding.{RequestParts}
 use Rattle.cedar_substitution.specs.Told.{told_for}
@@ -38,8 +38,8 @@ module _ (r : RequestParts) (ev : Evaluator) (stand : StandFor r ev.variables) (
       ap (λ (f : Variable → Answer). holding slots f (value_told ev.told)) same
       ∙ ap (λ told. holding slots (variable_asked r) (value_told told)) nothing
 
-pub is_evaluator : (r : RequestParts) (entities : Entities) (table : Extensions) (depth : ℕ) (ev : Evaluator) →
-    StandFor r ev.variables → ev.told ≡ None → ev.entities.now ≡ entities → ev.extensions.now ≡ table → depth_of ev ≡ depth → IsEvaluatorOf (untold r) entities table depth ev
+pub is_evaluator : (r : RequestParts) (entities : Entities) (table : Table) (depth : ℕ) (ev : Evaluator) →
+    StandFor r ev.variables → ev.told ≡ None → ev.entities.now ≡ entities → as_table ev.extensions.now ≡ table → depth_of ev ≡ depth → IsEvaluatorOf (untold r) entities table depth ev
 is_evaluator r entities table depth ev stand nothing es ts ds = record {
   store = es;
   holds = holds_asked r ev stand nothing;
@@ -55,7 +55,7 @@ is_evaluator r entities table depth ev stand nothing es ts ds = record {
 abbrev pub telling : (ev : Evaluator) → Bor (HashMap (RcStr Global) Value (BuildHasherDefault FoldHasher)) → AreSeen ev.entities.now ev.variables ev.seen → Evaluator
 telling ev told seen = record { variables = ev.variables; entities = ev.entities; seen = ev.seen; extensions = ev.extensions; depth = ev.depth; told = Some told; are_seen = seen }
 
-pub is_told : (r : RequestParts) (entities : Entities) (table : Extensions) (depth : ℕ) (ev : Evaluator) (told : Bor (HashMap (RcStr Global) Value (BuildHasherDefault FoldHasher))) (seen : AreSeen ev.entities.now ev.variables ev.seen) →
+pub is_told : (r : RequestParts) (entities : Entities) (table : Table) (depth : ℕ) (ev : Evaluator) (told : Bor (HashMap (RcStr Global) Value (BuildHasherDefault FoldHasher))) (seen : AreSeen ev.entities.now ev.variables ev.seen) →
     IsEvaluatorOf (untold r) entities table depth ev → IsEvaluatorOf (record { request = r; told = told_for told.now.entries }) entities table depth (telling ev told seen)
 is_told r entities table depth ev told seen is = record {
   store = is.store;

@@ -24,7 +24,7 @@ use Rattle.cedar_shapes.specs.Parts.{listed, parts}
 use Rattle.cedar_restricted.specs.Splitting.{is_residual}
 use Rattle.cedar_extensions.specs.Failures.{Failure}
 use Rattle.cedar_extensions.specs.Giving.{FailsBy, fails_on}
-use Rattle.cedar_extensions.specs.Tables.{holds_unknown}
+use Rattle.cedar_extensions.specs.Table.{as_table}
 use Rattle.cedar_interpreter.specs.Forms.{is_of_list}
 use Rattle.cedar_interpreter.specs.Holding.{held_by, variable_held, Serves, ServesEach, is_evaluated, is_held, Deep, DeepEach}
 use Rattle.cedar_interpreter.specs.Meeting.{part_answer, SameEach}
@@ -65,45 +65,45 @@ either_deep (inr b) f g = g b
 -- ---- what is served
 
 module _ (ev : Evaluator) (facts : Facts) where
-  serves_by : (t u : Tree) → Serves ev facts t → NamesNothing ev.extensions.now u → Serves ev facts u
+  serves_by : (t u : Tree) → Serves ev facts t → NamesNothing (as_table ev.extensions.now) u → Serves ev facts u
   serves_by t u s n = record { entities = s.entities; functions = s.functions; names_nothing = n }
 
   module _ (l r : Tree) where
     pub serves_and_left : Serves ev facts (And l r) → Serves ev facts l
-    serves_and_left s = serves_by (And l r) l s (nothing_left (holds_unknown ev.extensions.now) (calls_unknown l) (calls_unknown r) s.names_nothing)
+    serves_and_left s = serves_by (And l r) l s (nothing_left (as_table ev.extensions.now).has_unknown (calls_unknown l) (calls_unknown r) s.names_nothing)
 
     pub serves_and_right : Serves ev facts (And l r) → Serves ev facts r
-    serves_and_right s = serves_by (And l r) r s (nothing_right (holds_unknown ev.extensions.now) (calls_unknown l) (calls_unknown r) s.names_nothing)
+    serves_and_right s = serves_by (And l r) r s (nothing_right (as_table ev.extensions.now).has_unknown (calls_unknown l) (calls_unknown r) s.names_nothing)
 
     pub serves_or_left : Serves ev facts (Or l r) → Serves ev facts l
-    serves_or_left s = serves_by (Or l r) l s (nothing_left (holds_unknown ev.extensions.now) (calls_unknown l) (calls_unknown r) s.names_nothing)
+    serves_or_left s = serves_by (Or l r) l s (nothing_left (as_table ev.extensions.now).has_unknown (calls_unknown l) (calls_unknown r) s.names_nothing)
 
     pub serves_or_right : Serves ev facts (Or l r) → Serves ev facts r
-    serves_or_right s = serves_by (Or l r) r s (nothing_right (holds_unknown ev.extensions.now) (calls_unknown l) (calls_unknown r) s.names_nothing)
+    serves_or_right s = serves_by (Or l r) r s (nothing_right (as_table ev.extensions.now).has_unknown (calls_unknown l) (calls_unknown r) s.names_nothing)
 
   module _ (t y n : Tree) where
     pub serves_test : Serves ev facts (If t y n) → Serves ev facts t
-    serves_test s = serves_by (If t y n) t s (nothing_left (holds_unknown ev.extensions.now) (calls_unknown t) (calls_unknown y || calls_unknown n) s.names_nothing)
+    serves_test s = serves_by (If t y n) t s (nothing_left (as_table ev.extensions.now).has_unknown (calls_unknown t) (calls_unknown y || calls_unknown n) s.names_nothing)
 
     pub serves_yes : Serves ev facts (If t y n) → Serves ev facts y
-    serves_yes s = serves_by (If t y n) y s (nothing_left (holds_unknown ev.extensions.now) (calls_unknown y) (calls_unknown n) (nothing_right (holds_unknown ev.extensions.now) (calls_unknown t) (calls_unknown y || calls_unknown n) s.names_nothing))
+    serves_yes s = serves_by (If t y n) y s (nothing_left (as_table ev.extensions.now).has_unknown (calls_unknown y) (calls_unknown n) (nothing_right (as_table ev.extensions.now).has_unknown (calls_unknown t) (calls_unknown y || calls_unknown n) s.names_nothing))
 
     pub serves_no : Serves ev facts (If t y n) → Serves ev facts n
-    serves_no s = serves_by (If t y n) n s (nothing_right (holds_unknown ev.extensions.now) (calls_unknown y) (calls_unknown n) (nothing_right (holds_unknown ev.extensions.now) (calls_unknown t) (calls_unknown y || calls_unknown n) s.names_nothing))
+    serves_no s = serves_by (If t y n) n s (nothing_right (as_table ev.extensions.now).has_unknown (calls_unknown y) (calls_unknown n) (nothing_right (as_table ev.extensions.now).has_unknown (calls_unknown t) (calls_unknown y || calls_unknown n) s.names_nothing))
 
   -- an entry that is projected calls nothing
   pub serves_entry : (t u : Tree) → Serves ev facts t → is_projectable u ≡ true → Serves ev facts u
-  serves_entry t u s p = serves_by t u s (nothing_at (holds_unknown ev.extensions.now) (calls_unknown u) (projectable_calls u p))
+  serves_entry t u s p = serves_by t u s (nothing_at (as_table ev.extensions.now).has_unknown (calls_unknown u) (projectable_calls u p))
 
-  serves_listed : (t : Tree) (ts : Trees) → Serves ev facts t → (holds_unknown ev.extensions.now && some_calls_unknown ts) ≡ false → ServesEach ev facts (listed ts)
+  serves_listed : (t : Tree) (ts : Trees) → Serves ev facts t → ((as_table ev.extensions.now).has_unknown && some_calls_unknown ts) ≡ false → ServesEach ev facts (listed ts)
   serves_listed t no_trees s h = tt
   serves_listed t (a_tree u us) s h = (
-    serves_by t u s (nothing_left (holds_unknown ev.extensions.now) (calls_unknown u) (some_calls_unknown us) h),
-    serves_listed t us s (nothing_right (holds_unknown ev.extensions.now) (calls_unknown u) (some_calls_unknown us) h),
+    serves_by t u s (nothing_left (as_table ev.extensions.now).has_unknown (calls_unknown u) (some_calls_unknown us) h),
+    serves_listed t us s (nothing_right (as_table ev.extensions.now).has_unknown (calls_unknown u) (some_calls_unknown us) h),
   )
 
   pub serves_operands : (op : Operator) (ts : Trees) → Serves ev facts (Apply op ts) → ServesEach ev facts (listed ts)
-  serves_operands op ts s = serves_listed (Apply op ts) ts s (nothing_right (holds_unknown ev.extensions.now) (is_unknown_call op) (some_calls_unknown ts) s.names_nothing)
+  serves_operands op ts s = serves_listed (Apply op ts) ts s (nothing_right (as_table ev.extensions.now).has_unknown (is_unknown_call op) (some_calls_unknown ts) s.names_nothing)
 
   pub serves_parts : (t : Tree) → is_of_list t ≡ true → Serves ev facts t → ServesEach ev facts (parts t)
   serves_parts (Apply op ts) k s = serves_operands op ts s

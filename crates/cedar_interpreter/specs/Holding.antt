@@ -18,6 +18,7 @@ use Rattle.cedar_constraints.specs.Bindings.{Bindings, binding_of}
 use Rattle.cedar_operators.specs.Store.{HasFacts}
 use Rattle.cedar_restricted.specs.PartialValues.{partial_of}
 use Rattle.cedar_restricted.specs.declared.partial_values.PartialValue.{PartialValue}
+use Rattle.cedar_extensions.specs.Table.{as_table}
 use Rattle.cedar_requests.specs.Answers.{part_answer}
 use Rattle.cedar_substitution.specs.Told.{told_for}
 use Rattle.cedar_interpreter.specs.Operating.{HasFunctions, NamesNothing}
@@ -53,8 +54,8 @@ held_by ev slots = record {
 -- the facts are those of what is held, and no call in the tree names an unknown
 pub record Serves (ev : Evaluator) (facts : Facts) (t : Tree) : Type 0 where
   pub entities : HasFacts ev.entities.now facts
-  pub functions : HasFunctions ev.extensions.now facts
-  pub names_nothing : NamesNothing ev.extensions.now t
+  pub functions : HasFunctions (as_table ev.extensions.now) facts
+  pub names_nothing : NamesNothing (as_table ev.extensions.now) t
 
 -- the variable has a value
 abbrev pub is_evaluated : Answer → Bool

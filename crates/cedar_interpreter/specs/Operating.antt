@@ -11,8 +11,7 @@ use Rattle.cedar_partial_evaluation.specs.Partial.{Answer, ResidualTree, Answers
 use Rattle.cedar_literals.specs.declared.operators.BinaryOp.{BinaryOp}
 use Rattle.cedar_literals.specs.declared.operators.BinaryOp.TheVariants.{Eq}
 use Rattle.cedar_partial_evaluation.specs.ReadUnknowns.{calls_unknown}
-use Rattle.cedar_extensions.specs.Tables.{holds_unknown, function_called}
-use Rattle.cedar_extensions.specs.declared.extensions.Extensions.{Extensions}
+use Rattle.cedar_extensions.specs.Table.{Table}
 
 -- the construct of a tree at these values, where it is an operator
 abbrev pub applied_in : Facts → Tree → Values → Outcome
@@ -35,12 +34,12 @@ operated facts holds (Apply op ts) bs = apply_answer facts holds op bs
 operated facts holds t bs = ResidualTree t
 
 -- no call of the function by which an unknown is named, where the table has it
-abbrev pub NamesNothing : Extensions → Tree → Type 0
-NamesNothing table t = (holds_unknown table && calls_unknown t) ≡ false
+abbrev pub NamesNothing : Table → Tree → Type 0
+NamesNothing table t = (table.has_unknown && calls_unknown t) ≡ false
 
 -- the functions are those of the table
-abbrev pub HasFunctions : Extensions → Facts → Type 0
-HasFunctions table facts = (n : Name) → facts.function n ≡ function_called table n
+abbrev pub HasFunctions : Table → Facts → Type 0
+HasFunctions table facts = (n : Name) → facts.function n ≡ table.function n
 
 -- the name of a type of entities
 abbrev pub entity_type_in : Option ValueType → Option Name

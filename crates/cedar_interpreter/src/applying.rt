@@ -10,6 +10,7 @@ ghost use Rattle.cedar_literals.specs.Operators.{binary_operator_of};
 ghost use Rattle.cedar_shapes.specs.Parts.{parts as parts_of};
 ghost use Rattle.cedar_trees.specs.Bare.{bare, bare_entries};
 ghost use Rattle.cedar_extensions.specs.Giving.{Gives};
+ghost use Rattle.cedar_extensions.specs.Table.{as_table};
 ghost use Rattle.cedar_operators.specs.Operands.{one, two};
 ghost use Rattle.cedar_operators.specs.Store.{HasFacts};
 ghost use Rattle.cedar_interpreter.specs.Forms.{unary_operator, is_of_list};
@@ -133,7 +134,7 @@ pub(crate) fn apply_to_list(
 ) -> Result<PartialValue, EvaluationError>
     requires list { is_of_list (bare expr.now) ≡ true }
     requires count { length values.items ≡ length (parts_of (bare expr.now)) }
-    ensures { (facts : Facts) → HasFunctions extensions.now facts → NamesNothing extensions.now (bare expr.now) →
+    ensures { (facts : Facts) → HasFunctions (as_table extensions.now) facts → NamesNothing (as_table extensions.now) (bare expr.now) →
         MeetsAt facts ⊥ (answer_of (applied_in facts (bare expr.now) (all_of values.items))) result }
 {
     match &expr.expr_kind {

@@ -3,7 +3,7 @@ ghost use Rattle.std.specs.Prelude.{◌≡◌, ⊤, ℕ, option_map, IfOk};
 ghost use Rattle.cedar_language.specs.Facts.{Facts};
 ghost use Rattle.cedar_partial_evaluation.specs.Partial.{Answer, partial_in};
 ghost use Rattle.cedar_entities.specs.declared.store.Entities.{Entities as Store};
-ghost use Rattle.cedar_extensions.specs.declared.extensions.Extensions.{Extensions as Functions};
+ghost use Rattle.cedar_extensions.specs.Table.{Table, as_table};
 ghost use Rattle.cedar_trees.specs.Bare.{bare};
 ghost use Rattle.cedar_restricted.specs.PartialValues.{partial_of};
 ghost use Rattle.cedar_requests.specs.Answers.{part_answer};
@@ -41,7 +41,7 @@ impl<'s, 'e, 'f> Evaluator<'s, 'e, 'f> {
         extensions: &'e Extensions<'f>,
         depth: u32,
     ) -> Result<Evaluator<'s, 'e, 'f>, AllocError>
-        ensures { IfOk result (λ ev. IsEvaluatorOf (untold (request_parts request.now)) entities.now extensions.now depth ev) }
+        ensures { IfOk result (λ ev. IsEvaluatorOf (untold (request_parts request.now)) entities.now (as_table extensions.now) depth ev) }
     {
         let variables = variables_of(alloc, request)?;
         let seen = Seen::of(entities, &variables);
@@ -58,7 +58,7 @@ impl<'s, 'e, 'f> Evaluator<'s, 'e, 'f> {
     /// The evaluator for which unknowns of these names have these values: an unknown with another type
     /// than its value's errs with `TypeError`.
     pub fn with_told(self, told: &'s HashMap<RcStr, Value>) -> Evaluator<'s, 'e, 'f>
-        ensures { (r : RequestParts) (entities : Store) (table : Functions) (depth : ℕ) →
+        ensures { (r : RequestParts) (entities : Store) (table : Table) (depth : ℕ) →
             IsEvaluatorOf (untold r) entities table depth self.entry →
             IsEvaluatorOf (record { request = r; told = told_for told.now.entries }) entities table depth result }
     {

@@ -65,7 +65,7 @@ pub(crate) fn test_answer(
 }
 
 /// The answer of `&&` whose left operand is true, by its right one's.
-pub(crate) fn last_of_and(
+pub fn last_of_and(
     alloc: Global,
     answer: Result<PartialValue, EvaluationError>,
 ) -> Result<PartialValue, EvaluationError>

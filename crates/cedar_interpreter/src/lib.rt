@@ -27,4 +27,5 @@ mod stated;
 mod waiting;
 
 pub use evaluator::Evaluator;
+pub use lazy::last_of_and;
 pub use restricted::RestrictedEvaluator;

@@ -9,6 +9,7 @@ ghost use Rattle.cedar_literals.specs.Operators.{binary_operator_of};
 ghost use Rattle.cedar_shapes.specs.Parts.{parts as parts_of};
 ghost use Rattle.cedar_trees.specs.Bare.{bare};
 ghost use Rattle.cedar_restricted.specs.PartialValues.{partial_of};
+ghost use Rattle.cedar_extensions.specs.Table.{as_table};
 ghost use Rattle.cedar_operators.specs.Store.{HasFacts};
 ghost use Rattle.cedar_interpreter.specs.Forms.{unary_operator, is_of_list};
 ghost use Rattle.cedar_interpreter.specs.Meeting.{MeetsAt, SameEach, part_answer};
@@ -89,7 +90,7 @@ pub(crate) fn operate_on_list(
 ) -> Result<PartialValue, EvaluationError>
     requires list { is_of_list (bare expr.now) ≡ true }
     requires count { length parts.items ≡ length (parts_of (bare expr.now)) }
-    ensures { (facts : Facts) → HasFunctions extensions.now facts → NamesNothing extensions.now (bare expr.now) →
+    ensures { (facts : Facts) → HasFunctions (as_table extensions.now) facts → NamesNothing (as_table extensions.now) (bare expr.now) →
         (holds : LeafAnswers) (bs : List Answer) → SameEach facts (map partial_of parts.items) bs →
         MeetsAt facts ⊥ (operated facts holds (bare expr.now) (gathered facts bs)) result }
 {

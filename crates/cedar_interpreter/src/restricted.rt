@@ -1,6 +1,7 @@
 // The evaluation of restricted expressions.
 ghost use Rattle.std.specs.Prelude.{◌≡◌, ◌≤◌, IfOk};
 ghost use Rattle.cedar_language.specs.Height.{height};
+ghost use Rattle.cedar_extensions.specs.Table.{as_table};
 ghost use Rattle.cedar_restricted.specs.PartialValues.{partial_of};
 ghost use Rattle.cedar_restricted.specs.Views.{borrowed_tree};
 ghost use Rattle.cedar_restricted_evaluation.specs.Evaluations.{MeansKnown, Answers, IsLeft};
@@ -26,7 +27,7 @@ impl<'e, 'f> RestrictedEvaluator<'e, 'f> {
     /// The evaluator with these functions. No evaluation nests deeper than `depth`, the outermost
     /// expression being at 1.
     pub fn new(extensions: &'e Extensions<'f>, depth: u32) -> RestrictedEvaluator<'e, 'f>
-        ensures table { table_of result ≡ extensions.now }
+        ensures table { table_of result ≡ as_table extensions.now }
         ensures limit { limit_of result ≡ depth }
     {
         RestrictedEvaluator { extensions, depth }

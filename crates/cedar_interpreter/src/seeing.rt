@@ -2,7 +2,7 @@
 ghost use Rattle.std.specs.Prelude.{◌≡◌, ℕ, IfSome};
 ghost use Rattle.std.specs.Option.{option_map, option_copied};
 ghost use Rattle.cedar_entities.specs.declared.store.Entities.{Entities as Store};
-ghost use Rattle.cedar_extensions.specs.declared.extensions.Extensions.{Extensions as Functions};
+ghost use Rattle.cedar_extensions.specs.Table.{Table};
 ghost use Rattle.cedar_language.specs.Tree as tree;
 ghost use Rattle.cedar_language.specs.Value.{Plain};
 ghost use Rattle.cedar_literals.specs.Variables.{variable_of};
@@ -73,7 +73,7 @@ impl<'s, 'e, 'f> Evaluator<'s, 'e, 'f> {
     /// The entity that stands for the principal, the action or the resource, with what the store holds of it;
     /// `None` where none is known to stand there. Nothing is looked up, and no memory taken.
     pub fn given_entity(&self, var: Var) -> Option<(&Rc<EntityUID>, Option<&'s Entity>)>
-        ensures { (i : Inquiry) (store : Store) (table : Functions) (depth : ℕ) → IsEvaluatorOf i store table depth self.now → IfSome result (λ given. (variable_asked i.request (variable_of var) ≡ Evaluated (Plain (tree.Entity given.0.now.value))) × IsSeen store given.0.now.value (option_copied given.1)) }
+        ensures { (i : Inquiry) (store : Store) (table : Table) (depth : ℕ) → IsEvaluatorOf i store table depth self.now → IfSome result (λ given. (variable_asked i.request (variable_of var) ≡ Evaluated (Plain (tree.Entity given.0.now.value))) × IsSeen store given.0.now.value (option_copied given.1)) }
     {
         self.given(var)
     }

@@ -1,38 +1,12 @@
--- A scope that is decided decides, or the clauses behind it; else the condition does.
-use Rattle.std.proofs.Common.{◌≡◌, Bool, true, Some, ap, subst, ◌∙◌}
-use Rattle.cedar_language.specs.Tree.{Boolean}
-use Rattle.cedar_language.specs.Value.{Plain}
-use Rattle.cedar_grammar.specs.Policy.{scope_tree}
-use Rattle.cedar_partial_evaluation.specs.Partial.{Evaluated, LeafAnswers, partial_in}
+-- What is told is what the condition is; else it is evaluated in full.
+use Rattle.cedar_partial_evaluation.specs.Partial.{partial_in}
 use Rattle.cedar_interpreter.specs.Asking.{request_held}
-use Rattle.cedar_interpreter.specs.Holding.{held_by}
-use Rattle.cedar_policies.specs.Policies.{bindings_of, policy_syntax}
-use Rattle.cedar_evaluator.specs.Evaluating.{condition_of, JudgesAt}
-use Rattle.cedar_evaluator.specs.Scopes.{IsDecided}
-use Rattle.cedar_evaluator.proofs.Scoped.{out_of_scope}
+use Rattle.cedar_policies.specs.Policies.{bindings_of}
+use Rattle.cedar_evaluator.specs.Evaluating.{condition_of}
+use Rattle.cedar_evaluator.proofs.Judged.{told_finds}
 use Rattle.cedar_evaluator.proofs.judging.evaluated.Goals as goal
 
-pub returns-in-Some-true-clause-found : goal.returns-in-Some-true-clause-found
-returns-in-Some-true-clause-found c = λ i store table depth is scopes facts served.
+pub returns-in-Some-clause-found : goal.returns-in-Some-clause-found
+returns-in-Some-clause-found c = λ i store table depth is scopes facts served.
     let p = c.args.policy.now in
-    let ev = c.args.evaluator.now in
-    let bs = bindings_of p in
-    let scope = scope_tree (policy_syntax p) in
-    let serves = is.serves facts (condition_of p) served.entities served.functions served.names_nothing in
-    let decided = subst (λ (b : Bool). IsDecided facts (request_held i bs) scope (Some b)) c.in-Some-true.field-0-test (subst (IsDecided facts (request_held i bs) scope) c.in-Some-true.is (c.hold.ensures i store facts scopes served.entities)) in
-    let holds : partial_in facts (held_by ev bs) scope ≡ Evaluated (Plain (Boolean true)) = ap (λ (h : LeafAnswers). partial_in facts h scope) (is.holds bs) ∙ decided in
-    subst (λ (h : LeafAnswers). JudgesAt facts (partial_in facts h (condition_of p)) c.in_scope.result) (is.holds bs) (c.in_scope.ensures.found facts serves holds)
-
-pub returns-in-Some-false-clause-found : goal.returns-in-Some-false-clause-found
-returns-in-Some-false-clause-found c = λ i store table depth is scopes facts served.
-    let p = c.args.policy.now in
-    let holds = request_held i (bindings_of p) in
-    let scope = scope_tree (policy_syntax p) in
-    out_of_scope facts holds scope (policy_syntax p).body
-    (subst (λ (b : Bool). IsDecided facts holds scope (Some b)) c.in-Some-false.field-0-test (subst (IsDecided facts holds scope) c.in-Some-false.is (c.hold.ensures i store facts scopes served.entities)))
-
-pub returns-in-None-clause-found : goal.returns-in-None-clause-found
-returns-in-None-clause-found c = λ i store table depth is scopes facts served.
-    let p = c.args.policy.now in
-    let serves = is.serves facts (condition_of p) served.entities served.functions served.names_nothing in
-    subst (λ (h : LeafAnswers). JudgesAt facts (partial_in facts h (condition_of p)) c.partial_evaluate.result) (is.holds (bindings_of p)) (c.partial_evaluate.ensures.found facts serves)
+    told_finds facts (partial_in facts (request_held i (bindings_of p)) (condition_of p)) c.in-Some.satisfied (c.in-Some.ensures i store table depth is scopes facts served.entities)

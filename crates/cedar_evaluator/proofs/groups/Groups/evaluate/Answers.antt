@@ -1,7 +1,7 @@
 -- What is kept of one more policy, with those that aren't satisfied or without them.
 use Rattle.cedar_policy_set.specs.Bounds.{policy_seen}
 use Rattle.cedar_evaluator.specs.Grouping.{kept_of}
-use Rattle.cedar_evaluator.proofs.Keeping.{adds_any, adds_true, keeps_more}
+use Rattle.cedar_evaluator.proofs.Keeping.{adds_any, keeps_more}
 use Rattle.cedar_evaluator.proofs.Kept.{is_kept}
 use Rattle.cedar_evaluator.proofs.Responding.{on_ok}
 use Rattle.cedar_evaluator.proofs.groups.Groups.evaluate.Goals as goal
@@ -18,12 +18,4 @@ returns-then-with_false c =
     c.keep.ensures.held c.keep.ensures.keepable
 
 pub returns-else-with_false : goal.returns-else-with_false
-returns-else-with_false c =
-    let p = c.args.policy.now in
-    let answer = c.evaluated-answer.result in
-    let k = kept_of p answer in
-    on_ok c.keep_without_false.result
-    (λ held keepable i store table depth is scopes es keeps.
-    keeps_more c.args.with_false i store table depth es c.args.self.now c.keep_without_false.new.self (policy_seen p) k keeps (adds_true c.args.with_false k c.args.self.now c.keep_without_false.new.self c.if-with_false.false held)
-    (is_kept i store table depth c.args.evaluator.now is p answer (c.evaluated-answer.ensures.found i store table depth is scopes) c.evaluated-answer.ensures.limit keepable))
-    c.keep_without_false.ensures.held c.keep_without_false.ensures.keepable
+returns-else-with_false c = rw c.if-with_false.false c.evaluate_without_false.ensures

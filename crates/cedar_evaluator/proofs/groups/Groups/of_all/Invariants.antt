@@ -1,6 +1,6 @@
 use Rattle.std.proofs.Common.{ℕ, map}
 use Rattle.cedar_entities.specs.declared.store.Entities.{Entities}
-use Rattle.cedar_extensions.specs.declared.extensions.Extensions.{Extensions}
+use Rattle.cedar_extensions.specs.Table.{Table}
 use Rattle.cedar_interpreter.specs.Asking.{Inquiry, IsEvaluatorOf}
 use Rattle.cedar_policy_set.specs.Bounds.{policy_seen}
 use Rattle.cedar_evaluator.specs.Grouping.{Keeps}
@@ -10,4 +10,4 @@ use Rattle.cedar_evaluator.proofs.groups.Groups.of_all.Given as goal
 -- the policies so far are kept
 abbrev pub invariant-loop-policy : goal.invariant-loop-policy
 invariant-loop-policy l =
-    (i : Inquiry) (store : Entities) (table : Extensions) (depth : ℕ) → IsEvaluatorOf i store table depth l.evaluator → AreScopesOf i store l.scopes → Keeps l.with_false i store table depth (map (λ p. policy_seen p.now) l.yielded) l.groups
+    (i : Inquiry) (store : Entities) (table : Table) (depth : ℕ) → IsEvaluatorOf i store table depth l.evaluator → AreScopesOf i store l.scopes → Keeps l.with_false i store table depth (map (λ p. policy_seen p.now) l.yielded) l.groups

@@ -7,7 +7,7 @@ use Rattle.cedar_evaluator.specs.Candidates.{policies_at}
 use Rattle.cedar_evaluator.specs.Grouping.{Keeps}
 use Rattle.cedar_evaluator.proofs.Passed.{next_at, none_at}
 use Rattle.cedar_evaluator.proofs.groups.Groups.of_those_at.Goals as goal
-use Rattle.cedar_evaluator.proofs.groups.Groups.of_those_at.Goals.{in-Some+in_ok-evaluate, in_default}
+use Rattle.cedar_evaluator.proofs.groups.Groups.of_those_at.Goals.{in-Some+in_ok-evaluate_without_false, in_default}
 
 pub loop-position-preserved : goal.loop-position-preserved
 loop-position-preserved c = λ i store table depth is scopes.
@@ -16,10 +16,10 @@ loop-position-preserved c = λ i store table depth is scopes.
     let k = c.loop-position.position-index in
     let before = c.loop-position.invariant i store table depth is scopes in
     elim c.match-policy_at.branch [
-      | in-Some+in_ok-evaluate w ↦
+      | in-Some+in_ok-evaluate_without_false w ↦
           subst (Keeps false i store table depth (policies_at es (take (k + 1) ps))) (sym w.groups-is)
-          (subst (λ (fs : Entries). Keeps false i store table depth fs w.evaluate.new.self) (sym (next_at es ps k 0 (policy_seen w.in-Some.policy.now) c.loop-position-test.true (sym c.policy_at.ensures ∙ ap (λ o. option_map policy_seen (option_copied o)) w.in-Some.is)))
-          (w.in_ok-evaluate.ensures i store table depth is scopes (policies_at es (take k ps)) before))
+          (subst (λ (fs : Entries). Keeps false i store table depth fs w.evaluate_without_false.new.self) (sym (next_at es ps k 0 (policy_seen w.in-Some.policy.now) c.loop-position-test.true (sym c.policy_at.ensures ∙ ap (λ o. option_map policy_seen (option_copied o)) w.in-Some.is)))
+          (w.in_ok-evaluate_without_false.ensures i store table depth is scopes (policies_at es (take k ps)) before))
       | in_default w ↦
           subst (Keeps false i store table depth (policies_at es (take (k + 1) ps))) (sym w.groups-is)
           (subst (λ (fs : Entries). Keeps false i store table depth fs c.loop-position.groups) (sym (none_at es ps k 0 c.loop-position-test.true (sym c.policy_at.ensures ∙ ap (λ o. option_map policy_seen (option_copied o)) w.in_default.is))) before)

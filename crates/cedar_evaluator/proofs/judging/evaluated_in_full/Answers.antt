@@ -1,0 +1,29 @@
+-- Behind a scope that holds the clauses decide; else the condition does.
+use Rattle.std.proofs.Common.{◌≡◌, true, ap, subst, ◌∙◌}
+use Rattle.cedar_language.specs.Tree.{Boolean}
+use Rattle.cedar_language.specs.Value.{Plain}
+use Rattle.cedar_grammar.specs.Policy.{scope_tree}
+use Rattle.cedar_partial_evaluation.specs.Partial.{Evaluated, LeafAnswers, partial_in}
+use Rattle.cedar_interpreter.specs.Asking.{request_held}
+use Rattle.cedar_interpreter.specs.Holding.{held_by}
+use Rattle.cedar_policies.specs.Policies.{bindings_of, policy_syntax}
+use Rattle.cedar_evaluator.specs.Evaluating.{condition_of, JudgesAt}
+use Rattle.cedar_evaluator.proofs.Judged.{scope_decided}
+use Rattle.cedar_evaluator.proofs.judging.evaluated_in_full.Goals as goal
+
+pub returns-in-Some-true-clause-found : goal.returns-in-Some-true-clause-found
+returns-in-Some-true-clause-found c = λ i store table depth is scopes facts served.
+    let p = c.args.policy.now in
+    let ev = c.args.evaluator.now in
+    let bs = bindings_of p in
+    let scope = scope_tree (policy_syntax p) in
+    let serves = is.serves facts (condition_of p) served.entities served.functions served.names_nothing in
+    let decided = scope_decided facts (request_held i bs) (policy_syntax p) c.hold.result _ _ c.in-Some-true.is c.in-Some-true.field-0-test (c.hold.ensures i store facts scopes served.entities) in
+    let holds : partial_in facts (held_by ev bs) scope ≡ Evaluated (Plain (Boolean true)) = ap (λ (h : LeafAnswers). partial_in facts h scope) (is.holds bs) ∙ decided in
+    subst (λ (h : LeafAnswers). JudgesAt facts (partial_in facts h (condition_of p)) c.in_scope.result) (is.holds bs) (c.in_scope.ensures.found facts serves holds)
+
+pub returns-in_default-clause-found : goal.returns-in_default-clause-found
+returns-in_default-clause-found c = λ i store table depth is scopes facts served.
+    let p = c.args.policy.now in
+    let serves = is.serves facts (condition_of p) served.entities served.functions served.names_nothing in
+    subst (λ (h : LeafAnswers). JudgesAt facts (partial_in facts h (condition_of p)) c.partial_evaluate.result) (is.holds (bindings_of p)) (c.partial_evaluate.ensures.found facts serves)
