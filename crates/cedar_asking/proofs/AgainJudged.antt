@@ -24,7 +24,7 @@ use Rattle.cedar_world.specs.World.{World, in_force_at}
 use Rattle.cedar_world.specs.WorldFacts.{AreFactsOf}
 use Rattle.cedar_constraints.specs.Bindings.{binding_of, unbound}
 use Rattle.cedar_entities.specs.declared.store.Entities.{Entities}
-use Rattle.cedar_extensions.specs.declared.extensions.Extensions.{Extensions}
+use Rattle.cedar_extensions.specs.Table.{Table}
 use Rattle.cedar_interpreter.specs.Asking.{Inquiry, untold, request_held}
 use Rattle.cedar_interpreter.specs.Operating.{HasFunctions}
 use Rattle.cedar_operators.specs.Store.{HasFacts}
@@ -72,7 +72,7 @@ module _ (law : UnsatisfiedSayNothing) (later : List Kept) (answer : Answer) (sa
 
 module _ (law : PlainAnswers) (finds : FindsAsWorlds) (by : Setting) (world : World) (facts : Facts) (are : AreFactsOf by world facts) (q : Question) (first : PartialResponse) (response : IsFirstResponse by world q first)
     (told : List (RcStr Global × Value)) (more : RequestParts) (holds : request_held (record { request = more; told = told_for told }) unbound ≡ held_of facts q no_slots (told_in told))
-    (store : Entities) (table : Extensions) (depth : ℕ) (has : HasFacts store facts) (served : HasFunctions table facts)
+    (store : Entities) (table : Table) (depth : ℕ) (has : HasFacts store facts) (served : HasFunctions table facts)
     (later : List Kept) (each : AreKept (record { request = more; told = told_for told }) store table depth (residuals_with is_any first) later) (settled : (k : Kept) → IsAmong k later → is_settled k.found ≡ true) where
   abbrev inquiry : Inquiry
   inquiry = record { request = more; told = told_for told }

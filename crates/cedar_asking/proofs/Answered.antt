@@ -8,7 +8,7 @@ use Rattle.cedar_world.specs.World.{World}
 use Rattle.cedar_world.specs.WorldFacts.{AreFactsOf, facts_of, WorldsHaveFacts}
 use Rattle.cedar_entities.specs.declared.store.Entities.{Entities}
 use Rattle.cedar_extensions.specs.Failures.{Failure}
-use Rattle.cedar_extensions.specs.declared.extensions.Extensions.{Extensions}
+use Rattle.cedar_extensions.specs.Table.{Table}
 use Rattle.cedar_interpreter.specs.Asking.{untold}
 use Rattle.cedar_interpreter.specs.Operating.{HasFunctions}
 use Rattle.cedar_policy_set.specs.Entries.{Entries, IsWhole}
@@ -18,6 +18,7 @@ use Rattle.cedar_replies.specs.declared.error_kind.ErrorKind.{ErrorKind}
 use Rattle.cedar_replies.specs.declared.refusal.Refusal.{Refusal}
 use Rattle.cedar_replies.specs.declared.refusal.Refusal.TheVariants as refusal
 use Rattle.cedar_requests.specs.Holding.{RequestParts}
+use Rattle.cedar_bodies.specs.Built.{GivesBuilt}
 use Rattle.cedar_evaluator.specs.Authorizing.{RespondsWithoutFalse}
 use Rattle.cedar_evaluator.specs.Holding.{holding_in}
 use Rattle.cedar_evaluator.specs.Responses.{Holding, holding_of}
@@ -32,9 +33,9 @@ use Rattle.cedar_asking.specs.TellLaws.{QuestionsAreKept}
 use Rattle.cedar_asking.proofs.WithoutFalse.{says_with_all}
 
 -- the response of an authorizer with this table and this limit
-pub responds_at : (r : RequestParts) (s : Entities) (t table : Extensions) (n depth : ℕ) (es : Entries) (response : PartialResponse) → t ≡ table → n ≡ depth → RespondsWithoutFalse (untold r) s t n es response → RespondsWithoutFalse (untold r) s table depth es response
+pub responds_at : (r : RequestParts) (s : Entities) (t table : Table) (n depth : ℕ) (es : Entries) (response : PartialResponse) → t ≡ table → n ≡ depth → RespondsWithoutFalse (untold r) s t n es response → RespondsWithoutFalse (untold r) s table depth es response
 responds_at r s t table n depth es response e f h =
-    subst (λ (m : ℕ). RespondsWithoutFalse (untold r) s table m es response) f (subst (λ (u : Extensions). RespondsWithoutFalse (untold r) s u n es response) e h)
+    subst (λ (m : ℕ). RespondsWithoutFalse (untold r) s table m es response) f (subst (λ (u : Table). RespondsWithoutFalse (untold r) s u n es response) e h)
 
 -- a response of which some error isn't listed says nothing: it met the limit, or memory ran out
 pub unlisted : (response : PartialResponse) (errors : List (Text × Failure)) → errors ≡ (holding_in response).errors → (refused : Refusal) → ListsErrors errors (Err refused) → SaysResponse response (Err refused)
@@ -43,7 +44,7 @@ unlisted response errors is refusal.Memory h = tt
 unlisted response errors is refused h = absurd h
 
 module _ (exist : WorldsHaveFacts) (stores : StoresHaveWorldFacts) (tables : TablesServeWorlds) (made : WorldsAreMade) (answer : ResponsesAnswerQuestions) (keep : QuestionsAreKept)
-    (by : Setting) (world : World) (q : Question) (es : Entries) (s : Entities) (table : Extensions) (depth : ℕ) (r : RequestParts)
+    (by : Setting) (world : World) (q : Question) (es : Entries) (s : Entities) (table : Table) (gives : GivesBuilt table) (depth : ℕ) (r : RequestParts)
     (whole : IsWhole es) (are : AreOf by world es s table depth) (asked : IsRequestOf by table q r) (named : IsNamed q.context) (response : PartialResponse) (responds : RespondsWithoutFalse (untold r) s table depth es response) where
   are_facts : AreFactsOf by world (facts_of by world)
   are_facts = exist.exist by world
@@ -71,8 +72,8 @@ module _ (exist : WorldsHaveFacts) (stores : StoresHaveWorldFacts) (tables : Tab
   -- what the response says is a first answer, by which the question is kept
   pub is_answered : (a : Answer) → SaysResponse response (Ok a) → IsAnswered by world q response (answer_of a)
   is_answered a (listed, says) = record {
-    answers = answered.first (made by world (facts_of by world) table functions are.built are_facts) listed (answer_of a) (says_kept listed (answer_of a) says);
-    keeps = keep by world q es s table depth r response listed (answer_of a) whole are asked named responds says;
+    answers = answered.first (made by world (facts_of by world) table gives functions are.built are_facts) listed (answer_of a) (says_kept listed (answer_of a) says);
+    keeps = keep by world q es s table depth r response listed (answer_of a) gives whole are asked named responds says;
   }
 
   -- what it doesn't say is refused for a limit that was met, or for want of memory

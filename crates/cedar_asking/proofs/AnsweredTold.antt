@@ -10,7 +10,7 @@ use Rattle.cedar_world.specs.World.{World}
 use Rattle.cedar_bodies.specs.Refusals.{refusal_by}
 use Rattle.cedar_entities.specs.declared.store.Entities.{Entities}
 use Rattle.cedar_extensions.specs.Failures.{Failure, OfKind, LimitMet, MemoryRanOut, failure_of}
-use Rattle.cedar_extensions.specs.declared.extensions.Extensions.{Extensions}
+use Rattle.cedar_extensions.specs.Table.{Table}
 use Rattle.cedar_replies.specs.declared.refusal.Refusal.{Refusal}
 use Rattle.cedar_replies.specs.declared.refusal.Refusal.TheVariants as refusal
 use Rattle.cedar_evaluator.specs.Reauthorizing.{Reauthorizes}
@@ -23,10 +23,10 @@ use Rattle.cedar_asking.specs.TellLaws.{IsContextFailure, IsWhyNotTold}
 use Rattle.std.specs.Prelude.{Result}
 
 -- what an authorizer with this table and this limit makes of a response
-pub reauthorizes_at : (s : Entities) (t table : Extensions) (n depth : ℕ) (told : List (RcStr Global × Value)) (first : PartialResponse) (found : Result PartialResponse ReauthorizationError)
+pub reauthorizes_at : (s : Entities) (t table : Table) (n depth : ℕ) (told : List (RcStr Global × Value)) (first : PartialResponse) (found : Result PartialResponse ReauthorizationError)
     → t ≡ table → n ≡ depth → Reauthorizes s t n told first found → Reauthorizes s table depth told first found
 reauthorizes_at s t table n depth told first found e f h =
-    subst (λ (m : ℕ). Reauthorizes s table m told first found) f (subst (λ (u : Extensions). Reauthorizes s u n told first found) e h)
+    subst (λ (m : ℕ). Reauthorizes s table m told first found) f (subst (λ (u : Table). Reauthorizes s u n told first found) e h)
 
 module _ (by : Setting) (world : World) (q : Question) (first : PartialResponse) (old told : List (RcStr Global × Value)) (last : Answer) where
   by_failure : (f : Failure) → IsContextFailure by q told f → AnswersTold by world q first old told last (Err (refusal_by f))

@@ -1,15 +1,14 @@
 -- Contexts that are evaluated: what is held of a question's context is what the context answers.
-use Rattle.std.proofs.Common.{◌≡◌, ◌∙◌, refl, ap, sym, suc, arith}
-use Rattle.std.proofs.lemmas.Bool.{ne_eqb}
+use Rattle.std.proofs.Common.{◌≡◌, ◌∙◌, refl, ap, sym, subst}
 use Rattle.std.specs.FinMap as map
-use Rattle.std.specs.Prelude.{Bool, true, false, cond, nat_eq, ◌&&◌, ◌||◌, Option, Some, None, option_map, List}
+use Rattle.std.specs.Prelude.{Bool, true, false, ◌&&◌, ◌||◌, List}
 use Rattle.either.specs.declared.Either.{Either}
 use Rattle.either.specs.declared.Either.TheVariants.{Left, Right}
 use Rattle.cedar_language.specs.Uid.{Text, Name}
-use Rattle.cedar_language.specs.Tree.{String, MakeSet, MakeRecord, Call, Tree, Lit, Unknown, Apply, Trees, no_trees, a_tree}
-use Rattle.cedar_language.specs.Value.{Value, Plain, ExtensionOf, Extension, Values, no_values, a_value, Kind, WrongNumArguments, FailedExtensionFunctionExecution, Outcome, Gives, Fails}
+use Rattle.cedar_language.specs.Tree.{MakeSet, MakeRecord, Call, Tree, Lit, Unknown, Apply, Trees, no_trees, a_tree}
+use Rattle.cedar_language.specs.Value.{Value, ExtensionOf, Extension, Values, Kind, Outcome, Gives, Fails}
 use Rattle.cedar_language.specs.Facts.{Facts, Written}
-use Rattle.cedar_language.specs.Operators.{called, count, or_fails}
+use Rattle.cedar_language.specs.Operators.{called}
 use Rattle.cedar_language.specs.Restricted.{is_restricted, are_restricted}
 use Rattle.cedar_partial_evaluation.specs.Like.{Writes, IsLike, itself, writes_too, if_like, and_like, or_like, apply_like, AreLike, none_like, more_like}
 use Rattle.cedar_partial_evaluation.specs.Settling.{Is, Settlings, SomeOpen, SomeErrs, AllAre, kindless, apply_settled, all_settled_in}
@@ -17,17 +16,12 @@ use Rattle.cedar_partial_evaluation.specs.Partial.{Answer, ResidualTree, Failed,
 use Rattle.cedar_partial_evaluation.specs.Question.{IsAccepted, context_held, settled_names}
 use Rattle.cedar_world.specs.Asking.{WithEntries}
 use Rattle.cedar_world.specs.Bodies.{unknown_or, named_call, named, all_named, holds_call, hold_call}
-use Rattle.cedar_world.specs.Functions.{is_the_unknown, one_string, unknown_function}
-use Rattle.cedar_extensions.specs.Functions.{meaning_in, meaning_of}
-use Rattle.cedar_extensions.specs.Holding.{found_in}
-use Rattle.cedar_extensions.specs.Tables as tables
-use Rattle.cedar_extensions.specs.Tables.{functions_in, function_called}
-use Rattle.cedar_extensions.specs.declared.extensions.Extensions.{Extensions}
-use Rattle.cedar_extensions.specs.declared.functions.Function.{Function}
-use Rattle.cedar_extensions.specs.declared.functions.Function.TheVariants as function
-use Rattle.cedar_extensions.specs.declared.functions.ExtensionFunction.{ExtensionFunction}
+use Rattle.cedar_world.specs.Functions.{is_the_unknown}
+use Rattle.cedar_extensions.specs.Table.{Table}
 use Rattle.cedar_requests.specs.Answers.{part_answer}
 use Rattle.cedar_restricted_evaluation.specs.Evaluations.{HasFunctions, named_by, answer_in, IsAnswer, nothing_told}
+use Rattle.cedar_bodies.specs.Built.{GivesBuilt}
+use Rattle.cedar_bodies.proofs.Built.{IsBuiltOutcome, call_built}
 use Rattle.cedar_asking.proofs.Data.{accepts, all_named_are_data}
 
 and_left : (a b : Bool) → (a && b) ≡ true → a ≡ true
@@ -49,31 +43,13 @@ or_right true b h = cc
 neither : (a b : Bool) → a ≡ false → b ≡ false → (a || b) ≡ false
 neither a b h k = rw (h, k) refl
 
--- ---- no function of a table gives an extension value
+-- ---- no function of the table gives an extension value
 
-means_unknown : (g : Function) → meaning_in g ≡ unknown_function
-means_unknown function.Unknown = refl
-
-others_refused : (b : Bool) (o : Outcome) (v : Value) → b ≡ false → cond b o (Fails WrongNumArguments) ≡ Gives v → ⊥
-others_refused true o v e h = cc
-others_refused false o v e h = cc
-
-texts_alone : (vs : Values) (e : Extension) → called (Some unknown_function) vs ≡ Gives (ExtensionOf e) → ⊥
-texts_alone no_values e h = cc
-texts_alone (a_value (Plain (String t)) no_values) e h = cc
-texts_alone (a_value w no_values) e h = cc
-texts_alone (a_value v (a_value w ws)) e h =
-    others_refused (nat_eq 1 (suc (suc (count ws)))) (or_fails FailedExtensionFunctionExecution (one_string (a_value v (a_value w ws)))) (ExtensionOf e) (ne_eqb 1 (suc (suc (count ws))) (λ i. absurd (omega (arith, i)))) h
-
-gives_none : (o : Option ExtensionFunction) (vs : Values) (e : Extension) → called (option_map meaning_of o) vs ≡ Gives (ExtensionOf e) → ⊥
-gives_none None vs e h = cc
-gives_none (Some f) vs e h = texts_alone vs e (sym (ap (λ g. called (Some g) vs) (means_unknown f.function)) ∙ h)
-
-module _ (table : Extensions) (facts : Facts) (has : HasFunctions table facts) where
+module _ (table : Table) (gives : GivesBuilt table) (facts : Facts) (has : HasFunctions table facts) where
   is_given : (f : Name) (vs : Values) (e : Extension) (o : Outcome) → called (facts.function f) vs ≡ o → kindless o ≡ Is (ExtensionOf e) → ⊥
   is_given f vs e (Gives v) is h =
       let same : v ≡ ExtensionOf e = cc in
-      gives_none (found_in (functions_in table) f) vs e (sym (ap (λ g. called g vs) (has f)) ∙ is ∙ ap Gives same)
+      subst IsBuiltOutcome (sym (ap (λ g. called g vs) (has f)) ∙ is ∙ ap Gives same) (call_built table gives f vs)
   is_given f vs e (Fails k) is h = cc
 
   none_settles : (f : Name) (xs : Settlings) (e : Extension) → apply_settled facts (Call f) xs ≡ Is (ExtensionOf e) → ⊥
@@ -131,7 +107,7 @@ not_failed : (p : Either Value Tree) (k : Kind) → part_answer p ≡ Failed k �
 not_failed (Left v) k h = cc
 not_failed (Right r) k h = cc
 
-module _ (table : Extensions) (ks : List Text) (ts : Trees) (given : are_restricted ts ≡ true) (held : tables.holds_unknown table ≡ false → hold_call ts ≡ false)
+module _ (table : Table) (gives : GivesBuilt table) (ks : List Text) (ts : Trees) (given : are_restricted ts ≡ true) (held : table.has_unknown ≡ false → hold_call ts ≡ false)
     (p : Either Value Tree) (answers : (facts : Facts) → HasFunctions table facts → IsAnswer facts (answer_in table facts (Apply (MakeRecord ks) ts)) p) where
   -- the context as the world has it
   abbrev written : Tree
@@ -139,8 +115,8 @@ module _ (table : Extensions) (ks : List Text) (ts : Trees) (given : are_restric
 
   pub context_is : (facts : Facts) → HasFunctions table facts → context_held facts map.empty (WithEntries ks (all_named ts)) ≡ part_answer p
   context_is facts has =
-      ap (partial_in facts nothing_told) (sym (names_as (tables.holds_unknown table) written given held))
-      ∙ answer_is table facts has p (answer_in table facts written) (answers facts has)
+      ap (partial_in facts nothing_told) (sym (names_as table.has_unknown written given held))
+      ∙ answer_is table gives facts has p (answer_in table facts written) (answers facts has)
 
   pub context_accepted : (facts : Facts) → HasFunctions table facts → IsAccepted facts map.empty (WithEntries ks (all_named ts))
   context_accepted facts has = accepts facts (WithEntries ks (all_named ts)) (all_named_are_data ts given) (λ k e. not_failed p k (sym (context_is facts has) ∙ e))

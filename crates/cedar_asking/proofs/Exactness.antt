@@ -24,7 +24,7 @@ use Rattle.cedar_world.specs.Setting.{Setting}
 use Rattle.cedar_world.specs.Values.{holds_bad_unknown}
 use Rattle.cedar_constraints.specs.Bindings.{Bindings, binding_of}
 use Rattle.cedar_extensions.specs.Failures.{OfKind, LimitMet, MemoryRanOut}
-use Rattle.cedar_extensions.specs.declared.extensions.Extensions.{Extensions}
+use Rattle.cedar_extensions.specs.Table.{Table}
 use Rattle.cedar_interpreter.specs.Asking.{untold, request_held}
 use Rattle.cedar_interpreter.specs.Operating.{HasFunctions}
 use Rattle.cedar_requests.specs.Holding.{RequestParts}
@@ -80,7 +80,7 @@ module _ (law : PlainAnswers) (facts : Facts) (plain : HoldPlain facts) where
   context_plain NoContext named given told h = name_plain _ None (finite.get told _) (h _)
   context_plain (WithEntries ks ts) named given told h = law.plain facts plain (held_names told) (names_plain told h) (Apply (MakeRecord ks) ts) (record_calls_none (WithEntries ks ts) named given ks ts refl)
 
-  module _ (by : Setting) (table : Extensions) (q : Question) (r : RequestParts) (asked : IsRequestOf by table q r) (named : holds_bad_unknown q.context ≡ false) (served : HasFunctions table facts) where
+  module _ (by : Setting) (table : Table) (q : Question) (r : RequestParts) (asked : IsRequestOf by table q r) (named : holds_bad_unknown q.context ≡ false) (served : HasFunctions table facts) where
     held_plain : (v : Variable) → IsPlainAnswer (variable_held facts q finite.empty v)
     held_plain Principal = subst (λ o. IsPlainAnswer (part_held q.principal o (codes "principal"))) (sym (get-empty text_cmp (codes "principal"))) (part_plain q.principal (codes "principal"))
     held_plain Action = subst (λ o. IsPlainAnswer (part_held q.action o (codes "action"))) (sym (get-empty text_cmp (codes "action"))) (part_plain q.action (codes "action"))

@@ -29,8 +29,7 @@ use Rattle.cedar_world.specs.Syntax.{PolicySyntax, condition}
 use Rattle.cedar_world.specs.World.{World, in_force_at}
 use Rattle.cedar_world.specs.WorldFacts.{AreFactsOf}
 use Rattle.cedar_entities.specs.declared.store.Entities.{Entities}
-use Rattle.cedar_extensions.specs.Tables.{holds_unknown}
-use Rattle.cedar_extensions.specs.declared.extensions.Extensions.{Extensions}
+use Rattle.cedar_extensions.specs.Table.{Table}
 use Rattle.cedar_operators.specs.Store.{HasFacts}
 use Rattle.cedar_requests.specs.Holding.{RequestParts}
 use Rattle.cedar_interpreter.specs.Asking.{Inquiry, untold}
@@ -77,7 +76,7 @@ abbrev NamesNone : Entries → Type 0
 NamesNone es = (id : Text) (e : Entry) → bound_at es id ≡ Some e → calls_only is_other (condition_in e) ≡ true
 
 -- what is kept of a set's policies, whose store and table have the facts
-module _ (i : Inquiry) (store : Entities) (table : Extensions) (depth : ℕ) where
+module _ (i : Inquiry) (store : Entities) (table : Table) (depth : ℕ) where
   pub kept_of : (es : Entries) (ks : List Kept) → AreKept i store table depth es ks → (k : Kept) → IsAmong k ks → (e : Text × Entry) × IsAmong e es × IsKept i store table depth e k
   kept_of [] [] h k a = absurd a
   kept_of [] (l ∷ ks) h k a = absurd h
@@ -92,12 +91,12 @@ module _ (i : Inquiry) (store : Entities) (table : Extensions) (depth : ℕ) whe
   of_kept (f ∷ es) (l ∷ ks) (first, rest) e (inl is) = (l, inl refl, first.id ∙ ap (λ (x : Text × Entry). x.0) is)
   of_kept (f ∷ es) (l ∷ ks) (first, rest) e (inr a) = let (k, among, is) = of_kept es ks rest e a in (k, inr among, is)
 
-module _ (r : RequestParts) (store : Entities) (table : Extensions) (depth : ℕ) where
+module _ (r : RequestParts) (store : Entities) (table : Table) (depth : ℕ) where
   module _ (early : LinkingIsWritingEarly) (conditions : LinkConditions) (es : Entries) (whole : IsWhole es) (slots : HaveSlots es) (names : NamesNone es) (finds : FindsAsWorlds)
       (ks : List Kept) (kept : AreKept (untold r) store table depth (policies_of es) ks)
       (by : Setting) (world : World) (held : world.policies ≡ policies_in es) (facts : Facts) (has : HasFacts store facts) (served : HasFunctions table facts) (q : Question) (asked : IsRequestOf by table q r) where
     names_nothing : (e : Entry) → calls_only is_other (condition_in e) ≡ true → NamesNothing table (condition_in e)
-    names_nothing e h = by_table (holds_unknown table) _ (no_call (condition_in e) h)
+    names_nothing e h = by_table table.has_unknown _ (no_call (condition_in e) h)
       where
         by_table : (a b : Bool) → b ≡ false → (a && b) ≡ false
         by_table true b n = n

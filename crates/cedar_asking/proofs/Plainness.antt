@@ -1,32 +1,27 @@
 -- No extension value stands in what worlds, their functions and the requests of their questions hold.
-use Rattle.std.proofs.Common.{◌≡◌, ◌∙◌, refl, ap, sym, subst, Bool, true, false, ◌&&◌, ◌||◌, Option, Some, None, option_map}
+use Rattle.std.proofs.Common.{◌≡◌, ◌∙◌, refl, ap, sym, Bool, true, false, ◌&&◌, ◌||◌, Option, Some, None}
 use Rattle.std.specs.FinMap as finite
 use Rattle.cedar_language.specs.Uid.{Uid}
-use Rattle.cedar_language.specs.Tree.{String, SlotId, MakeSet, MakeRecord, Call, Tree, Lit, Unknown, Apply, Trees, no_trees, a_tree}
+use Rattle.cedar_language.specs.Tree.{SlotId, MakeSet, MakeRecord, Call, Tree, Lit, Unknown, Apply, Trees, no_trees, a_tree}
 use Rattle.cedar_language.specs.Value.{Value, Plain, SetOf, RecordOf, ExtensionOf, Values, no_values, a_value}
 use Rattle.cedar_language.specs.Facts as language
-use Rattle.cedar_language.specs.Facts.{Facts, Function}
+use Rattle.cedar_language.specs.Facts.{Facts}
 use Rattle.cedar_language.specs.Meaning.{slot_outcome}
 use Rattle.cedar_language.specs.Restricted.{is_restricted, are_restricted}
 use Rattle.cedar_partial_evaluation.specs.MadeAgain.{HoldsMade}
 use Rattle.cedar_partial_evaluation.specs.Partial.{answer_of}
 use Rattle.cedar_partial_evaluation.specs.ReadUnknowns.{calls_unknown, some_calls_unknown}
 use Rattle.cedar_world.specs.Bodies.{holds_call, hold_call}
-use Rattle.cedar_world.specs.Functions.{one_string, unknown_function}
 use Rattle.cedar_world.specs.Setting.{Setting, functions_alone}
 use Rattle.cedar_world.specs.World.{World}
 use Rattle.cedar_world.specs.WorldFacts.{AreFactsOf}
 use Rattle.cedar_telling.specs.Plain.{IsPlainValue, ArePlainValues, HoldPlain, IsPlainAnswer, as_unknown_calls, written_with}
-use Rattle.cedar_extensions.specs.Functions.{meaning_of}
-use Rattle.cedar_extensions.specs.Holding.{found_in}
-use Rattle.cedar_extensions.specs.Tables.{functions_in}
-use Rattle.cedar_extensions.specs.declared.extensions.Extensions.{Extensions}
-use Rattle.cedar_extensions.specs.declared.functions.ExtensionFunction.{ExtensionFunction}
+use Rattle.cedar_extensions.specs.Table.{Table}
 use Rattle.cedar_entities.specs.declared.store.Entities.{Entities}
 use Rattle.cedar_operators.specs.Store.{HasFacts}
-use Rattle.cedar_bodies.specs.Built.{IsBuilt, AreBuilt, HoldBuilt}
+use Rattle.cedar_bodies.specs.Built.{IsBuilt, AreBuilt, HoldBuilt, GivesBuilt}
 use Rattle.cedar_restricted_evaluation.specs.Evaluations.{HasFunctions}
-use Rattle.cedar_asking.proofs.Facts.{means_unknown, text_in, answer_made, of_seen}
+use Rattle.cedar_asking.proofs.Facts.{built_is_made, of_seen}
 
 mutual
   pub built_is_plain : (v : Value) → IsBuilt v → IsPlainValue v
@@ -39,51 +34,35 @@ mutual
   built_are_plain no_values h = tt
   built_are_plain (a_value v vs) h = (built_is_plain v h.0, built_are_plain vs h.1)
 
--- ---- functions of a table
-
-text_plain : (facts : Facts) (vs : Values) (v : Value) → one_string vs ≡ Some v → IsPlainValue v
-text_plain facts vs v h =
-    let (s, is) = text_in facts vs v h in
-    let both : ◌≡◌ {A = Option Value} (Some (Plain (String s))) (Some v) = sym (ap one_string is) ∙ h in
-    let same : Plain (String s) ≡ v = cc in
-    subst IsPlainValue same tt
-
-answer_plain : (facts : Facts) (o : Option ExtensionFunction) (f : Function) (vs : Values) (v : Value) → option_map meaning_of o ≡ Some f → f.answer vs ≡ Some v → IsPlainValue v
-answer_plain facts None f vs v is h = cc
-answer_plain facts (Some g) f vs v is h =
-    let there : meaning_of g ≡ f = cc in
-    let same : f ≡ unknown_function = sym there ∙ means_unknown facts g.function in
-    text_plain facts vs v (sym (ap (λ (x : Function). x.answer vs) same) ∙ h)
-
 -- ---- the facts of a world, and functions without entities
 
-pub facts_are_plain : (by : Setting) (world : World) (facts : Facts) (table : Extensions) → HasFunctions table facts → HoldBuilt world.entities → AreFactsOf by world facts → HoldPlain facts
-facts_are_plain by world facts table has built are = record {
+pub facts_are_plain : (by : Setting) (world : World) (facts : Facts) (table : Table) → GivesBuilt table → HasFunctions table facts → HoldBuilt world.entities → AreFactsOf by world facts → HoldPlain facts
+facts_are_plain by world facts table gives has built are = record {
   attribute = λ u h a v e f.
       let (d, is, same) = of_seen facts (finite.get world.entities u) h (sym (are.entity u) ∙ e) in
       built_is_plain v (built.attribute u d a v is (sym (ap (λ (x : language.Held). x.attribute a) same) ∙ f));
   tag = λ u h a v e f.
       let (d, is, same) = of_seen facts (finite.get world.entities u) h (sym (are.entity u) ∙ e) in
       built_is_plain v (built.tag u d a v is (sym (ap (λ (x : language.Held). x.tag a) same) ∙ f));
-  answer = λ n f vs v e h. answer_plain facts (found_in (functions_in table) n) f vs v (sym (has n) ∙ e) h;
+  answer = λ n f vs v e h. built_is_plain v (gives n f vs v (sym (has n) ∙ e) h);
 }
 
 none_is_held : (h : language.Held) → ◌≡◌ {A = Option language.Held} None (Some h) → ⊥
 none_is_held h e = cc
 
-module _ (by : Setting) (table : Extensions) (has : HasFunctions table (functions_alone by.functions)) where
+module _ (by : Setting) (table : Table) (gives : GivesBuilt table) (has : HasFunctions table (functions_alone by.functions)) where
   pub functions_are_plain : HoldPlain (functions_alone by.functions)
   functions_are_plain = record {
     attribute = λ u h a v e f. absurd (none_is_held h e);
     tag = λ u h a v e f. absurd (none_is_held h e);
-    answer = λ n f vs v e h. answer_plain (functions_alone by.functions) (found_in (functions_in table) n) f vs v (sym (has n) ∙ e) h;
+    answer = λ n f vs v e h. built_is_plain v (gives n f vs v (sym (has n) ∙ e) h);
   }
 
   pub functions_are_made : HoldsMade (functions_alone by.functions)
   functions_are_made = record {
     attribute = λ u h a v e f. absurd (none_is_held h e);
     tag = λ u h a v e f. absurd (none_is_held h e);
-    answer = λ n f vs v e made h. answer_made (functions_alone by.functions) (found_in (functions_in table) n) f vs v (sym (has n) ∙ e) h;
+    answer = λ n f vs v e made h. built_is_made (functions_alone by.functions) v (gives n f vs v (sym (has n) ∙ e) h);
   }
 
 -- ---- facts that write extension values otherwise

@@ -41,12 +41,12 @@ unsettled k e h = let no : is_settled (Erred LimitMet) ≡ true = sym (ap is_set
 
 module _ (exist : WorldsHaveFacts) (early : LinkingIsWritingEarly) (conditions : LinkConditions) (finds : FindsAsWorlds) (made : AnswersAreMade) (sound : EarlyStaysSound) (steady : FirstAnswersAreSteady) where
   pub questions_are_kept : QuestionsAreKept
-  questions_are_kept by world q es s table depth r first listed answer whole are asked named responds says =
+  questions_are_kept by world q es s table depth r first listed answer gives whole are asked named responds says =
       let facts : Facts = facts_of by world in
       let are_facts : AreFactsOf by world facts = exist.exist by world in
       let has : HasFacts s facts = store_has_facts by world facts s are_facts are.shows are.closed are.whole in
       let served : HasFunctions table facts = table_is_served by world facts table are_facts are.setting.functions in
-      let good = facts_are_made by world facts table served are.built are_facts in
+      let good = facts_are_made by world facts table gives served are.built are_facts in
       let kept_says : SaysHeld (holding_of responds.kept) listed answer = says_with_all (holding_of responds.kept) listed answer (subst (λ (h : Holding). SaysHeld h listed answer) responds.holds says) in
       let errors : map with_failure listed ≡ errors_of responds.kept = kept_says.errors in
       let settled = settled_listed listed responds.kept says.kinds errors in
@@ -61,6 +61,7 @@ module _ (exist : WorldsHaveFacts) (early : LinkingIsWritingEarly) (conditions :
           table = table;
           depth = depth;
           request = r;
+          gives = gives;
           whole = whole;
           of = are;
           is_request = asked;

@@ -22,8 +22,7 @@ use Rattle.cedar_world.specs.World.{World}
 use Rattle.cedar_world.specs.WorldFacts.{AreFactsOf}
 use Rattle.cedar_constraints.specs.Bindings.{binding_of, unbound}
 use Rattle.cedar_extensions.specs.Failures.{OfKind, LimitMet, MemoryRanOut}
-use Rattle.cedar_extensions.specs.Tables.{holds_unknown}
-use Rattle.cedar_extensions.specs.declared.extensions.Extensions.{Extensions}
+use Rattle.cedar_extensions.specs.Table.{Table}
 use Rattle.cedar_interpreter.specs.Asking.{untold, request_held}
 use Rattle.cedar_interpreter.specs.Operating.{HasFunctions, NamesNothing}
 use Rattle.cedar_operators.specs.Store.{HasFacts}
@@ -66,8 +65,8 @@ binds_written conditions (static_policy s) = sym (bound_to_nothing (binding_of u
 binds_written conditions (template s) = sym (bound_to_nothing (binding_of unbound) nothing_bound (condition s))
 binds_written conditions (link t s b) = conditions (binding_of b) s
 
-pub names_nothing : (table : Extensions) (t : Tree) → calls_unknown t ≡ false → NamesNothing table t
-names_nothing table t h = by_table (holds_unknown table) (calls_unknown t) h
+pub names_nothing : (table : Table) (t : Tree) → calls_unknown t ≡ false → NamesNothing table t
+names_nothing table t h = by_table table.has_unknown (calls_unknown t) h
   where
     by_table : (a b : Bool) → b ≡ false → (a && b) ≡ false
     by_table true b n = n
@@ -80,10 +79,10 @@ module _ (law : PlainAnswers) (finds : FindsAsWorlds) (by : Setting) (world : Wo
   first_served = table_is_served by world facts response.table are response.of.setting.functions
 
   pub first_made : HoldsMade facts
-  first_made = facts_are_made by world facts response.table first_served response.of.built are
+  first_made = facts_are_made by world facts response.table response.gives first_served response.of.built are
 
   pub first_plain : HoldPlain facts
-  first_plain = facts_are_plain by world facts response.table first_served response.of.built are
+  first_plain = facts_are_plain by world facts response.table response.gives first_served response.of.built are
 
   first_store : HasFacts response.store facts
   first_store = store_has_facts by world facts response.store are response.of.shows response.of.closed response.of.whole

@@ -23,6 +23,7 @@ use Rattle.cedar_world.specs.Question.{has_name, fits_part, fits_context}
 use Rattle.cedar_world.specs.Setting.{Setting}
 use Rattle.cedar_world.specs.Values.{variable_names}
 use Rattle.cedar_constraints.specs.Bindings.{unbound}
+use Rattle.cedar_extensions.specs.Table.{Table, as_table}
 use Rattle.cedar_extensions.specs.declared.extensions.Extensions.{Extensions}
 use Rattle.cedar_interpreter.specs.Asking.{context_asked, variable_asked, request_held}
 use Rattle.cedar_interpreter.specs.Operating.{HasFunctions}
@@ -48,7 +49,7 @@ record_fits (Plain l) h = cc
 record_fits (SetOf vs) h = cc
 record_fits (ExtensionOf e) h = cc
 
-module _ (by : Setting) (table : Extensions) (q : Question) (request : Request) (asked : IsRequestOf by table q (request_parts request)) (named : IsNamed q.context) (told : List (RcStr Global × Value)) (are : AreTold q told) where
+module _ (by : Setting) (table : Table) (q : Question) (request : Request) (asked : IsRequestOf by table q (request_parts request)) (named : IsNamed q.context) (told : List (RcStr Global × Value)) (are : AreTold q told) where
   -- no unknown of the context is named as it
   not_named : (ks : List Text) (ts : Trees) → IsNamed (WithEntries ks ts) → has_name (WithEntries ks ts) (codes "context") ≡ false
   not_named ks ts well = all_absent (text_eq (codes "context")) (is_one_of variable_names) is_context ts (or_left (some_name_of (is_one_of variable_names) ts) (hold_call ts) well.well)
@@ -93,8 +94,8 @@ module _ (by : Setting) (table : Extensions) (q : Question) (request : Request) 
 
     -- ---- what is held
 
-    module _ (law : PlainAnswers) (apart : LeavesDontMatter) (stay : ContextsStay) (tell : ToldContextsAreEvaluated) (good : HoldsMade facts) (plain : HoldPlain facts) (now : Extensions) (depth : ℕ) (now_served : HasFunctions now facts)
-        (made_told : AreMadeTold facts (told_in told)) (more : RequestParts) (concrete : IsConcreteRequest now depth told (request_parts request) more) where
+    module _ (law : PlainAnswers) (apart : LeavesDontMatter) (stay : ContextsStay) (tell : ToldContextsAreEvaluated) (good : HoldsMade facts) (plain : HoldPlain facts) (now : Extensions) (depth : ℕ) (now_served : HasFunctions (as_table now) facts)
+        (made_told : AreMadeTold facts (told_in told)) (more : RequestParts) (concrete : IsConcreteRequest (as_table now) depth told (request_parts request) more) where
       part_is : (n : Text) (old new s : Part) → old ≡ s → new ≡ part_told old (told_for told n) → ((v : Value) → told_for told n ≡ Some v → fits_part s v ≡ true) → part_held new None n ≡ part_held s (finite.get (told_in told) n) n
       part_is n old new s e is fit =
           ap (λ (p : Part). part_held p None n) (is ∙ ap (λ (p : Part). part_told p (told_for told n)) e)

@@ -24,7 +24,7 @@ use Rattle.cedar_world.specs.Syntax.{condition}
 use Rattle.cedar_asking.proofs.Known.{all_known}
 use Rattle.cedar_constraints.specs.Bindings.{Bindings, binding_of, unbound}
 use Rattle.cedar_extensions.specs.Failures.{OfKind, LimitMet, MemoryRanOut}
-use Rattle.cedar_extensions.specs.declared.extensions.Extensions.{Extensions}
+use Rattle.cedar_extensions.specs.Table.{Table}
 use Rattle.cedar_requests.specs.Holding.{RequestParts}
 use Rattle.cedar_interpreter.specs.Asking.{untold, request_held}
 use Rattle.cedar_interpreter.specs.Holding.{is_evaluated}
@@ -77,7 +77,7 @@ stand_alike (Failed k) b h = sym (ap standing_of_answer h)
 abbrev pub no_slots : Slots
 no_slots s = None
 
-module _ (table : Extensions) (q : Question) (r : RequestParts) (holds : HoldsQuestion table q r) (facts : Facts) (served : HasFunctions table facts) where
+module _ (table : Table) (q : Question) (r : RequestParts) (holds : HoldsQuestion table q r) (facts : Facts) (served : HasFunctions table facts) where
   nothing_told : (n : Text) (ty : _) → ResidualTree (Unknown n ty) ≡ name_held (finite.get {R = text_cmp} finite.empty n) n ty
   nothing_told n ty = ap (λ o. name_held o n ty) (sym (finite.get-empty text_cmp n))
 
@@ -103,7 +103,7 @@ module _ (table : Extensions) (q : Question) (r : RequestParts) (holds : HoldsQu
 
 -- ---- a known question
 
-module _ (meant : MentionedIsMeant) (by : Setting) (table : Extensions) (q : Question) (r : RequestParts) (asked : IsRequestOf by table q r) (served : HasFunctions table (functions_alone by.functions)) (known : IsKnown q) where
+module _ (meant : MentionedIsMeant) (by : Setting) (table : Table) (q : Question) (r : RequestParts) (asked : IsRequestOf by table q r) (served : HasFunctions table (functions_alone by.functions)) (known : IsKnown q) where
   given : (v : Variable) → is_given (untold r) v ≡ true
   given v =
       let (request, fills) = asked.request known in

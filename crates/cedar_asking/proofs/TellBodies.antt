@@ -16,7 +16,7 @@ use Rattle.cedar_world.specs.Refusals.{some_key}
 use Rattle.cedar_world.specs.Setting.{Setting}
 use Rattle.cedar_world.specs.Values.{some_field}
 use Rattle.cedar_entities.specs.Attributes.{seen_entries}
-use Rattle.cedar_extensions.specs.declared.extensions.Extensions.{Extensions}
+use Rattle.cedar_extensions.specs.Table.{Table}
 use Rattle.cedar_replies.specs.declared.refusal.Refusal.{Refusal}
 use Rattle.cedar_replies.specs.declared.refusal.Refusal.TheVariants as refusal
 use Rattle.cedar_restricted.specs.declared.partial_values.PartialValue.{PartialValue}
@@ -32,7 +32,7 @@ use Rattle.cedar_asking.proofs.TellParts.{each_uncalled, record_higher, fields_n
 same_question : (p q : Question) → Some p ≡ Some q → p ≡ q
 same_question p q e = cc
 
-module _ (S : Type 0) (told : HashMap (RcStr Global) Value S) (table : Extensions) (depth : ℕ) (tree asks : Tree) where
+module _ (S : Type 0) (told : HashMap (RcStr Global) Value S) (table : Table) (depth : ℕ) (tree asks : Tree) where
   -- this is what the body tells for the question that is stated
   abbrev pub Answers : Result (HashMap (RcStr Global) Value S) Refusal → Type 0
   Answers result = (by : Setting) (q : Question) → Serves table by (holds_call tree) → ask_body asks ≡ Some q → TellsBody {S = S} by q (told_in told.entries) depth tree result

@@ -2,14 +2,14 @@
 use Rattle.std.specs.Prelude.{◌≡◌, ◌<◌, ℕ, Some}
 use Rattle.cedar_language.specs.Height.{height}
 use Rattle.cedar_language.specs.Uid.{Text}
-use Rattle.cedar_extensions.specs.declared.extensions.Extensions.{Extensions}
+use Rattle.cedar_extensions.specs.Table.{Table}
 use Rattle.cedar_interpreter.specs.Operating.{HasFunctions}
 use Rattle.cedar_world.specs.Setting.{Setting, functions_alone}
 use Rattle.cedar_world.specs.Syntax.{PolicySyntax, condition}
 use Rattle.cedar_world.specs.World.{World, in_force_at}
 
 -- the setting has the functions of this table, and this limit
-pub record IsSettingOf (table : Extensions) (depth : ℕ) (by : Setting) : Type 0 where
+pub record IsSettingOf (table : Table) (depth : ℕ) (by : Setting) : Type 0 where
   pub functions : HasFunctions table (functions_alone by.functions)
   pub depth_is : by.depth ≡ depth
 

@@ -15,7 +15,7 @@ use Rattle.cedar_world.specs.Bodies.{ask_body, holds_call}
 use Rattle.cedar_world.specs.Setting.{Setting}
 use Rattle.cedar_world.specs.Values.{context_errs, holds_bad_unknown}
 use Rattle.cedar_extensions.specs.Failures.{failure_of}
-use Rattle.cedar_extensions.specs.declared.extensions.Extensions.{Extensions}
+use Rattle.cedar_extensions.specs.Table.{Table}
 use Rattle.cedar_bodies.specs.Refusals.{refusal_by}
 use Rattle.cedar_replies.specs.declared.refusal.Refusal.{Refusal}
 use Rattle.cedar_replies.specs.declared.refusal.Refusal.TheVariants.{Depth, Shape, Evaluation, BadUnknown, Memory}
@@ -58,7 +58,7 @@ IsDeeper depth (Some e) = depth < height (bare e.now)
 
 module _ (by : Setting) (c : Entries) where
   -- nothing refuses the context, and this is what it was evaluated to
-  pub record IsTakenAs (table : Extensions) (made : Option Context) : Type 0 where
+  pub record IsTakenAs (table : Table) (made : Option Context) : Type 0 where
     pub evaluated : HasContext table c (option_map context_part made)
     pub means : MeansRecord by c
     pub fine : context_errs by c map.empty ≡ false
@@ -77,7 +77,7 @@ IsWhyNone (creation.NotARecord e) r = ⊤
 IsWhyNone (creation.ExpressionConstruction e) r = ⊤
 
 -- what the context is evaluated to, or why it is refused
-abbrev pub EvaluatesContext : Setting → Extensions → ℕ → Written → Result (Option Context) Refusal → Type 0
+abbrev pub EvaluatesContext : Setting → Table → ℕ → Written → Result (Option Context) Refusal → Type 0
 EvaluatesContext by table depth written (Ok made) = IsTakenAs by (context_written written) table made
 EvaluatesContext by table depth written (Err Evaluation) = context_errs by (context_written written) map.empty ≡ true
 EvaluatesContext by table depth written (Err BadUnknown) = IsUnnamed by (context_written written)
@@ -87,7 +87,7 @@ EvaluatesContext by table depth written (Err r) = ⊥
 
 -- ---- the request
 
-module _ (by : Setting) (table : Extensions) (depth : ℕ) (tree : Tree) where
+module _ (by : Setting) (table : Table) (depth : ℕ) (tree : Tree) where
   -- the body states a question of which this holds
   abbrev pub States : (Question → Type 0) → Type 0
   States Holds = (q : Question) × (ask_body tree ≡ Some q) × Holds q

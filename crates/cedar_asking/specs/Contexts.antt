@@ -10,9 +10,9 @@ use Rattle.cedar_language.specs.Value.{Value, Gives}
 use Rattle.cedar_world.specs.Asking.{Entries, NoContext, WithEntries, Question}
 use Rattle.cedar_world.specs.Bodies.{all_named, hold_call, some_name_of}
 use Rattle.cedar_world.specs.Setting.{Setting, value_of}
-use Rattle.cedar_extensions.specs.Tables as tables
-use Rattle.cedar_extensions.specs.declared.extensions.Extensions.{Extensions}
+use Rattle.cedar_extensions.specs.Table.{Table}
 use Rattle.cedar_restricted_evaluation.specs.Evaluations.{HasFunctions, answer_in, IsAnswer}
+use Rattle.cedar_bodies.specs.Built.{GivesBuilt}
 use Rattle.cedar_requests.specs.Holding.{RequestParts}
 use Rattle.cedar_asking.specs.Requests.{IsRequestOf}
 
@@ -22,19 +22,19 @@ MeansRecord by NoContext = Unit {0}
 MeansRecord by (WithEntries ks ts) = some_name_of (λ n. true) ts ≡ false → (w : Value) × (value_of by.functions map.empty (Apply (MakeRecord ks) ts) ≡ Gives w)
 
 -- this is what a record of data, as a body writes it, is evaluated to; `unknown` isn't called where the table lacks it
-pub record IsEvaluatedTo (table : Extensions) (ks : List Text) (ts : Trees) (p : Either Value Tree) : Type 0 where
+pub record IsEvaluatedTo (table : Table) (ks : List Text) (ts : Trees) (p : Either Value Tree) : Type 0 where
   pub restricted : are_restricted ts ≡ true
-  pub uncalled : tables.holds_unknown table ≡ false → hold_call ts ≡ false
+  pub uncalled : table.has_unknown ≡ false → hold_call ts ≡ false
   pub answers : (facts : Facts) → HasFunctions table facts → IsAnswer facts (answer_in table facts (Apply (MakeRecord ks) ts)) p
 
 -- the question's context is the one written, and the request's what it was evaluated to; or neither has one
-pub data HasContext (table : Extensions) : Entries → Option (Either Value Tree) → Type 0 where
+pub data HasContext (table : Table) : Entries → Option (Either Value Tree) → Type 0 where
   neither_given : HasContext table NoContext None
   both_given : {ks : List Text} {ts : Trees} {p : Either Value Tree} → IsEvaluatedTo table ks ts p → HasContext table (WithEntries ks (all_named ts)) (Some p)
 
 -- a request with the question's parts, and what its context was evaluated to, is one of the question
 abbrev pub QuestionsAreAsked : Type 0
 QuestionsAreAsked =
-    (by : Setting) (table : Extensions) (q : Question) (r : RequestParts)
-    → r.principal ≡ q.principal → r.action ≡ q.action → r.resource ≡ q.resource → HasContext table q.context r.context → MeansRecord by q.context
+    (by : Setting) (table : Table) (q : Question) (r : RequestParts)
+    → GivesBuilt table → r.principal ≡ q.principal → r.action ≡ q.action → r.resource ≡ q.resource → HasContext table q.context r.context → MeansRecord by q.context
     → IsRequestOf by table q r

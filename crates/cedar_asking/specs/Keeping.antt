@@ -14,12 +14,12 @@ use Rattle.cedar_world.specs.World.{World}
 use Rattle.cedar_world.specs.WorldFacts.{facts_of}
 use Rattle.cedar_telling.specs.Joined.{IsSteady}
 use Rattle.cedar_entities.specs.declared.store.Entities.{Entities}
-use Rattle.cedar_extensions.specs.declared.extensions.Extensions.{Extensions}
+use Rattle.cedar_extensions.specs.Table.{Table}
 use Rattle.cedar_interpreter.specs.Asking.{untold}
 use Rattle.cedar_policy_set.specs.Entries.{Entries, IsWhole}
 use Rattle.cedar_requests.specs.Holding.{RequestParts}
 use Rattle.cedar_substitution.specs.Told.{told_for}
-use Rattle.cedar_bodies.specs.Built.{IsBuilt}
+use Rattle.cedar_bodies.specs.Built.{IsBuilt, GivesBuilt}
 use Rattle.cedar_evaluator.specs.Authorizing.{RespondsWithoutFalse}
 use Rattle.cedar_evaluator.specs.Holding.{holding_in}
 use Rattle.cedar_evaluator.specs.declared.partial_response.PartialResponse.{PartialResponse}
@@ -42,9 +42,10 @@ pub record IsNamed (context : Written) : Type 0 where
 pub record IsFirstResponse (by : Setting) (world : World) (q : Question) (first : PartialResponse) : Type 0 where
   pub policies : Entries
   pub store : Entities
-  pub table : Extensions
+  pub table : Table
   pub depth : ℕ
   pub request : RequestParts
+  pub gives : GivesBuilt table
   pub whole : IsWhole policies
   pub of : AreOf by world policies store table depth
   pub is_request : IsRequestOf by table q request

@@ -16,7 +16,7 @@ use Rattle.cedar_world.specs.WorldFacts.{AreFactsOf}
 use Rattle.cedar_entities.specs.Shown.{Shows}
 use Rattle.cedar_entities.specs.Store.{held_at, is_partial_store, IsClosed}
 use Rattle.cedar_entities.specs.declared.store.Entities.{Entities}
-use Rattle.cedar_extensions.specs.declared.extensions.Extensions.{Extensions}
+use Rattle.cedar_extensions.specs.Table.{Table}
 use Rattle.cedar_interpreter.specs.Asking.{untold}
 use Rattle.cedar_interpreter.specs.Operating.{HasFunctions}
 use Rattle.cedar_operators.specs.Store.{HasFacts}
@@ -27,7 +27,7 @@ use Rattle.cedar_replies.specs.Erring.{have_kinds, with_kinds}
 use Rattle.cedar_replies.specs.declared.error_kind.ErrorKind.{ErrorKind}
 use Rattle.cedar_requests.specs.Holding.{RequestParts}
 use Rattle.cedar_asking.specs.Answers.{IsSettingOf, SomeTooHigh}
-use Rattle.cedar_bodies.specs.Built.{HoldBuilt}
+use Rattle.cedar_bodies.specs.Built.{HoldBuilt, GivesBuilt}
 use Rattle.cedar_asking.specs.Erring.{with_failure, SomeAtLimit}
 use Rattle.cedar_evaluator.specs.Evaluations.{Kept, AreKept}
 use Rattle.cedar_asking.specs.Requests.{IsRequestOf}
@@ -41,16 +41,16 @@ StoresHaveWorldFacts = (by : Setting) (world : World) (facts : Facts) (s : Entit
 
 -- a table that has the setting's functions has those of its worlds
 abbrev pub TablesServeWorlds : Type 0
-TablesServeWorlds = (by : Setting) (world : World) (facts : Facts) (table : Extensions) → AreFactsOf by world facts → HasFunctions table (functions_alone by.functions) → HasFunctions table facts
+TablesServeWorlds = (by : Setting) (world : World) (facts : Facts) (table : Table) → AreFactsOf by world facts → HasFunctions table (functions_alone by.functions) → HasFunctions table facts
 
--- what a world holds is made again by trees for it, where no extension value stands in it
+-- what a world holds is made again by trees for it, where no extension value stands in it and no function gives one
 abbrev pub WorldsAreMade : Type 0
-WorldsAreMade = (by : Setting) (world : World) (facts : Facts) (table : Extensions) → HasFunctions table facts → HoldBuilt world.entities → AreFactsOf by world facts → HoldsMade facts
+WorldsAreMade = (by : Setting) (world : World) (facts : Facts) (table : Table) → GivesBuilt table → HasFunctions table facts → HoldBuilt world.entities → AreFactsOf by world facts → HoldsMade facts
 
 -- ---- responses
 
 -- a world has the policies of a whole set, and its facts are those of a store and a table
-pub record IsHeldBy (by : Setting) (world : World) (facts : Facts) (es : Entries) (s : Entities) (table : Extensions) : Type 0 where
+pub record IsHeldBy (by : Setting) (world : World) (facts : Facts) (es : Entries) (s : Entities) (table : Table) : Type 0 where
   pub whole : IsWhole es
   pub slots : HaveSlots es
   pub names : NameNoUnknown es
@@ -68,7 +68,7 @@ pub record SaysHeld (h : Holding) (listed : List (Text × ErrorKind)) (answer : 
   pub may : answer.may ≡ ids_of (ids_with (in_may (judged_held h)) (judged_held h))
   pub erring : answer.erring ≡ finite.from_entries (with_kinds listed)
 
-module _ (by : Setting) (world : World) (facts : Facts) (es : Entries) (s : Entities) (table : Extensions) (depth : ℕ) (q : Question) (r : RequestParts) (ks : List Kept) where
+module _ (by : Setting) (world : World) (facts : Facts) (es : Entries) (s : Entities) (table : Table) (depth : ℕ) (q : Question) (r : RequestParts) (ks : List Kept) where
   pub record AnswersQuestion : Type 0 where
     -- where no limit was met, what the response says is a first answer
     pub first : HoldsMade facts → (listed : List (Text × ErrorKind)) (answer : Answer) → SaysHeld (holding_of ks) listed answer → IsFirstAnswer by world q answer
@@ -78,6 +78,6 @@ module _ (by : Setting) (world : World) (facts : Facts) (es : Entries) (s : Enti
 -- what is kept of the policies held, evaluated for the request of a question, answers it
 abbrev pub ResponsesAnswerQuestions : Type 0
 ResponsesAnswerQuestions =
-    (by : Setting) (world : World) (facts : Facts) (es : Entries) (s : Entities) (table : Extensions) (depth : ℕ) (q : Question) (r : RequestParts) (ks : List Kept)
+    (by : Setting) (world : World) (facts : Facts) (es : Entries) (s : Entities) (table : Table) (depth : ℕ) (q : Question) (r : RequestParts) (ks : List Kept)
     → IsHeldBy by world facts es s table → IsRequestOf by table q r → AreKept (untold r) s table depth (policies_of es) ks
     → AnswersQuestion by world facts es s table depth q r ks

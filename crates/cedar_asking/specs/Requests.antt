@@ -7,17 +7,17 @@ use Rattle.cedar_partial_evaluation.specs.Question.{IsAccepted, variable_held}
 use Rattle.cedar_world.specs.Asking.{Question}
 use Rattle.cedar_world.specs.First.{IsData, HasRequest}
 use Rattle.cedar_world.specs.Setting.{Setting}
-use Rattle.cedar_extensions.specs.declared.extensions.Extensions.{Extensions}
+use Rattle.cedar_extensions.specs.Table.{Table}
 use Rattle.cedar_interpreter.specs.Asking.{variable_asked}
 use Rattle.cedar_interpreter.specs.Operating.{HasFunctions}
 use Rattle.cedar_requests.specs.Holding.{RequestParts}
 
 -- what stands for each variable is what is held of the question where nothing is told
-abbrev pub HoldsQuestion : Extensions → Question → RequestParts → Type 0
+abbrev pub HoldsQuestion : Table → Question → RequestParts → Type 0
 HoldsQuestion table q r = (facts : Facts) → HasFunctions table facts → (v : Variable) → variable_asked r v ≡ variable_held facts q map.empty v
 
 -- the question's context is data that doesn't err, a known question has a request, and this is what is held of it
-pub record IsRequestOf (by : Setting) (table : Extensions) (q : Question) (r : RequestParts) : Type 0 where
+pub record IsRequestOf (by : Setting) (table : Table) (q : Question) (r : RequestParts) : Type 0 where
   pub is_data : IsData q.context
   pub holds : HoldsQuestion table q r
   pub accepted : (facts : Facts) → HasFunctions table facts → IsAccepted facts map.empty q.context

@@ -15,11 +15,13 @@ use Rattle.cedar_world.specs.World.{World}
 use Rattle.cedar_telling.specs.Joined.{IsJoined}
 use Rattle.cedar_entities.specs.declared.store.Entities.{Entities}
 use Rattle.cedar_extensions.specs.Failures.{Failure, OfKind, failure_of}
+use Rattle.cedar_extensions.specs.Table.{Table, as_table}
 use Rattle.cedar_extensions.specs.declared.extensions.Extensions.{Extensions}
 use Rattle.cedar_interpreter.specs.Asking.{untold}
 use Rattle.cedar_policy_set.specs.Entries.{Entries, IsWhole}
 use Rattle.cedar_replies.specs.declared.error_kind.ErrorKind.{ErrorKind}
 use Rattle.cedar_requests.specs.Holding.{RequestParts}
+use Rattle.cedar_bodies.specs.Built.{GivesBuilt}
 use Rattle.cedar_evaluator.specs.Authorizing.{RespondsWithoutFalse}
 use Rattle.cedar_evaluator.specs.Holding.{holding_in}
 use Rattle.cedar_evaluator.specs.Reauthorizing.{Reauthorizes}
@@ -43,8 +45,8 @@ MoreIsTold =
 -- a question that was just asked is kept, where no limit was met
 abbrev pub QuestionsAreKept : Type 0
 QuestionsAreKept =
-    (by : Setting) (world : World) (q : Question) (es : Entries) (s : Entities) (table : Extensions) (depth : ℕ) (r : RequestParts) (first : PartialResponse) (listed : List (Text × ErrorKind)) (answer : Answer)
-    → IsWhole es → AreOf by world es s table depth → IsRequestOf by table q r → IsNamed q.context → RespondsWithoutFalse (untold r) s table depth es first → SaysHeld (holding_in first) listed answer
+    (by : Setting) (world : World) (q : Question) (es : Entries) (s : Entities) (table : Table) (depth : ℕ) (r : RequestParts) (first : PartialResponse) (listed : List (Text × ErrorKind)) (answer : Answer)
+    → GivesBuilt table → IsWhole es → AreOf by world es s table depth → IsRequestOf by table q r → IsNamed q.context → RespondsWithoutFalse (untold r) s table depth es first → SaysHeld (holding_in first) listed answer
     → KeepsQuestion by world q first [] answer
 
 module _ (by : Setting) (world : World) (q : Question) (first : PartialResponse) (old told : List (RcStr Global × Value)) (last answer : Answer) where
@@ -57,10 +59,10 @@ module _ (by : Setting) (world : World) (q : Question) (first : PartialResponse)
 -- where no limit is met, the first response taken up again, joined with the last answer, answers the question
 abbrev pub TellsAreAnswered : Type 0
 TellsAreAnswered =
-    (by : Setting) (world : World) (q : Question) (first again : PartialResponse) (old told : List (RcStr Global × Value)) (es : Entries) (s : Entities) (table : Extensions) (depth : ℕ)
+    (by : Setting) (world : World) (q : Question) (first again : PartialResponse) (old told : List (RcStr Global × Value)) (es : Entries) (s : Entities) (extensions : Extensions) (depth : ℕ)
     (listed : List (Text × ErrorKind)) (last new answer : Answer)
-    → KeepsQuestion by world q first old last → AreOf by world es s table depth → AreTold q told → Extends (told_in old) (told_in told)
-    → Reauthorizes s table depth told first (Ok again) → SaysHeld (holding_in again) listed new → IsJoined last new answer
+    → KeepsQuestion by world q first old last → AreOf by world es s (as_table extensions) depth → AreTold q told → Extends (told_in old) (told_in told)
+    → Reauthorizes s (as_table extensions) depth told first (Ok again) → SaysHeld (holding_in again) listed new → IsJoined last new answer
     → IsAnsweredLater by world q first old told last answer
 
 -- the context's evaluation failed, by an error that it meets wherever it is evaluated; or the limit was met, or memory ran out
@@ -77,7 +79,7 @@ IsWhyNotTold by q told e = ⊥
 
 abbrev pub TellsAreRefused : Type 0
 TellsAreRefused =
-    (by : Setting) (world : World) (q : Question) (first : PartialResponse) (old told : List (RcStr Global × Value)) (es : Entries) (s : Entities) (table : Extensions) (depth : ℕ) (last : Answer) (e : ReauthorizationError)
-    → KeepsQuestion by world q first old last → AreOf by world es s table depth → AreTold q told
-    → Reauthorizes s table depth told first (Err e)
+    (by : Setting) (world : World) (q : Question) (first : PartialResponse) (old told : List (RcStr Global × Value)) (es : Entries) (s : Entities) (extensions : Extensions) (depth : ℕ) (last : Answer) (e : ReauthorizationError)
+    → KeepsQuestion by world q first old last → AreOf by world es s (as_table extensions) depth → AreTold q told
+    → Reauthorizes s (as_table extensions) depth told first (Err e)
     → IsWhyNotTold by q told e

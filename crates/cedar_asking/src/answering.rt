@@ -2,6 +2,7 @@
 ghost use Rattle.std.specs.declared.rc.RcStr.{RcStr as Name};
 ghost use Rattle.std.specs.declared.alloc.Global.{Global as Memory};
 ghost use Rattle.std.specs.Prelude.{◌≡◌, List, IfOk};
+ghost use Rattle.cedar_extensions.specs.Table.{as_table};
 ghost use Rattle.cedar_evaluator.specs.Holding.{holding_in};
 ghost use Rattle.cedar_evaluator.specs.Responses.{judged_held};
 ghost use Rattle.cedar_language.specs.Answering.{in_must, in_may};
@@ -84,7 +85,7 @@ pub fn answer(
     extensions: &Extensions<'_>,
     depth: u32,
 ) -> Result<(PartialResponse, Answer), Refusal>
-    ensures { (by : Setting) (world : World) (q : Question) → AreOf by world policies.now entities.now extensions.now depth → IsRequestOf by extensions.now q (request_parts request) → IsNamed q.context → AnswersAsked by world q result }
+    ensures { (by : Setting) (world : World) (q : Question) → AreOf by world policies.now entities.now (as_table extensions.now) depth → IsRequestOf by (as_table extensions.now) q (request_parts request) → IsNamed q.context → AnswersAsked by world q result }
 {
     cedar_world::worlds_have_facts();
     worlds_are_shown();
@@ -128,7 +129,7 @@ pub fn answer_told(
     extensions: &Extensions<'_>,
     depth: u32,
 ) -> Result<Answer, Refusal>
-    ensures { (by : Setting) (world : World) (q : Question) (old : List (Name Memory × Valued)) (es : Entries) → KeepsQuestion by world q first.now old (answer_of last.now) → AreOf by world es entities.now extensions.now depth → AreTold q told.now.entries → Extends (told_in old) (told_in told.now.entries) → AnswersTold by world q first.now old told.now.entries (answer_of last.now) result }
+    ensures { (by : Setting) (world : World) (q : Question) (old : List (Name Memory × Valued)) (es : Entries) → KeepsQuestion by world q first.now old (answer_of last.now) → AreOf by world es entities.now (as_table extensions.now) depth → AreTold q told.now.entries → Extends (told_in old) (told_in told.now.entries) → AnswersTold by world q first.now old told.now.entries (answer_of last.now) result }
 {
     tells_are_answered();
     tells_are_refused();

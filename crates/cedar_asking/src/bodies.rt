@@ -1,6 +1,7 @@
 // The request that a body states.
 ghost use Rattle.std.specs.Prelude.{◌≡◌, IfOk, option_map};
 ghost use Rattle.cedar_bodies.specs.Fields.{Serves};
+ghost use Rattle.cedar_extensions.specs.Table.{as_table};
 ghost use Rattle.cedar_requests.specs.Parts as requests;
 ghost use Rattle.cedar_restricted.specs.Views.{restricted_tree};
 ghost use Rattle.cedar_world.specs.Bodies.{part_of, holds_call};
@@ -51,7 +52,7 @@ fn context_of(
     depth: u32,
 ) -> Result<Option<Context>, Refusal>
     requires { IsWrittenAsData written }
-    ensures { (by : Setting) → Serves extensions.now by (holds_call_in written.entry) → EvaluatesContext by extensions.now depth written.entry result }
+    ensures { (by : Setting) → Serves (as_table extensions.now) by (holds_call_in written.entry) → EvaluatesContext by (as_table extensions.now) depth written.entry result }
 {
     trees_are_read();
     let Some(record) = written else {
@@ -78,7 +79,7 @@ pub fn request_of(
     extensions: &Extensions<'_>,
     depth: u32,
 ) -> Result<Request, Refusal>
-    ensures { (by : Setting) → Serves extensions.now by (holds_call (restricted_tree body.now)) → AsksBody by extensions.now depth (restricted_tree body.now) result }
+    ensures { (by : Setting) → Serves (as_table extensions.now) by (holds_call (restricted_tree body.now)) → AsksBody by (as_table extensions.now) depth (restricted_tree body.now) result }
 {
     questions_are_asked();
     let Some(asked) = ask_body(body.as_ref()) else {

@@ -2,6 +2,7 @@
 ghost use Rattle.std.specs.Prelude.{◌≡◌, Some, IfOk, OnOk, not, is_some};
 ghost use Rattle.std.specs.FinMap as finite;
 ghost use Rattle.std.specs.Rc.{rc_str_bytes};
+ghost use Rattle.cedar_extensions.specs.Table.{as_table};
 ghost use Rattle.cedar_bodies.specs.Fields.{Serves};
 ghost use Rattle.cedar_bodies.specs.Lent.{fields_in};
 ghost use Rattle.cedar_bodies.specs.Questions.{question_of};
@@ -125,7 +126,7 @@ pub fn told_by(
     extensions: &Extensions<'_>,
     depth: u32,
 ) -> Result<HashMap<RcStr, Value>, Refusal>
-    ensures { (by : Setting) (q : Question) → Serves extensions.now by (holds_call (restricted_tree body.now)) → world.ask_body (restricted_tree question.now) ≡ Some q → TellsBody by q (told_in told.now.entries) depth (restricted_tree body.now) result }
+    ensures { (by : Setting) (q : Question) → Serves (as_table extensions.now) by (holds_call (restricted_tree body.now)) → world.ask_body (restricted_tree question.now) ≡ Some q → TellsBody by q (told_in told.now.entries) depth (restricted_tree body.now) result }
 {
     let Some(entries) = entries_of(body.as_ref()) else {
         return Err(Refusal::Shape);

@@ -20,7 +20,7 @@ use Rattle.cedar_world.specs.Step.{Step, IsFirstAnswer}
 use Rattle.cedar_world.proofs.Parts.{same_some}
 use Rattle.cedar_world.proofs.BodyCommands.{not_below, stands_not, stands_first}
 use Rattle.cedar_world.proofs.LoadAndAsk.{ask_lacks_memory, ask_is_no_text, ask_is_deep, ask_is_not_restricted, ask_is_misshapen, ask_stands}
-use Rattle.cedar_extensions.specs.declared.extensions.Extensions.{Extensions}
+use Rattle.cedar_extensions.specs.Table.{Table}
 use Rattle.cedar_replies.specs.declared.answer.Answer.{Answer}
 use Rattle.cedar_replies.specs.declared.refusal.Refusal.{Refusal}
 use Rattle.cedar_replies.specs.declared.refusal.Refusal.TheVariants.{Text, Depth, NotRestricted, Shape, Evaluation, BadUnknown, Memory}
@@ -53,7 +53,7 @@ module _ (by : Setting) (old : World) (text : uid.Text) (once : BodiesAreOne by)
     ask_first q asks commands.Depth late holds before = absurd holds
     ask_first q asks r late holds before = stands_first by old text ask_body (AskCases by old) (λ b x. x) once tree reads low restricted q asks r late holds before
 
-    pub unasked : (table : Extensions) (r : Refusal) → AsksBody by table by.depth tree (Err r) → Step by old Ask text (Refused (refusal_of r)) old
+    pub unasked : (table : Table) (r : Refusal) → AsksBody by table by.depth tree (Err r) → Step by old Ask text (Refused (refusal_of r)) old
     unasked table Shape h = ask_is_misshapen by old text once tree reads low restricted h
     unasked table Evaluation h = (ask_first h.0 h.1 commands.Evaluation (omega arith) h.2 before, refl)
       where

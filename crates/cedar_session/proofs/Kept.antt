@@ -31,6 +31,7 @@ use Rattle.cedar_asking.specs.Responses.{AnswersTold}
 use Rattle.cedar_asking.specs.TellLaws.{MoreIsTold}
 use Rattle.cedar_asking.specs.Tells.{TellMore, told_in}
 use Rattle.cedar_entities.specs.declared.store.Entities.{Entities as Store}
+use Rattle.cedar_extensions.specs.Table.{as_table}
 use Rattle.cedar_extensions.specs.declared.extensions.Extensions.{Extensions}
 use Rattle.cedar_policy_set.specs.Entries.{Entries}
 use Rattle.cedar_replies.specs.Refusals.{refusal_of}
@@ -58,7 +59,7 @@ Map = HashMap (RcStr Global) Value (BuildHasherDefault FoldHasher)
 
 -- the store holds the entities of the world, by the functions and the limit of the session
 pub record IsStoreOf (table : Extensions) (depth : ℕ) (entities : Entities) (s : Store) : Type 0 where
-  pub setting : IsSettingOf table depth (setting_with table depth)
+  pub setting : IsSettingOf (as_table table) depth (setting_with table depth)
   pub shows : Shows (held_at s) entities
   pub closed : IsClosed s
   pub whole : is_partial_store s ≡ false
@@ -109,7 +110,7 @@ module _ (table : Extensions) (depth : ℕ) (policies : Policies) (entities : En
     -- what an answer once these values are told is said to be
     abbrev Says : Map → Store → Result Answer Refusal → Type 0
     Says all s result =
-        (es : Entries) → KeepsQuestion by bare question asked.first asked.told.entries (answer_of asked.answer) → AreOf by bare es s table depth
+        (es : Entries) → KeepsQuestion by bare question asked.first asked.told.entries (answer_of asked.answer) → AreOf by bare es s (as_table table) depth
         → AreTold question all.entries → Extends (told_in asked.told.entries) (told_in all.entries)
         → AnswersTold by bare question asked.first asked.told.entries all.entries (answer_of asked.answer) result
 

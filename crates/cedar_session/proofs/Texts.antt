@@ -22,6 +22,7 @@ use Rattle.cedar_language.specs.Facts.{Written}
 use Rattle.cedar_language.specs.Value.{Extension}
 use Rattle.cedar_world.specs.Functions.{function_of}
 use Rattle.cedar_extensions.specs.Defining.{defined}
+use Rattle.cedar_extensions.specs.Table.{as_table}
 use Rattle.cedar_extensions.specs.Tables.{functions_in, holds_unknown, function_called}
 use Rattle.cedar_extensions.specs.declared.extensions.Extensions.{Extensions}
 use Rattle.cedar_bodies.specs.Fields.{Serves}
@@ -49,7 +50,7 @@ read_tree by text s t same h = subst (λ x. IsBodyWithin by by.depth text x × (
 
 -- a session's functions are those of its table
 pub serves : (table : Extensions) (depth : ℕ) (s t : Tree) → t ≡ s → ((written : Extension → Written) (name : uid.Name) → function_of (defined written (functions_in table)) name ≡ function_called table name)
-    → (holds_unknown table ≡ false → holds_call s ≡ false) → Serves table (setting_with table depth) (holds_call t)
+    → (holds_unknown table ≡ false → holds_call s ≡ false) → Serves (as_table table) (setting_with table depth) (holds_call t)
 serves table depth s t same are calls = record {
   functions = λ name. are (setting_with table depth).functions.written name;
   held = λ none. ap holds_call same ∙ calls none;

@@ -2,6 +2,8 @@
 use Rattle.std.proofs.Common.{sym, ◌∙◌, ap, subst}
 use Rattle.std.proofs.lemmas.Result.{err_from_is_err_and}
 use Rattle.cedar_bodies.specs.Questions.{LendsContext}
+use Rattle.cedar_bodies.proofs.Built.{gives_built}
+use Rattle.cedar_extensions.specs.Table.{as_table}
 use Rattle.cedar_language.specs.Tree.{Tree}
 use Rattle.cedar_restricted.specs.Views.{restricted_tree}
 use Rattle.cedar_trees.specs.Bare.{bare}
@@ -14,7 +16,7 @@ context_of-requires c = written_as_data (bare c.as_ref.result.now) c.as_ref.ensu
 
 pub returns-in_err-context : goal.returns-in_err-context
 returns-in_err-context c = λ by serves.
-    let table = c.args.extensions.now in
+    let table = as_table c.args.extensions.now in
     let tree = restricted_tree c.args.body.now in
     let b = c.in-Some.asked in
     let lent = subst (λ (t : Tree). LendsContext t b.context) c.as_ref.ensures.tree c.in-Some.ensures.lent in
@@ -23,10 +25,10 @@ returns-in_err-context c = λ by serves.
 
 pub returns : goal.returns
 returns c = λ by serves.
-    let table = c.args.extensions.now in
+    let table = as_table c.args.extensions.now in
     let tree = restricted_tree c.args.body.now in
     let b = c.in-Some.asked in
     let lent = subst (λ (t : Tree). LendsContext t b.context) c.as_ref.ensures.tree c.in-Some.ensures.lent in
-    is_asked by table c.args.depth tree b (sym (c.in-Some.ensures.question ∙ ap ask_body c.as_ref.ensures.tree)) lent c.questions_are_asked.ensures c.new_unchecked.result
+    is_asked by table c.args.depth tree b (sym (c.in-Some.ensures.question ∙ ap ask_body c.as_ref.ensures.tree)) lent c.questions_are_asked.ensures (gives_built c.args.extensions.now) c.new_unchecked.result
     c.in_ok-principal.principal c.in_ok-action.action c.in_ok-resource.resource c.in_ok-context.context c.new_unchecked.ensures
     c.in_ok-principal.ensures c.in_ok-action.ensures c.in_ok-resource.ensures (c.in_ok-context.ensures by (serves_written tree table by b.context lent serves))

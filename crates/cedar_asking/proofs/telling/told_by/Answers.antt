@@ -4,6 +4,7 @@ use Rattle.std.proofs.lemmas.Result.{err_from_is_err_and}
 use Rattle.cedar_bodies.specs.Fields.{AreEvaluated}
 use Rattle.cedar_bodies.specs.Lent.{fields_in}
 use Rattle.cedar_bodies.specs.Questions.{question_of}
+use Rattle.cedar_extensions.specs.Table.{as_table}
 use Rattle.cedar_restricted.specs.Views.{restricted_tree}
 use Rattle.cedar_trees.specs.Bare.{bare, record_tree}
 use Rattle.cedar_world.specs.Bodies.{ask_body}
@@ -18,7 +19,7 @@ is_record c = sym c.as_ref.ensures.tree ∙ c.in-Some.ensures.tree
 is_stated : (c : In-Some-ask_body) → Some (question_of c.in-Some-ask_body.asked) ≡ ask_body (restricted_tree c.args.question.now)
 is_stated c = c.in-Some-ask_body.ensures.question ∙ ap ask_body c.as_ref-2.ensures.tree
 
-evaluated_is : (c : In-Some-2) → AreEvaluated c.args.extensions.now c.args.depth (fields_in c.in-Some.entries.now) (Ok (Some c.in-Some-2.values))
+evaluated_is : (c : In-Some-2) → AreEvaluated (as_table c.args.extensions.now) c.args.depth (fields_in c.in-Some.entries.now) (Ok (Some c.in-Some-2.values))
 evaluated_is c = rw c.in-Some-2.is at c.in_ok-values.ensures
 
 pub all_evaluated-requires : goal.all_evaluated-requires
@@ -27,26 +28,26 @@ all_evaluated-requires c = record_restricted (bare c.as_ref.result.now) (fields_
 pub returns-in_err-values : goal.returns-in_err-values
 returns-in_err-values c = λ by q serves a.
     let p = err_from_is_err_and c.from_residual.result c.from_residual.ensures.1 in
-    rw (p.1, p.2) (refused _ c.args.told.now c.args.extensions.now c.args.depth (restricted_tree c.args.body.now) (restricted_tree c.args.question.now) (fields_in c.in-Some.entries.now) (is_record (goal.at.returns-in_err-values c).In-Some)
+    rw (p.1, p.2) (refused _ c.args.told.now (as_table c.args.extensions.now) c.args.depth (restricted_tree c.args.body.now) (restricted_tree c.args.question.now) (fields_in c.in-Some.entries.now) (is_record (goal.at.returns-in_err-values c).In-Some)
     c.in_err-values.field-0.0 c.in_err-values.ensures by q serves a)
 
 pub returns-in_default-2 : goal.returns-in_default-2
 returns-in_default-2 c =
-    let none : AreEvaluated c.args.extensions.now c.args.depth (fields_in c.in-Some.entries.now) (Ok None) = rw c.in_default-2.is at c.in_ok-values.ensures in
-    not_values _ c.args.told.now c.args.extensions.now c.args.depth (restricted_tree c.args.body.now) (restricted_tree c.args.question.now) (fields_in c.in-Some.entries.now) (is_record (goal.at.returns-in_default-2 c).In-Some) none
+    let none : AreEvaluated (as_table c.args.extensions.now) c.args.depth (fields_in c.in-Some.entries.now) (Ok None) = rw c.in_default-2.is at c.in_ok-values.ensures in
+    not_values _ c.args.told.now (as_table c.args.extensions.now) c.args.depth (restricted_tree c.args.body.now) (restricted_tree c.args.question.now) (fields_in c.in-Some.entries.now) (is_record (goal.at.returns-in_default-2 c).In-Some) none
 
 pub names_no_unknown-requires : goal.names_no_unknown-requires
 names_no_unknown-requires c = given_restricted (bare c.as_ref-2.result.now) c.as_ref-2.ensures.restricted c.in-Some-ask_body.asked.context c.in-Some-ask_body.ensures.lent
 
 pub returns-then-names_no_unknown : goal.returns-then-names_no_unknown
 returns-then-names_no_unknown c =
-    no_unknown _ c.args.told.now c.args.extensions.now c.args.depth (restricted_tree c.args.body.now) (restricted_tree c.args.question.now) (fields_in c.in-Some.entries.now) (is_record (goal.at.returns-then-names_no_unknown c).In-Some)
+    no_unknown _ c.args.told.now (as_table c.args.extensions.now) c.args.depth (restricted_tree c.args.body.now) (restricted_tree c.args.question.now) (fields_in c.in-Some.entries.now) (is_record (goal.at.returns-then-names_no_unknown c).In-Some)
     c.in-Some-2.values (evaluated_is (goal.at.returns-then-names_no_unknown c).In-Some-2) c.in-Some-ask_body.asked (is_stated (goal.at.returns-then-names_no_unknown c).In-Some-ask_body)
     (sym c.names_no_unknown.ensures ∙ c.if-names_no_unknown.true)
 
 pub returns-then-names_told : goal.returns-then-names_told
 returns-then-names_told c =
-    told_again _ c.args.told.now c.args.extensions.now c.args.depth (restricted_tree c.args.body.now) (restricted_tree c.args.question.now) (fields_in c.in-Some.entries.now) (is_record (goal.at.returns-then-names_told c).In-Some)
+    told_again _ c.args.told.now (as_table c.args.extensions.now) c.args.depth (restricted_tree c.args.body.now) (restricted_tree c.args.question.now) (fields_in c.in-Some.entries.now) (is_record (goal.at.returns-then-names_told c).In-Some)
     c.in-Some-2.values (evaluated_is (goal.at.returns-then-names_told c).In-Some-2) c.in-Some-ask_body.asked (is_stated (goal.at.returns-then-names_told c).In-Some-ask_body)
     (sym c.names_no_unknown.ensures ∙ c.if-names_no_unknown.false) (sym c.names_told.ensures ∙ c.if-names_told.true)
 
@@ -55,13 +56,13 @@ holds_misfit-requires c = given_restricted (bare c.as_ref-2.result.now) c.as_ref
 
 pub returns-then-holds_misfit : goal.returns-then-holds_misfit
 returns-then-holds_misfit c =
-    misfit _ c.args.told.now c.args.extensions.now c.args.depth (restricted_tree c.args.body.now) (restricted_tree c.args.question.now) (fields_in c.in-Some.entries.now) (is_record (goal.at.returns-then-holds_misfit c).In-Some)
+    misfit _ c.args.told.now (as_table c.args.extensions.now) c.args.depth (restricted_tree c.args.body.now) (restricted_tree c.args.question.now) (fields_in c.in-Some.entries.now) (is_record (goal.at.returns-then-holds_misfit c).In-Some)
     c.in-Some-2.values (evaluated_is (goal.at.returns-then-holds_misfit c).In-Some-2) c.in-Some-ask_body.asked (is_stated (goal.at.returns-then-holds_misfit c).In-Some-ask_body)
     (sym c.names_no_unknown.ensures ∙ c.if-names_no_unknown.false) (sym c.names_told.ensures ∙ c.if-names_told.false) (sym c.holds_misfit.ensures ∙ c.if-holds_misfit.true)
 
 pub returns : goal.returns
 returns c =
-    all_told _ c.args.told.now c.args.extensions.now c.args.depth (restricted_tree c.args.body.now) (restricted_tree c.args.question.now) (fields_in c.in-Some.entries.now) (is_record (goal.at.returns c).In-Some)
+    all_told _ c.args.told.now (as_table c.args.extensions.now) c.args.depth (restricted_tree c.args.body.now) (restricted_tree c.args.question.now) (fields_in c.in-Some.entries.now) (is_record (goal.at.returns c).In-Some)
     c.in-Some-2.values (evaluated_is (goal.at.returns c).In-Some-2) c.in-Some-ask_body.asked (is_stated (goal.at.returns c).In-Some-ask_body)
     (sym c.names_no_unknown.ensures ∙ c.if-names_no_unknown.false) (sym c.names_told.ensures ∙ c.if-names_told.false) (sym c.holds_misfit.ensures ∙ c.if-holds_misfit.false)
     c.in_ok-with_values.field-0 c.in_ok-with_values.ensures

@@ -1,6 +1,7 @@
 -- Rests on how the body was read, on its request, and on the answer over the policies and entities held.
 use Rattle.std.proofs.Common.{refl, sym}
 use Rattle.std.proofs.lemmas.Result.{err_from_is_err_and}
+use Rattle.cedar_extensions.specs.Table.{as_table}
 use Rattle.cedar_restricted.specs.Views.{restricted_tree}
 use Rattle.cedar_world.specs.NameLaws.{is_answered}
 use Rattle.cedar_asking.specs.Keeping.{IsNamed}
@@ -24,7 +25,7 @@ returns-in_err-request-clause-step c =
     let read = read_tree by c.args.text.now tree tree refl c.in_ok-body.ensures.body in
     let served = serves c.args.self.now.extensions.now c.args.self.now.depth tree tree refl c.names_are_defined.ensures c.in_ok-body.ensures.calls in
     let p = err_from_is_err_and c.from_residual-in_err-request.result c.from_residual-in_err-request.ensures.1 in
-    rw (p.1, p.2) (unasked by (world_of c.args.self.now) c.args.text.now (c.texts_are_one.ensures.bodies by) tree read.0 read.1 c.in_ok-body.body.restricted c.args.self.now.extensions.now c.in_err-request.field-0.0 (c.in_err-request.ensures by served))
+    rw (p.1, p.2) (unasked by (world_of c.args.self.now) c.args.text.now (c.texts_are_one.ensures.bodies by) tree read.0 read.1 c.in_ok-body.body.restricted (as_table c.args.self.now.extensions.now) c.in_err-request.field-0.0 (c.in_err-request.ensures by served))
 
 pub returns-in_err-first-clause-step : goal.returns-in_err-first-clause-step
 returns-in_err-first-clause-step c =
