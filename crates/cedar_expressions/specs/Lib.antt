@@ -58,6 +58,7 @@ pub use Rattle.cedar_restricted.specs.Offences
 pub use Rattle.cedar_restricted.specs.Readers
 pub use Rattle.cedar_restricted.specs.ShapesOnly as RestrictedShapesOnly
 pub use Rattle.cedar_restricted.specs.Views
+pub use Rattle.cedar_extensions.specs.Answering as FunctionAnswering
 pub use Rattle.cedar_extensions.specs.Causes
 pub use Rattle.cedar_extensions.specs.Failures
 pub use Rattle.cedar_extensions.specs.Giving

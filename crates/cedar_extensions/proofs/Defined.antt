@@ -10,15 +10,17 @@ use Rattle.cedar_language.specs.Order.{same_name}
 use Rattle.cedar_names.specs.Laws.{same_name_equiv}
 use Rattle.cedar_names.proofs.Sameness.{names_same}
 use Rattle.cedar_world.specs.Functions.{NamedFunction, the_unknown, is_the_unknown, unknown_function, first_named, callers_functions, function_of}
+use Rattle.cedar_extensions.specs.Answering.{FunctionAnswers}
 use Rattle.cedar_extensions.specs.Functions.{function_name, meaning_in, meaning_of, names_unknown, is_unknown, named_function}
 use Rattle.cedar_extensions.specs.Holding.{found_in, is_named, are_named}
 use Rattle.cedar_extensions.specs.Defining.{defined}
 use Rattle.cedar_extensions.specs.declared.functions.Function.{Function}
-use Rattle.cedar_extensions.specs.declared.functions.Function.TheVariants.{Unknown}
+use Rattle.cedar_extensions.specs.declared.functions.Function.TheVariants.{Unknown, Callers}
 use Rattle.cedar_extensions.specs.declared.functions.ExtensionFunction.{ExtensionFunction}
 
-means_unknown : (g : Function) → names_unknown g ≡ true → meaning_in g ≡ unknown_function
-means_unknown Unknown h = refl
+means_unknown : {F : Type 0} (answers : F → FunctionAnswers) (g : Function F) → names_unknown g ≡ true → meaning_in answers g ≡ unknown_function
+means_unknown answers Unknown h = refl
+means_unknown answers (Callers f) h = cc
 
 and_left : (a b : Bool) → (a && b) ≡ true → a ≡ true
 and_left true b h = refl
@@ -41,41 +43,41 @@ apart m n h i false e = refl
 apart m n h i true e = sym i ∙ (ap is_the_unknown ((names_same m n).0 e) ∙ h)
 
 -- the built-in one
-module _ (n : Name) (is : is_the_unknown n ≡ true) where
-  built_in_here : (f : ExtensionFunction) (fs : List ExtensionFunction) (u : Bool) → is_unknown f ≡ u → cond u (is_the_unknown (function_name f)) (not (is_the_unknown (function_name f))) ≡ true
-      → cond (list_any is_unknown fs) (Some unknown_function) None ≡ option_map meaning_of (found_in fs n)
-      → cond (u || list_any is_unknown fs) (Some unknown_function) None ≡ option_map meaning_of (cond (same_name (function_name f) n) (Some f) (found_in fs n))
+module _ {F : Type 0} (answers : F → FunctionAnswers) (n : Name) (is : is_the_unknown n ≡ true) where
+  built_in_here : (f : ExtensionFunction F) (fs : List (ExtensionFunction F)) (u : Bool) → is_unknown f ≡ u → cond u (is_the_unknown (function_name f)) (not (is_the_unknown (function_name f))) ≡ true
+      → cond (list_any is_unknown fs) (Some unknown_function) None ≡ option_map (meaning_of answers) (found_in fs n)
+      → cond (u || list_any is_unknown fs) (Some unknown_function) None ≡ option_map (meaning_of answers) (cond (same_name (function_name f) n) (Some f) (found_in fs n))
   built_in_here f fs true e h below =
-      ap Some (sym (means_unknown f.function e))
-      ∙ ap (λ b. option_map meaning_of (cond b (Some f) (found_in fs n))) (sym (same_there (function_name f) n is ∙ h))
+      ap Some (sym (means_unknown answers f.function e))
+      ∙ ap (λ b. option_map (meaning_of answers) (cond b (Some f) (found_in fs n))) (sym (same_there (function_name f) n is ∙ h))
   built_in_here f fs false e h below =
-      below ∙ ap (λ b. option_map meaning_of (cond b (Some f) (found_in fs n))) (sym (same_there (function_name f) n is ∙ not_true _ h))
+      below ∙ ap (λ b. option_map (meaning_of answers) (cond b (Some f) (found_in fs n))) (sym (same_there (function_name f) n is ∙ not_true _ h))
 
-  built_in : (fs : List ExtensionFunction) → are_named fs ≡ true → cond (list_any is_unknown fs) (Some unknown_function) None ≡ option_map meaning_of (found_in fs n)
+  built_in : (fs : List (ExtensionFunction F)) → are_named fs ≡ true → cond (list_any is_unknown fs) (Some unknown_function) None ≡ option_map (meaning_of answers) (found_in fs n)
   built_in [] h = refl
   built_in (f ∷ fs) h = built_in_here f fs (is_unknown f) refl (and_left _ _ h) (built_in fs (and_right _ _ h))
 
 -- the others
-module _ (n : Name) (is : is_the_unknown n ≡ false) where
-  abbrev callers : List ExtensionFunction → List NamedFunction
-  callers fs = filter (λ (f : NamedFunction). not (is_the_unknown f.name)) (map named_function fs)
+module _ {F : Type 0} (answers : F → FunctionAnswers) (n : Name) (is : is_the_unknown n ≡ false) where
+  abbrev callers : List (ExtensionFunction F) → List NamedFunction
+  callers fs = filter (λ (f : NamedFunction). not (is_the_unknown f.name)) (map (named_function answers) fs)
 
-  other_here : (f : ExtensionFunction) (fs : List ExtensionFunction) (u : Bool) → is_the_unknown (function_name f) ≡ u
-      → first_named n (callers fs) ≡ option_map meaning_of (found_in fs n)
-      → first_named n (cond (not u) (named_function f ∷ callers fs) (callers fs)) ≡ option_map meaning_of (cond (same_name (function_name f) n) (Some f) (found_in fs n))
+  other_here : (f : ExtensionFunction F) (fs : List (ExtensionFunction F)) (u : Bool) → is_the_unknown (function_name f) ≡ u
+      → first_named n (callers fs) ≡ option_map (meaning_of answers) (found_in fs n)
+      → first_named n (cond (not u) (named_function answers f ∷ callers fs) (callers fs)) ≡ option_map (meaning_of answers) (cond (same_name (function_name f) n) (Some f) (found_in fs n))
   other_here f fs true e below =
-      below ∙ ap (λ b. option_map meaning_of (cond b (Some f) (found_in fs n))) (sym (apart (function_name f) n is e (same_name (function_name f) n) refl))
+      below ∙ ap (λ b. option_map (meaning_of answers) (cond b (Some f) (found_in fs n))) (sym (apart (function_name f) n is e (same_name (function_name f) n) refl))
   other_here f fs false e below = first (same_name (function_name f) n) (same_name_equiv.symm n (function_name f)) where
-    first : (b : Bool) → same_name n (function_name f) ≡ b → cond (same_name n (function_name f)) (Some (meaning_of f)) (first_named n (callers fs)) ≡ option_map meaning_of (cond b (Some f) (found_in fs n))
-    first true i = ap (λ b. cond b (Some (meaning_of f)) (first_named n (callers fs))) i
-    first false i = ap (λ b. cond b (Some (meaning_of f)) (first_named n (callers fs))) i ∙ below
+    first : (b : Bool) → same_name n (function_name f) ≡ b → cond (same_name n (function_name f)) (Some (meaning_of answers f)) (first_named n (callers fs)) ≡ option_map (meaning_of answers) (cond b (Some f) (found_in fs n))
+    first true i = ap (λ b. cond b (Some (meaning_of answers f)) (first_named n (callers fs))) i
+    first false i = ap (λ b. cond b (Some (meaning_of answers f)) (first_named n (callers fs))) i ∙ below
 
-  others : (fs : List ExtensionFunction) → first_named n (callers fs) ≡ option_map meaning_of (found_in fs n)
+  others : (fs : List (ExtensionFunction F)) → first_named n (callers fs) ≡ option_map (meaning_of answers) (found_in fs n)
   others [] = refl
   others (f ∷ fs) = other_here f fs (is_the_unknown (function_name f)) refl (others fs)
 
-pub names_are_defined : (written : Extended → Written) (fs : List ExtensionFunction) → are_named fs ≡ true → (n : Name) → function_of (defined written fs) n ≡ option_map meaning_of (found_in fs n)
-names_are_defined written fs named n = by_name (is_the_unknown n) refl where
-  by_name : (u : Bool) → is_the_unknown n ≡ u → cond (is_the_unknown n) (cond (list_any is_unknown fs) (Some unknown_function) None) (first_named n (callers_functions (defined written fs))) ≡ option_map meaning_of (found_in fs n)
-  by_name true e = ap (λ b. cond b (cond (list_any is_unknown fs) (Some unknown_function) None) (first_named n (callers_functions (defined written fs)))) e ∙ built_in n e fs named
-  by_name false e = ap (λ b. cond b (cond (list_any is_unknown fs) (Some unknown_function) None) (first_named n (callers_functions (defined written fs)))) e ∙ others n e fs
+pub names_are_defined : {F : Type 0} (answers : F → FunctionAnswers) (written : Extended → Written) (fs : List (ExtensionFunction F)) → are_named fs ≡ true → (n : Name) → function_of (defined answers written fs) n ≡ option_map (meaning_of answers) (found_in fs n)
+names_are_defined answers written fs named n = by_name (is_the_unknown n) refl where
+  by_name : (u : Bool) → is_the_unknown n ≡ u → cond (is_the_unknown n) (cond (list_any is_unknown fs) (Some unknown_function) None) (first_named n (callers_functions (defined answers written fs))) ≡ option_map (meaning_of answers) (found_in fs n)
+  by_name true e = ap (λ b. cond b (cond (list_any is_unknown fs) (Some unknown_function) None) (first_named n (callers_functions (defined answers written fs)))) e ∙ built_in answers n e fs named
+  by_name false e = ap (λ b. cond b (cond (list_any is_unknown fs) (Some unknown_function) None) (first_named n (callers_functions (defined answers written fs)))) e ∙ others answers n e fs

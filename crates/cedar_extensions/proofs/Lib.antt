@@ -1,4 +1,4 @@
-pub mod BuiltInCalls
+pub mod CountedCalls
 pub mod Defined
 pub mod Finding
 pub mod Gathered

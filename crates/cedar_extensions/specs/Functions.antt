@@ -7,8 +7,10 @@ use Rattle.cedar_language.specs.Uid.{Name}
 use Rattle.cedar_language.specs.Tree.{String, ValueType, StringType, ExtensionType}
 use Rattle.cedar_language.specs.Value.{Value, Plain}
 use Rattle.cedar_language.specs.Facts as facts
+use Rattle.cedar_language.specs.Operators.{takes}
 use Rattle.cedar_literals.specs.Types.{value_type_of}
 use Rattle.cedar_literals.specs.declared.types.Type as code
+use Rattle.cedar_extensions.specs.Answering.{FunctionAnswers}
 use Rattle.cedar_extensions.specs.Causes.{Cause, OtherCount, NoAnswer, OutOfMemory}
 use Rattle.cedar_trees.specs.Unknowns.{unknown_name, unknown_type}
 use Rattle.cedar_world.specs.Functions as world
@@ -18,40 +20,55 @@ use Rattle.cedar_extensions.specs.declared.functions.CallStyle.TheVariants.{Func
 use Rattle.cedar_extensions.specs.declared.functions.ExtensionOutputValue.{ExtensionOutputValue}
 use Rattle.cedar_extensions.specs.declared.functions.ExtensionOutputValue.TheVariants as output
 use Rattle.cedar_extensions.specs.declared.functions.Function.{Function}
-use Rattle.cedar_extensions.specs.declared.functions.Function.TheVariants.{Unknown}
+use Rattle.cedar_extensions.specs.declared.functions.Function.TheVariants.{Unknown, Callers}
+use Rattle.cedar_extensions.specs.declared.functions.CallersFunction.{CallersFunction}
 use Rattle.cedar_extensions.specs.declared.functions.ExtensionFunction.{ExtensionFunction}
 
 abbrev pub style_of : CallStyle → world.CallStyle
 style_of FunctionStyle = world.as_function
 style_of MethodStyle = world.as_method
 
-abbrev pub function_name : ExtensionFunction → Name
+abbrev pub function_name : {F : Type 0} → ExtensionFunction F → Name
 function_name f = f.name
 
-abbrev pub function_style : ExtensionFunction → world.CallStyle
+abbrev pub function_style : {F : Type 0} → ExtensionFunction F → world.CallStyle
 function_style f = style_of f.style
 
-abbrev pub meaning_in : Function → facts.Function
-meaning_in Unknown = unknown_function
+-- a caller's function as the definitions have functions
+abbrev pub answers_of : {F : Type 0} → (F → FunctionAnswers) → CallersFunction F → facts.Function
+answers_of answers f = record { takes = f.takes; answer = (answers f.object).given }
+
+abbrev pub meaning_in : {F : Type 0} → (F → FunctionAnswers) → Function F → facts.Function
+meaning_in answers Unknown = unknown_function
+meaning_in answers (Callers f) = answers_of answers f
 
 -- how many arguments it takes, and what it answers
-abbrev pub meaning_of : ExtensionFunction → facts.Function
-meaning_of f = meaning_in f.function
+abbrev pub meaning_of : {F : Type 0} → (F → FunctionAnswers) → ExtensionFunction F → facts.Function
+meaning_of answers f = meaning_in answers f.function
 
-abbrev pub names_unknown : Function → Bool
+abbrev pub arity_in : {F : Type 0} → Function F → Option ℕ
+arity_in Unknown = Some 1
+arity_in (Callers f) = f.takes
+
+-- how many arguments it takes, or none where it takes any number
+abbrev pub arity_of : {F : Type 0} → ExtensionFunction F → Option ℕ
+arity_of f = arity_in f.function
+
+abbrev pub names_unknown : {F : Type 0} → Function F → Bool
 names_unknown Unknown = true
+names_unknown (Callers f) = false
 
 -- whether it is the built-in function that names an unknown
-abbrev pub is_unknown : ExtensionFunction → Bool
+abbrev pub is_unknown : {F : Type 0} → ExtensionFunction F → Bool
 is_unknown f = names_unknown f.function
 
-abbrev pub named_function : ExtensionFunction → NamedFunction
-named_function f = record { name = function_name f; style = function_style f; function = meaning_of f }
+abbrev pub named_function : {F : Type 0} → (F → FunctionAnswers) → ExtensionFunction F → NamedFunction
+named_function answers f = record { name = function_name f; style = function_style f; function = meaning_of answers f }
 
-abbrev pub returned_type : ExtensionFunction → Option code.Type
+abbrev pub returned_type : {F : Type 0} → ExtensionFunction F → Option code.Type
 returned_type f = f.return_type
 
-abbrev pub argument_types : ExtensionFunction → List ValueType
+abbrev pub argument_types : {F : Type 0} → ExtensionFunction F → List ValueType
 argument_types f = map value_type_of f.arg_types.items
 
 abbrev pub extension_type_in : Option ValueType → Option Name
@@ -63,7 +80,7 @@ value_type_in None = None
 value_type_in (Some ty) = Some (value_type_of ty)
 
 -- the extension type of which it gives values
-abbrev pub extension_type_of : ExtensionFunction → Option Name
+abbrev pub extension_type_of : {F : Type 0} → ExtensionFunction F → Option Name
 extension_type_of f = extension_type_in (value_type_in (returned_type f))
 
 abbrev pub is_constructor : Option ValueType → world.CallStyle → List ValueType → Bool
@@ -71,7 +88,7 @@ is_constructor (Some (ExtensionType n)) world.as_function (StringType ∷ []) = 
 is_constructor _ _ _ = false
 
 -- whether it makes values of an extension type from one text, and is no method
-abbrev pub is_single_argument_constructor : ExtensionFunction → Bool
+abbrev pub is_single_argument_constructor : {F : Type 0} → ExtensionFunction F → Bool
 is_single_argument_constructor f = is_constructor (value_type_in (returned_type f)) (function_style f) (argument_types f)
 
 abbrev pub string_value : RcStr Global → Value
@@ -88,6 +105,11 @@ IsOutput true (output.Unknown u) = unknown_type u ≡ None
 IsOutput true (output.Known v) = ⊥
 IsOutput false (output.Unknown u) = ⊥
 IsOutput false (output.Known v) = ⊤
+
+-- the number of arguments that are taken, where it isn't this one
+abbrev pub IsOtherCount : Option ℕ → ℕ → Option ℕ → Type 0
+IsOtherCount taken n None = takes taken n ≡ true
+IsOtherCount taken n (Some m) = (taken ≡ Some m) × (takes taken n ≡ false)
 
 -- what a refused call tells: the function, how many arguments it takes, and how many it was given; or that it has no answer
 abbrev pub TellsOfCall : Name → Option ℕ → ℕ → Cause → Type 0

@@ -13,3 +13,4 @@ pub mod TableRefusals
 pub mod Making
 pub mod Calls
 pub mod ValidationRefusals
+pub mod Answering

@@ -11,13 +11,13 @@ use Rattle.cedar_extensions.specs.Functions.{function_name, function_style, is_u
 use Rattle.cedar_extensions.specs.declared.functions.ExtensionFunction.{ExtensionFunction}
 
 -- a look-up of this name answers what was found; where nothing was, the error names what was sought
-abbrev pub Finds : Option ExtensionFunction → Name → Result (Bor ExtensionFunction) ExtensionFunctionLookupError → Type 0
+abbrev pub Finds : {F : Type 0} → Option (ExtensionFunction F) → Name → Result (Bor (ExtensionFunction F)) ExtensionFunctionLookupError → Type 0
 Finds found n (Ok f) = found ≡ Some f.now
 Finds found n (Err (FuncDoesNotExist e)) = (found ≡ None) × (name_sought e ≡ n)
 Finds found n (Err (Memory e)) = ⊤
 
 -- the built-in function that names unknowns, under its name, which takes a text, and no other
-abbrev pub IsUnknownAlone : List ExtensionFunction → Type 0
+abbrev pub IsUnknownAlone : {F : Type 0} → List (ExtensionFunction F) → Type 0
 IsUnknownAlone (f ∷ []) = record {
   unknown : is_unknown f ≡ true;
   name : function_name f ≡ the_unknown;

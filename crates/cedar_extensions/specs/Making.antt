@@ -15,15 +15,15 @@ use Rattle.cedar_extensions.specs.declared.extensions.Extensions.{Extensions}
 use Rattle.cedar_extensions.specs.declared.table_errors.ExtensionInitializationError.{ExtensionInitializationError}
 use Rattle.cedar_extensions.specs.declared.table_errors.ExtensionInitializationError.TheVariants.{FuncMultiplyDefined, MultipleConstructorsSameSignature, Memory}
 
-abbrev pub function_names : List ExtensionFunction → List Name
+abbrev pub function_names : {F : Type 0} → List (ExtensionFunction F) → List Name
 function_names fs = map function_name fs
 
 -- the extension type of which it makes values from one text, if it is no method
-abbrev pub type_made : ExtensionFunction → Option Name
+abbrev pub type_made : {F : Type 0} → ExtensionFunction F → Option Name
 type_made f = cond (is_single_argument_constructor f) (extension_type_of f) None
 
 -- these types, one for each such function
-abbrev pub types_made : List ExtensionFunction → List Name
+abbrev pub types_made : {F : Type 0} → List (ExtensionFunction F) → List Name
 types_made fs = filter_map type_made fs
 
 -- the first name that stands before it too; none where each stands once
@@ -38,7 +38,7 @@ IsTypeRepeated ns ty = ⊥
 
 -- a table has these extensions, whose functions differ in their names, and those that make values from one text in the
 -- types of these; else what stands twice is told, of names before types
-abbrev pub MakesTable : List Extension → Result Extensions ExtensionInitializationError → Type 0
+abbrev pub MakesTable : {F : Type 0} → List (Extension F) → Result (Extensions F) ExtensionInitializationError → Type 0
 MakesTable es (Ok table) = record {
   names : IsDistinct same_name (function_names (flat_map extension_functions es));
   types : IsDistinct same_name (types_made (flat_map extension_functions es));

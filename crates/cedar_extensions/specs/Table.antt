@@ -2,6 +2,7 @@
 use Rattle.std.specs.Prelude.{Bool, Option}
 use Rattle.cedar_language.specs.Uid.{Name}
 use Rattle.cedar_language.specs.Facts.{Function}
+use Rattle.cedar_extensions.specs.Answering.{FunctionAnswers}
 use Rattle.cedar_extensions.specs.Tables.{function_called, holds_unknown}
 use Rattle.cedar_extensions.specs.declared.extensions.Extensions.{Extensions}
 
@@ -10,5 +11,5 @@ pub record Table : Type 0 where
   pub function : Name → Option Function
   pub has_unknown : Bool
 
-abbrev pub as_table : Extensions → Table
-as_table extensions = record { function = function_called extensions; has_unknown = holds_unknown extensions }
+abbrev pub as_table : {F : Type 0} → (F → FunctionAnswers) → Extensions F → Table
+as_table answers extensions = record { function = function_called answers extensions; has_unknown = holds_unknown extensions }

@@ -5,6 +5,7 @@ use Rattle.std.specs.Slice.Iter.{iter_rest}
 use Rattle.cedar_language.specs.Uid.{Name}
 use Rattle.cedar_language.specs.Tree.{ValueType}
 use Rattle.cedar_language.specs.Facts as facts
+use Rattle.cedar_extensions.specs.Answering.{FunctionAnswers}
 use Rattle.cedar_extensions.specs.Functions.{is_unknown, meaning_of, returned_type, value_type_in, extension_type_of}
 use Rattle.cedar_extensions.specs.Holding.{extension_name, extension_functions, ordered_types, found_in}
 use Rattle.cedar_extensions.specs.declared.functions.ExtensionFunction.{ExtensionFunction}
@@ -16,38 +17,38 @@ use Rattle.cedar_extensions.specs.declared.iteration.ExtTypes.{ExtTypes}
 use Rattle.cedar_extensions.specs.declared.iteration.OrderedTypes.{OrderedTypes}
 
 -- what walks still give
-abbrev pub functions_left : Funcs → List ExtensionFunction
+abbrev pub functions_left : {F : Type 0} → Funcs F → List (ExtensionFunction F)
 functions_left it = iter_rest it.functions ++ flat_map extension_functions (iter_rest it.extensions)
 
-abbrev pub names_left : ExtNames → List Name
+abbrev pub names_left : {F : Type 0} → ExtNames F → List Name
 names_left it = map extension_name (iter_rest it.extensions)
 
-abbrev pub type_names_left : ExtTypes → List Name
+abbrev pub type_names_left : {F : Type 0} → ExtTypes F → List Name
 type_names_left it = filter_map extension_type_of (functions_left it.functions)
 
-abbrev pub ordered_left : OrderedTypes → List Name
+abbrev pub ordered_left : {F : Type 0} → OrderedTypes F → List Name
 ordered_left it = iter_rest it.types ++ flat_map ordered_types (iter_rest it.extensions)
 
-abbrev pub extensions_in : Extensions → List Extension
+abbrev pub extensions_in : {F : Type 0} → Extensions F → List (Extension F)
 extensions_in table = table.extensions.items
 
 -- the functions of a table, one extension after the other
-abbrev pub functions_in : Extensions → List ExtensionFunction
+abbrev pub functions_in : {F : Type 0} → Extensions F → List (ExtensionFunction F)
 functions_in table = flat_map extension_functions (extensions_in table)
 
 -- whether the built-in function that names unknowns is among them
-abbrev pub holds_unknown : Extensions → Bool
+abbrev pub holds_unknown : {F : Type 0} → Extensions F → Bool
 holds_unknown table = list_any is_unknown (functions_in table)
 
 -- what the name calls, as the definitions have functions
-abbrev pub function_called : Extensions → Name → Option facts.Function
-function_called table n = option_map meaning_of (found_in (functions_in table) n)
+abbrev pub function_called : {F : Type 0} → (F → FunctionAnswers) → Extensions F → Name → Option facts.Function
+function_called answers table n = option_map (meaning_of answers) (found_in (functions_in table) n)
 
 -- the type of the function's answers, where there is one that states it
-abbrev pub type_stated : Option ExtensionFunction → Option ValueType
+abbrev pub type_stated : {F : Type 0} → Option (ExtensionFunction F) → Option ValueType
 type_stated None = None
 type_stated (Some f) = value_type_in (returned_type f)
 
 -- the type of the answers of the function of this name
-abbrev pub answer_type : Extensions → Name → Option ValueType
+abbrev pub answer_type : {F : Type 0} → Extensions F → Name → Option ValueType
 answer_type table n = type_stated (found_in (functions_in table) n)

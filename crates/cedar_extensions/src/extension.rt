@@ -9,25 +9,26 @@ ghost use Rattle.cedar_extensions.specs.Tables.{type_names_left};
 
 use crate::functions::ExtensionFunction;
 use crate::iteration::ExtTypes;
+use crate::objects::NoFunction;
 use cedar_names::names::Name;
 use std::slice::Iter;
 
 /// An extension: its functions, and those of its types whose values `<` and `<=` compare.
 /// (Cedar language reference, "Extension functions".)
-#[derive(Debug, Drop)]
-pub struct Extension {
+#[derive(Drop)]
+pub struct Extension<F = NoFunction> {
     name: Name,
-    functions: Vec<ExtensionFunction>,
+    functions: Vec<ExtensionFunction<F>>,
     types_with_operator_overloading: Vec<Name>,
 }
 
-impl Extension {
+impl<F> Extension<F> {
     /// The extension of this name, with these functions and these types that have an order.
     pub fn new(
         name: Name,
-        functions: Vec<ExtensionFunction>,
+        functions: Vec<ExtensionFunction<F>>,
         types_with_operator_overloading: Vec<Name>,
-    ) -> Extension
+    ) -> Extension<F>
         ensures name { extension_name result ≡ name }
         ensures functions { extension_functions result ≡ functions.items }
         ensures ordered { ordered_types result ≡ types_with_operator_overloading.items }
@@ -47,21 +48,21 @@ impl Extension {
     }
 
     /// Its function of this name; of several the one that stands first.
-    pub fn get_func(&self, name: &Name) -> Option<&ExtensionFunction>
+    pub fn get_func(&self, name: &Name) -> Option<&ExtensionFunction<F>>
         ensures { option_copied result ≡ found_in (extension_functions self.now) name.now }
     {
         find_in(&self.functions, name)
     }
 
     /// Its functions, in the order in which they were handed in.
-    pub fn funcs(&self) -> Iter<'_, ExtensionFunction>
+    pub fn funcs(&self) -> Iter<'_, ExtensionFunction<F>>
         ensures { iter_rest result ≡ extension_functions self.now }
     {
         self.functions.iter()
     }
 
     /// The extension types of which its functions give values, one for each such function.
-    pub fn ext_types(&self) -> ExtTypes<'_>
+    pub fn ext_types(&self) -> ExtTypes<'_, F>
         ensures { type_names_left result ≡ filter_map extension_type_of (extension_functions self.now) }
     {
         ExtTypes::of_extension(self)
@@ -75,7 +76,10 @@ impl Extension {
     }
 }
 
-fn find_in<'a>(functions: &'a [ExtensionFunction], name: &Name) -> Option<&'a ExtensionFunction>
+fn find_in<'a, F>(
+    functions: &'a [ExtensionFunction<F>],
+    name: &Name,
+) -> Option<&'a ExtensionFunction<F>>
     ensures { option_copied result ≡ found_in functions.entry.now name.now }
 {
     for function in functions {
@@ -87,10 +91,10 @@ fn find_in<'a>(functions: &'a [ExtensionFunction], name: &Name) -> Option<&'a Ex
 }
 
 /// The first function of this name among those of the extensions.
-pub(crate) fn find_among<'a>(
-    extensions: &'a [Extension],
+pub(crate) fn find_among<'a, F>(
+    extensions: &'a [Extension<F>],
     name: &Name,
-) -> Option<&'a ExtensionFunction>
+) -> Option<&'a ExtensionFunction<F>>
     ensures { option_copied result ≡ found_in (flat_map extension_functions extensions.entry.now) name.now }
 {
     for extension in extensions {

@@ -9,6 +9,7 @@ use crate::functions::{ExtensionFunction, SchemaType};
 use crate::iteration::{ExtNames, ExtTypes, Funcs, OrderedTypes};
 use crate::lookups::{ExtensionFunctionLookupError, FuncDoesNotExistError};
 use crate::making::{first_repeated, function_names, types_made};
+use crate::objects::{ExtensionFunctionObject, NoFunction};
 use crate::table_errors::{
     ExtensionInitializationError, FuncMultiplyDefinedError, MultipleConstructorsSameSignatureError,
 };
@@ -18,29 +19,22 @@ use cedar_shapes::types::FunctionTypes;
 use std::alloc::{AllocError, Global};
 use std::marker::PhantomData;
 
-/// The extension functions that texts may call and that an evaluation knows: one table for both.
+/// The extension functions that texts may call and that an evaluation knows: one table for both. Those
+/// of a caller's are each an `F`.
 /// A function of it is named `unknown` exactly where it is the built-in one.
 /// (Cedar language reference, "Extension functions".)
-#[derive(Debug, Drop)]
-pub struct Extensions<'a> {
-    extensions: Vec<Extension>,
+#[derive(Drop)]
+pub struct Extensions<'a, F = NoFunction> {
+    extensions: Vec<Extension<F>>,
     lender: PhantomData<&'a ()>,
     pub ghost named: { are_named (flat_map extension_functions extensions.items) ≡ true },
 }
 
 impl<'a> Extensions<'a> {
-    ghost use Rattle.std.specs.Prelude.{[], IfOk, map, false};
-    ghost use Rattle.std.specs.List.{filter_map};
-    ghost use Rattle.cedar_language.specs.Facts.{Written};
-    ghost use Rattle.cedar_language.specs.Uid as language;
-    ghost use Rattle.cedar_language.specs.Value.{Extension as Extended};
-    ghost use Rattle.cedar_world.specs.Functions.{function_of};
-    ghost use Rattle.cedar_extensions.specs.Defining.{defined};
-    ghost use Rattle.cedar_extensions.specs.Functions.{extension_type_of};
-    ghost use Rattle.cedar_extensions.specs.Holding.{extension_name, ordered_types, found_in};
-    ghost use Rattle.cedar_extensions.specs.Lookups.{Finds, IsUnknownAlone};
-    ghost use Rattle.cedar_extensions.specs.Making.{MakesTable};
-    ghost use Rattle.cedar_extensions.specs.Tables.{extensions_in, functions_in, holds_unknown, function_called, functions_left, names_left, type_names_left, ordered_left};
+    ghost use Rattle.std.specs.Prelude.{[], IfOk, false};
+    ghost use Rattle.cedar_extensions.specs.Holding.{ordered_types};
+    ghost use Rattle.cedar_extensions.specs.Lookups.{IsUnknownAlone};
+    ghost use Rattle.cedar_extensions.specs.Tables.{extensions_in, functions_in, holds_unknown};
 
     /// Every extension there is: the one of the built-in `unknown` alone. Refused for memory alone.
     pub fn all_available(alloc: Global) -> Result<Extensions<'a>, AllocError>
@@ -54,6 +48,22 @@ impl<'a> Extensions<'a> {
         })
     }
 
+    /// The table of no extension: each call of a function is refused there, `unknown` too.
+    pub fn none(alloc: Global) -> Extensions<'a>
+        ensures unknown { holds_unknown result ≡ false }
+        ensures functions { functions_in result ≡ [] }
+        ensures extensions { extensions_in result ≡ [] }
+    {
+        Extensions {
+            extensions: Vec::new(alloc),
+            lender: PhantomData,
+        }
+    }
+}
+
+impl<'a, F: Drop> Extensions<'a, F> {
+    ghost use Rattle.cedar_extensions.specs.Making.{MakesTable};
+
     /// The table of these extensions. Refused `FuncMultiplyDefined` where two of all their functions have
     /// one name, with the first name that another function has before it; else
     /// `MultipleConstructorsSameSignature`, likewise, where two functions that aren't methods make values
@@ -61,8 +71,8 @@ impl<'a> Extensions<'a> {
     /// their places. (Cedar language reference, "Extension functions".)
     pub fn specific_extensions(
         alloc: Global,
-        extensions: Vec<Extension>,
-    ) -> Result<Extensions<'a>, ExtensionInitializationError>
+        extensions: Vec<Extension<F>>,
+    ) -> Result<Extensions<'a, F>, ExtensionInitializationError>
         requires named { are_named (flat_map extension_functions extensions.items) ≡ true }
         ensures { MakesTable extensions.items result }
     {
@@ -80,18 +90,15 @@ impl<'a> Extensions<'a> {
             lender: PhantomData,
         })
     }
+}
 
-    /// The table of no extension: each call of a function is refused there, `unknown` too.
-    pub fn none(alloc: Global) -> Extensions<'a>
-        ensures unknown { holds_unknown result ≡ false }
-        ensures functions { functions_in result ≡ [] }
-        ensures extensions { extensions_in result ≡ [] }
-    {
-        Extensions {
-            extensions: Vec::new(alloc),
-            lender: PhantomData,
-        }
-    }
+impl<F> Extensions<'_, F> {
+    ghost use Rattle.std.specs.Prelude.{map};
+    ghost use Rattle.std.specs.List.{filter_map};
+    ghost use Rattle.cedar_extensions.specs.Functions.{extension_type_of};
+    ghost use Rattle.cedar_extensions.specs.Holding.{extension_name, ordered_types, found_in};
+    ghost use Rattle.cedar_extensions.specs.Lookups.{Finds};
+    ghost use Rattle.cedar_extensions.specs.Tables.{extensions_in, functions_in, holds_unknown, functions_left, names_left, type_names_left, ordered_left};
 
     /// Whether the built-in `unknown` is among them.
     pub fn holds_unknown(&self) -> bool
@@ -112,7 +119,7 @@ impl<'a> Extensions<'a> {
         &self,
         alloc: Global,
         name: &Name,
-    ) -> Result<&ExtensionFunction, ExtensionFunctionLookupError>
+    ) -> Result<&ExtensionFunction<F>, ExtensionFunctionLookupError>
         ensures { Finds (found_in (functions_in self.now) name.now) name.now result }
     {
         if let Some(function) = find_among(&self.extensions, name) {
@@ -126,43 +133,52 @@ impl<'a> Extensions<'a> {
         Err(ExtensionFunctionLookupError::from(error))
     }
 
-    /// What a name calls is what the definitions say of these functions, however extension values are
-    /// written.
-    pub fn names_are_defined(&self)
-        ensures { (written : Extended → Written) (name : language.Name) →
-            function_of (defined written (functions_in self.now)) name ≡ function_called self.now name }
-    {}
-
     /// All functions, in the order of the extensions.
-    pub fn all_funcs(&self) -> Funcs<'_>
+    pub fn all_funcs(&self) -> Funcs<'_, F>
         ensures { functions_left result ≡ functions_in self.now }
     {
         Funcs::new(&self.extensions)
     }
 
     /// The names of the extensions, in the order in which they were handed in.
-    pub fn ext_names(&self) -> ExtNames<'_>
+    pub fn ext_names(&self) -> ExtNames<'_, F>
         ensures { names_left result ≡ map extension_name (extensions_in self.now) }
     {
         ExtNames::new(&self.extensions)
     }
 
     /// The extension types of which functions give values, one for each such function.
-    pub fn ext_types(&self) -> ExtTypes<'_>
+    pub fn ext_types(&self) -> ExtTypes<'_, F>
         ensures { type_names_left result ≡ filter_map extension_type_of (functions_in self.now) }
     {
         ExtTypes::new(&self.extensions)
     }
 
     /// The extension types whose values `<` and `<=` compare.
-    pub fn types_with_operator_overloading(&self) -> OrderedTypes<'_>
+    pub fn types_with_operator_overloading(&self) -> OrderedTypes<'_, F>
         ensures { ordered_left result ≡ flat_map ordered_types (extensions_in self.now) }
     {
         OrderedTypes::new(&self.extensions)
     }
 }
 
-impl FunctionTypes for Extensions<'_> {
+impl<F: ExtensionFunctionObject> Extensions<'_, F> {
+    ghost use Rattle.cedar_language.specs.Facts.{Written};
+    ghost use Rattle.cedar_language.specs.Uid as language;
+    ghost use Rattle.cedar_language.specs.Value.{Extension as Extended};
+    ghost use Rattle.cedar_world.specs.Functions.{function_of};
+    ghost use Rattle.cedar_extensions.specs.Defining.{defined};
+    ghost use Rattle.cedar_extensions.specs.Tables.{functions_in, function_called};
+
+    /// What a name calls is what the definitions say of these functions, however extension values are
+    /// written.
+    pub fn names_are_defined(&self)
+        ensures { (written : Extended → Written) (name : language.Name) →
+            function_of (defined F.answers written (functions_in self.now)) name ≡ function_called F.answers self.now name }
+    {}
+}
+
+impl<F> FunctionTypes for Extensions<'_, F> {
     ghost use Rattle.cedar_extensions.specs.Tables.{answer_type};
 
     ghost returns = { answer_type };

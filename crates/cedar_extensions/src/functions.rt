@@ -1,5 +1,5 @@
 // Extension functions.
-ghost use Rattle.std.specs.Prelude.{◌≡◌, ℕ, [], ◌∷◌, length, IfOk, IfErr, map, Option, None, is_none, option_map, true};
+ghost use Rattle.std.specs.Prelude.{◌≡◌, ℕ, [], ◌∷◌, length, IfOk, IfErr, map, Option, Some, None, is_none, option_map, true, false};
 ghost use Rattle.std.specs.Option.{option_copied};
 ghost use Rattle.cedar_language.specs.Order.{all_of};
 ghost use Rattle.cedar_language.specs.Operators.{called, or_fails};
@@ -10,9 +10,10 @@ ghost use Rattle.cedar_world.specs.Functions.{one_string, unknown_function};
 ghost use Rattle.cedar_extensions.specs.Causes.{cause_of};
 ghost use Rattle.cedar_extensions.specs.Giving.{Gives};
 ghost use Rattle.cedar_extensions.specs.Failures.{OfKind, failure_of};
-ghost use Rattle.cedar_extensions.specs.Functions.{function_name, function_style, style_of, meaning_of, is_unknown, returned_type, argument_types, is_single_argument_constructor, extension_type_of, output_value, IsOutput, TellsOfCall, string_value};
+ghost use Rattle.cedar_extensions.specs.Functions.{function_name, function_style, style_of, arity_of, meaning_of, answers_of, is_unknown, returned_type, argument_types, is_single_argument_constructor, extension_type_of, output_value, IsOtherCount, IsOutput, TellsOfCall, string_value};
 
 use crate::evaluation_error::EvaluationError;
+use crate::objects::{CallError, ExtensionFunctionObject, NoFunction};
 use cedar_literals::literals::Literal;
 use cedar_literals::types::Type;
 use cedar_names::names::Name;
@@ -54,25 +55,34 @@ impl From<Value> for ExtensionOutputValue {
     }
 }
 
-/// What a function does.
-#[derive(Clone, Copy, Debug)]
-enum Function {
-    /// It names an unknown.
-    Unknown,
+// A caller's function, and how many arguments it takes, or none where it takes any number.
+#[derive(Drop)]
+pub(crate) struct CallersFunction<F> {
+    takes: Option<usize>,
+    object: F,
 }
 
-/// A function that expressions call by its name. Contracts see what it does as the definitions have
-/// functions, through `meaning_of`.
-#[derive(Debug, Drop)]
-pub struct ExtensionFunction {
+/// What a function does.
+#[derive(Drop)]
+enum Function<F> {
+    /// It names an unknown.
+    Unknown,
+    /// It calls the caller's function.
+    Callers(CallersFunction<F>),
+}
+
+/// A function that expressions call by its name: the built-in one, or a caller's, which is an `F`.
+/// Contracts see what it does as the definitions have functions, through `meaning_of`.
+#[derive(Drop)]
+pub struct ExtensionFunction<F = NoFunction> {
     name: Name,
     style: CallStyle,
-    function: Function,
+    function: Function<F>,
     return_type: Option<SchemaType>,
     arg_types: Vec<SchemaType>,
 }
 
-impl ExtensionFunction {
+impl<F: Drop> ExtensionFunction<F> {
     /// The built-in function, which names an unknown by the text that it is given. Refused for memory
     /// alone.
     pub fn partial_eval_unknown(
@@ -80,7 +90,7 @@ impl ExtensionFunction {
         name: Name,
         style: CallStyle,
         arg_type: SchemaType,
-    ) -> Result<ExtensionFunction, AllocError>
+    ) -> Result<ExtensionFunction<F>, AllocError>
         ensures unknown { IfOk result (λ function. is_unknown function ≡ true) }
         ensures name { IfOk result (λ function. function_name function ≡ name) }
         ensures style { IfOk result (λ function. function_style function ≡ style_of style) }
@@ -95,7 +105,9 @@ impl ExtensionFunction {
             arg_types: vec![in alloc; arg_type]?,
         })
     }
+}
 
+impl<F> ExtensionFunction<F> {
     /// Its name, by which expressions call it and tables find it.
     pub fn name(&self) -> &Name
         ensures { result.now ≡ function_name self.now }
@@ -126,16 +138,17 @@ impl ExtensionFunction {
 
     /// How many arguments it takes, or none where it takes any number.
     pub fn arity(&self) -> Option<usize>
-        ensures { result ≡ (meaning_of self.now).takes }
+        ensures { result ≡ arity_of self.now }
     {
-        match self.function {
+        match &self.function {
             Function::Unknown => Some(1),
+            Function::Callers(function) => function.takes,
         }
     }
 
     /// Whether it takes any number of arguments.
     pub fn is_variadic(&self) -> bool
-        ensures { result ≡ is_none (meaning_of self.now).takes }
+        ensures { result ≡ is_none (arity_of self.now) }
     {
         self.arity().is_none()
     }
@@ -166,29 +179,9 @@ impl ExtensionFunction {
     pub fn is_unknown(&self) -> bool
         ensures { result ≡ is_unknown self.now }
     {
-        match self.function {
+        match &self.function {
             Function::Unknown => true,
-        }
-    }
-
-    /// Calls it. The built-in function gives the unknown of the text that it is given; every other
-    /// function gives values alone.
-    ///
-    /// It is refused `WrongNumArguments` for another number of arguments than the function takes,
-    /// `FailedExtensionFunctionExecution` where the function has no answer, as the built-in one for
-    /// anything but a text, and `Memory`.
-    pub fn call(
-        &self,
-        alloc: Global,
-        args: &[Value],
-    ) -> Result<ExtensionOutputValue, EvaluationError>
-        ensures meaning { Gives output_value ⊥ result (called (Some (meaning_of self.now)) (all_of args.now)) }
-        ensures unknown { IfOk result (IsOutput (is_unknown self.now)) }
-        ensures refusal { IfErr result (λ error. TellsOfCall (function_name self.now)
-            (meaning_of self.now).takes (length args.now) (cause_of error)) }
-    {
-        match self.function {
-            Function::Unknown => self.call_unknown(alloc, args),
+            Function::Callers(_) => false,
         }
     }
 
@@ -222,6 +215,213 @@ impl ExtensionFunction {
         let name = self.name.clone(alloc)?;
         let msg = String::from_str(alloc, "the name of an unknown is a string")?;
         Ok(EvaluationError::failed_extension_function_application(name, msg, None))
+    }
+}
+
+impl<F: ExtensionFunctionObject> ExtensionFunction<F> {
+    /// A function of no argument, and the type of its values.
+    pub fn nullary(
+        alloc: Global,
+        name: Name,
+        style: CallStyle,
+        function: F,
+        return_type: SchemaType,
+    ) -> ExtensionFunction<F>
+        ensures meaning { meaning_of F.answers result ≡ record { takes = Some 0; answer = (F.answers function).given } }
+        ensures other { is_unknown result ≡ false }
+        ensures name { function_name result ≡ name }
+        ensures style { function_style result ≡ style_of style }
+        ensures typed { returned_type result ≡ Some return_type }
+        ensures arguments { argument_types result ≡ [] }
+    {
+        ExtensionFunction {
+            name,
+            style,
+            function: Function::Callers(CallersFunction {
+                takes: Some(0),
+                object: function,
+            }),
+            return_type: Some(return_type),
+            arg_types: Vec::new(alloc),
+        }
+    }
+
+    /// A function of one argument, and the types of its values and of the argument. Refused for memory
+    /// alone.
+    pub fn unary(
+        alloc: Global,
+        name: Name,
+        style: CallStyle,
+        function: F,
+        return_type: SchemaType,
+        arg_type: SchemaType,
+    ) -> Result<ExtensionFunction<F>, AllocError>
+        ensures meaning { IfOk result (λ made. meaning_of F.answers made ≡ record { takes = Some 1; answer = (F.answers function).given }) }
+        ensures other { IfOk result (λ made. is_unknown made ≡ false) }
+        ensures name { IfOk result (λ made. function_name made ≡ name) }
+        ensures style { IfOk result (λ made. function_style made ≡ style_of style) }
+        ensures typed { IfOk result (λ made. returned_type made ≡ Some return_type) }
+        ensures arguments { IfOk result (λ made. argument_types made ≡ value_type_of arg_type ∷ []) }
+    {
+        Ok(ExtensionFunction {
+            name,
+            style,
+            function: Function::Callers(CallersFunction {
+                takes: Some(1),
+                object: function,
+            }),
+            return_type: Some(return_type),
+            arg_types: vec![in alloc; arg_type]?,
+        })
+    }
+
+    /// A function of two arguments, and the types of its values and of these. Refused for memory alone.
+    pub fn binary(
+        alloc: Global,
+        name: Name,
+        style: CallStyle,
+        function: F,
+        return_type: SchemaType,
+        arg_types: (SchemaType, SchemaType),
+    ) -> Result<ExtensionFunction<F>, AllocError>
+        ensures meaning { IfOk result (λ made. meaning_of F.answers made ≡ record { takes = Some 2; answer = (F.answers function).given }) }
+        ensures other { IfOk result (λ made. is_unknown made ≡ false) }
+        ensures name { IfOk result (λ made. function_name made ≡ name) }
+        ensures style { IfOk result (λ made. function_style made ≡ style_of style) }
+        ensures typed { IfOk result (λ made. returned_type made ≡ Some return_type) }
+        ensures arguments { IfOk result (λ made. argument_types made ≡ value_type_of arg_types.0 ∷ value_type_of arg_types.1 ∷ []) }
+    {
+        Ok(ExtensionFunction {
+            name,
+            style,
+            function: Function::Callers(CallersFunction {
+                takes: Some(2),
+                object: function,
+            }),
+            return_type: Some(return_type),
+            arg_types: vec![in alloc; arg_types.0, arg_types.1]?,
+        })
+    }
+
+    /// A function of three arguments, and the types of its values and of these. Refused for memory alone.
+    pub fn ternary(
+        alloc: Global,
+        name: Name,
+        style: CallStyle,
+        function: F,
+        return_type: SchemaType,
+        arg_types: (SchemaType, SchemaType, SchemaType),
+    ) -> Result<ExtensionFunction<F>, AllocError>
+        ensures meaning { IfOk result (λ made. meaning_of F.answers made ≡ record { takes = Some 3; answer = (F.answers function).given }) }
+        ensures other { IfOk result (λ made. is_unknown made ≡ false) }
+        ensures name { IfOk result (λ made. function_name made ≡ name) }
+        ensures style { IfOk result (λ made. function_style made ≡ style_of style) }
+        ensures typed { IfOk result (λ made. returned_type made ≡ Some return_type) }
+        ensures arguments { IfOk result (λ made. argument_types made ≡ value_type_of arg_types.0 ∷ value_type_of arg_types.1 ∷ value_type_of arg_types.2 ∷ []) }
+    {
+        Ok(ExtensionFunction {
+            name,
+            style,
+            function: Function::Callers(CallersFunction {
+                takes: Some(3),
+                object: function,
+            }),
+            return_type: Some(return_type),
+            arg_types: vec![in alloc; arg_types.0, arg_types.1, arg_types.2]?,
+        })
+    }
+
+    /// A function of any number of arguments, and the types of its values and of these.
+    pub fn variadic(
+        name: Name,
+        style: CallStyle,
+        function: F,
+        return_type: SchemaType,
+        arg_types: Vec<SchemaType>,
+    ) -> ExtensionFunction<F>
+        ensures meaning { meaning_of F.answers result ≡ record { takes = None; answer = (F.answers function).given } }
+        ensures other { is_unknown result ≡ false }
+        ensures name { function_name result ≡ name }
+        ensures style { function_style result ≡ style_of style }
+        ensures typed { returned_type result ≡ Some return_type }
+        ensures arguments { argument_types result ≡ map value_type_of arg_types.items }
+    {
+        ExtensionFunction {
+            name,
+            style,
+            function: Function::Callers(CallersFunction {
+                takes: None,
+                object: function,
+            }),
+            return_type: Some(return_type),
+            arg_types: arg_types,
+        }
+    }
+
+    /// Calls it. The built-in function gives the unknown of the text that it is given; every other
+    /// function gives values alone.
+    ///
+    /// It is refused `WrongNumArguments` for another number of arguments than the function takes,
+    /// `FailedExtensionFunctionExecution` where the function has no answer, as the built-in one for
+    /// anything but a text, and `Memory`.
+    pub fn call(
+        &self,
+        alloc: Global,
+        args: &[Value],
+    ) -> Result<ExtensionOutputValue, EvaluationError>
+        ensures meaning { Gives output_value ⊥ result (called (Some (meaning_of F.answers self.now)) (all_of args.now)) }
+        ensures unknown { IfOk result (IsOutput (is_unknown self.now)) }
+        ensures refusal { IfErr result (λ error. TellsOfCall (function_name self.now)
+            (arity_of self.now) (length args.now) (cause_of error)) }
+    {
+        match &self.function {
+            Function::Unknown => self.call_unknown(alloc, args),
+            Function::Callers(function) => function.call(alloc, &self.name, args),
+        }
+    }
+}
+
+impl<F> CallersFunction<F> {
+    // How many arguments it takes, where that isn't so many.
+    fn other_count(&self, actual: usize) -> Option<usize>
+        ensures { IsOtherCount self.now.takes actual result }
+    {
+        let expected = self.takes?;
+        if expected == actual {
+            None
+        } else {
+            Some(expected)
+        }
+    }
+}
+
+impl<F: ExtensionFunctionObject> CallersFunction<F> {
+    fn call(
+        &self,
+        alloc: Global,
+        name: &Name,
+        args: &[Value],
+    ) -> Result<ExtensionOutputValue, EvaluationError>
+        ensures meaning { Gives output_value ⊥ result (called (Some (answers_of F.answers self.now)) (all_of args.now)) }
+        ensures unknown { IfOk result (IsOutput false) }
+        ensures refusal { IfErr result (λ error. TellsOfCall name.now
+            (answers_of F.answers self.now).takes (length args.now) (cause_of error)) }
+    {
+        let actual = args.len();
+        match self.other_count(actual) {
+            Some(expected) => {
+                let name = name.clone(alloc)?;
+                Err(EvaluationError::wrong_num_arguments(name, expected, actual, None))
+            }
+            None => match self.object.call(alloc, args) {
+                Ok(value) => Ok(ExtensionOutputValue::Known(value)),
+                Err(CallError::NoAnswer(msg)) => {
+                    let name = name.clone(alloc)?;
+                    Err(EvaluationError::failed_extension_function_application(name, msg, None))
+                }
+                Err(CallError::Memory(error)) => Err(EvaluationError::from(error)),
+            },
+        }
     }
 }
 

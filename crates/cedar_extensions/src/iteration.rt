@@ -8,19 +8,20 @@ ghost use Rattle.cedar_extensions.specs.Tables.{functions_left, names_left, type
 
 use crate::extension::Extension;
 use crate::functions::ExtensionFunction;
+use crate::objects::NoFunction;
 use cedar_names::names::Name;
 use std::slice::Iter;
 
 /// The functions of extensions, one extension after the other.
 #[derive(Drop)]
-pub struct Funcs<'a> {
-    functions: Iter<'a, ExtensionFunction>,
-    extensions: Iter<'a, Extension>,
+pub struct Funcs<'a, F = NoFunction> {
+    functions: Iter<'a, ExtensionFunction<F>>,
+    extensions: Iter<'a, Extension<F>>,
 }
 
-impl<'a> Funcs<'a> {
+impl<'a, F> Funcs<'a, F> {
     /// Of these extensions.
-    pub fn new(extensions: &'a [Extension]) -> Funcs<'a>
+    pub fn new(extensions: &'a [Extension<F>]) -> Funcs<'a, F>
         ensures { functions_left result ≡ flat_map extension_functions extensions.now }
     {
         Funcs {
@@ -29,7 +30,7 @@ impl<'a> Funcs<'a> {
         }
     }
 
-    fn of_extension(extension: &'a Extension) -> Funcs<'a>
+    fn of_extension(extension: &'a Extension<F>) -> Funcs<'a, F>
         ensures { functions_left result ≡ extension_functions extension.now }
     {
         Funcs {
@@ -39,8 +40,8 @@ impl<'a> Funcs<'a> {
     }
 }
 
-impl<'a> Iterator for Funcs<'a> {
-    type Item = &'a ExtensionFunction;
+impl<'a, F> Iterator for Funcs<'a, F> {
+    type Item = &'a ExtensionFunction<F>;
 
     ghost use Rattle.std.specs.Iterator.{YieldsFirstBy, item_count};
     ghost use Rattle.cedar_extensions.specs.Tables.{functions_left};
@@ -49,7 +50,7 @@ impl<'a> Iterator for Funcs<'a> {
 
     ghost remaining = { item_count functions_left };
 
-    fn next(&mut self) -> Option<&'a ExtensionFunction> {
+    fn next(&mut self) -> Option<&'a ExtensionFunction<F>> {
         loop {
             if let Some(function) = self.functions.next() {
                 return Some(function);
@@ -61,13 +62,13 @@ impl<'a> Iterator for Funcs<'a> {
 
 /// The names of extensions.
 #[derive(Drop)]
-pub struct ExtNames<'a> {
-    extensions: Iter<'a, Extension>,
+pub struct ExtNames<'a, F = NoFunction> {
+    extensions: Iter<'a, Extension<F>>,
 }
 
-impl<'a> ExtNames<'a> {
+impl<'a, F> ExtNames<'a, F> {
     /// Of these extensions.
-    pub fn new(extensions: &'a [Extension]) -> ExtNames<'a>
+    pub fn new(extensions: &'a [Extension<F>]) -> ExtNames<'a, F>
         ensures { names_left result ≡ map extension_name extensions.now }
     {
         ExtNames {
@@ -76,7 +77,7 @@ impl<'a> ExtNames<'a> {
     }
 }
 
-impl<'a> Iterator for ExtNames<'a> {
+impl<'a, F> Iterator for ExtNames<'a, F> {
     type Item = &'a Name;
 
     ghost use Rattle.std.specs.Iterator.{YieldsFirstBy, item_count};
@@ -93,13 +94,13 @@ impl<'a> Iterator for ExtNames<'a> {
 
 /// The extension types of which functions give values, one for each such function.
 #[derive(Drop)]
-pub struct ExtTypes<'a> {
-    functions: Funcs<'a>,
+pub struct ExtTypes<'a, F = NoFunction> {
+    functions: Funcs<'a, F>,
 }
 
-impl<'a> ExtTypes<'a> {
+impl<'a, F> ExtTypes<'a, F> {
     /// Of the functions of these extensions.
-    pub fn new(extensions: &'a [Extension]) -> ExtTypes<'a>
+    pub fn new(extensions: &'a [Extension<F>]) -> ExtTypes<'a, F>
         ensures { type_names_left result ≡ filter_map extension_type_of (flat_map extension_functions extensions.now) }
     {
         ExtTypes {
@@ -108,7 +109,7 @@ impl<'a> ExtTypes<'a> {
     }
 
     /// Of the functions of one extension.
-    pub fn of_extension(extension: &'a Extension) -> ExtTypes<'a>
+    pub fn of_extension(extension: &'a Extension<F>) -> ExtTypes<'a, F>
         ensures { type_names_left result ≡ filter_map extension_type_of (extension_functions extension.now) }
     {
         ExtTypes {
@@ -117,7 +118,7 @@ impl<'a> ExtTypes<'a> {
     }
 }
 
-impl<'a> Iterator for ExtTypes<'a> {
+impl<'a, F> Iterator for ExtTypes<'a, F> {
     type Item = &'a Name;
 
     ghost use Rattle.std.specs.Iterator.{YieldsFirstBy, item_count};
@@ -139,14 +140,14 @@ impl<'a> Iterator for ExtTypes<'a> {
 
 /// The types of extensions whose values `<` and `<=` compare.
 #[derive(Drop)]
-pub struct OrderedTypes<'a> {
+pub struct OrderedTypes<'a, F = NoFunction> {
     types: Iter<'a, Name>,
-    extensions: Iter<'a, Extension>,
+    extensions: Iter<'a, Extension<F>>,
 }
 
-impl<'a> OrderedTypes<'a> {
+impl<'a, F> OrderedTypes<'a, F> {
     /// Of these extensions.
-    pub fn new(extensions: &'a [Extension]) -> OrderedTypes<'a>
+    pub fn new(extensions: &'a [Extension<F>]) -> OrderedTypes<'a, F>
         ensures { ordered_left result ≡ flat_map ordered_types extensions.now }
     {
         OrderedTypes {
@@ -156,7 +157,7 @@ impl<'a> OrderedTypes<'a> {
     }
 }
 
-impl<'a> Iterator for OrderedTypes<'a> {
+impl<'a, F> Iterator for OrderedTypes<'a, F> {
     type Item = &'a Name;
 
     ghost use Rattle.std.specs.Iterator.{YieldsFirstBy, item_count};

@@ -14,6 +14,7 @@ pub mod lookups;
 mod makers;
 mod making;
 pub mod missing;
+pub mod objects;
 pub mod operands;
 pub mod table_errors;
 pub mod unevaluated;

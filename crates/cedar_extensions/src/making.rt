@@ -15,9 +15,9 @@ use cedar_names::names::Name;
 use std::alloc::{AllocError, Global};
 
 /// The names of all functions of these extensions.
-pub(crate) fn function_names(
+pub(crate) fn function_names<F>(
     alloc: Global,
-    extensions: &[Extension],
+    extensions: &[Extension<F>],
 ) -> Result<Vec<(Name, ())>, AllocError>
     ensures { IfOk result (λ names.
         keys_of names.items ≡ making.function_names (flat_map extension_functions extensions.now)) }
@@ -30,7 +30,7 @@ pub(crate) fn function_names(
 }
 
 // The extension type of which it makes values from one text, if it is no method.
-fn type_made(function: &ExtensionFunction) -> Option<&Name>
+fn type_made<F>(function: &ExtensionFunction<F>) -> Option<&Name>
     ensures { option_copied result ≡ making.type_made function.now }
 {
     if function.is_single_arg_constructor() {
@@ -42,9 +42,9 @@ fn type_made(function: &ExtensionFunction) -> Option<&Name>
 
 /// The extension types of which their functions make values from one text, methods aside: one for each
 /// such function.
-pub(crate) fn types_made(
+pub(crate) fn types_made<F>(
     alloc: Global,
-    extensions: &[Extension],
+    extensions: &[Extension<F>],
 ) -> Result<Vec<(Name, ())>, AllocError>
     ensures { IfOk result (λ names.
         keys_of names.items ≡ making.types_made (flat_map extension_functions extensions.now)) }

@@ -5,6 +5,7 @@ ghost use Rattle.cedar_extensions.specs.ValidationRefusals.{Validates, Checks};
 
 use crate::calls::WrongNumArgumentsError;
 use crate::extensions::Extensions;
+use crate::objects::ExtensionFunctionObject;
 use crate::validation_errors::ExprValidationError;
 use cedar_names::names::Name;
 use cedar_shapes::iteration::ExprIterator;
@@ -25,12 +26,12 @@ pub trait ExprValidation {
     /// `FuncDoesNotExist` where the table lacks the function, `WrongNumArguments` with the number that
     /// it takes and the number given. Also refused for want of memory.
     /// (Cedar language reference, "Extension functions".)
-    fn try_validate(
+    fn try_validate<F: ExtensionFunctionObject>(
         &self,
         alloc: Global,
-        extensions: &Extensions<'_>,
+        extensions: &Extensions<'_, F>,
     ) -> Result<(), ExprValidationError>
-        ensures { Validates (as_table extensions.now) (tree self.now) result };
+        ensures { Validates (as_table F.answers extensions.now) (tree self.now) result };
 }
 
 impl<T> ExprValidation for Expr<T> {
@@ -38,21 +39,21 @@ impl<T> ExprValidation for Expr<T> {
 
     ghost tree = { bare };
 
-    fn try_validate(
+    fn try_validate<F: ExtensionFunctionObject>(
         &self,
         alloc: Global,
-        extensions: &Extensions<'_>,
+        extensions: &Extensions<'_, F>,
     ) -> Result<(), ExprValidationError> {
         validated(alloc, self, extensions)
     }
 }
 
-fn validated<T>(
+fn validated<T, F: ExtensionFunctionObject>(
     alloc: Global,
     expr: &Expr<T>,
-    extensions: &Extensions<'_>,
+    extensions: &Extensions<'_, F>,
 ) -> Result<(), ExprValidationError>
-    ensures { Validates (as_table extensions.now) (bare expr.now) result }
+    ensures { Validates (as_table F.answers extensions.now) (bare expr.now) result }
 {
     for part in ExprIterator::new(alloc, expr)? {
         if let ExprKind::ExtensionFunctionApp { fn_name, args } = &part.expr_kind {
@@ -63,13 +64,13 @@ fn validated<T>(
 }
 
 // Whether the function of this name takes so many arguments. An error tells the place of the name.
-fn check_call(
+fn check_call<F: ExtensionFunctionObject>(
     alloc: Global,
     name: &Name,
     actual: usize,
-    extensions: &Extensions<'_>,
+    extensions: &Extensions<'_, F>,
 ) -> Result<(), ExprValidationError>
-    ensures { Checks (as_table extensions.now) (name.now, actual) result }
+    ensures { Checks (as_table F.answers extensions.now) (name.now, actual) result }
 {
     let function = extensions.func(alloc, name)?;
     let Some(expected) = function.arity() else {

@@ -1,17 +1,18 @@
 -- What names call in a table, and what calls of `unknown` name.
 use Rattle.std.proofs.Common.{◌≡◌, ◌∙◌, refl, ap, sym, subst, List, [], ◌∷◌}
-use Rattle.std.specs.Prelude.{Bool, true, false, not, cond, ◌&&◌, ◌||◌, Some, None, option_map}
+use Rattle.std.specs.Prelude.{Bool, true, false, not, cond, ◌&&◌, ◌||◌, Option, Some, None, option_map}
 use Rattle.std.specs.List.{list_any}
 use Rattle.cedar_language.specs.Uid.{Text, Name}
 use Rattle.cedar_language.specs.Order.{same_name}
 use Rattle.cedar_language.specs.Tree.{String, Call, Tree, Lit, Unknown, Apply, Trees, no_trees, a_tree}
-use Rattle.cedar_language.specs.Value.{Value, Values, Gives}
-use Rattle.cedar_language.specs.Operators.{called}
+use Rattle.cedar_language.specs.Value.{Value, Plain, SetOf, RecordOf, ExtensionOf, Values, no_values, a_value, FailedExtensionFunctionExecution, WrongNumArguments, Gives, Fails}
+use Rattle.cedar_language.specs.Operators.{called, count, or_fails, takes}
 use Rattle.either.specs.declared.Either.{Either}
-use Rattle.either.specs.declared.Either.TheVariants.{Right}
+use Rattle.either.specs.declared.Either.TheVariants.{Left, Right}
 use Rattle.cedar_names.proofs.Sameness.{names_same}
 use Rattle.cedar_world.specs.Bodies.{unknown_or, named_call}
 use Rattle.cedar_world.specs.Functions.{the_unknown, is_the_unknown, unknown_function}
+use Rattle.cedar_extensions.specs.Answering.{FunctionAnswers, IsBuilt, AreBuilt}
 use Rattle.cedar_extensions.specs.Functions.{function_name, meaning_in, meaning_of, names_unknown, is_unknown, output_value, IsOutput}
 use Rattle.cedar_extensions.specs.Tables.{functions_in}
 use Rattle.cedar_extensions.specs.Table.{as_table}
@@ -20,19 +21,18 @@ use Rattle.cedar_extensions.specs.declared.functions.ExtensionOutputValue.{Exten
 use Rattle.cedar_extensions.specs.declared.functions.ExtensionOutputValue.TheVariants as output
 use Rattle.cedar_trees.specs.Unknowns.{unknown_name, unknown_type}
 use Rattle.cedar_trees.specs.declared.unknowns.Unknown as code
+use Rattle.cedar_restricted.specs.Laws.{holds_extension, hold_extension}
 use Rattle.cedar_restricted_evaluation.specs.Findings.{IsCalled}
 use Rattle.cedar_extensions.specs.Holding.{found_in, is_named, are_named}
 use Rattle.cedar_extensions.specs.declared.functions.Function.{Function}
 use Rattle.cedar_extensions.specs.declared.functions.Function.TheVariants as function
 use Rattle.cedar_extensions.specs.declared.functions.ExtensionFunction.{ExtensionFunction}
 
--- ---- the functions of today's tables
+-- ---- the functions of a table
 
-pub is_built_in : (g : Function) → names_unknown g ≡ true
-is_built_in function.Unknown = refl
-
-means_unknown : (g : Function) → meaning_in g ≡ unknown_function
-means_unknown function.Unknown = refl
+means_unknown : {F : Type 0} (answers : F → FunctionAnswers) (g : Function F) → names_unknown g ≡ true → meaning_in answers g ≡ unknown_function
+means_unknown answers function.Unknown h = refl
+means_unknown answers (function.Callers f) h = cc
 
 and_left : (a b : Bool) → (a && b) ≡ true → a ≡ true
 and_left true b h = refl
@@ -42,44 +42,122 @@ and_right : (a b : Bool) → (a && b) ≡ true → b ≡ true
 and_right true b h = h
 and_right false b h = cc
 
-named_so : (f : ExtensionFunction) → is_named f ≡ true → is_the_unknown (function_name f) ≡ true
-named_so f h = sym (ap (λ b. cond b (is_the_unknown (function_name f)) (not (is_the_unknown (function_name f)))) (is_built_in f.function)) ∙ h
+or_right : (a b : Bool) → b ≡ true → (a || b) ≡ true
+or_right true b h = refl
+or_right false b h = h
 
-module _ (n : Name) (f : ExtensionFunction) where
-  named_here : (g : ExtensionFunction) (gs : List ExtensionFunction) → is_named g ≡ true → (found_in gs n ≡ Some f → is_the_unknown n ≡ true) → (b : Bool) → same_name (function_name g) n ≡ b → cond b (Some g) (found_in gs n) ≡ Some f → is_the_unknown n ≡ true
-  named_here g gs h below true i e = ap is_the_unknown (sym ((names_same (function_name g) n).0 i)) ∙ named_so g h
-  named_here g gs h below false i e = below e
+-- it is the built-in function exactly where it has its name
+named_so : {F : Type 0} (f : ExtensionFunction F) (u : Bool) → is_unknown f ≡ u → is_named f ≡ true → is_the_unknown (function_name f) ≡ u
+named_so f true is h = sym (ap (λ b. cond b (is_the_unknown (function_name f)) (not (is_the_unknown (function_name f)))) is) ∙ h
+named_so f false is h = not_true (is_the_unknown (function_name f)) (sym (ap (λ b. cond b (is_the_unknown (function_name f)) (not (is_the_unknown (function_name f)))) is) ∙ h) where
+  not_true : (a : Bool) → not a ≡ true → a ≡ false
+  not_true true h = cc
+  not_true false h = refl
 
-  -- what is found is the built-in function, under its name
-  pub found_is_named : (fs : List ExtensionFunction) → are_named fs ≡ true → found_in fs n ≡ Some f → is_the_unknown n ≡ true
-  found_is_named [] h e = cc
-  found_is_named (g ∷ gs) h e = named_here g gs (and_left _ _ h) (found_is_named gs (and_right _ _ h)) (same_name (function_name g) n) refl e
+module _ {F : Type 0} (n : Name) (f : ExtensionFunction F) where
+  named_here : (u : Bool) → is_unknown f ≡ u → (g : ExtensionFunction F) (gs : List (ExtensionFunction F)) → is_named g ≡ true → (found_in gs n ≡ Some f → is_the_unknown n ≡ u) → (b : Bool) → same_name (function_name g) n ≡ b → cond b (Some g) (found_in gs n) ≡ Some f → is_the_unknown n ≡ u
+  named_here u is g gs h below true i e =
+      let same : g ≡ f = cc in
+      ap is_the_unknown (sym ((names_same (function_name g) n).0 i)) ∙ named_so g u (ap is_unknown same ∙ is) h
+  named_here u is g gs h below false i e = below e
 
-  pub found_is_held : (fs : List ExtensionFunction) → found_in fs n ≡ Some f → list_any is_unknown fs ≡ true
-  found_is_held [] e = cc
-  found_is_held (g ∷ gs) e = ap (λ b. b || list_any is_unknown gs) (is_built_in g.function)
+  -- what is found is the built-in function exactly under its name
+  pub found_is_named : (u : Bool) → is_unknown f ≡ u → (fs : List (ExtensionFunction F)) → are_named fs ≡ true → found_in fs n ≡ Some f → is_the_unknown n ≡ u
+  found_is_named u is [] h e = cc
+  found_is_named u is (g ∷ gs) h e = named_here u is g gs (and_left _ _ h) (found_is_named u is gs (and_right _ _ h)) (same_name (function_name g) n) refl e
 
--- and it is found where the table has it
-pub held_is_found : (n : Name) → is_the_unknown n ≡ true → (fs : List ExtensionFunction) → are_named fs ≡ true → list_any is_unknown fs ≡ true → option_map meaning_of (found_in fs n) ≡ Some unknown_function
-held_is_found n is [] h e = cc
-held_is_found n is (g ∷ gs) h e =
-    let same : same_name (function_name g) n ≡ true = ap (same_name (function_name g)) ((names_same n the_unknown).0 is) ∙ named_so g (and_left _ _ h) in
-    ap (λ b. option_map meaning_of (cond b (Some g) (found_in gs n))) same ∙ ap Some (means_unknown g.function)
+  held_here : is_unknown f ≡ true → (g : ExtensionFunction F) (gs : List (ExtensionFunction F)) → (found_in gs n ≡ Some f → list_any is_unknown gs ≡ true) → (b : Bool) → cond b (Some g) (found_in gs n) ≡ Some f → (is_unknown g || list_any is_unknown gs) ≡ true
+  held_here is g gs below true e =
+      let same : g ≡ f = cc in
+      ap (λ b. b || list_any is_unknown gs) (ap is_unknown same ∙ is)
+  held_here is g gs below false e = or_right (is_unknown g) (list_any is_unknown gs) (below e)
 
--- the unknown that it gives
-pub unknown_called : (extensions : Extensions) (n : Name) (vs : Values) (f : ExtensionFunction) (o : ExtensionOutputValue) (u : code.Unknown) (p : Either Value Tree)
-    → are_named (functions_in extensions) ≡ true → found_in (functions_in extensions) n ≡ Some f → called (Some (meaning_of f)) vs ≡ Gives (output_value o) → IsOutput (is_unknown f) o
-    → o ≡ output.Unknown u → p ≡ Right (Unknown (unknown_name u) (unknown_type u)) → IsCalled (as_table extensions) n vs p
-unknown_called extensions n vs f o u p named found gives shape same is =
-    let there : IsOutput (is_unknown f) (output.Unknown u) = subst (λ o. IsOutput (is_unknown f) o) same shape in
-    let untyped : unknown_type u ≡ None = subst (λ b. IsOutput b (output.Unknown u)) (is_built_in f.function) there in
-    subst (λ q. IsCalled (as_table extensions) n vs q) (sym is) (record {
-      name = unknown_name u;
-      unknown = ap (λ ty. Unknown (unknown_name u) ty) untyped;
-      gives = ap (λ g. called (option_map meaning_of g) vs) found ∙ gives ∙ ap (λ o. Gives (output_value o)) same;
-      built_in = found_is_named n f (functions_in extensions) named found;
-      held = found_is_held n f (functions_in extensions) found;
-    })
+  pub found_is_held : is_unknown f ≡ true → (fs : List (ExtensionFunction F)) → found_in fs n ≡ Some f → list_any is_unknown fs ≡ true
+  found_is_held is [] e = cc
+  found_is_held is (g ∷ gs) e = held_here is g gs (found_is_held is gs) (same_name (function_name g) n) e
+
+module _ {F : Type 0} (answers : F → FunctionAnswers) (n : Name) (is : is_the_unknown n ≡ true) where
+  built_in_here : (g : ExtensionFunction F) (gs : List (ExtensionFunction F)) (u : Bool) → is_unknown g ≡ u → is_named g ≡ true → (list_any is_unknown gs ≡ true → option_map (meaning_of answers) (found_in gs n) ≡ Some unknown_function)
+      → (u || list_any is_unknown gs) ≡ true → option_map (meaning_of answers) (cond (same_name (function_name g) n) (Some g) (found_in gs n)) ≡ Some unknown_function
+  built_in_here g gs true u h below e =
+      ap (λ b. option_map (meaning_of answers) (cond b (Some g) (found_in gs n))) (ap (same_name (function_name g)) ((names_same n the_unknown).0 is) ∙ named_so g true u h)
+      ∙ ap Some (means_unknown answers g.function u)
+  built_in_here g gs false u h below e =
+      ap (λ b. option_map (meaning_of answers) (cond b (Some g) (found_in gs n))) (ap (same_name (function_name g)) ((names_same n the_unknown).0 is) ∙ named_so g false u h)
+      ∙ below e
+
+  -- and it is found where the table has it
+  pub held_is_found : (fs : List (ExtensionFunction F)) → are_named fs ≡ true → list_any is_unknown fs ≡ true → option_map (meaning_of answers) (found_in fs n) ≡ Some unknown_function
+  held_is_found [] h e = cc
+  held_is_found (g ∷ gs) h e = built_in_here g gs (is_unknown g) refl (and_left _ _ h) (held_is_found gs (and_right _ _ h)) e
+
+-- ---- what a call gives
+
+-- no extension value stands in a value that a caller's function gives
+mutual
+  plain_built : (v : Value) → IsBuilt v → holds_extension v ≡ false
+  plain_built (Plain l) h = refl
+  plain_built (SetOf vs) h = all_plain_built vs h.1
+  plain_built (RecordOf ks vs) h = all_plain_built vs h
+  plain_built (ExtensionOf e) h = absurd h
+
+  all_plain_built : (vs : Values) → AreBuilt vs → hold_extension vs ≡ false
+  all_plain_built no_values h = refl
+  all_plain_built (a_value v vs) h = rw (plain_built v h.0, all_plain_built vs h.1) refl
+
+given_by : (b : Bool) (o : Option Value) (v : Value) → cond b (or_fails FailedExtensionFunctionExecution o) (Fails WrongNumArguments) ≡ Gives v → o ≡ Some v
+given_by true (Some w) v e = cc
+given_by true None v e = cc
+given_by false o v e = cc
+
+module _ {F : Type 0} (answers : F → FunctionAnswers) where
+  callers_gives : (g : Function F) (vs : Values) (v : Value) → names_unknown g ≡ false → called (Some (meaning_in answers g)) vs ≡ Gives v → (holds_extension v ≡ false) × ((s : Text) → v ≡ Plain (String s) → ⊥)
+  callers_gives function.Unknown vs v u e = cc
+  callers_gives (function.Callers f) vs v u e =
+      let gives : (answers f.object).given vs ≡ Some v = given_by (takes f.takes (count vs)) ((answers f.object).given vs) v e in (
+        plain_built v ((answers f.object).built vs v gives),
+        λ s is. (answers f.object).no_text vs s (gives ∙ ap Some is),
+      )
+
+  shape_unknown : (b : Bool) (u : code.Unknown) → IsOutput b (output.Unknown u) → b ≡ true
+  shape_unknown true u h = refl
+  shape_unknown false u h = absurd h
+
+  shape_known : (b : Bool) (v : Value) → IsOutput b (output.Known v) → b ≡ false
+  shape_known true v h = absurd h
+  shape_known false v h = refl
+
+  -- the unknown that the built-in function gives
+  pub unknown_called : (extensions : Extensions F) (n : Name) (vs : Values) (f : ExtensionFunction F) (o : ExtensionOutputValue) (u : code.Unknown) (p : Either Value Tree)
+      → are_named (functions_in extensions) ≡ true → found_in (functions_in extensions) n ≡ Some f → called (Some (meaning_of answers f)) vs ≡ Gives (output_value o) → IsOutput (is_unknown f) o
+      → o ≡ output.Unknown u → p ≡ Right (Unknown (unknown_name u) (unknown_type u)) → IsCalled (as_table answers extensions) n vs p
+  unknown_called extensions n vs f o u p named found gives shape same is =
+      let there : IsOutput (is_unknown f) (output.Unknown u) = subst (λ o. IsOutput (is_unknown f) o) same shape in
+      let built_in : is_unknown f ≡ true = shape_unknown (is_unknown f) u there in
+      let untyped : unknown_type u ≡ None = subst (λ b. IsOutput b (output.Unknown u)) built_in there in
+      subst (λ q. IsCalled (as_table answers extensions) n vs q) (sym is) (record {
+        name = unknown_name u;
+        unknown = ap (λ ty. Unknown (unknown_name u) ty) untyped;
+        gives = ap (λ g. called (option_map (meaning_of answers) g) vs) found ∙ gives ∙ ap (λ o. Gives (output_value o)) same;
+        built_in = found_is_named n f true built_in (functions_in extensions) named found;
+        held = found_is_held n f built_in (functions_in extensions) found;
+      })
+
+  -- the value that a caller's function gives
+  pub value_called : (extensions : Extensions F) (n : Name) (vs : Values) (f : ExtensionFunction F) (o : ExtensionOutputValue) (v : Value) (p : Either Value Tree)
+      → are_named (functions_in extensions) ≡ true → found_in (functions_in extensions) n ≡ Some f → called (Some (meaning_of answers f)) vs ≡ Gives (output_value o) → IsOutput (is_unknown f) o
+      → o ≡ output.Known v → p ≡ Left v → IsCalled (as_table answers extensions) n vs p
+  value_called extensions n vs f o v p named found gives shape same is =
+      let there : IsOutput (is_unknown f) (output.Known v) = subst (λ o. IsOutput (is_unknown f) o) same shape in
+      let other : is_unknown f ≡ false = shape_known (is_unknown f) v there in
+      let given : called (Some (meaning_of answers f)) vs ≡ Gives v = gives ∙ ap (λ o. Gives (output_value o)) same in
+      let fair = callers_gives f.function vs v other given in
+      subst (λ q. IsCalled (as_table answers extensions) n vs q) (sym is) (record {
+        gives = ap (λ g. called (option_map (meaning_of answers) g) vs) found ∙ given;
+        other = found_is_named n f false other (functions_in extensions) named found;
+        plain = fair.0;
+        no_text = fair.1;
+      })
 
 -- ---- calls that name unknowns
 

@@ -1,4 +1,4 @@
--- What is found of each part. The functions of today's tables give no extension values, so a residual is the answer's itself.
+-- What is found of each part. No function gives an extension value so far, so a residual is the answer's itself.
 use Rattle.std.specs.Prelude.{◌≡◌, ⊤, true, false, List, [], ◌∷◌, map, None, Result}
 use Rattle.std.specs.Global.{Vec}
 use Rattle.either.specs.declared.Either.{Either}

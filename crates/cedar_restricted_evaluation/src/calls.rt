@@ -6,6 +6,7 @@ ghost use Rattle.cedar_restricted_evaluation.specs.Findings.{Calls};
 use cedar_extensions::evaluation_error::EvaluationError;
 use cedar_extensions::extensions::Extensions;
 use cedar_extensions::functions::ExtensionOutputValue;
+use cedar_extensions::objects::ExtensionFunctionObject;
 use cedar_names::names::Name;
 use cedar_names::places::Loc;
 use cedar_restricted::partial_values::PartialValue;
@@ -18,14 +19,14 @@ use std::alloc::Global;
 /// It errs at this place with `FailedExtensionFunctionLookup` where the table lacks the function,
 /// `WrongNumArguments` for another number of arguments than it takes, `FailedExtensionFunctionExecution`
 /// where it has no answer, and `Memory`. (Cedar language reference, "Operators and functions".)
-pub fn call(
+pub fn call<F: ExtensionFunctionObject>(
     alloc: Global,
     name: &Name,
     args: &[Value],
     place: Option<Loc>,
-    extensions: &Extensions<'_>,
+    extensions: &Extensions<'_, F>,
 ) -> Result<PartialValue, EvaluationError>
-    ensures { Calls (as_table extensions.now) name.now (all_of args.now) result }
+    ensures { Calls (as_table F.answers extensions.now) name.now (all_of args.now) result }
 {
     match answer(alloc, name, args, extensions) {
         Ok(answer) => Ok(answer.with_maybe_source_loc(place)),
@@ -33,13 +34,13 @@ pub fn call(
     }
 }
 
-fn answer(
+fn answer<F: ExtensionFunctionObject>(
     alloc: Global,
     name: &Name,
     args: &[Value],
-    extensions: &Extensions<'_>,
+    extensions: &Extensions<'_, F>,
 ) -> Result<PartialValue, EvaluationError>
-    ensures { Calls (as_table extensions.now) name.now (all_of args.now) result }
+    ensures { Calls (as_table F.answers extensions.now) name.now (all_of args.now) result }
 {
     let function = extensions.func(alloc, name)?;
     match function.call(alloc, args)? {

@@ -15,6 +15,7 @@ use crate::calls::call;
 use crate::records::keyed;
 use cedar_extensions::evaluation_error::EvaluationError;
 use cedar_extensions::extensions::Extensions;
+use cedar_extensions::objects::ExtensionFunctionObject;
 use cedar_names::names::Name;
 use cedar_names::places::Loc;
 use cedar_partial_evaluation::known_is_meaning;
@@ -38,14 +39,14 @@ use std::rc::{Rc, RcStr};
 /// It errs with what the functions of the table err with, `FailedExtensionFunctionLookup` where the
 /// table lacks a function, `RecursionLimit` where the evaluation nests deeper than `depth`, the
 /// outermost expression being at 1, and `Memory`.
-pub fn interpret_restricted(
+pub fn interpret_restricted<F: ExtensionFunctionObject>(
     alloc: Global,
     expr: BorrowedRestrictedExpr<'_>,
-    extensions: &Extensions<'_>,
+    extensions: &Extensions<'_, F>,
     depth: u32,
 ) -> Result<PartialValue, EvaluationError>
-    ensures meaning { MeansKnown (as_table extensions.now) depth (borrowed_tree expr.entry) result }
-    ensures answer { Answers (as_table extensions.now) depth (borrowed_tree expr.entry) result }
+    ensures meaning { MeansKnown (as_table F.answers extensions.now) depth (borrowed_tree expr.entry) result }
+    ensures answer { Answers (as_table F.answers extensions.now) depth (borrowed_tree expr.entry) result }
     ensures left { IfOk result (λ partial. IsLeft (partial_of partial)) }
     ensures limit { IfOk result (λ partial. height (borrowed_tree expr.entry) ≤ depth) }
 {
@@ -54,14 +55,14 @@ pub fn interpret_restricted(
 }
 
 #[cycle(interpret)]
-fn interpret(
+fn interpret<F: ExtensionFunctionObject>(
     alloc: Global,
     expr: &Expr,
-    extensions: &Extensions<'_>,
+    extensions: &Extensions<'_, F>,
     depth: u32,
 ) -> Result<PartialValue, EvaluationError>
     requires { is_restricted (bare expr.now) ≡ true }
-    ensures found { Evaluates (as_table extensions.now) (bare expr.now) (depth < height (bare expr.now)) result }
+    ensures found { Evaluates (as_table F.answers extensions.now) (bare expr.now) (depth < height (bare expr.now)) result }
     ensures limit { IfOk result (λ found. height (bare expr.now) ≤ depth) }
 {
     let place = place(alloc, expr)?;
@@ -97,15 +98,15 @@ fn interpret(
 }
 
 #[cycle(interpret)]
-fn interpret_set(
+fn interpret_set<F: ExtensionFunctionObject>(
     alloc: Global,
     items: &[Expr],
     place: Option<Loc>,
-    extensions: &Extensions<'_>,
+    extensions: &Extensions<'_, F>,
     depth: u32,
 ) -> Result<PartialValue, EvaluationError>
     requires { are_restricted (trees (map bare items.now)) ≡ true }
-    ensures found { Evaluates (as_table extensions.now) (Apply MakeSet (trees (map bare items.now))) (depth < heights (trees (map bare items.now))) result }
+    ensures found { Evaluates (as_table F.answers extensions.now) (Apply MakeSet (trees (map bare items.now))) (depth < heights (trees (map bare items.now))) result }
     ensures limit { IfOk result (λ found. heights (trees (map bare items.now)) ≤ depth) }
 {
     let items = interpret_items(alloc, items, extensions, depth)?;
@@ -119,15 +120,15 @@ fn interpret_set(
 }
 
 #[cycle(interpret)]
-fn interpret_record(
+fn interpret_record<F: ExtensionFunctionObject>(
     alloc: Global,
     entries: &BTreeMap<RcStr, Expr>,
     place: Option<Loc>,
-    extensions: &Extensions<'_>,
+    extensions: &Extensions<'_, F>,
     depth: u32,
 ) -> Result<PartialValue, EvaluationError>
     requires { are_restricted (trees (map (λ e. e.1) (bare_entries entries.now.entries))) ≡ true }
-    ensures found { Evaluates (as_table extensions.now) (Apply (MakeRecord (keys (bare_entries entries.now.entries))) (trees (map (λ e. e.1) (bare_entries entries.now.entries)))) (depth < heights (trees (map (λ e. e.1) (bare_entries entries.now.entries)))) result }
+    ensures found { Evaluates (as_table F.answers extensions.now) (Apply (MakeRecord (keys (bare_entries entries.now.entries))) (trees (map (λ e. e.1) (bare_entries entries.now.entries)))) (depth < heights (trees (map (λ e. e.1) (bare_entries entries.now.entries)))) result }
     ensures limit { IfOk result (λ found. heights (trees (map (λ e. e.1) (bare_entries entries.now.entries))) ≤ depth) }
 {
     let items = interpret_entries(alloc, entries, extensions, depth)?;
@@ -144,16 +145,16 @@ fn interpret_record(
 }
 
 #[cycle(interpret)]
-fn interpret_call(
+fn interpret_call<F: ExtensionFunctionObject>(
     alloc: Global,
     name: &Name,
     args: &[Expr],
     place: Option<Loc>,
-    extensions: &Extensions<'_>,
+    extensions: &Extensions<'_, F>,
     depth: u32,
 ) -> Result<PartialValue, EvaluationError>
     requires { are_restricted (trees (map bare args.now)) ≡ true }
-    ensures found { Evaluates (as_table extensions.now) (Apply (Call name.now) (trees (map bare args.now))) (depth < heights (trees (map bare args.now))) result }
+    ensures found { Evaluates (as_table F.answers extensions.now) (Apply (Call name.now) (trees (map bare args.now))) (depth < heights (trees (map bare args.now))) result }
     ensures limit { IfOk result (λ found. heights (trees (map bare args.now)) ≤ depth) }
 {
     let args = interpret_items(alloc, args, extensions, depth)?;
@@ -167,14 +168,14 @@ fn interpret_call(
 }
 
 #[cycle(interpret)]
-fn interpret_items(
+fn interpret_items<F: ExtensionFunctionObject>(
     alloc: Global,
     items: &[Expr],
-    extensions: &Extensions<'_>,
+    extensions: &Extensions<'_, F>,
     depth: u32,
 ) -> Result<Vec<PartialValue>, EvaluationError>
     requires { are_restricted (trees (map bare items.now)) ≡ true }
-    ensures found { EvaluateAll (as_table extensions.now) (map bare items.now) (depth < heights (trees (map bare items.now))) result }
+    ensures found { EvaluateAll (as_table F.answers extensions.now) (map bare items.now) (depth < heights (trees (map bare items.now))) result }
     ensures limit { IfOk result (λ found. heights (trees (map bare items.now)) ≤ depth) }
 {
     let mut answers = Vec::new(alloc);
@@ -186,14 +187,14 @@ fn interpret_items(
 }
 
 #[cycle(interpret)]
-fn interpret_entries(
+fn interpret_entries<F: ExtensionFunctionObject>(
     alloc: Global,
     entries: &BTreeMap<RcStr, Expr>,
-    extensions: &Extensions<'_>,
+    extensions: &Extensions<'_, F>,
     depth: u32,
 ) -> Result<Vec<PartialValue>, EvaluationError>
     requires { are_restricted (trees (map (λ e. e.1) (bare_entries entries.now.entries))) ≡ true }
-    ensures found { EvaluateAll (as_table extensions.now) (map (λ e. e.1) (bare_entries entries.now.entries)) (depth < heights (trees (map (λ e. e.1) (bare_entries entries.now.entries)))) result }
+    ensures found { EvaluateAll (as_table F.answers extensions.now) (map (λ e. e.1) (bare_entries entries.now.entries)) (depth < heights (trees (map (λ e. e.1) (bare_entries entries.now.entries)))) result }
     ensures limit { IfOk result (λ found. heights (trees (map (λ e. e.1) (bare_entries entries.now.entries))) ≤ depth) }
 {
     let mut answers = Vec::new(alloc);

@@ -5,4 +5,4 @@ use Rattle.cedar_extensions.proofs.extension.find_in.Given as goal
 
 -- what is found is found among the functions that are left
 abbrev pub invariant-loop-function : goal.invariant-loop-function
-invariant-loop-function l = found_in (drop l.function-index l.functions) l.name ≡ found_in l.functions l.name
+invariant-loop-function g l = found_in (drop l.function-index l.functions) l.name ≡ found_in l.functions l.name

@@ -8,6 +8,6 @@ use Rattle.cedar_extensions.proofs.making.function_names.Given as goal
 
 -- the names so far, and then those of the functions that are left
 abbrev pub invariant-loop-function : goal.invariant-loop-function
-invariant-loop-function l =
+invariant-loop-function g l =
     making.function_names (flat_map extension_functions l.extensions)
     ≡ keys_of l.names.items ++ making.function_names (functions_left l.function-iterator)

@@ -8,6 +8,6 @@ use Rattle.cedar_extensions.proofs.making.types_made.Given as goal
 
 -- the types so far, and then those of the functions that are left
 abbrev pub invariant-loop-function : goal.invariant-loop-function
-invariant-loop-function l =
+invariant-loop-function g l =
     making.types_made (flat_map extension_functions l.extensions)
     ≡ keys_of l.names.items ++ making.types_made (functions_left l.function-iterator)

@@ -7,4 +7,4 @@ use Rattle.cedar_extensions.proofs.validation.validated.Given as goal
 
 -- the calls are wrong where those are that are still to come
 abbrev pub invariant-loop-part : goal.invariant-loop-part
-invariant-loop-part g l = AreWrongAlike (as_table l.extensions) (calls_in (bare l.expr)) (calls_among (positions_left l.part-iterator))
+invariant-loop-part g l = AreWrongAlike (as_table g.F.ExtensionFunctionObject.answers l.extensions) (calls_in (bare l.expr)) (calls_among (positions_left l.part-iterator))

@@ -8,19 +8,19 @@ use Rattle.cedar_extensions.specs.Table.{as_table}
 use Rattle.cedar_restricted_evaluation.proofs.interpreting.interpret_restricted.Goals as goal
 
 pub returns-clause-meaning : goal.returns-clause-meaning
-returns-clause-meaning c =
-    let given : Evaluates (as_table c.args.extensions.now) (borrowed_tree c.args.expr) (c.args.depth < height (borrowed_tree c.args.expr)) c.interpret.result = rw c.as_expr.ensures.tree at c.interpret.ensures.found in
-    means (as_table c.args.extensions.now) (borrowed_tree c.args.expr) c.known_is_meaning.ensures c.args.depth c.interpret.result given
+returns-clause-meaning g c =
+    let given : Evaluates (as_table g.F.ExtensionFunctionObject.answers c.args.extensions.now) (borrowed_tree c.args.expr) (c.args.depth < height (borrowed_tree c.args.expr)) c.interpret.result = rw c.as_expr.ensures.tree at c.interpret.ensures.found in
+    means (as_table g.F.ExtensionFunctionObject.answers c.args.extensions.now) (borrowed_tree c.args.expr) c.known_is_meaning.ensures c.args.depth c.interpret.result given
 
 pub returns-clause-answer : goal.returns-clause-answer
-returns-clause-answer c =
-    let given : Evaluates (as_table c.args.extensions.now) (borrowed_tree c.args.expr) (c.args.depth < height (borrowed_tree c.args.expr)) c.interpret.result = rw c.as_expr.ensures.tree at c.interpret.ensures.found in
-    answers (as_table c.args.extensions.now) (borrowed_tree c.args.expr) c.args.depth c.interpret.result given
+returns-clause-answer g c =
+    let given : Evaluates (as_table g.F.ExtensionFunctionObject.answers c.args.extensions.now) (borrowed_tree c.args.expr) (c.args.depth < height (borrowed_tree c.args.expr)) c.interpret.result = rw c.as_expr.ensures.tree at c.interpret.ensures.found in
+    answers (as_table g.F.ExtensionFunctionObject.answers c.args.extensions.now) (borrowed_tree c.args.expr) c.args.depth c.interpret.result given
 
 pub returns-clause-left : goal.returns-clause-left
-returns-clause-left c =
-    let given : Evaluates (as_table c.args.extensions.now) (borrowed_tree c.args.expr) (c.args.depth < height (borrowed_tree c.args.expr)) c.interpret.result = rw c.as_expr.ensures.tree at c.interpret.ensures.found in
-    left (as_table c.args.extensions.now) (borrowed_tree c.args.expr) c.args.depth c.interpret.result given
+returns-clause-left g c =
+    let given : Evaluates (as_table g.F.ExtensionFunctionObject.answers c.args.extensions.now) (borrowed_tree c.args.expr) (c.args.depth < height (borrowed_tree c.args.expr)) c.interpret.result = rw c.as_expr.ensures.tree at c.interpret.ensures.found in
+    left (as_table g.F.ExtensionFunctionObject.answers c.args.extensions.now) (borrowed_tree c.args.expr) c.args.depth c.interpret.result given
 
 pub returns-clause-limit : goal.returns-clause-limit
-returns-clause-limit c = rw c.as_expr.ensures.tree at c.interpret.ensures.limit
+returns-clause-limit g c = rw c.as_expr.ensures.tree at c.interpret.ensures.limit

@@ -7,7 +7,7 @@ use Rattle.cedar_extensions.proofs.extensions.Extensions.holds_unknown.Given as 
 
 -- it is held where one of the functions that are left is it
 abbrev pub invariant-loop-function : goal.invariant-loop-function
-invariant-loop-function l = holds_unknown l.self ≡ list_any is_unknown (functions_left l.functions)
+invariant-loop-function g l = holds_unknown l.self ≡ list_any is_unknown (functions_left l.functions)
 
 abbrev pub decreases-loop-function : goal.decreases-loop-function
-decreases-loop-function l = length (functions_left l.functions)
+decreases-loop-function g l = length (functions_left l.functions)

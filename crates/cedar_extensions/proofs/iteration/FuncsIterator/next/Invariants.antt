@@ -5,7 +5,7 @@ use Rattle.cedar_extensions.specs.Tables.{functions_left}
 use Rattle.cedar_extensions.proofs.iteration.FuncsIterator.next.Given as goal
 
 abbrev pub invariant-loop-function : goal.invariant-loop-function
-invariant-loop-function l = functions_left l.initial.self ≡ functions_left l.self
+invariant-loop-function g l = functions_left l.initial.self ≡ functions_left l.self
 
 abbrev pub decreases-loop-function : goal.decreases-loop-function
-decreases-loop-function l = length (iter_rest l.self.extensions)
+decreases-loop-function g l = length (iter_rest l.self.extensions)

@@ -5,7 +5,7 @@ use Rattle.cedar_extensions.specs.Tables.{ordered_left}
 use Rattle.cedar_extensions.proofs.iteration.OrderedTypesIterator.next.Given as goal
 
 abbrev pub invariant-loop-name : goal.invariant-loop-name
-invariant-loop-name l = ordered_left l.initial.self ≡ ordered_left l.self
+invariant-loop-name g l = ordered_left l.initial.self ≡ ordered_left l.self
 
 abbrev pub decreases-loop-name : goal.decreases-loop-name
-decreases-loop-name l = length (iter_rest l.self.extensions)
+decreases-loop-name g l = length (iter_rest l.self.extensions)

@@ -1,0 +1,56 @@
+// What functions of a caller's do.
+use cedar_values::values::Value;
+use std::alloc::{AllocError, Global};
+use thiserror::Error;
+
+/// Why a function of a caller's gives no value.
+#[derive(Debug, PartialEq, Eq, Drop, Error)]
+pub enum CallError {
+    /// It has no answer for its arguments. The text says why, and stands in the error of the evaluation.
+    #[error("{0}")]
+    NoAnswer(String),
+    /// Memory ran out.
+    #[error(transparent)]
+    Memory(AllocError),
+}
+
+impl From<AllocError> for CallError {
+    ghost use Rattle.std.specs.Prelude.{◌≡◌};
+    ghost use Rattle.cedar_extensions.specs.declared.objects.CallError.TheVariants.{Memory};
+
+    ghost from_gives = { λ error made. made ≡ Memory error };
+
+    fn from(error: AllocError) -> CallError {
+        CallError::Memory(error)
+    }
+}
+
+/// A function of a caller's, as `ExtensionFunction::unary` and its kin take it. It may always be called,
+/// and answers equally on equal arguments; so far it gives no text, nor a value in which an extension
+/// value stands. (Cedar language reference, "Extension functions".)
+pub trait ExtensionFunctionObject: Drop {
+    ghost use Rattle.cedar_language.specs.Order.{all_of};
+    ghost use Rattle.cedar_extensions.specs.Answering.{FunctionAnswers, Answered};
+
+    // what it answers
+    ghost answers: { Self → FunctionAnswers };
+
+    /// The value that it gives for these arguments, of which there are as many as it takes. Refused
+    /// `NoAnswer` where it has none, and `Memory`.
+    fn call(&self, alloc: Global, args: &[Value]) -> Result<Value, CallError>
+        ensures { Answered ((answers self.now).given (all_of args.now)) result };
+}
+
+/// The caller's functions of a table that has none: one that never has an answer.
+#[derive(Drop)]
+pub struct NoFunction;
+
+impl ExtensionFunctionObject for NoFunction {
+    ghost use Rattle.cedar_extensions.specs.Answering.{no_answers};
+
+    ghost answers = { λ function. no_answers };
+
+    fn call(&self, alloc: Global, _args: &[Value]) -> Result<Value, CallError> {
+        Err(CallError::NoAnswer(String::new(alloc)))
+    }
+}
