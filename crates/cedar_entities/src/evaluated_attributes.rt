@@ -10,6 +10,7 @@ ghost use Rattle.cedar_entities.specs.Refused.{IfNoValue, IsFirstRefused};
 use crate::evaluation_errors::{EntityAttrEvaluationError, EntityCreationError};
 use cedar_extensions::evaluation_error::EvaluationError;
 use cedar_extensions::extensions::Extensions;
+use cedar_extensions::objects::ExtensionFunctionObject;
 use cedar_literals::uids::EntityUID;
 use cedar_restricted::partial_values::PartialValue;
 use cedar_restricted::restricted::RestrictedExpr;
@@ -20,18 +21,18 @@ use std::rc::RcStr;
 
 /// What the expressions of an entity's attributes give, or of its tags, in the order of their names; the
 /// first one without a value is refused.
-pub fn evaluate_all(
+pub fn evaluate_all<F: ExtensionFunctionObject>(
     alloc: Global,
     uid: EntityUID,
     was_attr: bool,
     exprs: BTreeMap<RcStr, RestrictedExpr>,
-    extensions: &Extensions<'_>,
+    extensions: &Extensions<'_, F>,
     depth: u32,
 ) -> Result<BTreeMap<RcStr, PartialValue>, EntityCreationError>
-    ensures given { IfOk result (λ values. AreGiven (as_table extensions.now) (restricted_entries exprs.entries) (seen_entries values.entries)) }
+    ensures given { IfOk result (λ values. AreGiven (as_table F.answers extensions.now) (restricted_entries exprs.entries) (seen_entries values.entries)) }
     ensures limit { IfOk result (λ values. AreWithin depth (restricted_entries exprs.entries)) }
     ensures refused { IfErr result (λ error. IfNoValue error (λ e. (e.uid ≡ uid) × (e.was_attr ≡ was_attr)
-        × IsFirstRefused (as_table extensions.now) depth (restricted_entries exprs.entries) (rc_str_bytes e.attr_or_tag) e.err)) }
+        × IsFirstRefused (as_table F.answers extensions.now) depth (restricted_entries exprs.entries) (rc_str_bytes e.attr_or_tag) e.err)) }
 {
     let mut values = BTreeMap::new(alloc);
     for (name, expr) in exprs {

@@ -11,6 +11,7 @@ use crate::entity::Entity;
 use crate::evaluated_attributes::evaluate_all;
 use crate::evaluation_errors::EntityCreationError;
 use cedar_extensions::extensions::Extensions;
+use cedar_extensions::objects::ExtensionFunctionObject;
 use cedar_literals::uids::EntityUID;
 use cedar_restricted::restricted::RestrictedExpr;
 use std::alloc::Global;
@@ -27,34 +28,34 @@ pub trait EvaluateEntity: Sized {
     ///
     /// Refused for the first attribute whose expression has no value, in the order of names, or where all
     /// have one for the first such tag; and for want of memory.
-    fn new(
+    fn new<F: ExtensionFunctionObject>(
         alloc: Global,
         uid: EntityUID,
         attrs: BTreeMap<RcStr, RestrictedExpr>,
         indirect_ancestors: HashSet<EntityUID>,
         parents: HashSet<EntityUID>,
         tags: BTreeMap<RcStr, RestrictedExpr>,
-        extensions: &Extensions<'_>,
+        extensions: &Extensions<'_, F>,
         depth: u32,
     ) -> Result<Self, EntityCreationError>
-        ensures evaluated { IfOk result (λ made. IsEvaluated (as_table extensions.now) uid (restricted_entries attrs.entries) (restricted_entries tags.entries)
+        ensures evaluated { IfOk result (λ made. IsEvaluated (as_table F.answers extensions.now) uid (restricted_entries attrs.entries) (restricted_entries tags.entries)
             (set.from_list parents.keys) (set.from_list indirect_ancestors.keys) (held made)) }
         ensures attributes_limit { IfOk result (λ made. AreWithin depth (restricted_entries attrs.entries)) }
         ensures tags_limit { IfOk result (λ made. AreWithin depth (restricted_entries tags.entries)) }
-        ensures refused { IfErr result (IsCreationRefusal (as_table extensions.now) depth uid (restricted_entries attrs.entries) (restricted_entries tags.entries)) };
+        ensures refused { IfErr result (IsCreationRefusal (as_table F.answers extensions.now) depth uid (restricted_entries attrs.entries) (restricted_entries tags.entries)) };
 }
 
 impl EvaluateEntity for Entity {
     ghost held = { λ entity. entity };
 
-    fn new(
+    fn new<F: ExtensionFunctionObject>(
         alloc: Global,
         uid: EntityUID,
         attrs: BTreeMap<RcStr, RestrictedExpr>,
         indirect_ancestors: HashSet<EntityUID>,
         parents: HashSet<EntityUID>,
         tags: BTreeMap<RcStr, RestrictedExpr>,
-        extensions: &Extensions<'_>,
+        extensions: &Extensions<'_, F>,
         depth: u32,
     ) -> Result<Entity, EntityCreationError> {
         let attrs = evaluate_all(alloc, uid.clone(alloc)?, true, attrs, extensions, depth)?;

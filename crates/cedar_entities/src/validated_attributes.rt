@@ -6,6 +6,7 @@ ghost use Rattle.cedar_entities.specs.Calls.{calls_at, calls_among};
 ghost use Rattle.cedar_entities.specs.Validated.{ValidatesCalls};
 
 use cedar_extensions::extensions::Extensions;
+use cedar_extensions::objects::ExtensionFunctionObject;
 use cedar_extensions::validation::ExprValidation;
 use cedar_extensions::validation_errors::ExprValidationError;
 use cedar_restricted::partial_values::PartialValue;
@@ -14,12 +15,12 @@ use std::collections::btree_map;
 use std::rc::RcStr;
 
 // Whether the calls of what stands at a name fit the table. A value has none.
-fn validate_attribute(
+fn validate_attribute<F: ExtensionFunctionObject>(
     alloc: Global,
     attribute: &PartialValue,
-    extensions: &Extensions<'_>,
+    extensions: &Extensions<'_, F>,
 ) -> Result<(), ExprValidationError>
-    ensures { ValidatesCalls (as_table extensions.now) (calls_at (partial_of attribute.now)) result }
+    ensures { ValidatesCalls (as_table F.answers extensions.now) (calls_at (partial_of attribute.now)) result }
 {
     match attribute {
         PartialValue::Value(_value) => Ok(()),
@@ -28,12 +29,12 @@ fn validate_attribute(
 }
 
 /// Whether the calls of attributes or tags fit the table.
-pub(crate) fn validate_all(
+pub(crate) fn validate_all<F: ExtensionFunctionObject>(
     alloc: Global,
     attributes: btree_map::Iter<'_, RcStr, PartialValue>,
-    extensions: &Extensions<'_>,
+    extensions: &Extensions<'_, F>,
 ) -> Result<(), ExprValidationError>
-    ensures { ValidatesCalls (as_table extensions.now) (calls_among (seen_entries attributes.entry)) result }
+    ensures { ValidatesCalls (as_table F.answers extensions.now) (calls_among (seen_entries attributes.entry)) result }
 {
     for (_name, attribute) in attributes {
         validate_attribute(alloc, attribute, extensions)?;

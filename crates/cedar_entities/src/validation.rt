@@ -10,6 +10,7 @@ use crate::entity::Entity;
 use crate::store::Entities;
 use crate::validated_attributes::validate_all;
 use cedar_extensions::extensions::Extensions;
+use cedar_extensions::objects::ExtensionFunctionObject;
 use cedar_extensions::validation_errors::ExprValidationError;
 use std::alloc::Global;
 
@@ -24,39 +25,39 @@ pub trait EntityValidation: Sized {
     /// attributes come first, in the order of names, then those of the tags, and within a residual they
     /// come in the order of `ExprIterator`. Also refused for want of memory.
     /// (Cedar language reference, "Extension functions".)
-    fn try_validate(
+    fn try_validate<F: ExtensionFunctionObject>(
         &self,
         alloc: Global,
-        extensions: &Extensions<'_>,
+        extensions: &Extensions<'_, F>,
     ) -> Result<(), ExprValidationError>
-        ensures { ValidatesCalls (as_table extensions.now) (entity_calls (held self.now)) result };
+        ensures { ValidatesCalls (as_table F.answers extensions.now) (entity_calls (held self.now)) result };
 
     /// The entity itself, where `try_validate` accepts it; else refused as that is.
-    fn validate(
+    fn validate<F: ExtensionFunctionObject>(
         self,
         alloc: Global,
-        extensions: &Extensions<'_>,
+        extensions: &Extensions<'_, F>,
     ) -> Result<Self, ExprValidationError>
-        ensures validated { ValidatesCalls (as_table extensions.now) (entity_calls (held self)) result }
+        ensures validated { ValidatesCalls (as_table F.answers extensions.now) (entity_calls (held self)) result }
         ensures itself { IfOk result (λ entity. entity ≡ self) };
 }
 
 impl EntityValidation for Entity {
     ghost held = { λ entity. entity };
 
-    fn try_validate(
+    fn try_validate<F: ExtensionFunctionObject>(
         &self,
         alloc: Global,
-        extensions: &Extensions<'_>,
+        extensions: &Extensions<'_, F>,
     ) -> Result<(), ExprValidationError> {
         validate_all(alloc, self.attrs(), extensions)?;
         validate_all(alloc, self.tags(), extensions)
     }
 
-    fn validate(
+    fn validate<F: ExtensionFunctionObject>(
         self,
         alloc: Global,
-        extensions: &Extensions<'_>,
+        extensions: &Extensions<'_, F>,
     ) -> Result<Entity, ExprValidationError> {
         self.try_validate(alloc, extensions)?;
         Ok(self)
@@ -70,21 +71,21 @@ pub trait EntitiesValidation {
 
     /// Accepted where each entity is valid. Else it is refused as the first other one is, in the order of
     /// a walk over the store. Also refused for want of memory.
-    fn try_validate(
+    fn try_validate<F: ExtensionFunctionObject>(
         &self,
         alloc: Global,
-        extensions: &Extensions<'_>,
+        extensions: &Extensions<'_, F>,
     ) -> Result<(), ExprValidationError>
-        ensures { ValidatesCalls (as_table extensions.now) (entities_calls (held self.now)) result };
+        ensures { ValidatesCalls (as_table F.answers extensions.now) (entities_calls (held self.now)) result };
 }
 
 impl EntitiesValidation for Entities {
     ghost held = { entities_in };
 
-    fn try_validate(
+    fn try_validate<F: ExtensionFunctionObject>(
         &self,
         alloc: Global,
-        extensions: &Extensions<'_>,
+        extensions: &Extensions<'_, F>,
     ) -> Result<(), ExprValidationError> {
         for entity in self {
             entity.try_validate(alloc, extensions)?;

@@ -12,6 +12,7 @@ use Rattle.cedar_constraints.specs.Bindings.{Bindings}
 use Rattle.cedar_trees.specs.declared.expr.Expr.{Expr}
 use Rattle.cedar_restricted.specs.declared.partial_values.PartialValue.{PartialValue}
 use Rattle.cedar_extensions.specs.Giving.{Gives}
+use Rattle.cedar_extensions.specs.Answering.{FunctionAnswers}
 use Rattle.cedar_extensions.specs.declared.evaluation_error.EvaluationError.{EvaluationError}
 use Rattle.cedar_interpreter.specs.Asking.{MeansTree}
 use Rattle.cedar_interpreter.specs.Holding.{held_by, Serves, Deep, depth_of}
@@ -20,33 +21,33 @@ use Rattle.cedar_interpreter.specs.declared.evaluator.Evaluator.{Evaluator}
 use Rattle.cedar_evaluator.specs.Evaluating.{JudgesAt, MeansStanding, StandsAt, StandsBy}
 
 -- the condition t that was made is the policy's, u, and so are the entities of its slots
-module _ (ev : Evaluator) (t u : Tree) (is : t ≡ u) (bs cs : Bindings) (same : bs ≡ cs) where
+module _ {F : Type 0} (answers : F → FunctionAnswers) (ev : Evaluator F) (t u : Tree) (is : t ≡ u) (bs cs : Bindings) (same : bs ≡ cs) where
   of_policy : (P : Tree → Bindings → Type 0) → P t bs → P u cs
   of_policy P h = subst (λ (b : Bindings). P u b) same (subst (λ (x : Tree). P x bs) is h)
 
   pub judged_so : (answer : Result PartialValue EvaluationError) (result : Result (Either Bool (Expr (Unit {0}))) EvaluationError)
-      → ((facts : Facts) → Serves ev facts t → MeetsAt facts ⊤ (partial_in facts (held_by ev bs) t) answer)
+      → ((facts : Facts) → Serves answers ev facts t → MeetsAt facts ⊤ (partial_in facts (held_by ev bs) t) answer)
       → ((facts : Facts) (b : Answer) → MeetsAt facts ⊤ b answer → JudgesAt facts b result)
-      → (facts : Facts) → Serves ev facts u → JudgesAt facts (partial_in facts (held_by ev cs) u) result
+      → (facts : Facts) → Serves answers ev facts u → JudgesAt facts (partial_in facts (held_by ev cs) u) result
   judged_so answer result found judged =
-      of_policy (λ x b. (facts : Facts) → Serves ev facts x → JudgesAt facts (partial_in facts (held_by ev b) x) result)
+      of_policy (λ x b. (facts : Facts) → Serves answers ev facts x → JudgesAt facts (partial_in facts (held_by ev b) x) result)
       (λ facts serves. judged facts (partial_in facts (held_by ev bs) t) (found facts serves))
 
-  pub limited_so : {X Y : Type 0} (answer : Result X EvaluationError) (result : Result Y EvaluationError) → (IsLimit answer → Deep ev (depth_of ev) t) → (IsLimit result → IsLimit answer) → IsLimit result → Deep ev (depth_of ev) u
-  limited_so answer result deep met limit = subst (Deep ev (depth_of ev)) is (deep (met limit))
+  pub limited_so : {X Y : Type 0} (answer : Result X EvaluationError) (result : Result Y EvaluationError) → (IsLimit answer → Deep answers ev (depth_of ev) t) → (IsLimit result → IsLimit answer) → IsLimit result → Deep answers ev (depth_of ev) u
+  limited_so answer result deep met limit = subst (Deep answers ev (depth_of ev)) is (deep (met limit))
 
   pub meant_so : (answer : Result Value EvaluationError) (result : Result Bool EvaluationError)
-      → ((facts : Facts) → Serves ev facts t → MeansTree facts (held_by ev bs) (depth_of ev) t answer)
+      → ((facts : Facts) → Serves answers ev facts t → MeansTree facts (held_by ev bs) (depth_of ev) t answer)
       → ((depth high : ℕ) (meant : Outcome) → Gives (λ v. v) (depth < high) answer meant → StandsBy (depth < high) meant result)
-      → (facts : Facts) → Serves ev facts u → MeansStanding facts (held_by ev cs) (depth_of ev) u result
+      → (facts : Facts) → Serves answers ev facts u → MeansStanding facts (held_by ev cs) (depth_of ev) u result
   meant_so answer result means stands =
-      of_policy (λ x b. (facts : Facts) → Serves ev facts x → MeansStanding facts (held_by ev b) (depth_of ev) x result)
+      of_policy (λ x b. (facts : Facts) → Serves answers ev facts x → MeansStanding facts (held_by ev b) (depth_of ev) x result)
       (λ facts serves known request holds. stands (depth_of ev) (height t) (meaning facts request t) (means facts serves known request holds))
 
   pub found_so : (answer : Result Value EvaluationError) (result : Result Bool EvaluationError)
-      → ((facts : Facts) → Serves ev facts t → ValueAt ⊤ (partial_in facts (held_by ev bs) t) answer)
+      → ((facts : Facts) → Serves answers ev facts t → ValueAt ⊤ (partial_in facts (held_by ev bs) t) answer)
       → ((b : Answer) → ValueAt ⊤ b answer → StandsAt b result)
-      → (facts : Facts) → Serves ev facts u → StandsAt (partial_in facts (held_by ev cs) u) result
+      → (facts : Facts) → Serves answers ev facts u → StandsAt (partial_in facts (held_by ev cs) u) result
   found_so answer result found stands =
-      of_policy (λ x b. (facts : Facts) → Serves ev facts x → StandsAt (partial_in facts (held_by ev b) x) result)
+      of_policy (λ x b. (facts : Facts) → Serves answers ev facts x → StandsAt (partial_in facts (held_by ev b) x) result)
       (λ facts serves. stands (partial_in facts (held_by ev bs) t) (found facts serves))

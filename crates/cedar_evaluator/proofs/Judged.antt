@@ -12,6 +12,7 @@ use Rattle.cedar_grammar.specs.Policy as grammar
 use Rattle.cedar_grammar.specs.Policy.{scope_tree, with_body, condition}
 use Rattle.cedar_partial_evaluation.specs.Partial.{Answer, Evaluated, LeafAnswers, last_answer, partial_in}
 use Rattle.cedar_constraints.specs.Bindings.{Bindings}
+use Rattle.cedar_extensions.specs.Answering.{FunctionAnswers}
 use Rattle.cedar_extensions.specs.declared.evaluation_error.EvaluationError.{EvaluationError}
 use Rattle.cedar_interpreter.specs.Holding.{held_by, Serves, Deep}
 use Rattle.cedar_interpreter.specs.declared.evaluator.Evaluator.{Evaluator}
@@ -45,21 +46,21 @@ module _ (facts : Facts) (holds : LeafAnswers) (s : grammar.Policy) where
 
 -- ---- the clauses, from the condition
 
-module _ (ev : Evaluator) where
-  pub serves_right : (facts : Facts) (l r : Tree) → Serves ev facts (conjunction l r) → Serves ev facts r
+module _ {F : Type 0} (answers : F → FunctionAnswers) (ev : Evaluator F) where
+  pub serves_right : (facts : Facts) (l r : Tree) → Serves answers ev facts (conjunction l r) → Serves answers ev facts r
   serves_right facts (Lit (Boolean a)) (Lit (Boolean b)) s = record { entities = s.entities; functions = s.functions; names_nothing = s.names_nothing }
-  serves_right facts l r s = serves_and_right ev facts l r s
+  serves_right facts l r s = serves_and_right answers ev facts l r s
 
-  pub deep_right : (depth : ℕ) (l r : Tree) → Deep ev depth r → Deep ev depth (conjunction l r)
+  pub deep_right : (depth : ℕ) (l r : Tree) → Deep answers ev depth r → Deep answers ev depth (conjunction l r)
   deep_right depth (Lit (Boolean a)) (Lit (Boolean b)) d = λ facts s known. d facts (record { entities = s.entities; functions = s.functions; names_nothing = s.names_nothing }) refl
-  deep_right depth l r d = λ facts s known. let h : suc depth < height (And l r) = deep_and_right ev depth l r d facts s known in omega (arith, h)
+  deep_right depth l r d = λ facts s known. let h : suc depth < height (And l r) = deep_and_right answers ev depth l r d facts s known in omega (arith, h)
 
   module _ (s : grammar.Policy) (t : Tree) (body : s.body ≡ Some t) where
-    pub clauses_served : (facts : Facts) → Serves ev facts (condition s) → Serves ev facts t
-    clauses_served facts serves = serves_right facts (scope_tree s) t (subst (λ (o : Option Tree). Serves ev facts (with_body (scope_tree s) o)) body serves)
+    pub clauses_served : (facts : Facts) → Serves answers ev facts (condition s) → Serves answers ev facts t
+    clauses_served facts serves = serves_right facts (scope_tree s) t (subst (λ (o : Option Tree). Serves answers ev facts (with_body (scope_tree s) o)) body serves)
 
-    pub clauses_deep : (depth : ℕ) → Deep ev depth t → Deep ev depth (condition s)
-    clauses_deep depth deep = subst (λ (o : Option Tree). Deep ev depth (with_body (scope_tree s) o)) (sym body) (deep_right depth (scope_tree s) t deep)
+    pub clauses_deep : (depth : ℕ) → Deep answers ev depth t → Deep answers ev depth (condition s)
+    clauses_deep depth deep = subst (λ (o : Option Tree). Deep answers ev depth (with_body (scope_tree s) o)) (sym body) (deep_right depth (scope_tree s) t deep)
 
     pub clauses_found : (facts : Facts) (slots bs : Bindings) → slots ≡ bs → partial_in facts (held_by ev bs) (scope_tree s) ≡ Evaluated (Plain (Boolean true)) → (result : Result (Either Bool (Expr (Unit {0}))) EvaluationError) →
         JudgesAt facts (last_answer (And (Lit (Boolean true))) (partial_in facts (held_by ev slots) t)) result → JudgesAt facts (partial_in facts (held_by ev bs) (condition s)) result

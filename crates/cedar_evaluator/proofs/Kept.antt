@@ -11,6 +11,7 @@ use Rattle.cedar_grammar.specs.Policy as grammar
 use Rattle.cedar_partial_evaluation.specs.Mentions.{mentions_only}
 use Rattle.cedar_partial_evaluation.specs.Partial.{Evaluated, LeafAnswers, partial_in}
 use Rattle.cedar_entities.specs.declared.store.Entities.{Entities}
+use Rattle.cedar_extensions.specs.Answering.{FunctionAnswers}
 use Rattle.cedar_extensions.specs.declared.evaluation_error.EvaluationError.{EvaluationError}
 use Rattle.cedar_extensions.specs.Table.{Table}
 use Rattle.cedar_interpreter.specs.Asking.{Inquiry, request_held, IsEvaluatorOf}
@@ -33,10 +34,11 @@ use Rattle.cedar_evaluator.proofs.Entered.{syntax_entered, bindings_entered}
 use Rattle.cedar_evaluator.proofs.Judged.{told_finds}
 
 module _
-    (i : Inquiry) (store : Entities) (table : Table) (depth : ℕ) (ev : Evaluator) (is : IsEvaluatorOf i store table depth ev)
+    {F : Type 0} (answers : F → FunctionAnswers)
+    (i : Inquiry) (store : Entities) (table : Table) (depth : ℕ) (ev : Evaluator F) (is : IsEvaluatorOf answers i store table depth ev)
     (p : Policy) (answer : Result (Either Bool (Expr (Unit {0}))) EvaluationError)
     (found : (facts : Facts) → IsServed i store table depth facts (condition_of p) → JudgesAt facts (partial_in facts (request_held i (bindings_of p)) (condition_of p)) answer)
-    (limit : IsLimit answer → Deep ev (depth_of ev) (condition_of p))
+    (limit : IsLimit answer → Deep answers ev (depth_of ev) (condition_of p))
     (keepable : IsKeepable answer) where
   syntax_is : syntax_in (policy_entry p) ≡ policy_syntax p
   syntax_is = syntax_entered (link_of p) (template_id (policy_template p)) (policy_syntax p) (bindings_of p)
@@ -47,7 +49,7 @@ module _
   condition_is : condition_in (policy_entry p) ≡ condition_of p
   condition_is = ap grammar.condition syntax_is
 
-  serves : (facts : Facts) → IsServed i store table depth facts (condition_in (policy_entry p)) → Serves ev facts (condition_of p)
+  serves : (facts : Facts) → IsServed i store table depth facts (condition_in (policy_entry p)) → Serves answers ev facts (condition_of p)
   serves facts served = is.serves facts (condition_of p) served.entities served.functions (subst (NamesNothing table) condition_is served.names_nothing)
 
   held : request_held i (bindings_of p) ≡ request_held i (bindings_in (policy_entry p))
@@ -78,10 +80,10 @@ told_keepable : (s : Bool) → IsKeepable (Ok (Left s))
 told_keepable true h = cc
 told_keepable false h = cc
 
-pub is_kept_told : (i : Inquiry) (store : Entities) (table : Table) (depth : ℕ) (ev : Evaluator) → IsEvaluatorOf i store table depth ev → (p : Policy) (b s : Bool) → b ≡ s
+pub is_kept_told : {F : Type 0} (answers : F → FunctionAnswers) (i : Inquiry) (store : Entities) (table : Table) (depth : ℕ) (ev : Evaluator F) → IsEvaluatorOf answers i store table depth ev → (p : Policy) (b s : Bool) → b ≡ s
     → ((facts : Facts) → HasFacts store facts → partial_in facts (request_held i (bindings_of p)) (condition_of p) ≡ Evaluated (Plain (Boolean b)))
     → IsKept i store table depth (policy_seen p) (kept_of p (Ok (Left s)))
-is_kept_told i store table depth ev is p b s same told =
-    is_kept i store table depth ev is p (Ok (Left s))
+is_kept_told answers i store table depth ev is p b s same told =
+    is_kept answers i store table depth ev is p (Ok (Left s))
     (λ facts served. told_finds facts _ s (told facts served.entities ∙ ap (λ x. Evaluated (Plain (Boolean x))) same))
     (λ met. absurd met) (told_keepable s)

@@ -4,6 +4,7 @@ use Rattle.std.specs.List.{IsDistinct}
 use Rattle.std.specs.Map.{keys_of}
 use Rattle.cedar_language.specs.Order.{same_text}
 use Rattle.cedar_entities.specs.declared.store.Entities.{Entities}
+use Rattle.cedar_extensions.specs.Answering.{FunctionAnswers}
 use Rattle.cedar_extensions.specs.Table.{Table, as_table}
 use Rattle.cedar_policy_set.specs.Entries.{Entries, policies_of}
 use Rattle.cedar_requests.specs.Holding.{RequestParts}
@@ -19,16 +20,16 @@ use Rattle.cedar_evaluator.specs.declared.partial_response.PartialResponse.{Part
 use Rattle.cedar_evaluator.specs.declared.scopes.Scopes.{Scopes}
 
 -- the functions that conditions may call
-abbrev pub table_of : Authorizer → Table
-table_of authorizer = as_table authorizer.extensions.now
+abbrev pub table_of : {F : Type 0} → (F → FunctionAnswers) → Authorizer F → Table
+table_of answers authorizer = as_table answers authorizer.extensions.now
 
 -- no evaluation nests deeper
-abbrev pub limit_of : Authorizer → ℕ
+abbrev pub limit_of : {F : Type 0} → Authorizer F → ℕ
 limit_of authorizer = authorizer.depth
 
 -- an evaluator that answers for the inquiry, and the scopes that it decides
-abbrev pub IsAsked : Inquiry → Entities → Table → ℕ → Evaluator × Scopes → Type 0
-IsAsked i store table depth asked = IsEvaluatorOf i store table depth asked.0 × AreScopesOf i store asked.1
+abbrev pub IsAsked : {F : Type 0} → (F → FunctionAnswers) → Inquiry → Entities → Table → ℕ → Evaluator F × Scopes → Type 0
+IsAsked answers i store table depth asked = IsEvaluatorOf answers i store table depth asked.0 × AreScopesOf i store asked.1
 
 -- Of each static policy and link of the set, in its order, what was found of it is kept, and nothing else: of each group its policies, and
 -- the errors; no id stands in two groups.
@@ -53,5 +54,5 @@ RespondsWith true i store table depth es response = Responds i store table depth
 RespondsWith false i store table depth es response = RespondsWithoutFalse i store table depth es response
 
 -- by an evaluator and what is decided of scopes, to each inquiry of this request that these answer for
-abbrev pub RespondsBy : Bool → Evaluator → Scopes → RequestParts → Entries → PartialResponse → Type 0
-RespondsBy with_false ev scopes r es response = (i : Inquiry) (store : Entities) (table : Table) (depth : ℕ) → i.request ≡ r → IsEvaluatorOf i store table depth ev → AreScopesOf i store scopes → RespondsWith with_false i store table depth es response
+abbrev pub RespondsBy : {F : Type 0} → (F → FunctionAnswers) → Bool → Evaluator F → Scopes → RequestParts → Entries → PartialResponse → Type 0
+RespondsBy answers with_false ev scopes r es response = (i : Inquiry) (store : Entities) (table : Table) (depth : ℕ) → i.request ≡ r → IsEvaluatorOf answers i store table depth ev → AreScopesOf i store scopes → RespondsWith with_false i store table depth es response

@@ -13,6 +13,7 @@ use crate::partial_response::PartialResponse;
 use crate::scopes::Scopes;
 use cedar_entities::store::Entities;
 use cedar_extensions::extensions::Extensions;
+use cedar_extensions::objects::{ExtensionFunctionObject, NoFunction};
 use cedar_interpreter::Evaluator;
 use cedar_policy_set::sets::PolicySet;
 use cedar_requests::Request;
@@ -23,12 +24,12 @@ use std::rc::RcStr;
 
 /// Answers requests by policies and entities; policies may call the functions of its extensions, and no
 /// evaluation nests deeper than its limit. Contracts see these by `table_of` and `limit_of`.
-pub struct Authorizer<'e, 'f> {
-    pub(crate) extensions: &'e Extensions<'f>,
+pub struct Authorizer<'e, 'f, F = NoFunction> {
+    pub(crate) extensions: &'e Extensions<'f, F>,
     pub(crate) depth: u32,
 }
 
-impl Drop for Authorizer<'_, '_> {
+impl<F> Drop for Authorizer<'_, '_, F> {
     fn drop(self) {
         let Authorizer {
             extensions: _,
@@ -37,10 +38,10 @@ impl Drop for Authorizer<'_, '_> {
     }
 }
 
-impl<'e, 'f> Authorizer<'e, 'f> {
+impl<'e, 'f, F: ExtensionFunctionObject> Authorizer<'e, 'f, F> {
     /// The authorizer with these functions and this limit of depth, the outermost expression being at 1.
-    pub fn new(extensions: &'e Extensions<'f>, depth: u32) -> Authorizer<'e, 'f>
-        ensures table { table_of result ≡ as_table extensions.now }
+    pub fn new(extensions: &'e Extensions<'f, F>, depth: u32) -> Authorizer<'e, 'f, F>
+        ensures table { table_of F.answers result ≡ as_table F.answers extensions.now }
         ensures limit { limit_of result ≡ depth }
     {
         Authorizer { extensions, depth }
@@ -52,8 +53,8 @@ impl<'e, 'f> Authorizer<'e, 'f> {
         alloc: Global,
         request: &Request,
         entities: &'s Entities,
-    ) -> Result<(Evaluator<'s, 'e, 'f>, Scopes<'s>), AllocError>
-        ensures { IfOk result (IsAsked (untold (request_parts request.now)) entities.now (table_of self.now) (limit_of self.now)) }
+    ) -> Result<(Evaluator<'s, 'e, 'f, F>, Scopes<'s>), AllocError>
+        ensures { IfOk result (IsAsked F.answers (untold (request_parts request.now)) entities.now (table_of F.answers self.now) (limit_of self.now)) }
     {
         let evaluator = Evaluator::new(alloc, request, entities, self.extensions, self.depth)?;
         let scopes = Scopes::new(entities, &evaluator)?;
@@ -70,7 +71,7 @@ impl<'e, 'f> Authorizer<'e, 'f> {
         policies: &PolicySet,
         entities: &Entities,
     ) -> Result<PartialResponse, AllocError>
-        ensures { IfOk result (λ response. Responds (untold (request_parts request)) entities.now (table_of self.now) (limit_of self.now) policies.now response) }
+        ensures { IfOk result (λ response. Responds (untold (request_parts request)) entities.now (table_of F.answers self.now) (limit_of self.now) policies.now response) }
     {
         let (evaluator, scopes) = self.asked(alloc, &request, entities)?;
         responded(alloc, &evaluator, &scopes, request, policies, true)
@@ -85,7 +86,7 @@ impl<'e, 'f> Authorizer<'e, 'f> {
         policies: &PolicySet,
         entities: &Entities,
     ) -> Result<PartialResponse, AllocError>
-        ensures { IfOk result (λ response. Responds (record { request = request_parts request; told = told_for told.now.entries }) entities.now (table_of self.now) (limit_of self.now) policies.now response) }
+        ensures { IfOk result (λ response. Responds (record { request = request_parts request; told = told_for told.now.entries }) entities.now (table_of F.answers self.now) (limit_of self.now) policies.now response) }
     {
         let (evaluator, scopes) = self.asked(alloc, &request, entities)?;
         let evaluator = evaluator.with_told(told);
@@ -103,7 +104,7 @@ impl<'e, 'f> Authorizer<'e, 'f> {
         policies: &PolicySet,
         entities: &Entities,
     ) -> Result<PartialResponse, AllocError>
-        ensures { IfOk result (λ response. RespondsWithoutFalse (untold (request_parts request)) entities.now (table_of self.now) (limit_of self.now) policies.now response) }
+        ensures { IfOk result (λ response. RespondsWithoutFalse (untold (request_parts request)) entities.now (table_of F.answers self.now) (limit_of self.now) policies.now response) }
     {
         let (evaluator, scopes) = self.asked(alloc, &request, entities)?;
         responded(alloc, &evaluator, &scopes, request, policies, false)
@@ -112,15 +113,15 @@ impl<'e, 'f> Authorizer<'e, 'f> {
 
 // What the policies of a set come to for a request, by its evaluator and what it decides of scopes, with
 // those that aren't satisfied or without them; refused for memory alone.
-fn responded(
+fn responded<F: ExtensionFunctionObject>(
     alloc: Global,
-    evaluator: &Evaluator<'_, '_, '_>,
+    evaluator: &Evaluator<'_, '_, '_, F>,
     scopes: &Scopes<'_>,
     request: Request,
     policies: &PolicySet,
     with_false: bool,
 ) -> Result<PartialResponse, AllocError>
-    ensures { IfOk result (RespondsBy with_false evaluator.now scopes.now (request_parts request) policies.now) }
+    ensures { IfOk result (RespondsBy F.answers with_false evaluator.now scopes.now (request_parts request) policies.now) }
 {
     let _count = policies.len();
     let groups = Groups::of_policies(alloc, evaluator, scopes, policies, with_false)?;

@@ -15,6 +15,7 @@ ghost use Rattle.cedar_evaluator.specs.Concretizing.{TellsPart, TellsMaybeContex
 
 use crate::errors::ConcretizationError;
 use cedar_extensions::extensions::Extensions;
+use cedar_extensions::objects::ExtensionFunctionObject;
 use cedar_literals::literals::Literal;
 use cedar_literals::uids::{EntityType, EntityUID};
 use cedar_requests::{Context, EntityUIDEntry, Request};
@@ -32,14 +33,14 @@ use std::rc::{Rc, RcStr};
 /// Refused `ValueError`, `VarConfictError` or `EntityTypeConfictError` for the first variable of which
 /// another value is told, principal before action before resource before context; else `ValueEval` where
 /// the context errs; and for memory. (Cedar language reference, "Partial evaluation".)
-pub(crate) fn concretized(
+pub(crate) fn concretized<F: ExtensionFunctionObject>(
     alloc: Global,
     request: &Request,
     told: &HashMap<RcStr, Value>,
-    extensions: &Extensions<'_>,
+    extensions: &Extensions<'_, F>,
     depth: u32,
 ) -> Result<Request, ConcretizationError>
-    ensures { Concretizes (as_table extensions.now) depth told.now.entries (request_parts request.now) result }
+    ensures { Concretizes (as_table F.answers extensions.now) depth told.now.entries (request_parts request.now) result }
 {
     let principal = entry_told(
         alloc,
@@ -102,14 +103,14 @@ fn missing_told(
 }
 
 // The context with what is told of it and for its unknowns.
-fn context_told(
+fn context_told<F: ExtensionFunctionObject>(
     alloc: Global,
     context: Option<&Context>,
     told: &HashMap<RcStr, Value>,
-    extensions: &Extensions<'_>,
+    extensions: &Extensions<'_, F>,
     depth: u32,
 ) -> Result<Option<Context>, ConcretizationError>
-    ensures { TellsMaybeContext (as_table extensions.now) depth told.now.entries (option_map (λ given. context_part given.now) context.entry) result }
+    ensures { TellsMaybeContext (as_table F.answers extensions.now) depth told.now.entries (option_map (λ given. context_part given.now) context.entry) result }
 {
     if let Some(value) = told.get("context") {
         return Ok(Some(given_context(alloc, context, value)?));

@@ -12,6 +12,7 @@ ghost use Rattle.cedar_operators.specs.Operands.{boolean_in, IsOperand};
 ghost use Rattle.cedar_evaluator.specs.Evaluating.{condition_of, JudgesAt, MeansStanding, StandsAt, StandsBy};
 
 use cedar_extensions::evaluation_error::EvaluationError;
+use cedar_extensions::objects::ExtensionFunctionObject;
 use cedar_interpreter::Evaluator;
 use cedar_literals::literals::Literal;
 use cedar_literals::types::Type;
@@ -41,14 +42,14 @@ pub trait EvaluatePolicy {
     fn evaluate(&self, alloc: Global, policy: &Policy) -> Result<bool, EvaluationError>;
 }
 
-impl<'s, 'e, 'f> EvaluatePolicy for Evaluator<'s, 'e, 'f> {
+impl<'s, 'e, 'f, F: ExtensionFunctionObject> EvaluatePolicy for Evaluator<'s, 'e, 'f, F> {
     fn partial_evaluate(
         &self,
         alloc: Global,
         policy: &Policy,
     ) -> Result<Either<bool, Expr>, EvaluationError>
-        ensures found { (facts : Facts) → Serves self.now facts (condition_of policy.now) → JudgesAt facts (partial_in facts (held_by self.now (bindings_of policy.now)) (condition_of policy.now)) result }
-        ensures limit { IsLimit result → Deep self.now (depth_of self.now) (condition_of policy.now) }
+        ensures found { (facts : Facts) → Serves F.answers self.now facts (condition_of policy.now) → JudgesAt facts (partial_in facts (held_by self.now (bindings_of policy.now)) (condition_of policy.now)) result }
+        ensures limit { IsLimit result → Deep F.answers self.now (depth_of self.now) (condition_of policy.now) }
     {
         let condition = policy.condition(alloc)?;
         let answer = self.partial_interpret(alloc, &condition, policy.env());
@@ -56,9 +57,9 @@ impl<'s, 'e, 'f> EvaluatePolicy for Evaluator<'s, 'e, 'f> {
     }
 
     fn evaluate(&self, alloc: Global, policy: &Policy) -> Result<bool, EvaluationError>
-        ensures means { (facts : Facts) → Serves self.now facts (condition_of policy.now) → MeansStanding facts (held_by self.now (bindings_of policy.now)) (depth_of self.now) (condition_of policy.now) result }
-        ensures found { (facts : Facts) → Serves self.now facts (condition_of policy.now) → StandsAt (partial_in facts (held_by self.now (bindings_of policy.now)) (condition_of policy.now)) result }
-        ensures limit { IsLimit result → Deep self.now (depth_of self.now) (condition_of policy.now) }
+        ensures means { (facts : Facts) → Serves F.answers self.now facts (condition_of policy.now) → MeansStanding facts (held_by self.now (bindings_of policy.now)) (depth_of self.now) (condition_of policy.now) result }
+        ensures found { (facts : Facts) → Serves F.answers self.now facts (condition_of policy.now) → StandsAt (partial_in facts (held_by self.now (bindings_of policy.now)) (condition_of policy.now)) result }
+        ensures limit { IsLimit result → Deep F.answers self.now (depth_of self.now) (condition_of policy.now) }
     {
         let condition = policy.condition(alloc)?;
         let answer = self.interpret(alloc, &condition, policy.env());

@@ -24,6 +24,7 @@ use crate::partial_response::{ErrorState, PartialResponse};
 use crate::scopes::Scopes;
 use cedar_extensions::evaluation_error::EvaluationError;
 use cedar_extensions::lookups::ExtensionFunctionLookupError;
+use cedar_extensions::objects::ExtensionFunctionObject;
 use cedar_interpreter::Evaluator;
 use cedar_policies::policies::Policy;
 use cedar_policy_parts::annotations::Annotations;
@@ -117,15 +118,15 @@ impl Groups {
 
     /// What each policy of a set, a static policy or a link, comes to, in their order, with those that
     /// aren't satisfied or without them; refused for memory alone.
-    pub(crate) fn of_policies(
+    pub(crate) fn of_policies<F: ExtensionFunctionObject>(
         alloc: Global,
-        evaluator: &Evaluator<'_, '_, '_>,
+        evaluator: &Evaluator<'_, '_, '_, F>,
         scopes: &Scopes<'_>,
         policies: &PolicySet,
         with_false: bool,
     ) -> Result<Groups, AllocError>
         ensures { IfOk result (λ groups. (i : Inquiry) (store : Store) (table : Table) (depth : ℕ) →
-            IsEvaluatorOf i store table depth evaluator.now → AreScopesOf i store scopes.now → Keeps with_false i store table depth (policies_of policies.now) groups) }
+            IsEvaluatorOf F.answers i store table depth evaluator.now → AreScopesOf i store scopes.now → Keeps with_false i store table depth (policies_of policies.now) groups) }
     {
         if with_false {
             return Groups::of_all(alloc, evaluator, scopes, policies, with_false);
@@ -137,15 +138,15 @@ impl Groups {
     }
 
     // The same, by a look at each policy.
-    fn of_all(
+    fn of_all<F: ExtensionFunctionObject>(
         alloc: Global,
-        evaluator: &Evaluator<'_, '_, '_>,
+        evaluator: &Evaluator<'_, '_, '_, F>,
         scopes: &Scopes<'_>,
         policies: &PolicySet,
         with_false: bool,
     ) -> Result<Groups, AllocError>
         ensures { IfOk result (λ groups. (i : Inquiry) (store : Store) (table : Table) (depth : ℕ) →
-            IsEvaluatorOf i store table depth evaluator.now → AreScopesOf i store scopes.now → Keeps with_false i store table depth (policies_of policies.now) groups) }
+            IsEvaluatorOf F.answers i store table depth evaluator.now → AreScopesOf i store scopes.now → Keeps with_false i store table depth (policies_of policies.now) groups) }
     {
         let mut groups = Groups::new(alloc);
         for policy in policies.policies() {
@@ -155,15 +156,15 @@ impl Groups {
     }
 
     // What the policies at these positions come to, without those that aren't satisfied.
-    fn of_those_at(
+    fn of_those_at<F: ExtensionFunctionObject>(
         alloc: Global,
-        evaluator: &Evaluator<'_, '_, '_>,
+        evaluator: &Evaluator<'_, '_, '_, F>,
         scopes: &Scopes<'_>,
         policies: &PolicySet,
         positions: &[usize],
     ) -> Result<Groups, AllocError>
         ensures { IfOk result (λ groups. (i : Inquiry) (store : Store) (table : Table) (depth : ℕ) →
-            IsEvaluatorOf i store table depth evaluator.now → AreScopesOf i store scopes.now → Keeps false i store table depth (policies_at policies.now positions.now) groups) }
+            IsEvaluatorOf F.answers i store table depth evaluator.now → AreScopesOf i store scopes.now → Keeps false i store table depth (policies_at policies.now positions.now) groups) }
     {
         let mut groups = Groups::new(alloc);
         for position in positions {
@@ -175,16 +176,16 @@ impl Groups {
     }
 
     // Evaluates one more policy, and keeps what it comes to.
-    fn evaluate(
+    fn evaluate<F: ExtensionFunctionObject>(
         &mut self,
         alloc: Global,
-        evaluator: &Evaluator<'_, '_, '_>,
+        evaluator: &Evaluator<'_, '_, '_, F>,
         scopes: &Scopes<'_>,
         policy: &Policy,
         with_false: bool,
     ) -> Result<(), AllocError>
         ensures { OnOk result ((i : Inquiry) (store : Store) (table : Table) (depth : ℕ) →
-            IsEvaluatorOf i store table depth evaluator.now → AreScopesOf i store scopes.now → (es : Entries) →
+            IsEvaluatorOf F.answers i store table depth evaluator.now → AreScopesOf i store scopes.now → (es : Entries) →
             Keeps with_false i store table depth es self.old → Keeps with_false i store table depth (es ++ policy_seen policy.now ∷ []) self.new) }
     {
         if with_false {
@@ -197,15 +198,15 @@ impl Groups {
 
     // The same, but nothing is kept of a policy that isn't satisfied. Of most policies it is told whether they
     // are, and then no answer of an evaluation is made and taken apart.
-    fn evaluate_without_false(
+    fn evaluate_without_false<F: ExtensionFunctionObject>(
         &mut self,
         alloc: Global,
-        evaluator: &Evaluator<'_, '_, '_>,
+        evaluator: &Evaluator<'_, '_, '_, F>,
         scopes: &Scopes<'_>,
         policy: &Policy,
     ) -> Result<(), AllocError>
         ensures { OnOk result ((i : Inquiry) (store : Store) (table : Table) (depth : ℕ) →
-            IsEvaluatorOf i store table depth evaluator.now → AreScopesOf i store scopes.now → (es : Entries) →
+            IsEvaluatorOf F.answers i store table depth evaluator.now → AreScopesOf i store scopes.now → (es : Entries) →
             Keeps false i store table depth es self.old → Keeps false i store table depth (es ++ policy_seen policy.now ∷ []) self.new) }
     {
         match told(evaluator, scopes, policy) {
@@ -221,15 +222,15 @@ impl Groups {
 
     // The same of a policy of which that isn't told. Not inlined, since few are evaluated in full.
     #[inline(never)]
-    fn evaluate_in_full(
+    fn evaluate_in_full<F: ExtensionFunctionObject>(
         &mut self,
         alloc: Global,
-        evaluator: &Evaluator<'_, '_, '_>,
+        evaluator: &Evaluator<'_, '_, '_, F>,
         scopes: &Scopes<'_>,
         policy: &Policy,
     ) -> Result<(), AllocError>
         ensures { OnOk result ((i : Inquiry) (store : Store) (table : Table) (depth : ℕ) →
-            IsEvaluatorOf i store table depth evaluator.now → AreScopesOf i store scopes.now → (es : Entries) →
+            IsEvaluatorOf F.answers i store table depth evaluator.now → AreScopesOf i store scopes.now → (es : Entries) →
             Keeps false i store table depth es self.old → Keeps false i store table depth (es ++ policy_seen policy.now ∷ []) self.new) }
     {
         let answer = evaluated_in_full(alloc, evaluator, scopes, policy);

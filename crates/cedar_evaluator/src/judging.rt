@@ -20,6 +20,7 @@ ghost use Rattle.cedar_evaluator.specs.Scopes.{IsDecided, AreScopesOf};
 use crate::evaluation::{EvaluatePolicy, judged};
 use crate::scopes::Scopes;
 use cedar_extensions::evaluation_error::EvaluationError;
+use cedar_extensions::objects::ExtensionFunctionObject;
 use cedar_interpreter::{Evaluator, last_of_and};
 use cedar_policies::policies::Policy;
 use cedar_trees::expr::Expr;
@@ -30,12 +31,12 @@ use std::alloc::Global;
 /// clauses. `None` says nothing of the policy. Takes no memory.
 // Inlined, since each policy in force is asked so.
 #[inline(always)]
-pub(crate) fn told(
-    evaluator: &Evaluator<'_, '_, '_>,
+pub(crate) fn told<F: ExtensionFunctionObject>(
+    evaluator: &Evaluator<'_, '_, '_, F>,
     scopes: &Scopes<'_>,
     policy: &Policy,
 ) -> Option<bool>
-    ensures { (i : Inquiry) (store : Store) (table : Table) (depth : ℕ) → IsEvaluatorOf i store table depth evaluator.now → AreScopesOf i store scopes.now →
+    ensures { (i : Inquiry) (store : Store) (table : Table) (depth : ℕ) → IsEvaluatorOf F.answers i store table depth evaluator.now → AreScopesOf i store scopes.now →
         (facts : Facts) → HasFacts store facts → IsDecided facts (request_held i (bindings_of policy.now)) (condition_of policy.now) result }
 {
     match scopes.hold(policy) {
@@ -50,15 +51,15 @@ pub(crate) fn told(
 
 /// What a policy comes to, as [`EvaluatePolicy::partial_evaluate`] has it, by an evaluator of a request and
 /// the scopes that the request decides.
-pub(crate) fn evaluated(
+pub(crate) fn evaluated<F: ExtensionFunctionObject>(
     alloc: Global,
-    evaluator: &Evaluator<'_, '_, '_>,
+    evaluator: &Evaluator<'_, '_, '_, F>,
     scopes: &Scopes<'_>,
     policy: &Policy,
 ) -> Result<Either<bool, Expr>, EvaluationError>
-    ensures found { (i : Inquiry) (store : Store) (table : Table) (depth : ℕ) → IsEvaluatorOf i store table depth evaluator.now → AreScopesOf i store scopes.now →
+    ensures found { (i : Inquiry) (store : Store) (table : Table) (depth : ℕ) → IsEvaluatorOf F.answers i store table depth evaluator.now → AreScopesOf i store scopes.now →
         (facts : Facts) → IsServed i store table depth facts (condition_of policy.now) → JudgesAt facts (partial_in facts (request_held i (bindings_of policy.now)) (condition_of policy.now)) result }
-    ensures limit { IsLimit result → Deep evaluator.now (depth_of evaluator.now) (condition_of policy.now) }
+    ensures limit { IsLimit result → Deep F.answers evaluator.now (depth_of evaluator.now) (condition_of policy.now) }
 {
     match told(evaluator, scopes, policy) {
         Some(satisfied) => Ok(Either::Left(satisfied)),
@@ -68,15 +69,15 @@ pub(crate) fn evaluated(
 
 /// The same by an evaluation, where it isn't told: of a policy whose scope holds the clauses alone are
 /// evaluated.
-pub(crate) fn evaluated_in_full(
+pub(crate) fn evaluated_in_full<F: ExtensionFunctionObject>(
     alloc: Global,
-    evaluator: &Evaluator<'_, '_, '_>,
+    evaluator: &Evaluator<'_, '_, '_, F>,
     scopes: &Scopes<'_>,
     policy: &Policy,
 ) -> Result<Either<bool, Expr>, EvaluationError>
-    ensures found { (i : Inquiry) (store : Store) (table : Table) (depth : ℕ) → IsEvaluatorOf i store table depth evaluator.now → AreScopesOf i store scopes.now →
+    ensures found { (i : Inquiry) (store : Store) (table : Table) (depth : ℕ) → IsEvaluatorOf F.answers i store table depth evaluator.now → AreScopesOf i store scopes.now →
         (facts : Facts) → IsServed i store table depth facts (condition_of policy.now) → JudgesAt facts (partial_in facts (request_held i (bindings_of policy.now)) (condition_of policy.now)) result }
-    ensures limit { IsLimit result → Deep evaluator.now (depth_of evaluator.now) (condition_of policy.now) }
+    ensures limit { IsLimit result → Deep F.answers evaluator.now (depth_of evaluator.now) (condition_of policy.now) }
 {
     match scopes.hold(policy) {
         Some(true) => in_scope(alloc, evaluator, policy),
@@ -85,13 +86,13 @@ pub(crate) fn evaluated_in_full(
 }
 
 // The same of a policy whose scope holds.
-fn in_scope(
+fn in_scope<F: ExtensionFunctionObject>(
     alloc: Global,
-    evaluator: &Evaluator<'_, '_, '_>,
+    evaluator: &Evaluator<'_, '_, '_, F>,
     policy: &Policy,
 ) -> Result<Either<bool, Expr>, EvaluationError>
-    ensures found { (facts : Facts) → Serves evaluator.now facts (condition_of policy.now) → partial_in facts (held_by evaluator.now (bindings_of policy.now)) (scope_tree (policy_syntax policy.now)) ≡ Evaluated (Plain (Boolean true)) → JudgesAt facts (partial_in facts (held_by evaluator.now (bindings_of policy.now)) (condition_of policy.now)) result }
-    ensures limit { IsLimit result → Deep evaluator.now (depth_of evaluator.now) (condition_of policy.now) }
+    ensures found { (facts : Facts) → Serves F.answers evaluator.now facts (condition_of policy.now) → partial_in facts (held_by evaluator.now (bindings_of policy.now)) (scope_tree (policy_syntax policy.now)) ≡ Evaluated (Plain (Boolean true)) → JudgesAt facts (partial_in facts (held_by evaluator.now (bindings_of policy.now)) (condition_of policy.now)) result }
+    ensures limit { IsLimit result → Deep F.answers evaluator.now (depth_of evaluator.now) (condition_of policy.now) }
 {
     match policy.non_scope_constraints() {
         None => Ok(Either::Left(true)),

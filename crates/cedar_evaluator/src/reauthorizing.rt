@@ -10,6 +10,7 @@ use crate::concretizing::concretized;
 use crate::errors::ReauthorizationError;
 use crate::partial_response::PartialResponse;
 use cedar_entities::store::Entities;
+use cedar_extensions::objects::ExtensionFunctionObject;
 use cedar_policy_set::errors::PolicySetError;
 use cedar_policy_set::sets::PolicySet;
 use cedar_values::values::Value;
@@ -27,14 +28,14 @@ impl PartialResponse {
     /// first variable of which a value of another kind is told, that the request gives already, or of which
     /// it states another type, or since the context errs with them; and for memory.
     /// (Cedar language reference, "Partial evaluation".)
-    pub fn reauthorize(
+    pub fn reauthorize<F: ExtensionFunctionObject>(
         &self,
         alloc: Global,
         told: &HashMap<RcStr, Value>,
-        authorizer: &Authorizer<'_, '_>,
+        authorizer: &Authorizer<'_, '_, F>,
         entities: &Entities,
     ) -> Result<PartialResponse, ReauthorizationError>
-        ensures { Reauthorizes entities.now (table_of authorizer.now) (limit_of authorizer.now) told.now.entries self.now result }
+        ensures { Reauthorizes entities.now (table_of F.answers authorizer.now) (limit_of authorizer.now) told.now.entries self.now result }
     {
         let policies = self.residual_set(alloc)?;
         let request = concretized(

@@ -19,6 +19,7 @@ use crate::errors::AuthorizationError;
 use crate::partial_response::PartialResponse;
 use cedar_entities::store::Entities;
 use cedar_extensions::evaluation_error::EvaluationError;
+use cedar_extensions::objects::ExtensionFunctionObject;
 use cedar_names::conversions::FromIn;
 use cedar_policy_parts::annotations::Annotations;
 use cedar_policy_parts::{Decision, PolicyID};
@@ -188,7 +189,7 @@ impl PartialResponse {
     }
 }
 
-impl<'e, 'f> Authorizer<'e, 'f> {
+impl<'e, 'f, F: ExtensionFunctionObject> Authorizer<'e, 'f, F> {
     /// What the request comes to by the policies in force, static policies and links: denied where a
     /// forbid is satisfied, else allowed where a permit is, else denied. A policy that errs isn't
     /// satisfied, and its error is told, `RecursionLimit` among them; so is each of whose condition
@@ -200,7 +201,7 @@ impl<'e, 'f> Authorizer<'e, 'f> {
         policies: &PolicySet,
         entities: &Entities,
     ) -> Result<Response, AllocError>
-        ensures { IfOk result (λ whole. Answers (untold (request_parts request)) entities.now (table_of self.now) (limit_of self.now) policies.now whole) }
+        ensures { IfOk result (λ whole. Answers (untold (request_parts request)) entities.now (table_of F.answers self.now) (limit_of self.now) policies.now whole) }
     {
         let partial = self.is_authorized_core(alloc, request, policies, entities)?;
         partial.concretize(alloc)

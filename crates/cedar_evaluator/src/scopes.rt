@@ -29,6 +29,7 @@ use cedar_constraints::constraints::PrincipalOrResourceConstraint;
 use cedar_constraints::references::EntityReference;
 use cedar_entities::entity::Entity;
 use cedar_entities::store::Entities;
+use cedar_extensions::objects::ExtensionFunctionObject;
 use cedar_interpreter::Evaluator;
 use cedar_literals::slots::SlotId;
 use cedar_literals::uids::{EntityType, EntityUID};
@@ -171,11 +172,11 @@ fn target<'p>(named: &'p EntityReference, bound: Option<&'p EntityUID>) -> Optio
 }
 
 // The entity that stands for a variable in what an evaluator answers for.
-fn given<'s>(
-    evaluator: &Evaluator<'s, '_, '_>,
+fn given<'s, F: ExtensionFunctionObject>(
+    evaluator: &Evaluator<'s, '_, '_, F>,
     var: Var,
 ) -> Result<Option<GivenEntity<'s>>, AllocError>
-    ensures { IfOk result (λ g. (i : Inquiry) (store : Store) (table : Table) (depth : ℕ) → IsEvaluatorOf i store table depth evaluator.now → IsGivenAs store (variable_asked i.request (variable_of var)) g) }
+    ensures { IfOk result (λ g. (i : Inquiry) (store : Store) (table : Table) (depth : ℕ) → IsEvaluatorOf F.answers i store table depth evaluator.now → IsGivenAs store (variable_asked i.request (variable_of var)) g) }
 {
     match evaluator.given_entity(var) {
         Some((uid, entity)) => {
@@ -229,11 +230,11 @@ fn action_meets(given: &Option<GivenEntity<'_>>, constraint: &ActionConstraint) 
 
 impl<'s> Scopes<'s> {
     /// What the request of an evaluator over these entities gives; refused for memory alone.
-    pub(crate) fn new(
+    pub(crate) fn new<F: ExtensionFunctionObject>(
         entities: &Entities,
-        evaluator: &Evaluator<'s, '_, '_>,
+        evaluator: &Evaluator<'s, '_, '_, F>,
     ) -> Result<Scopes<'s>, AllocError>
-        ensures { IfOk result (λ scopes. (i : Inquiry) (store : Store) (table : Table) (depth : ℕ) → IsEvaluatorOf i store table depth evaluator.now → AreScopesOf i store scopes) }
+        ensures { IfOk result (λ scopes. (i : Inquiry) (store : Store) (table : Table) (depth : ℕ) → IsEvaluatorOf F.answers i store table depth evaluator.now → AreScopesOf i store scopes) }
     {
         if entities.is_partial() {
             return Ok(Scopes {

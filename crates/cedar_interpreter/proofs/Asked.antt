@@ -11,6 +11,7 @@ use Rattle.cedar_partial_evaluation.specs.Partial.{Answer, answer_of, LeafAnswer
 use Rattle.cedar_partial_evaluation.specs.Question.{name_held}
 use Rattle.cedar_constraints.specs.Bindings.{Bindings, binding_of}
 use Rattle.cedar_entities.specs.declared.store.Entities.{Entities}
+use Rattle.cedar_extensions.specs.Answering.{FunctionAnswers}
 use Rattle.cedar_extensions.specs.Table.{Table, as_table}
 use Rattle.cedar_operators.specs.Store.{HasFacts}
 use Rattle.cedar_requests.specs.Holding.{RequestParts}
@@ -25,7 +26,7 @@ use Rattle.cedar_interpreter.specs.declared.evaluator.Evaluator.{Evaluator}
 abbrev holding : Bindings → (Variable → Answer) → (Text → Option Value) → LeafAnswers
 holding slots f told = record { variable = f; unknown = λ n ty. name_held (told n) n ty; slot = λ s. answer_of (slot_outcome (binding_of slots s)) }
 
-module _ (r : RequestParts) (ev : Evaluator) (stand : StandFor r ev.variables) (nothing : ev.told ≡ None) where
+module _ {F : Type 0} (r : RequestParts) (ev : Evaluator F) (stand : StandFor r ev.variables) (nothing : ev.told ≡ None) where
   of_variable : (v : Variable) → variable_held ev v ≡ variable_asked r v
   of_variable Principal = stand.principal
   of_variable Action = stand.action
@@ -38,9 +39,9 @@ module _ (r : RequestParts) (ev : Evaluator) (stand : StandFor r ev.variables) (
       ap (λ (f : Variable → Answer). holding slots f (value_told ev.told)) same
       ∙ ap (λ told. holding slots (variable_asked r) (value_told told)) nothing
 
-pub is_evaluator : (r : RequestParts) (entities : Entities) (table : Table) (depth : ℕ) (ev : Evaluator) →
-    StandFor r ev.variables → ev.told ≡ None → ev.entities.now ≡ entities → as_table ev.extensions.now ≡ table → depth_of ev ≡ depth → IsEvaluatorOf (untold r) entities table depth ev
-is_evaluator r entities table depth ev stand nothing es ts ds = record {
+pub is_evaluator : {F : Type 0} (answers : F → FunctionAnswers) (r : RequestParts) (entities : Entities) (table : Table) (depth : ℕ) (ev : Evaluator F) →
+    StandFor r ev.variables → ev.told ≡ None → ev.entities.now ≡ entities → as_table answers ev.extensions.now ≡ table → depth_of ev ≡ depth → IsEvaluatorOf answers (untold r) entities table depth ev
+is_evaluator answers r entities table depth ev stand nothing es ts ds = record {
   store = es;
   holds = holds_asked r ev stand nothing;
   serves = λ facts t has functions names. record {
@@ -52,12 +53,12 @@ is_evaluator r entities table depth ev stand nothing es ts ds = record {
 }
 
 -- the same evaluator, that is told values
-abbrev pub telling : (ev : Evaluator) → Bor (HashMap (RcStr Global) Value (BuildHasherDefault FoldHasher)) → AreSeen ev.entities.now ev.variables ev.seen → Evaluator
+abbrev pub telling : {F : Type 0} (ev : Evaluator F) → Bor (HashMap (RcStr Global) Value (BuildHasherDefault FoldHasher)) → AreSeen ev.entities.now ev.variables ev.seen → Evaluator F
 telling ev told seen = record { variables = ev.variables; entities = ev.entities; seen = ev.seen; extensions = ev.extensions; depth = ev.depth; told = Some told; are_seen = seen }
 
-pub is_told : (r : RequestParts) (entities : Entities) (table : Table) (depth : ℕ) (ev : Evaluator) (told : Bor (HashMap (RcStr Global) Value (BuildHasherDefault FoldHasher))) (seen : AreSeen ev.entities.now ev.variables ev.seen) →
-    IsEvaluatorOf (untold r) entities table depth ev → IsEvaluatorOf (record { request = r; told = told_for told.now.entries }) entities table depth (telling ev told seen)
-is_told r entities table depth ev told seen is = record {
+pub is_told : {F : Type 0} (answers : F → FunctionAnswers) (r : RequestParts) (entities : Entities) (table : Table) (depth : ℕ) (ev : Evaluator F) (told : Bor (HashMap (RcStr Global) Value (BuildHasherDefault FoldHasher))) (seen : AreSeen ev.entities.now ev.variables ev.seen) →
+    IsEvaluatorOf answers (untold r) entities table depth ev → IsEvaluatorOf answers (record { request = r; told = told_for told.now.entries }) entities table depth (telling ev told seen)
+is_told answers r entities table depth ev told seen is = record {
   store = is.store;
   holds = λ slots. ap (λ (h : LeafAnswers). holding slots h.variable (told_for told.now.entries)) (is.holds slots);
   serves = λ facts t has functions names.

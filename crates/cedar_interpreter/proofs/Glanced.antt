@@ -51,7 +51,7 @@ uids_tie a b = literals_tie (Entity a) (Entity b) (same_uid a b) (λ h. ap Entit
 
 -- ---- trees by their parts
 
-module _ (ev : Evaluator) where
+module _ {F : Type 0} (ev : Evaluator F) where
   -- the same tree, at the same limit
   pub tells_as : (d e : ℕ) (t u : Tree) (found : Option Lent) → d ≡ e → t ≡ u → IfSome found (λ l. Tells ev e u (value_lent l)) → IfSome found (λ l. Tells ev d t (value_lent l))
   tells_as d e t u found is same h =

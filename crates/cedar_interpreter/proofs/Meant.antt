@@ -10,6 +10,7 @@ use Rattle.cedar_partial_evaluation.specs.Leaves.{is_left, AreKnown, AnswerAlike
 use Rattle.cedar_partial_evaluation.specs.Mentions.{mentions_only}
 use Rattle.cedar_partial_evaluation.specs.Partial.{Answer, Evaluated, ResidualTree, Failed, answer_of, LeafAnswers, leaf_answers_of, partial_in, KnownIsMeaning}
 use Rattle.cedar_constraints.specs.Bindings.{Bindings}
+use Rattle.cedar_extensions.specs.Answering.{FunctionAnswers}
 use Rattle.cedar_extensions.specs.Failures.{Failure, OfKind, LimitMet, MemoryRanOut, failure_of}
 use Rattle.cedar_extensions.specs.Giving.{FailsBy}
 use Rattle.cedar_extensions.specs.declared.evaluation_error.EvaluationError.{EvaluationError}
@@ -73,8 +74,8 @@ module _ (law : LeavesDontMatter) (known : KnownIsMeaning) (facts : Facts) (hold
   means depth (Err e) found deep only request held = failing only request held depth (failure_of e) (λ l. deep l only) found
 
 -- an evaluator's value
-pub means_tree : LeavesDontMatter → KnownIsMeaning → (ev : Evaluator) (slots : Bindings) (depth : ℕ) (t : Tree) (result : Result Value EvaluationError)
-    → ((facts : Facts) → Serves ev facts t → ValueAt ⊤ (partial_in facts (held_by ev slots) t) result) → (IsLimit result → Deep ev depth t)
-    → (facts : Facts) → Serves ev facts t → MeansTree facts (held_by ev slots) depth t result
-means_tree law known ev slots depth t result found limit facts serves =
+pub means_tree : {F : Type 0} (answers : F → FunctionAnswers) → LeavesDontMatter → KnownIsMeaning → (ev : Evaluator F) (slots : Bindings) (depth : ℕ) (t : Tree) (result : Result Value EvaluationError)
+    → ((facts : Facts) → Serves answers ev facts t → ValueAt ⊤ (partial_in facts (held_by ev slots) t) result) → (IsLimit result → Deep answers ev depth t)
+    → (facts : Facts) → Serves answers ev facts t → MeansTree facts (held_by ev slots) depth t result
+means_tree answers law known ev slots depth t result found limit facts serves =
     means law known facts (held_by ev slots) t depth result (found facts serves) (λ l only. limit l facts serves only)

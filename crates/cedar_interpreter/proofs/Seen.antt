@@ -11,6 +11,7 @@ use Rattle.cedar_entities.specs.Data.{EntityData}
 use Rattle.cedar_entities.specs.Held.{held_of}
 use Rattle.cedar_entities.specs.Store.{held_at}
 use Rattle.cedar_entities.specs.declared.store.Entities.{Entities}
+use Rattle.cedar_extensions.specs.Answering.{FunctionAnswers}
 use Rattle.cedar_extensions.specs.Table.{Table}
 use Rattle.cedar_operators.specs.Store.{IsFound}
 use Rattle.cedar_operators.proofs.ByStore.{within_is}
@@ -40,7 +41,7 @@ if_some : {X : Type 0} {P Q : X → Type 0} (found : Option X) → ((x : X) → 
 if_some None f h = tt
 if_some (Some x) f h = f x h
 
-module _ (ev : Evaluator) (i : Inquiry) (store : Entities) (table : Table) (depth : ℕ) (is : IsEvaluatorOf i store table depth ev) where
+module _ {F : Type 0} (answers : F → FunctionAnswers) (ev : Evaluator F) (i : Inquiry) (store : Entities) (table : Table) (depth : ℕ) (is : IsEvaluatorOf answers i store table depth ev) where
   asked_as : (v : Variable) → variable_asked i.request v ≡ variable_held ev v
   asked_as v = sym (ap (λ (holds : LeafAnswers). holds.variable v) (is.holds unbound))
 

@@ -22,6 +22,7 @@ use Rattle.cedar_constraints.specs.Bindings.{Bindings, binding_of}
 use Rattle.cedar_grammar.specs.Build.{trees}
 use Rattle.cedar_shapes.specs.Parts.{listed, parts}
 use Rattle.cedar_restricted.specs.Splitting.{is_residual}
+use Rattle.cedar_extensions.specs.Answering.{FunctionAnswers}
 use Rattle.cedar_extensions.specs.Failures.{Failure}
 use Rattle.cedar_extensions.specs.Giving.{FailsBy, fails_on}
 use Rattle.cedar_extensions.specs.Table.{as_table}
@@ -64,48 +65,48 @@ either_deep (inr b) f g = g b
 
 -- ---- what is served
 
-module _ (ev : Evaluator) (facts : Facts) where
-  serves_by : (t u : Tree) → Serves ev facts t → NamesNothing (as_table ev.extensions.now) u → Serves ev facts u
+module _ {F : Type 0} (answers : F → FunctionAnswers) (ev : Evaluator F) (facts : Facts) where
+  serves_by : (t u : Tree) → Serves answers ev facts t → NamesNothing (as_table answers ev.extensions.now) u → Serves answers ev facts u
   serves_by t u s n = record { entities = s.entities; functions = s.functions; names_nothing = n }
 
   module _ (l r : Tree) where
-    pub serves_and_left : Serves ev facts (And l r) → Serves ev facts l
-    serves_and_left s = serves_by (And l r) l s (nothing_left (as_table ev.extensions.now).has_unknown (calls_unknown l) (calls_unknown r) s.names_nothing)
+    pub serves_and_left : Serves answers ev facts (And l r) → Serves answers ev facts l
+    serves_and_left s = serves_by (And l r) l s (nothing_left (as_table answers ev.extensions.now).has_unknown (calls_unknown l) (calls_unknown r) s.names_nothing)
 
-    pub serves_and_right : Serves ev facts (And l r) → Serves ev facts r
-    serves_and_right s = serves_by (And l r) r s (nothing_right (as_table ev.extensions.now).has_unknown (calls_unknown l) (calls_unknown r) s.names_nothing)
+    pub serves_and_right : Serves answers ev facts (And l r) → Serves answers ev facts r
+    serves_and_right s = serves_by (And l r) r s (nothing_right (as_table answers ev.extensions.now).has_unknown (calls_unknown l) (calls_unknown r) s.names_nothing)
 
-    pub serves_or_left : Serves ev facts (Or l r) → Serves ev facts l
-    serves_or_left s = serves_by (Or l r) l s (nothing_left (as_table ev.extensions.now).has_unknown (calls_unknown l) (calls_unknown r) s.names_nothing)
+    pub serves_or_left : Serves answers ev facts (Or l r) → Serves answers ev facts l
+    serves_or_left s = serves_by (Or l r) l s (nothing_left (as_table answers ev.extensions.now).has_unknown (calls_unknown l) (calls_unknown r) s.names_nothing)
 
-    pub serves_or_right : Serves ev facts (Or l r) → Serves ev facts r
-    serves_or_right s = serves_by (Or l r) r s (nothing_right (as_table ev.extensions.now).has_unknown (calls_unknown l) (calls_unknown r) s.names_nothing)
+    pub serves_or_right : Serves answers ev facts (Or l r) → Serves answers ev facts r
+    serves_or_right s = serves_by (Or l r) r s (nothing_right (as_table answers ev.extensions.now).has_unknown (calls_unknown l) (calls_unknown r) s.names_nothing)
 
   module _ (t y n : Tree) where
-    pub serves_test : Serves ev facts (If t y n) → Serves ev facts t
-    serves_test s = serves_by (If t y n) t s (nothing_left (as_table ev.extensions.now).has_unknown (calls_unknown t) (calls_unknown y || calls_unknown n) s.names_nothing)
+    pub serves_test : Serves answers ev facts (If t y n) → Serves answers ev facts t
+    serves_test s = serves_by (If t y n) t s (nothing_left (as_table answers ev.extensions.now).has_unknown (calls_unknown t) (calls_unknown y || calls_unknown n) s.names_nothing)
 
-    pub serves_yes : Serves ev facts (If t y n) → Serves ev facts y
-    serves_yes s = serves_by (If t y n) y s (nothing_left (as_table ev.extensions.now).has_unknown (calls_unknown y) (calls_unknown n) (nothing_right (as_table ev.extensions.now).has_unknown (calls_unknown t) (calls_unknown y || calls_unknown n) s.names_nothing))
+    pub serves_yes : Serves answers ev facts (If t y n) → Serves answers ev facts y
+    serves_yes s = serves_by (If t y n) y s (nothing_left (as_table answers ev.extensions.now).has_unknown (calls_unknown y) (calls_unknown n) (nothing_right (as_table answers ev.extensions.now).has_unknown (calls_unknown t) (calls_unknown y || calls_unknown n) s.names_nothing))
 
-    pub serves_no : Serves ev facts (If t y n) → Serves ev facts n
-    serves_no s = serves_by (If t y n) n s (nothing_right (as_table ev.extensions.now).has_unknown (calls_unknown y) (calls_unknown n) (nothing_right (as_table ev.extensions.now).has_unknown (calls_unknown t) (calls_unknown y || calls_unknown n) s.names_nothing))
+    pub serves_no : Serves answers ev facts (If t y n) → Serves answers ev facts n
+    serves_no s = serves_by (If t y n) n s (nothing_right (as_table answers ev.extensions.now).has_unknown (calls_unknown y) (calls_unknown n) (nothing_right (as_table answers ev.extensions.now).has_unknown (calls_unknown t) (calls_unknown y || calls_unknown n) s.names_nothing))
 
   -- an entry that is projected calls nothing
-  pub serves_entry : (t u : Tree) → Serves ev facts t → is_projectable u ≡ true → Serves ev facts u
-  serves_entry t u s p = serves_by t u s (nothing_at (as_table ev.extensions.now).has_unknown (calls_unknown u) (projectable_calls u p))
+  pub serves_entry : (t u : Tree) → Serves answers ev facts t → is_projectable u ≡ true → Serves answers ev facts u
+  serves_entry t u s p = serves_by t u s (nothing_at (as_table answers ev.extensions.now).has_unknown (calls_unknown u) (projectable_calls u p))
 
-  serves_listed : (t : Tree) (ts : Trees) → Serves ev facts t → ((as_table ev.extensions.now).has_unknown && some_calls_unknown ts) ≡ false → ServesEach ev facts (listed ts)
+  serves_listed : (t : Tree) (ts : Trees) → Serves answers ev facts t → ((as_table answers ev.extensions.now).has_unknown && some_calls_unknown ts) ≡ false → ServesEach answers ev facts (listed ts)
   serves_listed t no_trees s h = tt
   serves_listed t (a_tree u us) s h = (
-    serves_by t u s (nothing_left (as_table ev.extensions.now).has_unknown (calls_unknown u) (some_calls_unknown us) h),
-    serves_listed t us s (nothing_right (as_table ev.extensions.now).has_unknown (calls_unknown u) (some_calls_unknown us) h),
+    serves_by t u s (nothing_left (as_table answers ev.extensions.now).has_unknown (calls_unknown u) (some_calls_unknown us) h),
+    serves_listed t us s (nothing_right (as_table answers ev.extensions.now).has_unknown (calls_unknown u) (some_calls_unknown us) h),
   )
 
-  pub serves_operands : (op : Operator) (ts : Trees) → Serves ev facts (Apply op ts) → ServesEach ev facts (listed ts)
-  serves_operands op ts s = serves_listed (Apply op ts) ts s (nothing_right (as_table ev.extensions.now).has_unknown (is_unknown_call op) (some_calls_unknown ts) s.names_nothing)
+  pub serves_operands : (op : Operator) (ts : Trees) → Serves answers ev facts (Apply op ts) → ServesEach answers ev facts (listed ts)
+  serves_operands op ts s = serves_listed (Apply op ts) ts s (nothing_right (as_table answers ev.extensions.now).has_unknown (is_unknown_call op) (some_calls_unknown ts) s.names_nothing)
 
-  pub serves_parts : (t : Tree) → is_of_list t ≡ true → Serves ev facts t → ServesEach ev facts (parts t)
+  pub serves_parts : (t : Tree) → is_of_list t ≡ true → Serves answers ev facts t → ServesEach answers ev facts (parts t)
   serves_parts (Apply op ts) k s = serves_operands op ts s
   serves_parts (Lit l) k s = cc
   serves_parts (Var v) k s = cc
@@ -117,44 +118,44 @@ module _ (ev : Evaluator) (facts : Facts) where
 
 -- ---- depth
 
-module _ (ev : Evaluator) (depth : ℕ) where
+module _ {F : Type 0} (answers : F → FunctionAnswers) (ev : Evaluator F) (depth : ℕ) where
   module _ (l r : Tree) where
-    pub deep_and_left : Deep ev depth l → Deep ev (suc depth) (And l r)
-    deep_and_left d facts has m = let h : depth < height l = d facts (serves_and_left ev facts l r has) (and_left _ _ m) in omega (arith, h)
+    pub deep_and_left : Deep answers ev depth l → Deep answers ev (suc depth) (And l r)
+    deep_and_left d facts has m = let h : depth < height l = d facts (serves_and_left answers ev facts l r has) (and_left _ _ m) in omega (arith, h)
 
-    pub deep_and_right : Deep ev depth r → Deep ev (suc depth) (And l r)
-    deep_and_right d facts has m = let h : depth < height r = d facts (serves_and_right ev facts l r has) (and_right _ _ m) in omega (arith, h)
+    pub deep_and_right : Deep answers ev depth r → Deep answers ev (suc depth) (And l r)
+    deep_and_right d facts has m = let h : depth < height r = d facts (serves_and_right answers ev facts l r has) (and_right _ _ m) in omega (arith, h)
 
-    pub deep_or_left : Deep ev depth l → Deep ev (suc depth) (Or l r)
-    deep_or_left d facts has m = let h : depth < height l = d facts (serves_or_left ev facts l r has) (and_left _ _ m) in omega (arith, h)
+    pub deep_or_left : Deep answers ev depth l → Deep answers ev (suc depth) (Or l r)
+    deep_or_left d facts has m = let h : depth < height l = d facts (serves_or_left answers ev facts l r has) (and_left _ _ m) in omega (arith, h)
 
-    pub deep_or_right : Deep ev depth r → Deep ev (suc depth) (Or l r)
-    deep_or_right d facts has m = let h : depth < height r = d facts (serves_or_right ev facts l r has) (and_right _ _ m) in omega (arith, h)
+    pub deep_or_right : Deep answers ev depth r → Deep answers ev (suc depth) (Or l r)
+    deep_or_right d facts has m = let h : depth < height r = d facts (serves_or_right answers ev facts l r has) (and_right _ _ m) in omega (arith, h)
 
   module _ (t y n : Tree) where
-    pub deep_if_test : Deep ev depth t → Deep ev (suc depth) (If t y n)
-    deep_if_test d facts has m = let h : depth < height t = d facts (serves_test ev facts t y n has) (and_left _ _ m) in omega (arith, h)
+    pub deep_if_test : Deep answers ev depth t → Deep answers ev (suc depth) (If t y n)
+    deep_if_test d facts has m = let h : depth < height t = d facts (serves_test answers ev facts t y n has) (and_left _ _ m) in omega (arith, h)
 
-    pub deep_if_yes : Deep ev depth y → Deep ev (suc depth) (If t y n)
-    deep_if_yes d facts has m = let h : depth < height y = d facts (serves_yes ev facts t y n has) (and_left _ _ (and_right _ _ m)) in omega (arith, h)
+    pub deep_if_yes : Deep answers ev depth y → Deep answers ev (suc depth) (If t y n)
+    deep_if_yes d facts has m = let h : depth < height y = d facts (serves_yes answers ev facts t y n has) (and_left _ _ (and_right _ _ m)) in omega (arith, h)
 
-    pub deep_if_no : Deep ev depth n → Deep ev (suc depth) (If t y n)
-    deep_if_no d facts has m = let h : depth < height n = d facts (serves_no ev facts t y n has) (and_right _ _ (and_right _ _ m)) in omega (arith, h)
+    pub deep_if_no : Deep answers ev depth n → Deep answers ev (suc depth) (If t y n)
+    deep_if_no d facts has m = let h : depth < height n = d facts (serves_no answers ev facts t y n has) (and_right _ _ (and_right _ _ m)) in omega (arith, h)
 
-  pub deep_operand : (op : Operator) (t : Tree) → Deep ev depth t → Deep ev (suc depth) (Apply op (a_tree t no_trees))
-  deep_operand op t d facts has m = let h : depth < height t = d facts (serves_operands ev facts op (a_tree t no_trees) has).0 (and_left _ _ m) in omega (arith, h)
+  pub deep_operand : (op : Operator) (t : Tree) → Deep answers ev depth t → Deep answers ev (suc depth) (Apply op (a_tree t no_trees))
+  deep_operand op t d facts has m = let h : depth < height t = d facts (serves_operands answers ev facts op (a_tree t no_trees) has).0 (and_left _ _ m) in omega (arith, h)
 
   module _ (op : Operator) (l r : Tree) where
-    pub deep_left : Deep ev depth l → Deep ev (suc depth) (Apply op (a_tree l (a_tree r no_trees)))
-    deep_left d facts has m = let h : depth < height l = d facts (serves_operands ev facts op (a_tree l (a_tree r no_trees)) has).0 (and_left _ _ m) in omega (arith, h)
+    pub deep_left : Deep answers ev depth l → Deep answers ev (suc depth) (Apply op (a_tree l (a_tree r no_trees)))
+    deep_left d facts has m = let h : depth < height l = d facts (serves_operands answers ev facts op (a_tree l (a_tree r no_trees)) has).0 (and_left _ _ m) in omega (arith, h)
 
-    pub deep_right : Deep ev depth r → Deep ev (suc depth) (Apply op (a_tree l (a_tree r no_trees)))
-    deep_right d facts has m = let h : depth < height r = d facts (serves_operands ev facts op (a_tree l (a_tree r no_trees)) has).1.0 (and_left _ _ (and_right _ _ m)) in omega (arith, h)
+    pub deep_right : Deep answers ev depth r → Deep answers ev (suc depth) (Apply op (a_tree l (a_tree r no_trees)))
+    deep_right d facts has m = let h : depth < height r = d facts (serves_operands answers ev facts op (a_tree l (a_tree r no_trees)) has).1.0 (and_left _ _ (and_right _ _ m)) in omega (arith, h)
 
-  later_deep : (t : Tree) (ts : List Tree) → DeepEach ev depth ts → DeepEach ev depth (t ∷ ts)
+  later_deep : (t : Tree) (ts : List Tree) → DeepEach answers ev depth ts → DeepEach answers ev depth (t ∷ ts)
   later_deep t ts d facts has m = let h : depth < heights (trees ts) = d facts has.1 (and_right _ _ m) in omega (arith, h)
 
-  pub first_deep : (t : Tree) (ts : List Tree) → Deep ev depth t → DeepEach ev depth (t ∷ ts)
+  pub first_deep : (t : Tree) (ts : List Tree) → Deep answers ev depth t → DeepEach answers ev depth (t ∷ ts)
   first_deep t ts d facts has m = let h : depth < height t = d facts has.0 (and_left _ _ m) in omega (arith, h)
 
 pub positive : (t : Tree) → 0 < height t
@@ -168,9 +169,9 @@ positive (Or l r) = omega arith
 positive (Apply op ts) = omega arith
 
 -- what is deep below one level is deep at it
-pub lowered : (ev : Evaluator) (depth below : ℕ) (t u : Tree) → t ≡ u → depth ≡ below + 1 → Deep ev (suc below) u → Deep ev depth t
-lowered ev depth below t u is step h facts has m =
-    let k : suc below < height u = h facts (subst (Serves ev facts) is has) (subst (λ x. mentions_only (is_held ev) true x ≡ true) is m) in
+pub lowered : {F : Type 0} (answers : F → FunctionAnswers) (ev : Evaluator F) (depth below : ℕ) (t u : Tree) → t ≡ u → depth ≡ below + 1 → Deep answers ev (suc below) u → Deep answers ev depth t
+lowered answers ev depth below t u is step h facts has m =
+    let k : suc below < height u = h facts (subst (Serves answers ev facts) is has) (subst (λ x. mentions_only (is_held ev) true x ≡ true) is m) in
     subst (λ x. depth < height x) (sym is) (omega (arith, k, step))
 
 -- ---- what is known is never left
@@ -188,7 +189,7 @@ residual_left : (facts : Facts) (p : Either Value Tree) (b : Answer) → is_resi
 residual_left facts (Left v) b h s = cc
 residual_left facts (Right r) b h s = ap is_left s.1
 
-pub never_left : KnownIsNeverLeft → (ev : Evaluator) (slots : Bindings) (facts : Facts) (t : Tree) (p : Either Value Tree) → mentions_only (is_held ev) true t ≡ true → is_residual p ≡ true → Same facts (part_answer p) (partial_in facts (held_by ev slots) t) → ⊥
+pub never_left : {F : Type 0} → KnownIsNeverLeft → (ev : Evaluator F) (slots : Bindings) (facts : Facts) (t : Tree) (p : Either Value Tree) → mentions_only (is_held ev) true t ≡ true → is_residual p ≡ true → Same facts (part_answer p) (partial_in facts (held_by ev slots) t) → ⊥
 never_left known ev slots facts t p m h s =
     true≢false (sym (residual_left facts p (partial_in facts (held_by ev slots) t) h s)
     ∙ known facts (is_held ev) true (held_by ev slots) (record { variable = λ v k. held_known (variable_held ev v) k; slot = λ i k. slot_known (binding_of slots i) }) t m)
@@ -220,76 +221,76 @@ module _ (facts : Facts) (holds : LeafAnswers) where
   list_fails (And l r) k s h = cc
   list_fails (Or l r) k s h = cc
 
-pub list_deep : (ev : Evaluator) (depth : ℕ) (t : Tree) → is_of_list t ≡ true → DeepEach ev depth (parts t) → Deep ev (suc depth) t
-list_deep ev depth (Apply op ts) s d = λ facts has m.
-    let h : depth < heights (trees (listed ts)) = d facts (serves_operands ev facts op ts has) (subst (λ us. all_mention_only (is_held ev) true us ≡ true) (sym (listed_again ts)) m) in
+pub list_deep : {F : Type 0} (answers : F → FunctionAnswers) (ev : Evaluator F) (depth : ℕ) (t : Tree) → is_of_list t ≡ true → DeepEach answers ev depth (parts t) → Deep answers ev (suc depth) t
+list_deep answers ev depth (Apply op ts) s d = λ facts has m.
+    let h : depth < heights (trees (listed ts)) = d facts (serves_operands answers ev facts op ts has) (subst (λ us. all_mention_only (is_held ev) true us ≡ true) (sym (listed_again ts)) m) in
     let k : depth < heights ts = subst (λ us. depth < heights us) (listed_again ts) h in
     omega (arith, k)
-list_deep ev depth (Lit l) s d = cc
-list_deep ev depth (Var v) s d = cc
-list_deep ev depth (Slot j) s d = cc
-list_deep ev depth (Unknown n ty) s d = cc
-list_deep ev depth (If t y n) s d = cc
-list_deep ev depth (And l q) s d = cc
-list_deep ev depth (Or l q) s d = cc
+list_deep answers ev depth (Lit l) s d = cc
+list_deep answers ev depth (Var v) s d = cc
+list_deep answers ev depth (Slot j) s d = cc
+list_deep answers ev depth (Unknown n ty) s d = cc
+list_deep answers ev depth (If t y n) s d = cc
+list_deep answers ev depth (And l q) s d = cc
+list_deep answers ev depth (Or l q) s d = cc
 
 -- ---- parts one by one
 
 -- these parts are answered, and those are to come
-pub record Goes (ev : Evaluator) (slots : Bindings) (depth : ℕ) (rest : List Tree) (done : List (Either Value Tree)) (all : List Tree) : Type 0 where
-  pub serves : (facts : Facts) → ServesEach ev facts all → ServesEach ev facts rest
-  pub same : (facts : Facts) → ServesEach ev facts all → (ps : List (Either Value Tree)) → SameEach facts ps (map (partial_in facts (held_by ev slots)) rest) → SameEach facts (done ++ ps) (map (partial_in facts (held_by ev slots)) all)
-  pub fails : (facts : Facts) → ServesEach ev facts all → (k : Kind) → gathered facts (map (partial_in facts (held_by ev slots)) rest) ≡ SomeFailed k → gathered facts (map (partial_in facts (held_by ev slots)) all) ≡ SomeFailed k
-  pub deep : DeepEach ev depth rest → DeepEach ev depth all
+pub record Goes {F : Type 0} (answers : F → FunctionAnswers) (ev : Evaluator F) (slots : Bindings) (depth : ℕ) (rest : List Tree) (done : List (Either Value Tree)) (all : List Tree) : Type 0 where
+  pub serves : (facts : Facts) → ServesEach answers ev facts all → ServesEach answers ev facts rest
+  pub same : (facts : Facts) → ServesEach answers ev facts all → (ps : List (Either Value Tree)) → SameEach facts ps (map (partial_in facts (held_by ev slots)) rest) → SameEach facts (done ++ ps) (map (partial_in facts (held_by ev slots)) all)
+  pub fails : (facts : Facts) → ServesEach answers ev facts all → (k : Kind) → gathered facts (map (partial_in facts (held_by ev slots)) rest) ≡ SomeFailed k → gathered facts (map (partial_in facts (held_by ev slots)) all) ≡ SomeFailed k
+  pub deep : DeepEach answers ev depth rest → DeepEach answers ev depth all
   pub count : length all ≡ length done + length rest
 
-module _ (ev : Evaluator) (slots : Bindings) (depth : ℕ) where
-  pub goes_first : (all : List Tree) → Goes ev slots depth all [] all
+module _ {F : Type 0} (answers : F → FunctionAnswers) (ev : Evaluator F) (slots : Bindings) (depth : ℕ) where
+  pub goes_first : (all : List Tree) → Goes answers ev slots depth all [] all
   goes_first all = record { serves = λ facts s. s; same = λ facts s ps h. h; fails = λ facts s k h. h; deep = λ d. d; count = omega arith }
 
-  module _ (later all : List Tree) (t : Tree) (done : List (Either Value Tree)) (goes : Goes ev slots depth (t ∷ later) done all) where
-    pub goes_next : (p : Either Value Tree) → ((facts : Facts) → Serves ev facts t → Same facts (part_answer p) (partial_in facts (held_by ev slots) t)) → Goes ev slots depth later (done ++ p ∷ []) all
+  module _ (later all : List Tree) (t : Tree) (done : List (Either Value Tree)) (goes : Goes answers ev slots depth (t ∷ later) done all) where
+    pub goes_next : (p : Either Value Tree) → ((facts : Facts) → Serves answers ev facts t → Same facts (part_answer p) (partial_in facts (held_by ev slots) t)) → Goes answers ev slots depth later (done ++ p ∷ []) all
     goes_next p found = record {
       serves = λ facts s. (goes.serves facts s).1;
       same = λ facts s ps h. subst (λ qs. SameEach facts qs (map (partial_in facts (held_by ev slots)) all)) (sym (append_assoc done (p ∷ []) ps)) (goes.same facts s (p ∷ ps) (found facts (goes.serves facts s).0, h));
       fails = λ facts s k e. goes.fails facts s k (fails_behind facts p (partial_in facts (held_by ev slots) t) (map (partial_in facts (held_by ev slots)) later) k (found facts (goes.serves facts s).0) e);
-      deep = λ d. goes.deep (later_deep ev depth t later d);
+      deep = λ d. goes.deep (later_deep answers ev depth t later d);
       count = omega (arith, goes.count, length-append done (p ∷ []));
     }
 
-    pub goes_fails : (f : Failure) (facts : Facts) → ServesEach ev facts all → (Serves ev facts t → FailsBy ⊤ (λ k. partial_in facts (held_by ev slots) t ≡ Failed k) f) → FailsBy ⊤ (λ k. gathered facts (map (partial_in facts (held_by ev slots)) all) ≡ SomeFailed k) f
+    pub goes_fails : (f : Failure) (facts : Facts) → ServesEach answers ev facts all → (Serves answers ev facts t → FailsBy ⊤ (λ k. partial_in facts (held_by ev slots) t ≡ Failed k) f) → FailsBy ⊤ (λ k. gathered facts (map (partial_in facts (held_by ev slots)) all) ≡ SomeFailed k) f
     goes_fails f facts s h =
         fails_on f
         (λ k e. goes.fails facts s k (ap (λ a. and_next facts a (gathered facts (map (partial_in facts (held_by ev slots)) later))) e))
         (λ d. d) (h (goes.serves facts s).0)
 
-    pub goes_deep : Deep ev depth t → DeepEach ev depth all
-    goes_deep d = goes.deep (first_deep ev depth t later d)
+    pub goes_deep : Deep answers ev depth t → DeepEach answers ev depth all
+    goes_deep d = goes.deep (first_deep answers ev depth t later d)
 
-  module _ (all : List Tree) (done : List (Either Value Tree)) (goes : Goes ev slots depth [] done all) where
-    pub goes_end : (facts : Facts) → ServesEach ev facts all → SameEach facts done (map (partial_in facts (held_by ev slots)) all)
+  module _ (all : List Tree) (done : List (Either Value Tree)) (goes : Goes answers ev slots depth [] done all) where
+    pub goes_end : (facts : Facts) → ServesEach answers ev facts all → SameEach facts done (map (partial_in facts (held_by ev slots)) all)
     goes_end facts s = subst (λ ps. SameEach facts ps (map (partial_in facts (held_by ev slots)) all)) (append-nil done) (goes.same facts s [] tt)
 
     pub goes_count : length done ≡ length all
     goes_count = omega (arith, goes.count)
 
   -- the same, by how the rest is cut
-  module _ (rest later all : List Tree) (t : Tree) (done : List (Either Value Tree)) (goes : Goes ev slots depth rest done all) (cut : rest ≡ t ∷ later) where
-    goes_cut : Goes ev slots depth (t ∷ later) done all
-    goes_cut = subst (λ r. Goes ev slots depth r done all) cut goes
+  module _ (rest later all : List Tree) (t : Tree) (done : List (Either Value Tree)) (goes : Goes answers ev slots depth rest done all) (cut : rest ≡ t ∷ later) where
+    goes_cut : Goes answers ev slots depth (t ∷ later) done all
+    goes_cut = subst (λ r. Goes answers ev slots depth r done all) cut goes
 
-    pub goes_on : (p : Either Value Tree) (more : List (Either Value Tree)) → ((facts : Facts) → Serves ev facts t → Same facts (part_answer p) (partial_in facts (held_by ev slots) t)) → more ≡ done ++ p ∷ [] → Goes ev slots depth later more all
-    goes_on p more found is = subst (λ m. Goes ev slots depth later m all) (sym is) (goes_next later all t done goes_cut p found)
+    pub goes_on : (p : Either Value Tree) (more : List (Either Value Tree)) → ((facts : Facts) → Serves answers ev facts t → Same facts (part_answer p) (partial_in facts (held_by ev slots) t)) → more ≡ done ++ p ∷ [] → Goes answers ev slots depth later more all
+    goes_on p more found is = subst (λ m. Goes answers ev slots depth later m all) (sym is) (goes_next later all t done goes_cut p found)
 
-    pub cut_fails : (f : Failure) (facts : Facts) → ServesEach ev facts all → (Serves ev facts t → FailsBy ⊤ (λ k. partial_in facts (held_by ev slots) t ≡ Failed k) f) → FailsBy ⊤ (λ k. gathered facts (map (partial_in facts (held_by ev slots)) all) ≡ SomeFailed k) f
+    pub cut_fails : (f : Failure) (facts : Facts) → ServesEach answers ev facts all → (Serves answers ev facts t → FailsBy ⊤ (λ k. partial_in facts (held_by ev slots) t ≡ Failed k) f) → FailsBy ⊤ (λ k. gathered facts (map (partial_in facts (held_by ev slots)) all) ≡ SomeFailed k) f
     cut_fails = goes_fails later all t done goes_cut
 
-    pub cut_deep : Deep ev depth t → DeepEach ev depth all
+    pub cut_deep : Deep answers ev depth t → DeepEach answers ev depth all
     cut_deep = goes_deep later all t done goes_cut
 
-  module _ (rest all : List Tree) (done : List (Either Value Tree)) (goes : Goes ev slots depth rest done all) (none : rest ≡ []) where
-    pub ends : (facts : Facts) → ServesEach ev facts all → SameEach facts done (map (partial_in facts (held_by ev slots)) all)
-    ends = goes_end all done (subst (λ r. Goes ev slots depth r done all) none goes)
+  module _ (rest all : List Tree) (done : List (Either Value Tree)) (goes : Goes answers ev slots depth rest done all) (none : rest ≡ []) where
+    pub ends : (facts : Facts) → ServesEach answers ev facts all → SameEach facts done (map (partial_in facts (held_by ev slots)) all)
+    ends = goes_end all done (subst (λ r. Goes answers ev slots depth r done all) none goes)
 
     pub ends_count : length done ≡ length all
-    ends_count = goes_count all done (subst (λ r. Goes ev slots depth r done all) none goes)
+    ends_count = goes_count all done (subst (λ r. Goes answers ev slots depth r done all) none goes)

@@ -13,6 +13,7 @@ use Rattle.cedar_partial_evaluation.specs.Partial.{Answer, Evaluated, ResidualTr
 use Rattle.cedar_partial_evaluation.specs.Question.{part_held, name_held}
 use Rattle.cedar_constraints.specs.Bindings.{Bindings, binding_of}
 use Rattle.cedar_entities.specs.declared.store.Entities.{Entities}
+use Rattle.cedar_extensions.specs.Answering.{FunctionAnswers}
 use Rattle.cedar_extensions.specs.Giving.{Gives}
 use Rattle.cedar_extensions.specs.declared.evaluation_error.EvaluationError.{EvaluationError}
 use Rattle.cedar_extensions.specs.Table.{Table}
@@ -65,10 +66,10 @@ pub record StandFor (r : RequestParts) (vs : Variables) : Type 0 where
   pub context : part_answer (partial_of vs.context) ≡ variable_asked r Context
 
 -- it answers for this inquiry, over these entities and functions, to this depth
-pub record IsEvaluatorOf (i : Inquiry) (entities : Entities) (table : Table) (depth : ℕ) (ev : Evaluator) : Type 0 where
+pub record IsEvaluatorOf {F : Type 0} (answers : F → FunctionAnswers) (i : Inquiry) (entities : Entities) (table : Table) (depth : ℕ) (ev : Evaluator F) : Type 0 where
   pub store : ev.entities.now ≡ entities
   pub holds : (slots : Bindings) → held_by ev slots ≡ request_held i slots
-  pub serves : (facts : Facts) (t : Tree) → HasFacts entities facts → HasFunctions table facts → NamesNothing table t → Serves ev facts t
+  pub serves : (facts : Facts) (t : Tree) → HasFacts entities facts → HasFunctions table facts → NamesNothing table t → Serves answers ev facts t
   pub limit : depth_of ev ≡ depth
 
 -- ---- what is known

@@ -34,6 +34,6 @@ abbrev mutual
   least_depths (a_tree t ts) = max (least_depth t) (least_depths ts)
 
 -- the tree has this value, whatever slots are bound to, and the limit isn't met where it is evaluated
-pub record Tells (ev : Evaluator) (depth : ℕ) (t : Tree) (v : Value) : Type 0 where
+pub record Tells {F : Type 0} (ev : Evaluator F) (depth : ℕ) (t : Tree) (v : Value) : Type 0 where
   pub value : (facts : Facts) (slots : Bindings) → HasFacts ev.entities.now facts → partial_in facts (held_by ev slots) t ≡ Evaluated v
   pub within : least_depth t ≤ depth

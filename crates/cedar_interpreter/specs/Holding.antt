@@ -18,6 +18,7 @@ use Rattle.cedar_constraints.specs.Bindings.{Bindings, binding_of}
 use Rattle.cedar_operators.specs.Store.{HasFacts}
 use Rattle.cedar_restricted.specs.PartialValues.{partial_of}
 use Rattle.cedar_restricted.specs.declared.partial_values.PartialValue.{PartialValue}
+use Rattle.cedar_extensions.specs.Answering.{FunctionAnswers}
 use Rattle.cedar_extensions.specs.Table.{as_table}
 use Rattle.cedar_requests.specs.Answers.{part_answer}
 use Rattle.cedar_substitution.specs.Told.{told_for}
@@ -31,11 +32,11 @@ variable_in vs Action = vs.action
 variable_in vs Resource = vs.resource
 variable_in vs Context = vs.context
 
-abbrev pub variable_held : Evaluator → Variable → Answer
+abbrev pub variable_held : {F : Type 0} → Evaluator F → Variable → Answer
 variable_held ev v = part_answer (partial_of (variable_in ev.variables v))
 
 -- no evaluation nests deeper
-abbrev pub depth_of : Evaluator → ℕ
+abbrev pub depth_of : {F : Type 0} → Evaluator F → ℕ
 depth_of ev = ev.depth
 
 -- the value that is told for an unknown of this name
@@ -44,7 +45,7 @@ value_told None n = None
 value_told (Some told) n = told_for told.now.entries n
 
 -- what stands for variables, unknowns and slots; a told value of another type than the one that an unknown states is a TypeError
-abbrev pub held_by : Evaluator → Bindings → LeafAnswers
+abbrev pub held_by : {F : Type 0} → Evaluator F → Bindings → LeafAnswers
 held_by ev slots = record {
   variable = variable_held ev;
   unknown = λ n ty. name_held (value_told ev.told n) n ty;
@@ -52,28 +53,28 @@ held_by ev slots = record {
 }
 
 -- the facts are those of what is held, and no call in the tree names an unknown
-pub record Serves (ev : Evaluator) (facts : Facts) (t : Tree) : Type 0 where
+pub record Serves {F : Type 0} (answers : F → FunctionAnswers) (ev : Evaluator F) (facts : Facts) (t : Tree) : Type 0 where
   pub entities : HasFacts ev.entities.now facts
-  pub functions : HasFunctions (as_table ev.extensions.now) facts
-  pub names_nothing : NamesNothing (as_table ev.extensions.now) t
+  pub functions : HasFunctions (as_table answers ev.extensions.now) facts
+  pub names_nothing : NamesNothing (as_table answers ev.extensions.now) t
 
 -- the variable has a value
 abbrev pub is_evaluated : Answer → Bool
 is_evaluated (Evaluated v) = true
 is_evaluated _ = false
 
-abbrev pub is_held : Evaluator → Variable → Bool
+abbrev pub is_held : {F : Type 0} → Evaluator F → Variable → Bool
 is_held ev v = is_evaluated (variable_held ev v)
 
 -- a tree that mentions nothing unknown is higher than the limit
-abbrev pub Deep : Evaluator → ℕ → Tree → Type 0
-Deep ev depth t = (facts : Facts) → Serves ev facts t → mentions_only (is_held ev) true t ≡ true → depth < height t
+abbrev pub Deep : {F : Type 0} → (F → FunctionAnswers) → Evaluator F → ℕ → Tree → Type 0
+Deep answers ev depth t = (facts : Facts) → Serves answers ev facts t → mentions_only (is_held ev) true t ≡ true → depth < height t
 
 -- ---- trees one after another
 
-abbrev pub ServesEach : Evaluator → Facts → List Tree → Type 0
-ServesEach ev facts [] = ⊤
-ServesEach ev facts (t ∷ ts) = Serves ev facts t × ServesEach ev facts ts
+abbrev pub ServesEach : {F : Type 0} → (F → FunctionAnswers) → Evaluator F → Facts → List Tree → Type 0
+ServesEach answers ev facts [] = ⊤
+ServesEach answers ev facts (t ∷ ts) = Serves answers ev facts t × ServesEach answers ev facts ts
 
-abbrev pub DeepEach : Evaluator → ℕ → List Tree → Type 0
-DeepEach ev depth ts = (facts : Facts) → ServesEach ev facts ts → all_mention_only (is_held ev) true (trees ts) ≡ true → depth < heights (trees ts)
+abbrev pub DeepEach : {F : Type 0} → (F → FunctionAnswers) → Evaluator F → ℕ → List Tree → Type 0
+DeepEach answers ev depth ts = (facts : Facts) → ServesEach answers ev facts ts → all_mention_only (is_held ev) true (trees ts) ≡ true → depth < heights (trees ts)

@@ -5,6 +5,7 @@ use Rattle.cedar_language.specs.Value.{Value}
 use Rattle.cedar_language.specs.Facts.{Facts}
 use Rattle.cedar_language.specs.Height.{height}
 use Rattle.cedar_language.specs.Meaning.{Request, meaning}
+use Rattle.cedar_extensions.specs.Answering.{FunctionAnswers}
 use Rattle.cedar_extensions.specs.Giving.{Gives}
 use Rattle.cedar_extensions.specs.declared.evaluation_error.EvaluationError.{EvaluationError}
 use Rattle.cedar_extensions.specs.Table.{Table, as_table}
@@ -12,11 +13,11 @@ use Rattle.cedar_restricted_evaluation.specs.Evaluations.{HasFunctions, IsKnown,
 use Rattle.cedar_interpreter.specs.Meeting.{ValueAt}
 use Rattle.cedar_interpreter.specs.declared.restricted.RestrictedEvaluator.{RestrictedEvaluator}
 
-abbrev pub table_of : RestrictedEvaluator → Table
-table_of ev = as_table ev.extensions.now
+abbrev pub table_of : {F : Type 0} → (F → FunctionAnswers) → RestrictedEvaluator F → Table
+table_of answers ev = as_table answers ev.extensions.now
 
 -- no evaluation nests deeper
-abbrev pub limit_of : RestrictedEvaluator → ℕ
+abbrev pub limit_of : {F : Type 0} → RestrictedEvaluator F → ℕ
 limit_of ev = ev.depth
 
 -- the value of a tree without unknowns is what it means, whatever is asked. Want of memory says nothing of that, and the limit

@@ -22,6 +22,7 @@ use crate::partial_stores::{open_has, open_pair, open_path};
 use cedar_entities::store::Entities;
 use cedar_extensions::evaluation_error::EvaluationError;
 use cedar_extensions::extensions::Extensions;
+use cedar_extensions::objects::ExtensionFunctionObject;
 use cedar_literals::operators::BinaryOp;
 use cedar_names::places::Loc;
 use cedar_operators::{
@@ -86,14 +87,14 @@ pub(crate) fn apply_to_one(
 
 /// What an operator of two operands gives for values, or what is left of it where the store doesn't know
 /// what it looks up.
-pub(crate) fn apply_to_two(
+pub(crate) fn apply_to_two<F>(
     alloc: Global,
     op: BinaryOp,
     left: Value,
     right: Value,
     loc: Option<&Loc>,
     entities: &Entities,
-    extensions: &Extensions<'_>,
+    extensions: &Extensions<'_, F>,
 ) -> Result<PartialValue, EvaluationError>
     ensures { (facts : Facts) → HasFacts entities.now facts → MeetsAt facts ⊥ (answer_of (applied facts (binary_operator_of op) (two left right))) result }
 {
@@ -126,15 +127,15 @@ pub(crate) fn apply_to_two(
 }
 
 /// What a call, a set or a record gives for the values of its parts.
-pub(crate) fn apply_to_list(
+pub(crate) fn apply_to_list<F: ExtensionFunctionObject>(
     alloc: Global,
     expr: &Expr,
     values: Vec<Value>,
-    extensions: &Extensions<'_>,
+    extensions: &Extensions<'_, F>,
 ) -> Result<PartialValue, EvaluationError>
     requires list { is_of_list (bare expr.now) ≡ true }
     requires count { length values.items ≡ length (parts_of (bare expr.now)) }
-    ensures { (facts : Facts) → HasFunctions (as_table extensions.now) facts → NamesNothing (as_table extensions.now) (bare expr.now) →
+    ensures { (facts : Facts) → HasFunctions (as_table F.answers extensions.now) facts → NamesNothing (as_table F.answers extensions.now) (bare expr.now) →
         MeetsAt facts ⊥ (answer_of (applied_in facts (bare expr.now) (all_of values.items))) result }
 {
     match &expr.expr_kind {

@@ -19,6 +19,7 @@ use cedar_constraints::bindings::SlotEnv;
 use cedar_entities::store::Entities;
 use cedar_extensions::evaluation_error::EvaluationError;
 use cedar_extensions::extensions::Extensions;
+use cedar_extensions::objects::ExtensionFunctionObject;
 use cedar_literals::variables::Var;
 use cedar_partial_evaluation::{known_is_meaning, leaves_dont_matter};
 use cedar_requests::{Context, Request};
@@ -30,7 +31,7 @@ use std::alloc::{AllocError, Global};
 use std::collections::HashMap;
 use std::rc::RcStr;
 
-impl<'s, 'e, 'f> Evaluator<'s, 'e, 'f> {
+impl<'s, 'e, 'f, F: ExtensionFunctionObject> Evaluator<'s, 'e, 'f, F> {
     /// The evaluator of a request over these entities and functions. What the request doesn't give is
     /// unknown, and named as its variable. No evaluation nests deeper than `depth`, the outermost
     /// expression being at 1. Refused for memory alone. (Cedar language reference, "Request".)
@@ -38,10 +39,10 @@ impl<'s, 'e, 'f> Evaluator<'s, 'e, 'f> {
         alloc: Global,
         request: &Request,
         entities: &'s Entities,
-        extensions: &'e Extensions<'f>,
+        extensions: &'e Extensions<'f, F>,
         depth: u32,
-    ) -> Result<Evaluator<'s, 'e, 'f>, AllocError>
-        ensures { IfOk result (λ ev. IsEvaluatorOf (untold (request_parts request.now)) entities.now (as_table extensions.now) depth ev) }
+    ) -> Result<Evaluator<'s, 'e, 'f, F>, AllocError>
+        ensures { IfOk result (λ ev. IsEvaluatorOf F.answers (untold (request_parts request.now)) entities.now (as_table F.answers extensions.now) depth ev) }
     {
         let variables = variables_of(alloc, request)?;
         let seen = Seen::of(entities, &variables);
@@ -57,10 +58,10 @@ impl<'s, 'e, 'f> Evaluator<'s, 'e, 'f> {
 
     /// The evaluator for which unknowns of these names have these values: an unknown with another type
     /// than its value's errs with `TypeError`.
-    pub fn with_told(self, told: &'s HashMap<RcStr, Value>) -> Evaluator<'s, 'e, 'f>
+    pub fn with_told(self, told: &'s HashMap<RcStr, Value>) -> Evaluator<'s, 'e, 'f, F>
         ensures { (r : RequestParts) (entities : Store) (table : Table) (depth : ℕ) →
-            IsEvaluatorOf (untold r) entities table depth self.entry →
-            IsEvaluatorOf (record { request = r; told = told_for told.now.entries }) entities table depth result }
+            IsEvaluatorOf F.answers (untold r) entities table depth self.entry →
+            IsEvaluatorOf F.answers (record { request = r; told = told_for told.now.entries }) entities table depth result }
     {
         Evaluator {
             variables: self.variables,
@@ -82,8 +83,8 @@ impl<'s, 'e, 'f> Evaluator<'s, 'e, 'f> {
         expr: &Expr,
         slots: &SlotEnv,
     ) -> Result<PartialValue, EvaluationError>
-        ensures found { (facts : Facts) → Serves self.now facts (bare expr.now) → MeetsAt facts ⊤ (partial_in facts (held_by self.now slots.now) (bare expr.now)) result }
-        ensures limit { IsLimit result → Deep self.now (depth_of self.now) (bare expr.now) }
+        ensures found { (facts : Facts) → Serves F.answers self.now facts (bare expr.now) → MeetsAt facts ⊤ (partial_in facts (held_by self.now slots.now) (bare expr.now)) result }
+        ensures limit { IsLimit result → Deep F.answers self.now (depth_of self.now) (bare expr.now) }
     {
         self.interpret_within(alloc, expr, slots, self.depth)
     }
@@ -96,9 +97,9 @@ impl<'s, 'e, 'f> Evaluator<'s, 'e, 'f> {
         expr: &Expr,
         slots: &SlotEnv,
     ) -> Result<Value, EvaluationError>
-        ensures means { (facts : Facts) → Serves self.now facts (bare expr.now) → MeansTree facts (held_by self.now slots.now) (depth_of self.now) (bare expr.now) result }
-        ensures found { (facts : Facts) → Serves self.now facts (bare expr.now) → ValueAt ⊤ (partial_in facts (held_by self.now slots.now) (bare expr.now)) result }
-        ensures limit { IsLimit result → Deep self.now (depth_of self.now) (bare expr.now) }
+        ensures means { (facts : Facts) → Serves F.answers self.now facts (bare expr.now) → MeansTree facts (held_by self.now slots.now) (depth_of self.now) (bare expr.now) result }
+        ensures found { (facts : Facts) → Serves F.answers self.now facts (bare expr.now) → ValueAt ⊤ (partial_in facts (held_by self.now slots.now) (bare expr.now)) result }
+        ensures limit { IsLimit result → Deep F.answers self.now (depth_of self.now) (bare expr.now) }
     {
         known_is_meaning();
         leaves_dont_matter();

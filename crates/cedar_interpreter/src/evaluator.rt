@@ -4,6 +4,7 @@ ghost use Rattle.cedar_interpreter.specs.Seen.{AreSeen, are_seen_prop};
 use cedar_entities::entity::Entity;
 use cedar_entities::store::Entities;
 use cedar_extensions::extensions::Extensions;
+use cedar_extensions::objects::NoFunction;
 use cedar_restricted::partial_values::PartialValue;
 use cedar_values::values::Value;
 use std::collections::HashMap;
@@ -33,11 +34,11 @@ pub(crate) struct Seen<'s> {
 /// than a limit. Contracts see it by `held_by`, what is held of the leaves of trees, by `Serves`, the
 /// facts and trees that it serves, and by `depth_of`, its limit.
 #[derive(Drop)]
-pub struct Evaluator<'s, 'e, 'f> {
+pub struct Evaluator<'s, 'e, 'f, F = NoFunction> {
     pub(crate) variables: Variables,
     pub(crate) entities: &'s Entities,
     pub(crate) seen: Seen<'s>,
-    pub(crate) extensions: &'e Extensions<'f>,
+    pub(crate) extensions: &'e Extensions<'f, F>,
     pub(crate) depth: u32,
     pub(crate) told: Option<&'s HashMap<RcStr, Value>>,
     ghost are_seen: { AreSeen entities.now variables seen } by { are_seen_prop entities.now variables seen },

@@ -27,7 +27,7 @@ use cedar_literals::variables::Var;
 use cedar_trees::expr::{Expr, ExprKind};
 use std::rc::RcStr;
 
-impl<'s, 'e, 'f> Evaluator<'s, 'e, 'f> {
+impl<'s, 'e, 'f, F> Evaluator<'s, 'e, 'f, F> {
     /// The Boolean that an expression is, where that is told at a glance: by literals, variables that are
     /// known, attributes, and the operators that most conditions are made of, over a store that isn't
     /// partial. It is what [`Evaluator::partial_interpret`] gives, whatever slots are bound to.

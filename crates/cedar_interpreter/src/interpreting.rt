@@ -21,6 +21,7 @@ use crate::parts::listed;
 use crate::places::at_place;
 use cedar_constraints::bindings::SlotEnv;
 use cedar_extensions::evaluation_error::EvaluationError;
+use cedar_extensions::objects::ExtensionFunctionObject;
 use cedar_names::places::Loc;
 use cedar_partial_evaluation::known_is_never_left;
 use cedar_restricted::partial_values::PartialValue;
@@ -28,7 +29,7 @@ use cedar_trees::expr::Expr;
 use std::alloc::Global;
 use std::rc::{Rc, RcStr};
 
-impl<'s, 'e, 'f> Evaluator<'s, 'e, 'f> {
+impl<'s, 'e, 'f, F: ExtensionFunctionObject> Evaluator<'s, 'e, 'f, F> {
     /// The value of an expression, or what is left of it.
     #[cycle(interpret)]
     #[tactic(none)]
@@ -39,8 +40,8 @@ impl<'s, 'e, 'f> Evaluator<'s, 'e, 'f> {
         slots: &SlotEnv,
         depth: u32,
     ) -> Result<PartialValue, EvaluationError>
-        ensures found { (facts : Facts) → Serves self.now facts (bare expr.now) → MeetsAt facts ⊤ (partial_in facts (held_by self.now slots.now) (bare expr.now)) result }
-        ensures limit { IsLimit result → Deep self.now depth (bare expr.now) }
+        ensures found { (facts : Facts) → Serves F.answers self.now facts (bare expr.now) → MeetsAt facts ⊤ (partial_in facts (held_by self.now slots.now) (bare expr.now)) result }
+        ensures limit { IsLimit result → Deep F.answers self.now depth (bare expr.now) }
     {
         at_place(alloc, self.interpret_form(alloc, expr, slots, depth), expr)
     }
@@ -54,8 +55,8 @@ impl<'s, 'e, 'f> Evaluator<'s, 'e, 'f> {
         slots: &SlotEnv,
         depth: u32,
     ) -> Result<PartialValue, EvaluationError>
-        ensures found { (facts : Facts) → Serves self.now facts (bare expr.now) → MeetsAt facts ⊤ (partial_in facts (held_by self.now slots.now) (bare expr.now)) result }
-        ensures limit { IsLimit result → Deep self.now depth (bare expr.now) }
+        ensures found { (facts : Facts) → Serves F.answers self.now facts (bare expr.now) → MeetsAt facts ⊤ (partial_in facts (held_by self.now slots.now) (bare expr.now)) result }
+        ensures limit { IsLimit result → Deep F.answers self.now depth (bare expr.now) }
     {
         let Some(below) = depth.checked_sub(1) else {
             return Err(EvaluationError::recursion_limit(None));
@@ -88,8 +89,8 @@ impl<'s, 'e, 'f> Evaluator<'s, 'e, 'f> {
         slots: &SlotEnv,
         depth: u32,
     ) -> Result<PartialValue, EvaluationError>
-        ensures found { (facts : Facts) → Serves self.now facts (tree.If (bare test.now) (bare yes.now.value) (bare no.now.value)) → MeetsAt facts ⊤ (partial_in facts (held_by self.now slots.now) (tree.If (bare test.now) (bare yes.now.value) (bare no.now.value))) result }
-        ensures limit { IsLimit result → Deep self.now (suc depth) (tree.If (bare test.now) (bare yes.now.value) (bare no.now.value)) }
+        ensures found { (facts : Facts) → Serves F.answers self.now facts (tree.If (bare test.now) (bare yes.now.value) (bare no.now.value)) → MeetsAt facts ⊤ (partial_in facts (held_by self.now slots.now) (tree.If (bare test.now) (bare yes.now.value) (bare no.now.value))) result }
+        ensures limit { IsLimit result → Deep F.answers self.now (suc depth) (tree.If (bare test.now) (bare yes.now.value) (bare no.now.value)) }
     {
         match test_answer(alloc, self.interpret_within(alloc, test, slots, depth))? {
             Tested::Yes => self.interpret_within(alloc, yes, slots, depth),
@@ -112,8 +113,8 @@ impl<'s, 'e, 'f> Evaluator<'s, 'e, 'f> {
         slots: &SlotEnv,
         depth: u32,
     ) -> Result<PartialValue, EvaluationError>
-        ensures found { (facts : Facts) → Serves self.now facts (tree.And (bare left.now) (bare right.now.value)) → MeetsAt facts ⊤ (partial_in facts (held_by self.now slots.now) (tree.And (bare left.now) (bare right.now.value))) result }
-        ensures limit { IsLimit result → Deep self.now (suc depth) (tree.And (bare left.now) (bare right.now.value)) }
+        ensures found { (facts : Facts) → Serves F.answers self.now facts (tree.And (bare left.now) (bare right.now.value)) → MeetsAt facts ⊤ (partial_in facts (held_by self.now slots.now) (tree.And (bare left.now) (bare right.now.value))) result }
+        ensures limit { IsLimit result → Deep F.answers self.now (suc depth) (tree.And (bare left.now) (bare right.now.value)) }
     {
         match test_answer(alloc, self.interpret_within(alloc, left, slots, depth))? {
             Tested::No => Ok(truth(false)),
@@ -135,8 +136,8 @@ impl<'s, 'e, 'f> Evaluator<'s, 'e, 'f> {
         slots: &SlotEnv,
         depth: u32,
     ) -> Result<PartialValue, EvaluationError>
-        ensures found { (facts : Facts) → Serves self.now facts (tree.Or (bare left.now) (bare right.now.value)) → MeetsAt facts ⊤ (partial_in facts (held_by self.now slots.now) (tree.Or (bare left.now) (bare right.now.value))) result }
-        ensures limit { IsLimit result → Deep self.now (suc depth) (tree.Or (bare left.now) (bare right.now.value)) }
+        ensures found { (facts : Facts) → Serves F.answers self.now facts (tree.Or (bare left.now) (bare right.now.value)) → MeetsAt facts ⊤ (partial_in facts (held_by self.now slots.now) (tree.Or (bare left.now) (bare right.now.value))) result }
+        ensures limit { IsLimit result → Deep F.answers self.now (suc depth) (tree.Or (bare left.now) (bare right.now.value)) }
     {
         match test_answer(alloc, self.interpret_within(alloc, left, slots, depth))? {
             Tested::Yes => Ok(truth(true)),
@@ -159,8 +160,8 @@ impl<'s, 'e, 'f> Evaluator<'s, 'e, 'f> {
         slots: &SlotEnv,
         depth: u32,
     ) -> Result<PartialValue, EvaluationError>
-        ensures found { (facts : Facts) → Serves self.now facts (unary (tree.GetAttr (rc_str_bytes attr.now)) (bare of.now)) → MeetsAt facts ⊤ (partial_in facts (held_by self.now slots.now) (unary (tree.GetAttr (rc_str_bytes attr.now)) (bare of.now))) result }
-        ensures limit { IsLimit result → Deep self.now (suc depth) (unary (tree.GetAttr (rc_str_bytes attr.now)) (bare of.now)) }
+        ensures found { (facts : Facts) → Serves F.answers self.now facts (unary (tree.GetAttr (rc_str_bytes attr.now)) (bare of.now)) → MeetsAt facts ⊤ (partial_in facts (held_by self.now slots.now) (unary (tree.GetAttr (rc_str_bytes attr.now)) (bare of.now))) result }
+        ensures limit { IsLimit result → Deep F.answers self.now (suc depth) (unary (tree.GetAttr (rc_str_bytes attr.now)) (bare of.now)) }
     {
         known_is_never_left();
         let part = self.interpret_within(alloc, of, slots, depth)?;
@@ -180,8 +181,8 @@ impl<'s, 'e, 'f> Evaluator<'s, 'e, 'f> {
         depth: u32,
     ) -> Result<PartialValue, EvaluationError>
         requires { IsOperands (bare expr.now) operands }
-        ensures found { (facts : Facts) → Serves self.now facts (bare expr.now) → MeetsAt facts ⊤ (partial_in facts (held_by self.now slots.now) (bare expr.now)) result }
-        ensures limit { IsLimit result → Deep self.now (suc depth) (bare expr.now) }
+        ensures found { (facts : Facts) → Serves F.answers self.now facts (bare expr.now) → MeetsAt facts ⊤ (partial_in facts (held_by self.now slots.now) (bare expr.now)) result }
+        ensures limit { IsLimit result → Deep F.answers self.now (suc depth) (bare expr.now) }
     {
         match operands {
             Operands::One(op, of) => {
@@ -210,8 +211,8 @@ impl<'s, 'e, 'f> Evaluator<'s, 'e, 'f> {
         slots: &SlotEnv,
         depth: u32,
     ) -> Result<Vec<PartialValue>, EvaluationError>
-        ensures found { (facts : Facts) → ServesEach self.now facts (map (λ e. bare e.now) parts.now) → MeetEachAt facts (map (partial_in facts (held_by self.now slots.now)) (map (λ e. bare e.now) parts.now)) result }
-        ensures limit { IsLimit result → DeepEach self.now depth (map (λ e. bare e.now) parts.now) }
+        ensures found { (facts : Facts) → ServesEach F.answers self.now facts (map (λ e. bare e.now) parts.now) → MeetEachAt facts (map (partial_in facts (held_by self.now slots.now)) (map (λ e. bare e.now) parts.now)) result }
+        ensures limit { IsLimit result → DeepEach F.answers self.now depth (map (λ e. bare e.now) parts.now) }
         ensures count { IfOk result (λ answers. length answers.items ≡ length (map (λ e. bare e.now) parts.now)) }
     {
         let mut answers = Vec::new(alloc);

@@ -30,7 +30,7 @@ use std::alloc::{AllocError, Global};
 use std::collections::HashMap;
 use std::rc::{Rc, RcStr};
 
-impl<'s, 'e, 'f> Evaluator<'s, 'e, 'f> {
+impl<'s, 'e, 'f, F> Evaluator<'s, 'e, 'f, F> {
     /// The answer of an expression without parts.
     pub(crate) fn leaf(
         &self,

@@ -21,6 +21,7 @@ use crate::waiting::{wait_for_list, wait_for_one, wait_for_two};
 use cedar_entities::store::Entities;
 use cedar_extensions::evaluation_error::EvaluationError;
 use cedar_extensions::extensions::Extensions;
+use cedar_extensions::objects::ExtensionFunctionObject;
 use cedar_literals::operators::BinaryOp;
 use cedar_names::conversions::FromIn;
 use cedar_names::places::Loc;
@@ -50,14 +51,14 @@ pub(crate) fn operate_on_one(
 }
 
 /// The answer of an operator of two operands, by theirs.
-pub(crate) fn operate_on_two(
+pub(crate) fn operate_on_two<F>(
     alloc: Global,
     op: BinaryOp,
     left: PartialValue,
     right: PartialValue,
     loc: Option<&Loc>,
     entities: &Entities,
-    extensions: &Extensions<'_>,
+    extensions: &Extensions<'_, F>,
 ) -> Result<PartialValue, EvaluationError>
     ensures { (facts : Facts) → HasFacts entities.now facts → (holds : LeafAnswers) (b c : Answer) → Same facts (part_answer (partial_of left)) b → Same facts (part_answer (partial_of right)) c →
         MeetsAt facts ⊥ (apply_answer facts holds (binary_operator_of op) (and_next facts b (and_next facts c (AllEvaluated no_values)))) result }
@@ -82,15 +83,15 @@ pub(crate) fn operate_on_two(
 }
 
 /// The answer of a call, a set or a record, by those of its parts.
-pub(crate) fn operate_on_list(
+pub(crate) fn operate_on_list<F: ExtensionFunctionObject>(
     alloc: Global,
     expr: &Expr,
     parts: Vec<PartialValue>,
-    extensions: &Extensions<'_>,
+    extensions: &Extensions<'_, F>,
 ) -> Result<PartialValue, EvaluationError>
     requires list { is_of_list (bare expr.now) ≡ true }
     requires count { length parts.items ≡ length (parts_of (bare expr.now)) }
-    ensures { (facts : Facts) → HasFunctions (as_table extensions.now) facts → NamesNothing (as_table extensions.now) (bare expr.now) →
+    ensures { (facts : Facts) → HasFunctions (as_table F.answers extensions.now) facts → NamesNothing (as_table F.answers extensions.now) (bare expr.now) →
         (holds : LeafAnswers) (bs : List Answer) → SameEach facts (map partial_of parts.items) bs →
         MeetsAt facts ⊥ (operated facts holds (bare expr.now) (gathered facts bs)) result }
 {

@@ -9,6 +9,7 @@ ghost use Rattle.cedar_interpreter.specs.Restricted.{table_of, limit_of, MeansVa
 
 use cedar_extensions::evaluation_error::EvaluationError;
 use cedar_extensions::extensions::Extensions;
+use cedar_extensions::objects::{ExtensionFunctionObject, NoFunction};
 use cedar_restricted::borrowed::BorrowedRestrictedExpr;
 use cedar_restricted::partial_values::PartialValue;
 use cedar_restricted_evaluation::interpret_restricted;
@@ -18,16 +19,16 @@ use std::alloc::Global;
 /// The functions by which restricted expressions are evaluated: these read neither a request nor
 /// entities. No evaluation nests deeper than a limit. Contracts see it by `table_of` and `limit_of`.
 #[derive(Drop)]
-pub struct RestrictedEvaluator<'e, 'f> {
-    extensions: &'e Extensions<'f>,
+pub struct RestrictedEvaluator<'e, 'f, F = NoFunction> {
+    extensions: &'e Extensions<'f, F>,
     depth: u32,
 }
 
-impl<'e, 'f> RestrictedEvaluator<'e, 'f> {
+impl<'e, 'f, F: ExtensionFunctionObject> RestrictedEvaluator<'e, 'f, F> {
     /// The evaluator with these functions. No evaluation nests deeper than `depth`, the outermost
     /// expression being at 1.
-    pub fn new(extensions: &'e Extensions<'f>, depth: u32) -> RestrictedEvaluator<'e, 'f>
-        ensures table { table_of result ≡ as_table extensions.now }
+    pub fn new(extensions: &'e Extensions<'f, F>, depth: u32) -> RestrictedEvaluator<'e, 'f, F>
+        ensures table { table_of F.answers result ≡ as_table F.answers extensions.now }
         ensures limit { limit_of result ≡ depth }
     {
         RestrictedEvaluator { extensions, depth }
@@ -42,8 +43,8 @@ impl<'e, 'f> RestrictedEvaluator<'e, 'f> {
         alloc: Global,
         expr: BorrowedRestrictedExpr<'_>,
     ) -> Result<PartialValue, EvaluationError>
-        ensures meaning { MeansKnown (table_of self.now) (limit_of self.now) (borrowed_tree expr.entry) result }
-        ensures answer { Answers (table_of self.now) (limit_of self.now) (borrowed_tree expr.entry) result }
+        ensures meaning { MeansKnown (table_of F.answers self.now) (limit_of self.now) (borrowed_tree expr.entry) result }
+        ensures answer { Answers (table_of F.answers self.now) (limit_of self.now) (borrowed_tree expr.entry) result }
         ensures left { IfOk result (λ partial. IsLeft (partial_of partial)) }
         ensures limit { IfOk result (λ partial. height (borrowed_tree expr.entry) ≤ limit_of self.now) }
     {
@@ -57,8 +58,8 @@ impl<'e, 'f> RestrictedEvaluator<'e, 'f> {
         alloc: Global,
         expr: BorrowedRestrictedExpr<'_>,
     ) -> Result<Value, EvaluationError>
-        ensures meaning { MeansValue (table_of self.now) (limit_of self.now) (borrowed_tree expr.entry) result }
-        ensures answer { AnswersValue (table_of self.now) (limit_of self.now) (borrowed_tree expr.entry) result }
+        ensures meaning { MeansValue (table_of F.answers self.now) (limit_of self.now) (borrowed_tree expr.entry) result }
+        ensures answer { AnswersValue (table_of F.answers self.now) (limit_of self.now) (borrowed_tree expr.entry) result }
         ensures limit { IfOk result (λ value. height (borrowed_tree expr.entry) ≤ limit_of self.now) }
     {
         match self.partial_interpret(alloc, expr) {

@@ -18,6 +18,7 @@ use crate::lent_lookups::held;
 use crate::partial_stores::uid;
 use cedar_entities::entity::Entity;
 use cedar_entities::store::Entities;
+use cedar_extensions::objects::ExtensionFunctionObject;
 use cedar_literals::uids::EntityUID;
 use cedar_literals::variables::Var;
 use cedar_restricted::partial_values::PartialValue;
@@ -69,15 +70,17 @@ impl<'s> Seen<'s> {
     }
 }
 
-impl<'s, 'e, 'f> Evaluator<'s, 'e, 'f> {
+impl<'s, 'e, 'f, F: ExtensionFunctionObject> Evaluator<'s, 'e, 'f, F> {
     /// The entity that stands for the principal, the action or the resource, with what the store holds of it;
     /// `None` where none is known to stand there. Nothing is looked up, and no memory taken.
     pub fn given_entity(&self, var: Var) -> Option<(&Rc<EntityUID>, Option<&'s Entity>)>
-        ensures { (i : Inquiry) (store : Store) (table : Table) (depth : ℕ) → IsEvaluatorOf i store table depth self.now → IfSome result (λ given. (variable_asked i.request (variable_of var) ≡ Evaluated (Plain (tree.Entity given.0.now.value))) × IsSeen store given.0.now.value (option_copied given.1)) }
+        ensures { (i : Inquiry) (store : Store) (table : Table) (depth : ℕ) → IsEvaluatorOf F.answers i store table depth self.now → IfSome result (λ given. (variable_asked i.request (variable_of var) ≡ Evaluated (Plain (tree.Entity given.0.now.value))) × IsSeen store given.0.now.value (option_copied given.1)) }
     {
         self.given(var)
     }
+}
 
+impl<'s, 'e, 'f, F> Evaluator<'s, 'e, 'f, F> {
     /// The entity that stands for a variable, with what the store holds of it; none where what stands there
     /// isn't known. Nothing is looked up.
     pub(crate) fn given(&self, var: Var) -> Option<(&Rc<EntityUID>, Option<&'s Entity>)>

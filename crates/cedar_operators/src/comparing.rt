@@ -34,12 +34,12 @@ struct Comparison {
 ///
 /// It errs with `TypeError` for other operands of `<` and `<=`, which tells the types of `extensions`
 /// that support ordering where neither operand is of a type that can be compared, and `Memory`.
-pub fn binary_relation(
+pub fn binary_relation<F>(
     alloc: Global,
     op: BinaryOp,
     arg1: &Value,
     arg2: &Value,
-    extensions: &Extensions<'_>,
+    extensions: &Extensions<'_, F>,
 ) -> Result<Value, EvaluationError>
     requires { is_relation op ≡ true }
     ensures { (facts : Facts) → Gives (λ v. v) ⊥ result (applied facts (binary_operator_of op) (two arg1.now arg2.now)) }
@@ -53,11 +53,11 @@ pub fn binary_relation(
 }
 
 #[tactic(auto, using(crate::proofs::ByOrder::less_at))]
-fn less(
+fn less<F>(
     alloc: Global,
     left: &Value,
     right: &Value,
-    extensions: &Extensions<'_>,
+    extensions: &Extensions<'_, F>,
 ) -> Result<Value, EvaluationError>
     ensures { Gives (λ v. v) ⊥ result (less_of (two left.now right.now)) }
 {
@@ -66,11 +66,11 @@ fn less(
 }
 
 #[tactic(auto, using(crate::proofs::ByOrder::less_eq_at))]
-fn less_eq(
+fn less_eq<F>(
     alloc: Global,
     left: &Value,
     right: &Value,
-    extensions: &Extensions<'_>,
+    extensions: &Extensions<'_, F>,
 ) -> Result<Value, EvaluationError>
     ensures { Gives (λ v. v) ⊥ result (less_eq_of (two left.now right.now)) }
 {
@@ -78,11 +78,11 @@ fn less_eq(
     Ok(Value::from(Literal::Bool(comparison.is_less_or_equal)))
 }
 
-fn compare(
+fn compare<F>(
     alloc: Global,
     left: &Value,
     right: &Value,
-    extensions: &Extensions<'_>,
+    extensions: &Extensions<'_, F>,
 ) -> Result<Comparison, EvaluationError>
     ensures { IsOperand seen (order_of left.now right.now) result }
 {
@@ -151,11 +151,11 @@ fn type_to_compare(alloc: Global, value: &Value) -> Result<Option<Type>, AllocEr
 }
 
 // The error of a comparison of these values; refused for memory alone.
-fn not_comparable(
+fn not_comparable<F>(
     alloc: Global,
     left: &Value,
     right: &Value,
-    extensions: &Extensions<'_>,
+    extensions: &Extensions<'_, F>,
 ) -> Result<EvaluationError, AllocError>
     ensures { IfOk result (λ error. failure_of error ≡ OfKind TypeError) }
 {
@@ -169,9 +169,9 @@ fn not_comparable(
 }
 
 // The types whose values can be compared; refused for memory alone.
-fn comparable_types(
+fn comparable_types<F>(
     alloc: Global,
-    extensions: &Extensions<'_>,
+    extensions: &Extensions<'_, F>,
 ) -> Result<NonEmpty<Type>, AllocError> {
     let mut tail = Vec::new(alloc);
     let mut names = extensions.types_with_operator_overloading();

@@ -11,6 +11,7 @@ use crate::bounds::Bound;
 use crate::errors::PolicySetValidationError;
 use crate::sets::PolicySet;
 use cedar_extensions::extensions::Extensions;
+use cedar_extensions::objects::ExtensionFunctionObject;
 use cedar_policies::policies::Policy;
 use cedar_templates::errors::TemplateValidationError;
 use cedar_templates::templates::Template;
@@ -19,12 +20,12 @@ use std::alloc::Global;
 impl PolicySet {
     /// Whether each template and static policy of the set is valid against the table of extensions, and each
     /// link is of a template that has slots; refused for the first that isn't, or for memory.
-    pub fn try_validate(
+    pub fn try_validate<F: ExtensionFunctionObject>(
         &self,
         alloc: Global,
-        extensions: &Extensions<'_>,
+        extensions: &Extensions<'_, F>,
     ) -> Result<(), PolicySetValidationError>
-        ensures { ValidatesAll (as_table extensions.now) self.now result }
+        ensures { ValidatesAll (as_table F.answers extensions.now) self.now result }
     {
         for bound in self.values() {
             validate(alloc, bound, extensions)?;
@@ -34,12 +35,12 @@ impl PolicySet {
 }
 
 // Whether it is valid.
-fn validate(
+fn validate<F: ExtensionFunctionObject>(
     alloc: Global,
     bound: &Bound,
-    extensions: &Extensions<'_>,
+    extensions: &Extensions<'_, F>,
 ) -> Result<(), PolicySetValidationError>
-    ensures { ValidatesOne (as_table extensions.now) (bound_id bound.now) (entry_of bound.now) result }
+    ensures { ValidatesOne (as_table F.answers extensions.now) (bound_id bound.now) (entry_of bound.now) result }
 {
     match bound {
         Bound::Template(template) => validate_template(alloc, template, extensions),
@@ -51,12 +52,12 @@ fn validate(
 }
 
 // Whether the template is valid.
-fn validate_template(
+fn validate_template<F: ExtensionFunctionObject>(
     alloc: Global,
     template: &Template,
-    extensions: &Extensions<'_>,
+    extensions: &Extensions<'_, F>,
 ) -> Result<(), PolicySetValidationError>
-    ensures { ValidatesTemplate (as_table extensions.now) (template_id template.now) (syntax_of template.now) result }
+    ensures { ValidatesTemplate (as_table F.answers extensions.now) (template_id template.now) (syntax_of template.now) result }
 {
     match template.try_validate(alloc, extensions) {
         Ok(()) => Ok(()),

@@ -19,9 +19,8 @@ use Rattle.cedar_partial_evaluation.specs.ReadUnknowns.{is_unknown_call, calls_u
 use Rattle.cedar_partial_evaluation.specs.Unknowns.{fits, EachUnknownOf}
 use Rattle.cedar_extensions.specs.Failures.{failure_of}
 use Rattle.cedar_extensions.specs.Giving.{GivesBy, fails_on}
-use Rattle.cedar_extensions.specs.Table.{as_table}
+use Rattle.cedar_extensions.specs.Table.{Table}
 use Rattle.cedar_extensions.specs.declared.evaluation_error.EvaluationError.{EvaluationError}
-use Rattle.cedar_extensions.specs.declared.extensions.Extensions.{Extensions}
 use Rattle.cedar_restricted.specs.Expressing.{Expresses, ExpressAll}
 use Rattle.cedar_restricted.specs.Laws.{WrittenValuesAreGround, GroundTreesAreRestricted}
 use Rattle.cedar_restricted_evaluation.specs.Evaluations.{HasFunctions, nothing_told, named_by, all_named_by, answer_in}
@@ -30,7 +29,7 @@ use Rattle.cedar_substitution.specs.Typed.{StandsFor, Tells, SubstitutesValues}
 use Rattle.cedar_requests.specs.Answers.{part_answer}
 use Rattle.cedar_requests.specs.Contexts.{context_part}
 use Rattle.cedar_requests.specs.Telling.{OfSubstituted, TellsRecord}
-use Rattle.cedar_requests.specs.ToldContexts.{HoldTold, StatesNoType, ToldContextsAreEvaluated}
+use Rattle.cedar_requests.specs.ToldContexts.{HoldTold, StatesNoType, GivesBuilt, ToldContextsAreEvaluated}
 use Rattle.cedar_requests.specs.declared.contexts.Context.{Context}
 use Rattle.cedar_requests.proofs.PutIn.{put_in, all_put_in, substituted_is}
 use Rattle.cedar_requests.proofs.Unextended.{nothing_writes, part_is}
@@ -113,7 +112,7 @@ module _ (facts : Facts) (b : Bool) where
   next_by : (t : Tree) (ts : Trees) → answers_by (a_tree t ts) ≡ and_next facts (answer_by t) (answers_by ts)
   next_by t ts = ap (all_partial_in facts nothing_told) (named_more b t ts)
 
-module _ (finite_sets : SetsAreFinite) (extensions : Extensions) (facts : Facts) (has : HasFunctions (as_table extensions) facts) (b : Bool) where
+module _ (finite_sets : SetsAreFinite) (table : Table) (gives : GivesBuilt table) (facts : Facts) (has : HasFunctions table facts) (b : Bool) where
   -- ---- a value that is written
 
   mutual
@@ -128,7 +127,7 @@ module _ (finite_sets : SetsAreFinite) (extensions : Extensions) (facts : Facts)
         ap (answer_by facts b) is
         ∙ ap (partial_in facts nothing_told) (named_record ks b ts)
         ∙ ap (apply_answer facts nothing_told (MakeRecord ks)) (written_answers vs ts m each)
-    written_answer (ExtensionOf e) t m h = absurd (nothing_writes extensions facts has (facts.written e) e m)
+    written_answer (ExtensionOf e) t m h = absurd (nothing_writes table gives facts has (facts.written e) e m)
 
     written_answers : (vs : Values) (ts : Trees) → AreMadeAgain facts vs → ExpressAll vs ts → answers_by facts b ts ≡ AllEvaluated vs
     written_answers no_values no_trees m h = ap (all_partial_in facts nothing_told) (named_none b)
@@ -175,19 +174,19 @@ module _ (finite_sets : SetsAreFinite) (extensions : Extensions) (facts : Facts)
 
 -- ---- contexts
 
-module _ (finite_sets : SetsAreFinite) (written : WrittenValuesAreGround) (ground : GroundTreesAreRestricted) (extensions : Extensions) (depth : ℕ) (entries : List (RcStr Global × Value)) (told : Told) (same : HoldTold entries told)
-    (t : Tree) (d : is_restricted t ≡ true) (s : StatesNoType t) (c : (as_table extensions).has_unknown ≡ true → calls_unknown t ≡ false) (facts : Facts) (has : HasFunctions (as_table extensions) facts) (made : AreMadeTold facts told) where
-  substituted_answer : (u : Tree) → SubstitutesValues entries t u → answer_in (as_table extensions) facts u ≡ partial_in facts (held_names told) t
+module _ (finite_sets : SetsAreFinite) (written : WrittenValuesAreGround) (ground : GroundTreesAreRestricted) (table : Table) (gives : GivesBuilt table) (depth : ℕ) (entries : List (RcStr Global × Value)) (told : Told) (same : HoldTold entries told)
+    (t : Tree) (d : is_restricted t ≡ true) (s : StatesNoType t) (c : table.has_unknown ≡ true → calls_unknown t ≡ false) (facts : Facts) (has : HasFunctions table facts) (made : AreMadeTold facts told) where
+  substituted_answer : (u : Tree) → SubstitutesValues entries t u → answer_in table facts u ≡ partial_in facts (held_names told) t
   substituted_answer u (f, tells, is) =
-      ap (answer_in (as_table extensions) facts) (substituted_is written ground entries f tells t u d is.rising is.made)
-      ∙ put_answer finite_sets extensions facts has (as_table extensions).has_unknown entries told same made f tells t d s c
+      ap (answer_in table facts) (substituted_is written ground entries f tells t u d is.rising is.made)
+      ∙ put_answer finite_sets table gives facts has table.has_unknown entries told same made f tells t d s c
 
-  told_result : (result : Result Context EvaluationError) → TellsRecord (as_table extensions) depth entries t None result
+  told_result : (result : Result Context EvaluationError) → TellsRecord table depth entries t None result
       → GivesBy (λ x. part_answer (context_part x) ≡ partial_in facts (held_names told) t) (λ k. partial_in facts (held_names told) t ≡ Failed k) (OfSubstituted entries t (λ u. depth < height u)) result
-  told_result (Ok x) (u, puts, is) = part_is extensions facts has (answer_in (as_table extensions) facts u) (context_part x) (is.answer facts has) ∙ substituted_answer u puts
+  told_result (Ok x) (u, puts, is) = part_is table gives facts has (answer_in table facts u) (context_part x) (is.answer facts has) ∙ substituted_answer u puts
   told_result (Err e) h = fails_on (failure_of e) (λ k g. sym (substituted_answer g.0 g.1) ∙ g.2.answer facts has) (λ x. x) h
 
 pub told_contexts : SetsAreFinite → WrittenValuesAreGround → GroundTreesAreRestricted → ToldContextsAreEvaluated
-told_contexts finite_sets written ground = λ extensions depth entries told same t d s c result h facts has made.
-    told_result finite_sets written ground extensions depth entries told same t d s c facts has made result
-    (subst (λ types. TellsRecord (as_table extensions) depth entries t types result) (untyped_fits entries t s) h)
+told_contexts finite_sets written ground = λ table gives depth entries told same t d s c result h facts has made.
+    told_result finite_sets written ground table gives depth entries told same t d s c facts has made result
+    (subst (λ types. TellsRecord table depth entries t types result) (untyped_fits entries t s) h)

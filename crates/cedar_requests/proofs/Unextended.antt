@@ -1,28 +1,23 @@
--- No function of a table gives an extension value, so trees that are like one another are the same.
+-- Where no function of a table gives an extension value, trees that are like one another are the same.
 use Rattle.std.proofs.Common.{◌≡◌, ◌∙◌, ap, sym, refl, subst}
 use Rattle.std.specs.FinMap as finite
-use Rattle.std.specs.Prelude.{Bool, true, false, cond, Option, None, Some, option_map}
+use Rattle.std.specs.Prelude.{Bool, true, false, cond, Option, None, Some}
 use Rattle.either.specs.declared.Either.{Either}
 use Rattle.either.specs.declared.Either.TheVariants.{Left, Right}
-use Rattle.cedar_language.specs.Facts.{Facts, Written}
+use Rattle.cedar_language.specs.Facts.{Facts, Function, Written}
 use Rattle.cedar_language.specs.Operators.{called, count, or_fails, takes}
-use Rattle.cedar_language.specs.Tree.{String, Call, Tree, If, And, Or, Apply, Trees, a_tree}
+use Rattle.cedar_language.specs.Tree.{Call, Tree, If, And, Or, Apply, Trees, a_tree}
 use Rattle.cedar_language.specs.Uid.{Name}
-use Rattle.cedar_language.specs.Value.{Extension, Value, Plain, ExtensionOf, Values, no_values, a_value, FailedExtensionFunctionExecution, WrongNumArguments, Outcome, Gives, Fails}
+use Rattle.cedar_language.specs.Value.{Extension, Value, ExtensionOf, Values, FailedExtensionFunctionExecution, WrongNumArguments, Outcome, Gives, Fails}
 use Rattle.cedar_partial_evaluation.specs.Like.{Writes, IsLike, itself, writes_too, if_like, and_like, or_like, apply_like, AreLike, none_like, more_like}
 use Rattle.cedar_partial_evaluation.specs.Partial.{Answer, ResidualTree}
 use Rattle.cedar_partial_evaluation.specs.Question.{settled_names}
 use Rattle.cedar_partial_evaluation.specs.Settling.{Is, Settlings, SomeOpen, SomeErrs, AllAre, kindless, apply_settled, all_settled_in}
-use Rattle.cedar_extensions.specs.Functions.{meaning_in, meaning_of}
-use Rattle.cedar_extensions.specs.Holding.{found_in}
-use Rattle.cedar_extensions.specs.Table.{as_table}
-use Rattle.cedar_extensions.specs.Tables.{functions_in}
-use Rattle.cedar_extensions.specs.declared.extensions.Extensions.{Extensions}
-use Rattle.cedar_extensions.specs.declared.functions.ExtensionFunction.{ExtensionFunction}
-use Rattle.cedar_extensions.specs.declared.functions.Function.{Function}
-use Rattle.cedar_extensions.specs.declared.functions.Function.TheVariants as function
+use Rattle.cedar_extensions.specs.Answering.{IsBuilt}
+use Rattle.cedar_extensions.specs.Table.{Table}
 use Rattle.cedar_restricted_evaluation.specs.Evaluations.{HasFunctions, IsAnswer}
 use Rattle.cedar_requests.specs.Answers.{part_answer}
+use Rattle.cedar_requests.specs.ToldContexts.{GivesBuilt}
 
 -- ---- calls
 
@@ -34,25 +29,26 @@ of_either : (b : Bool) (o p : Outcome) → IsNoExtension o → IsNoExtension p �
 of_either true o p h k = h
 of_either false o p h k = k
 
-of_text : (g : Function) (vs : Values) → IsNoExtension (or_fails FailedExtensionFunctionExecution ((meaning_in g).answer vs))
-of_text function.Unknown (a_value (Plain (String s)) no_values) = tt
-of_text function.Unknown vs = tt
+of_value : (v : Value) → IsBuilt v → IsNoExtension (Gives v)
+of_value (ExtensionOf e) h = h
+of_value v h = tt
 
-of_function : (g : Function) (vs : Values) → IsNoExtension (called (Some (meaning_in g)) vs)
-of_function g vs = of_either (takes (meaning_in g).takes (count vs)) (or_fails FailedExtensionFunctionExecution ((meaning_in g).answer vs)) (Fails WrongNumArguments) (of_text g vs) tt
+of_option : (o : Option Value) → ((v : Value) → o ≡ Some v → IsBuilt v) → IsNoExtension (or_fails FailedExtensionFunctionExecution o)
+of_option None h = tt
+of_option (Some v) h = of_value v (h v refl)
 
-of_table : (o : Option ExtensionFunction) (vs : Values) → IsNoExtension (called (option_map meaning_of o) vs)
-of_table None vs = tt
-of_table (Some f) vs = of_function f.function vs
+of_called : (o : Option Function) (vs : Values) → ((f : Function) (v : Value) → o ≡ Some f → f.answer vs ≡ Some v → IsBuilt v) → IsNoExtension (called o vs)
+of_called None vs h = tt
+of_called (Some f) vs h = of_either (takes f.takes (count vs)) (or_fails FailedExtensionFunctionExecution (f.answer vs)) (Fails WrongNumArguments) (of_option (f.answer vs) (λ v is. h f v refl is)) tt
 
 not_settled : (o : Outcome) (e : Extension) → IsNoExtension o → kindless o ≡ Is (ExtensionOf e) → ⊥
 not_settled (Gives (ExtensionOf x)) e h is = h
 not_settled (Gives v) e h is = cc
 not_settled (Fails k) e h is = cc
 
-module _ (extensions : Extensions) (facts : Facts) (has : HasFunctions (as_table extensions) facts) where
+module _ (table : Table) (gives : GivesBuilt table) (facts : Facts) (has : HasFunctions table facts) where
   of_call : (f : Name) (vs : Values) → IsNoExtension (called (facts.function f) vs)
-  of_call f vs = subst (λ o. IsNoExtension (called o vs)) (sym (has f)) (of_table (found_in (functions_in extensions) f) vs)
+  of_call f vs = subst (λ o. IsNoExtension (called o vs)) (sym (has f)) (of_called (table.function f) vs (λ g v is h. gives f g vs v is h))
 
   call_settled : (f : Name) (e : Extension) (xs : Settlings) → apply_settled facts (Call f) xs ≡ Is (ExtensionOf e) → ⊥
   call_settled f e SomeOpen h = cc

@@ -4,6 +4,7 @@ use crate::residuals::ResidualEntries;
 use crate::telling::record_told;
 use cedar_extensions::evaluation_error::EvaluationError;
 use cedar_extensions::extensions::Extensions;
+use cedar_extensions::objects::ExtensionFunctionObject;
 use cedar_names::conversions::FromIn;
 use cedar_restricted::partial_values::PartialValue;
 use cedar_restricted::restricted::RestrictedExpr;
@@ -113,14 +114,14 @@ impl Context {
     /// with these types at the leftmost one, records in the order of their keys; else with what the
     /// evaluation errs with, `RecursionLimit` where what is evaluated nests deeper than `depth`; and with
     /// `Memory`. (Cedar language reference, "Partial evaluation".)
-    pub fn substitute(
+    pub fn substitute<F: ExtensionFunctionObject>(
         self,
         alloc: Global,
         told: &HashMap<RcStr, Value>,
-        extensions: &Extensions<'_>,
+        extensions: &Extensions<'_, F>,
         depth: u32,
     ) -> Result<Context, EvaluationError>
-        ensures { TellsContext (as_table extensions.now) depth told.now.entries (context_part self) result }
+        ensures { TellsContext (as_table F.answers extensions.now) depth told.now.entries (context_part self) result }
     {
         match self {
             Context::Value(entries) => Ok(Context::Value(entries)),

@@ -11,6 +11,7 @@ use crate::contexts::Context;
 use crate::errors::{ContextCreationError, NotARecord};
 use crate::evaluating::evaluated;
 use cedar_extensions::extensions::Extensions;
+use cedar_extensions::objects::ExtensionFunctionObject;
 use cedar_restricted::borrowed::BorrowedRestrictedExpr;
 use cedar_restricted::restricted::RestrictedExpr;
 use cedar_trees::errors::ExpressionConstructionError;
@@ -25,13 +26,13 @@ impl Context {
     /// Refused `NotARecord` exactly where it isn't written as a record, `Evaluation` where its evaluation
     /// errs or meets the limit, which it may only where the expression nests deeper, and for memory.
     /// (Cedar language reference, "Record".)
-    pub fn from_expr(
+    pub fn from_expr<F: ExtensionFunctionObject>(
         alloc: Global,
         expr: BorrowedRestrictedExpr<'_>,
-        extensions: &Extensions<'_>,
+        extensions: &Extensions<'_, F>,
         depth: u32,
     ) -> Result<Context, ContextCreationError>
-        ensures { Creates (as_table extensions.now) depth (borrowed_tree expr.entry) result }
+        ensures { Creates (as_table F.answers extensions.now) depth (borrowed_tree expr.entry) result }
     {
         if !is_record(expr.as_expr()) {
             return Err(ContextCreationError::NotARecord(NotARecord {
@@ -43,13 +44,13 @@ impl Context {
 
     /// The context of these entries: that of the record of them. Refused `ExpressionConstruction` for the
     /// first key that stands before it too, `in context`; else as that record is by `from_expr`.
-    pub fn from_pairs(
+    pub fn from_pairs<F: ExtensionFunctionObject>(
         alloc: Global,
         pairs: Vec<(RcStr, RestrictedExpr)>,
-        extensions: &Extensions<'_>,
+        extensions: &Extensions<'_, F>,
         depth: u32,
     ) -> Result<Context, ContextCreationError>
-        ensures { CreatesOf (as_table extensions.now) depth (record_made (restricted_entries pairs.items)) result }
+        ensures { CreatesOf (as_table F.answers extensions.now) depth (record_made (restricted_entries pairs.items)) result }
     {
         match RestrictedExpr::record(alloc, pairs) {
             Ok(record) => Context::from_expr(alloc, record.as_borrowed(), extensions, depth),

@@ -16,6 +16,7 @@ use crate::contexts::Context;
 use crate::residuals::ResidualEntries;
 use cedar_extensions::evaluation_error::EvaluationError;
 use cedar_extensions::extensions::Extensions;
+use cedar_extensions::objects::ExtensionFunctionObject;
 use cedar_restricted::borrowed::BorrowedRestrictedExpr;
 use cedar_restricted::partial_values::PartialValue;
 use cedar_restricted_evaluation::interpret_restricted;
@@ -26,15 +27,15 @@ use std::collections::BTreeMap;
 use std::rc::{Rc, RcStr};
 
 /// The context that a record is evaluated to within this depth, or why it has none.
-pub(crate) fn evaluated(
+pub(crate) fn evaluated<F: ExtensionFunctionObject>(
     alloc: Global,
     expr: BorrowedRestrictedExpr<'_>,
-    extensions: &Extensions<'_>,
+    extensions: &Extensions<'_, F>,
     depth: u32,
 ) -> Result<Context, EvaluationError>
     requires { is_record (borrowed_tree expr) ≡ true }
-    ensures meaning { MeansContext (as_table extensions.now) depth (borrowed_tree expr.entry) result }
-    ensures answer { AnswersContext (as_table extensions.now) depth (borrowed_tree expr.entry) result }
+    ensures meaning { MeansContext (as_table F.answers extensions.now) depth (borrowed_tree expr.entry) result }
+    ensures answer { AnswersContext (as_table F.answers extensions.now) depth (borrowed_tree expr.entry) result }
     ensures limit { IfOk result (λ context. height (borrowed_tree expr.entry) ≤ depth) }
 {
     let found = interpret_restricted(alloc, expr, extensions, depth)?;

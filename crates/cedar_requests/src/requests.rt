@@ -13,6 +13,7 @@ use crate::entries::EntityUIDEntry;
 use crate::errors::RequestError;
 use crate::schemas::RequestSchema;
 use cedar_extensions::extensions::Extensions;
+use cedar_extensions::objects::ExtensionFunctionObject;
 use cedar_literals::uids::{EntityType, EntityUID};
 use cedar_names::places::Loc;
 use std::alloc::{AllocError, Global};
@@ -53,14 +54,14 @@ pub struct RequestType {
 impl Request {
     /// The request of these uids, each read at the place beside it, and of this context. Where a schema is
     /// given it is asked by `validate_request`. Refused with the schema's error, and for memory alone.
-    pub fn new<S: RequestSchema>(
+    pub fn new<S: RequestSchema, F: ExtensionFunctionObject>(
         alloc: Global,
         principal: (EntityUID, Option<Loc>),
         action: (EntityUID, Option<Loc>),
         resource: (EntityUID, Option<Loc>),
         context: Context,
         schema: Option<&S>,
-        extensions: &Extensions<'_>,
+        extensions: &Extensions<'_, F>,
     ) -> Result<Request, RequestError<S::Error>>
         ensures held { IfOk result (λ request. request_parts request ≡ record {
           principal = Given principal.0;
@@ -73,7 +74,7 @@ impl Request {
           action = Given action.0;
           resource = Given resource.0;
           context = Some (context_part context);
-        }) (as_table extensions.now) result }
+        }) (as_table F.answers extensions.now) result }
     {
         let principal = EntityUIDEntry::known(alloc, principal.0, principal.1)?;
         let action = EntityUIDEntry::known(alloc, action.0, action.1)?;
@@ -87,13 +88,13 @@ impl Request {
 
     /// The request of these parts. Where a schema is given it is asked by `validate_request`. Takes no
     /// memory; refused with the schema's error alone.
-    pub fn new_with_unknowns<S: RequestSchema>(
+    pub fn new_with_unknowns<S: RequestSchema, F: ExtensionFunctionObject>(
         principal: EntityUIDEntry,
         action: EntityUIDEntry,
         resource: EntityUIDEntry,
         context: Option<Context>,
         schema: Option<&S>,
-        extensions: &Extensions<'_>,
+        extensions: &Extensions<'_, F>,
     ) -> Result<Request, S::Error>
         ensures held { IfOk result (λ request. request_parts request ≡ record {
           principal = part_of principal;
@@ -106,7 +107,7 @@ impl Request {
           action = part_of action;
           resource = part_of resource;
           context = option_map context_part context;
-        }) (as_table extensions.now) (verdict result) }
+        }) (as_table F.answers extensions.now) (verdict result) }
     {
         let request = Request::new_unchecked(principal, action, resource, context);
         accepted(request, schema, extensions)
@@ -199,13 +200,13 @@ impl Request {
 }
 
 // The request, where no schema is given or the one given accepts it; else its error.
-fn accepted<S: RequestSchema>(
+fn accepted<S: RequestSchema, F: ExtensionFunctionObject>(
     request: Request,
     schema: Option<&S>,
-    extensions: &Extensions<'_>,
+    extensions: &Extensions<'_, F>,
 ) -> Result<Request, S::Error>
     ensures held { IfOk result (λ kept. request_parts kept ≡ request_parts request) }
-    ensures schema { IsAnswerOf S.validates (option_copied schema.entry) (request_parts request) (as_table extensions.now) (verdict result) }
+    ensures schema { IsAnswerOf S.validates (option_copied schema.entry) (request_parts request) (as_table F.answers extensions.now) (verdict result) }
 {
     let Some(schema) = schema else {
         return Ok(request);

@@ -3,6 +3,7 @@
 use crate::contexts::Context;
 use crate::requests::Request;
 use cedar_extensions::extensions::Extensions;
+use cedar_extensions::objects::ExtensionFunctionObject;
 use cedar_literals::uids::EntityUID;
 use std::convert::Infallible;
 
@@ -32,21 +33,21 @@ pub trait RequestSchema {
     ghost validates_scope: { Self → Option language.Uid → Option language.Uid → Option language.Uid → Result (Unit {0}) Self.Error → Type 0 };
 
     /// Accepts the request, or says why it doesn't.
-    fn validate_request(
+    fn validate_request<F: ExtensionFunctionObject>(
         &self,
         request: &Request,
-        extensions: &Extensions<'_>,
+        extensions: &Extensions<'_, F>,
     ) -> Result<(), Self::Error>
-        ensures { validates self.now (request_parts request.now) (table.as_table extensions.now) result };
+        ensures { validates self.now (request_parts request.now) (table.as_table F.answers extensions.now) result };
 
     /// Accepts the context of a request for this action, or says why it doesn't.
-    fn validate_context(
+    fn validate_context<F: ExtensionFunctionObject>(
         &self,
         context: &Context,
         action: &EntityUID,
-        extensions: &Extensions<'_>,
+        extensions: &Extensions<'_, F>,
     ) -> Result<(), Self::Error>
-        ensures { validates_context self.now (context_part context.now) action.now (table.as_table extensions.now) result };
+        ensures { validates_context self.now (context_part context.now) action.now (table.as_table F.answers extensions.now) result };
 
     /// Accepts the principal, the action and the resource, those that are given, or says why it doesn't.
     fn validate_scope_variables(
@@ -73,19 +74,19 @@ impl RequestSchema for RequestSchemaAllPass {
 
     ghost validates_scope = { λ schema principal action resource result. result ≡ Ok tt };
 
-    fn validate_request(
+    fn validate_request<F: ExtensionFunctionObject>(
         &self,
         _request: &Request,
-        _extensions: &Extensions<'_>,
+        _extensions: &Extensions<'_, F>,
     ) -> Result<(), Infallible> {
         Ok(())
     }
 
-    fn validate_context(
+    fn validate_context<F: ExtensionFunctionObject>(
         &self,
         _context: &Context,
         _action: &EntityUID,
-        _extensions: &Extensions<'_>,
+        _extensions: &Extensions<'_, F>,
     ) -> Result<(), Infallible> {
         Ok(())
     }

@@ -13,6 +13,7 @@ use crate::contexts::Context;
 use crate::evaluating::evaluated;
 use cedar_extensions::evaluation_error::EvaluationError;
 use cedar_extensions::extensions::Extensions;
+use cedar_extensions::objects::ExtensionFunctionObject;
 use cedar_literals::types::StaticallyTyped;
 use cedar_restricted::borrowed::BorrowedRestrictedExpr;
 use cedar_restricted::partial_value_laws::written_values_are_restricted;
@@ -26,16 +27,16 @@ use std::collections::HashMap;
 use std::rc::RcStr;
 
 /// The context that a record gives once values are told.
-pub(crate) fn record_told(
+pub(crate) fn record_told<F: ExtensionFunctionObject>(
     alloc: Global,
     expr: &Expr,
     told: &HashMap<RcStr, Value>,
-    extensions: &Extensions<'_>,
+    extensions: &Extensions<'_, F>,
     depth: u32,
 ) -> Result<Context, EvaluationError>
     requires record { is_record (bare expr.now) ≡ true }
     requires restricted { is_restricted (bare expr.now) ≡ true }
-    ensures { TellsRecord (as_table extensions.now) depth told.now.entries (bare expr.now) (mistyped_in told.now.entries (bare expr.now)) result }
+    ensures { TellsRecord (as_table F.answers extensions.now) depth told.now.entries (bare expr.now) (mistyped_in told.now.entries (bare expr.now)) result }
 {
     if let Some(error) = mistyped(alloc, expr, told)? {
         return Err(error);

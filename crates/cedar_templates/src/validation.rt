@@ -7,6 +7,7 @@ ghost use Rattle.cedar_templates.specs.Validation.{Validates, ValidatesClauses, 
 use crate::errors::{SlotsInConditionClause, TemplateValidationError};
 use crate::templates::Template;
 use cedar_extensions::extensions::Extensions;
+use cedar_extensions::objects::ExtensionFunctionObject;
 use cedar_extensions::validation::ExprValidation;
 use cedar_shapes::readers::ExprReaders;
 use cedar_trees::expr::Expr;
@@ -20,12 +21,12 @@ impl Template {
     /// call of a walk; or for memory. The word of a slot's clause is always `when`: a template holds what
     /// all its clauses ask as one condition, and no longer which part of it an `unless` was written for.
     /// (Cedar language reference, "Policy templates", "Conditions", "Extension functions".)
-    pub fn try_validate(
+    pub fn try_validate<F: ExtensionFunctionObject>(
         &self,
         alloc: Global,
-        extensions: &Extensions<'_>,
+        extensions: &Extensions<'_, F>,
     ) -> Result<(), TemplateValidationError>
-        ensures { Validates (as_table extensions.now) (syntax_of self.now) result }
+        ensures { Validates (as_table F.answers extensions.now) (syntax_of self.now) result }
     {
         self.action_constraint().check_action_types(alloc)?;
         match self.non_scope_constraints() {
@@ -36,12 +37,12 @@ impl Template {
 }
 
 // Whether the expression holds no slot, and each call in it fits the table.
-fn check_clauses(
+fn check_clauses<F: ExtensionFunctionObject>(
     alloc: Global,
     expr: &Expr,
-    extensions: &Extensions<'_>,
+    extensions: &Extensions<'_, F>,
 ) -> Result<(), TemplateValidationError>
-    ensures { ValidatesClauses (as_table extensions.now) (bare expr.now) result }
+    ensures { ValidatesClauses (as_table F.answers extensions.now) (bare expr.now) result }
 {
     check_no_slot(alloc, expr)?;
     expr.try_validate(alloc, extensions)?;

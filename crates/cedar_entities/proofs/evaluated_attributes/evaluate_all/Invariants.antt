@@ -5,6 +5,6 @@ use Rattle.cedar_entities.proofs.Giving.{IsUnderway}
 use Rattle.cedar_entities.proofs.evaluated_attributes.evaluate_all.Given as goal
 
 abbrev pub invariant-loop-name : goal.invariant-loop-name
-invariant-loop-name l =
-    IsUnderway (as_table l.extensions) l.fn.exprs.entries l.name-iterator l.values.entries ×
+invariant-loop-name g l =
+    IsUnderway (as_table g.F.ExtensionFunctionObject.answers l.extensions) l.fn.exprs.entries l.name-iterator l.values.entries ×
     (AreWithin l.depth (restricted_entries l.name-iterator) → AreWithin l.depth (restricted_entries l.fn.exprs.entries))

@@ -8,4 +8,4 @@ use Rattle.cedar_entities.proofs.validated_attributes.validate_all.Given as goal
 
 -- what the calls that are left answer, all answer
 abbrev pub invariant-loop-name : goal.invariant-loop-name
-invariant-loop-name l = (r : Result Unit ExprValidationError) → ValidatesCalls (as_table l.extensions) (calls_among (seen_entries l._name-iterator)) r → ValidatesCalls (as_table l.extensions) (calls_among (seen_entries l.fn.attributes)) r
+invariant-loop-name g l = (r : Result Unit ExprValidationError) → ValidatesCalls (as_table g.F.ExtensionFunctionObject.answers l.extensions) (calls_among (seen_entries l._name-iterator)) r → ValidatesCalls (as_table g.F.ExtensionFunctionObject.answers l.extensions) (calls_among (seen_entries l.fn.attributes)) r

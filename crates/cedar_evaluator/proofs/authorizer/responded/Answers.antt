@@ -7,7 +7,7 @@ use Rattle.cedar_evaluator.proofs.Responding.{if_ok_both}
 use Rattle.cedar_evaluator.proofs.authorizer.responded.Goals as goal
 
 pub returns : goal.returns
-returns c =
+returns g c =
     let es = c.args.policies.now in
     if_ok_both c.into_response.result
     (λ response holds asked i store table depth is by scopes.

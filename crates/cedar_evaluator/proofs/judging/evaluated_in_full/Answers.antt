@@ -12,7 +12,7 @@ use Rattle.cedar_evaluator.proofs.Judged.{scope_decided}
 use Rattle.cedar_evaluator.proofs.judging.evaluated_in_full.Goals as goal
 
 pub returns-in-Some-true-clause-found : goal.returns-in-Some-true-clause-found
-returns-in-Some-true-clause-found c = λ i store table depth is scopes facts served.
+returns-in-Some-true-clause-found g c = λ i store table depth is scopes facts served.
     let p = c.args.policy.now in
     let ev = c.args.evaluator.now in
     let bs = bindings_of p in
@@ -23,7 +23,7 @@ returns-in-Some-true-clause-found c = λ i store table depth is scopes facts ser
     subst (λ (h : LeafAnswers). JudgesAt facts (partial_in facts h (condition_of p)) c.in_scope.result) (is.holds bs) (c.in_scope.ensures.found facts serves holds)
 
 pub returns-in_default-clause-found : goal.returns-in_default-clause-found
-returns-in_default-clause-found c = λ i store table depth is scopes facts served.
+returns-in_default-clause-found g c = λ i store table depth is scopes facts served.
     let p = c.args.policy.now in
     let serves = is.serves facts (condition_of p) served.entities served.functions served.names_nothing in
     subst (λ (h : LeafAnswers). JudgesAt facts (partial_in facts h (condition_of p)) c.partial_evaluate.result) (is.holds (bindings_of p)) (c.partial_evaluate.ensures.found facts serves)

@@ -10,19 +10,19 @@ use Rattle.cedar_evaluator.proofs.Judged.{clauses_found, clauses_served, clauses
 use Rattle.cedar_evaluator.proofs.judging.in_scope.Goals as goal
 
 pub returns-in-Some-clause-found : goal.returns-in-Some-clause-found
-returns-in-Some-clause-found c = λ facts serves scope.
+returns-in-Some-clause-found g c = λ facts serves scope.
     let s = policy_syntax c.args.policy.now in
     let t = bare c.in-Some.clauses.now in
     let ev = c.args.evaluator.now in
     let body : s.body ≡ Some t = sym c.non_scope_constraints.ensures ∙ ap (λ o. option_map bare (option_copied o)) c.in-Some.is in
     let b = partial_in facts (held_by ev c.env.result.now) t in
-    clauses_found ev s t body facts c.env.result.now (bindings_of c.args.policy.now) c.env.ensures.bindings scope c.judged.result
-    (c.judged.ensures.found facts (last_answer (And (Lit (Boolean true))) b) (c.last_of_and.ensures.found facts b (c.partial_interpret-answer.ensures.found facts (clauses_served ev s t body facts serves))))
+    clauses_found g.F.ExtensionFunctionObject.answers ev s t body facts c.env.result.now (bindings_of c.args.policy.now) c.env.ensures.bindings scope c.judged.result
+    (c.judged.ensures.found facts (last_answer (And (Lit (Boolean true))) b) (c.last_of_and.ensures.found facts b (c.partial_interpret-answer.ensures.found facts (clauses_served g.F.ExtensionFunctionObject.answers ev s t body facts serves))))
 
 pub returns-in-Some-clause-limit : goal.returns-in-Some-clause-limit
-returns-in-Some-clause-limit c = λ met.
+returns-in-Some-clause-limit g c = λ met.
     let s = policy_syntax c.args.policy.now in
     let t = bare c.in-Some.clauses.now in
     let ev = c.args.evaluator.now in
     let body : s.body ≡ Some t = sym c.non_scope_constraints.ensures ∙ ap (λ o. option_map bare (option_copied o)) c.in-Some.is in
-    clauses_deep ev s t body (depth_of ev) (c.partial_interpret-answer.ensures.limit (c.last_of_and.ensures.limit (c.judged.ensures.limit met)))
+    clauses_deep g.F.ExtensionFunctionObject.answers ev s t body (depth_of ev) (c.partial_interpret-answer.ensures.limit (c.last_of_and.ensures.limit (c.judged.ensures.limit met)))

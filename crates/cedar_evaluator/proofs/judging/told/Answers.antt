@@ -16,21 +16,21 @@ use Rattle.cedar_evaluator.proofs.Scoped.{out_of_scope}
 use Rattle.cedar_evaluator.proofs.judging.told.Goals as goal
 
 pub returns-in-Some-false : goal.returns-in-Some-false
-returns-in-Some-false c = λ i store table depth is scopes facts has.
+returns-in-Some-false g c = λ i store table depth is scopes facts has.
     let s = policy_syntax c.args.policy.now in
     let holds = request_held i (bindings_of c.args.policy.now) in
     out_of_scope facts holds (scope_tree s) s.body
     (scope_decided facts holds s c.hold.result _ _ c.in-Some-false.is c.in-Some-false.field-0-test (c.hold.ensures i store facts scopes has))
 
 pub returns-in-None-non_scope_constraints : goal.returns-in-None-non_scope_constraints
-returns-in-None-non_scope_constraints c = λ i store table depth is scopes facts has.
+returns-in-None-non_scope_constraints g c = λ i store table depth is scopes facts has.
     let s = policy_syntax c.args.policy.now in
     let holds = request_held i (bindings_of c.args.policy.now) in
     let body : s.body ≡ None = sym c.non_scope_constraints.ensures ∙ ap (λ o. option_map bare (option_copied o)) c.in-None-non_scope_constraints.is in
     told_by_scope facts holds s (scope_decided facts holds s c.hold.result _ _ c.in-Some-true.is c.in-Some-true.field-0-test (c.hold.ensures i store facts scopes has)) body
 
 pub returns-in-Some : goal.returns-in-Some
-returns-in-Some c = λ i store table depth is scopes facts has.
+returns-in-Some g c = λ i store table depth is scopes facts has.
     let s = policy_syntax c.args.policy.now in
     let t = bare c.in-Some.clauses.now in
     let bs = bindings_of c.args.policy.now in

@@ -11,7 +11,7 @@ use Rattle.cedar_interpreter.proofs.Operated.{two_values, two_wait, itself_left}
 use Rattle.cedar_interpreter.proofs.operating.operate_on_two.Goals as goal
 
 pub returns-in_ok-wait_for_two-in-Residual : goal.returns-in_ok-wait_for_two-in-Residual
-returns-in_ok-wait_for_two-in-Residual c =
+returns-in_ok-wait_for_two-in-Residual g c =
     λ facts has holds b d same alike.
     let p = partial_of c.args.left in
     let q = partial_of c.args.right in
@@ -21,7 +21,7 @@ returns-in_ok-wait_for_two-in-Residual c =
     (part_answer (partial_of c.in_ok-wait_for_two-in-Residual.field-0)) (c.in_ok-wait_for_two-in-Residual.ensures facts holds)
 
 pub returns-in_ok-wait_for_two-in-Residual-right : goal.returns-in_ok-wait_for_two-in-Residual-right
-returns-in_ok-wait_for_two-in-Residual-right c =
+returns-in_ok-wait_for_two-in-Residual-right g c =
     λ facts has holds b d same alike.
     let p = partial_of c.args.left in
     let q = partial_of c.args.right in
@@ -33,7 +33,7 @@ returns-in_ok-wait_for_two-in-Residual-right c =
     (part_answer (partial_of c.in_ok-wait_for_two-in-Residual-right.field-0)) (c.in_ok-wait_for_two-in-Residual-right.ensures facts holds)
 
 pub returns-in-Value-right : goal.returns-in-Value-right
-returns-in-Value-right c =
+returns-in-Value-right g c =
     λ facts has holds b d same alike.
     two_values facts holds (binary_operator_of c.args.op) (partial_of c.args.left) (partial_of c.args.right) b d same alike c.in-Value.left c.in-Value-right.right c.apply_to_two.result
     (ap partial_of c.in-Value.is) (ap partial_of c.in-Value-right.is) (c.apply_to_two.ensures facts has)

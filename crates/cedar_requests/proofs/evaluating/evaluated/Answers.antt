@@ -12,19 +12,19 @@ use Rattle.cedar_requests.proofs.Refusing.{at_err}
 use Rattle.cedar_requests.proofs.evaluating.evaluated.Goals as goal
 
 pub returns-in_err-found-clause-meaning : goal.returns-in_err-found-clause-meaning
-returns-in_err-found-clause-meaning c =
-    let Means = MeansContext (as_table c.args.extensions.now) c.args.depth (borrowed_tree c.args.expr) in
+returns-in_err-found-clause-meaning g c =
+    let Means = MeansContext (as_table g.F.ExtensionFunctionObject.answers c.args.extensions.now) c.args.depth (borrowed_tree c.args.expr) in
     at_err Means _ c.from_residual.result c.from_residual.ensures.1 (λ e is. subst (λ y. Means (Err y)) (sym is) c.in_err-found.ensures.meaning)
 
 pub returns-in_err-found-clause-answer : goal.returns-in_err-found-clause-answer
-returns-in_err-found-clause-answer c =
-    let Answers = AnswersContext (as_table c.args.extensions.now) c.args.depth (borrowed_tree c.args.expr) in
+returns-in_err-found-clause-answer g c =
+    let Answers = AnswersContext (as_table g.F.ExtensionFunctionObject.answers c.args.extensions.now) c.args.depth (borrowed_tree c.args.expr) in
     at_err Answers _ c.from_residual.result c.from_residual.ensures.1 (λ e is. subst (λ y. Answers (Err y)) (sym is) c.in_err-found.ensures.answer)
 
 pub context_of-requires-clause-record : goal.context_of-requires-clause-record
-context_of-requires-clause-record c =
-    record_stays (as_table c.args.extensions.now) (borrowed_tree c.args.expr) (partial_of c.in_ok-found.found) c.requires (c.in_ok-found.ensures.answer (functions_of (as_table c.args.extensions.now)) (λ n. refl))
+context_of-requires-clause-record g c =
+    record_stays (as_table g.F.ExtensionFunctionObject.answers c.args.extensions.now) (borrowed_tree c.args.expr) (partial_of c.in_ok-found.found) c.requires (c.in_ok-found.ensures.answer (functions_of (as_table g.F.ExtensionFunctionObject.answers c.args.extensions.now)) (λ n. refl))
 
 pub returns-clause-meaning : goal.returns-clause-meaning
-returns-clause-meaning c = λ known facts has request.
+returns-clause-meaning g c = λ known facts has request.
     subst (IsMeant (meaning facts request (borrowed_tree c.args.expr))) (sym c.in_ok-context_of.ensures) (c.in_ok-found.ensures.meaning known facts has request)

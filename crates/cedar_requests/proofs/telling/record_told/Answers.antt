@@ -12,21 +12,21 @@ use Rattle.cedar_requests.proofs.ToldRecords.{tells}
 use Rattle.cedar_requests.proofs.telling.record_told.Goals as goal
 
 pub new_unchecked-expr-requires : goal.new_unchecked-expr-requires
-new_unchecked-expr-requires c =
+new_unchecked-expr-requires g c =
     let law = c.written_values_are_restricted.ensures in
     stays_restricted law.written law.ground c.args.told.now.entries (bare c.args.expr.now) (bare c.in_ok-expr.expr) c.requires.restricted c.in_ok-expr.ensures
 
 pub evaluated-requires : goal.evaluated-requires
-evaluated-requires c =
+evaluated-requires g c =
     let law = c.written_values_are_restricted.ensures in
     subst (λ t. is_record t ≡ true) (sym c.new_unchecked-expr.ensures)
     (stays_record law.written law.ground c.args.told.now.entries (bare c.args.expr.now) (bare c.in_ok-expr.expr) c.requires.restricted c.requires.record c.in_ok-expr.ensures)
 
 pub returns : goal.returns
-returns c =
+returns g c =
     let told = c.args.told.now.entries in
     let t = bare c.args.expr.now in
     let u = borrowed_tree c.new_unchecked-expr.result in
     let fitting : IsMistypingOf (mistyped_in c.args.told.now.entries (bare c.args.expr.now)) None = rw c.in_default.is at c.in_ok-error.ensures in
-    tells (as_table c.args.extensions.now) c.args.depth told t u (subst (SubstitutesValues told t) (sym c.new_unchecked-expr.ensures) c.in_ok-expr.ensures)
+    tells (as_table g.F.ExtensionFunctionObject.answers c.args.extensions.now) c.args.depth told t u (subst (SubstitutesValues told t) (sym c.new_unchecked-expr.ensures) c.in_ok-expr.ensures)
     (mistyped_in told t) c.evaluated.result fitting c.evaluated.ensures.meaning c.evaluated.ensures.answer

@@ -10,8 +10,8 @@ use Rattle.cedar_entities.proofs.Refusing.{at_err, tag_refused, evaluated}
 use Rattle.cedar_entities.proofs.evaluation.EntityEvaluateEntity.new.Goals as goal
 
 pub returns-in_err-tags-clause-refused : goal.returns-in_err-tags-clause-refused
-returns-in_err-tags-clause-refused c =
-    let table = as_table c.args.extensions.now in
+returns-in_err-tags-clause-refused g c =
+    let table = as_table g.F.ExtensionFunctionObject.answers c.args.extensions.now in
     let attributes = restricted_entries c.args.attrs.entries in
     let tags = restricted_entries c.args.tags.entries in
     let Refused = IsCreationRefusal table c.args.depth c.args.uid attributes tags in
@@ -20,6 +20,6 @@ returns-in_err-tags-clause-refused c =
     (have_values table attributes (seen_entries c.in_ok-attrs.attrs.entries) c.in_ok-attrs.ensures.given) c.in_err-tags.field-0.0 c.in_err-tags.ensures.refused))
 
 pub returns-clause-evaluated : goal.returns-clause-evaluated
-returns-clause-evaluated c =
-    evaluated (as_table c.args.extensions.now) c.args.uid (restricted_entries c.args.attrs.entries) (restricted_entries c.args.tags.entries) c.in_ok-attrs.attrs.entries c.in_ok-tags.tags.entries
+returns-clause-evaluated g c =
+    evaluated (as_table g.F.ExtensionFunctionObject.answers c.args.extensions.now) c.args.uid (restricted_entries c.args.attrs.entries) (restricted_entries c.args.tags.entries) c.in_ok-attrs.attrs.entries c.in_ok-tags.tags.entries
     (set.from_list c.args.parents.keys) (set.from_list c.args.indirect_ancestors.keys) c.in_ok-new_with_attr_partial_value.field-0 c.in_ok-new_with_attr_partial_value.ensures c.in_ok-attrs.ensures.given c.in_ok-tags.ensures.given

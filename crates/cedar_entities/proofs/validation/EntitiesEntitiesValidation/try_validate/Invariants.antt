@@ -8,4 +8,4 @@ use Rattle.cedar_entities.proofs.validation.EntitiesEntitiesValidation.try_valid
 
 -- what the calls that are left answer, all answer
 abbrev pub invariant-loop-entity : goal.invariant-loop-entity
-invariant-loop-entity l = (r : Result Unit ExprValidationError) → ValidatesCalls (as_table l.extensions) (entities_calls l.entity-iterator) r → ValidatesCalls (as_table l.extensions) (entities_calls (entities_in l.self)) r
+invariant-loop-entity g l = (r : Result Unit ExprValidationError) → ValidatesCalls (as_table g.F.ExtensionFunctionObject.answers l.extensions) (entities_calls l.entity-iterator) r → ValidatesCalls (as_table g.F.ExtensionFunctionObject.answers l.extensions) (entities_calls (entities_in l.self)) r

@@ -10,16 +10,16 @@ use Rattle.cedar_entities.proofs.Joined.{goes_on, stops}
 use Rattle.cedar_entities.proofs.validation.EntityEntityValidation.try_validate.Goals as goal
 
 pub returns-in_err-validate_all : goal.returns-in_err-validate_all
-returns-in_err-validate_all c =
-    let table = as_table c.args.extensions.now in
+returns-in_err-validate_all g c =
+    let table = as_table g.F.ExtensionFunctionObject.answers c.args.extensions.now in
     let e = c.in_err-validate_all.field-0.0 in
     let told = stops table (calls_among (finite.entries c.args.self.now.attributes)) (calls_among (finite.entries c.args.self.now.tags)) e
     (subst (λ es. ValidatesCalls {A = Unit} table (calls_among es) (Err e)) c.attrs.ensures c.in_err-validate_all.ensures) in
     search (rules, told)
 
 pub returns : goal.returns
-returns c =
-    let table = as_table c.args.extensions.now in
+returns g c =
+    let table = as_table g.F.ExtensionFunctionObject.answers c.args.extensions.now in
     let fit = subst (λ es. list_all (call_fits table) (calls_among es) ≡ true) c.attrs.ensures c.in_ok-validate_all.ensures in
     goes_on table (calls_among (finite.entries c.args.self.now.attributes)) (calls_among (finite.entries c.args.self.now.tags)) fit c.validate_all-2.result
     (subst (λ es. ValidatesCalls table (calls_among es) c.validate_all-2.result) c.tags.ensures c.validate_all-2.ensures)

@@ -9,10 +9,10 @@ use Rattle.cedar_evaluator.proofs.Responding.{if_ok}
 use Rattle.cedar_evaluator.proofs.authorizer.Authorizer.answer_told.Goals as goal
 
 pub returns : goal.returns
-returns c =
+returns g c =
     let i : Inquiry = record { request = request_parts c.args.request; told = told_for c.args.told.now.entries } in
     let store = c.args.entities.now in
-    let table = table_of c.args.self.now in
+    let table = table_of g.F.ExtensionFunctionObject.answers c.args.self.now in
     let depth = limit_of c.args.self.now in
     let given = c.in_ok-evaluator.ensures.1 in
     let scopes : AreScopesOf i store c.in_ok-evaluator.scopes = record { principal = given.principal; action = given.action; resource = given.resource } in

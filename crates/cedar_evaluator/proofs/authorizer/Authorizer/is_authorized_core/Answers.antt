@@ -7,6 +7,6 @@ use Rattle.cedar_evaluator.proofs.Responding.{if_ok}
 use Rattle.cedar_evaluator.proofs.authorizer.Authorizer.is_authorized_core.Goals as goal
 
 pub returns : goal.returns
-returns c =
+returns g c =
     let i = untold (request_parts c.args.request) in
-    if_ok c.responded.result (λ response by. by i c.args.entities.now (table_of c.args.self.now) (limit_of c.args.self.now) refl c.in_ok-evaluator.ensures.0 c.in_ok-evaluator.ensures.1) c.responded.ensures
+    if_ok c.responded.result (λ response by. by i c.args.entities.now (table_of g.F.ExtensionFunctionObject.answers c.args.self.now) (limit_of c.args.self.now) refl c.in_ok-evaluator.ensures.0 c.in_ok-evaluator.ensures.1) c.responded.ensures

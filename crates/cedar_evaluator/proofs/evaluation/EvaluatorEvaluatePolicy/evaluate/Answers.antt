@@ -6,19 +6,19 @@ use Rattle.cedar_evaluator.proofs.Evaluated.{meant_so, found_so, limited_so}
 use Rattle.cedar_evaluator.proofs.evaluation.EvaluatorEvaluatePolicy.evaluate.Goals as goal
 
 pub returns-clause-means : goal.returns-clause-means
-returns-clause-means c =
+returns-clause-means g c =
     let p = c.args.policy.now in
-    meant_so c.args.self.now (bare c.in_ok-condition.condition) (condition_of p) c.in_ok-condition.ensures c.env.result.now (bindings_of p) c.env.ensures.bindings
+    meant_so g.F.ExtensionFunctionObject.answers c.args.self.now (bare c.in_ok-condition.condition) (condition_of p) c.in_ok-condition.ensures c.env.result.now (bindings_of p) c.env.ensures.bindings
     c.interpret-answer.result c.tested.result c.interpret-answer.ensures.means c.tested.ensures.means
 
 pub returns-clause-found : goal.returns-clause-found
-returns-clause-found c =
+returns-clause-found g c =
     let p = c.args.policy.now in
-    found_so c.args.self.now (bare c.in_ok-condition.condition) (condition_of p) c.in_ok-condition.ensures c.env.result.now (bindings_of p) c.env.ensures.bindings
+    found_so g.F.ExtensionFunctionObject.answers c.args.self.now (bare c.in_ok-condition.condition) (condition_of p) c.in_ok-condition.ensures c.env.result.now (bindings_of p) c.env.ensures.bindings
     c.interpret-answer.result c.tested.result c.interpret-answer.ensures.found c.tested.ensures.found
 
 pub returns-clause-limit : goal.returns-clause-limit
-returns-clause-limit c =
+returns-clause-limit g c =
     let p = c.args.policy.now in
-    limited_so c.args.self.now (bare c.in_ok-condition.condition) (condition_of p) c.in_ok-condition.ensures c.env.result.now (bindings_of p) c.env.ensures.bindings
+    limited_so g.F.ExtensionFunctionObject.answers c.args.self.now (bare c.in_ok-condition.condition) (condition_of p) c.in_ok-condition.ensures c.env.result.now (bindings_of p) c.env.ensures.bindings
     c.interpret-answer.result c.tested.result c.interpret-answer.ensures.limit c.tested.ensures.limit

@@ -6,13 +6,13 @@ use Rattle.cedar_evaluator.proofs.Evaluated.{judged_so, limited_so}
 use Rattle.cedar_evaluator.proofs.evaluation.EvaluatorEvaluatePolicy.partial_evaluate.Goals as goal
 
 pub returns-clause-found : goal.returns-clause-found
-returns-clause-found c =
+returns-clause-found g c =
     let p = c.args.policy.now in
-    judged_so c.args.self.now (bare c.in_ok-condition.condition) (condition_of p) c.in_ok-condition.ensures c.env.result.now (bindings_of p) c.env.ensures.bindings
+    judged_so g.F.ExtensionFunctionObject.answers c.args.self.now (bare c.in_ok-condition.condition) (condition_of p) c.in_ok-condition.ensures c.env.result.now (bindings_of p) c.env.ensures.bindings
     c.partial_interpret-answer.result c.judged.result c.partial_interpret-answer.ensures.found c.judged.ensures.found
 
 pub returns-clause-limit : goal.returns-clause-limit
-returns-clause-limit c =
+returns-clause-limit g c =
     let p = c.args.policy.now in
-    limited_so c.args.self.now (bare c.in_ok-condition.condition) (condition_of p) c.in_ok-condition.ensures c.env.result.now (bindings_of p) c.env.ensures.bindings
+    limited_so g.F.ExtensionFunctionObject.answers c.args.self.now (bare c.in_ok-condition.condition) (condition_of p) c.in_ok-condition.ensures c.env.result.now (bindings_of p) c.env.ensures.bindings
     c.partial_interpret-answer.result c.judged.result c.partial_interpret-answer.ensures.limit c.judged.ensures.limit

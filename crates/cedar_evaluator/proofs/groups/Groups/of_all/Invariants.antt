@@ -9,5 +9,5 @@ use Rattle.cedar_evaluator.proofs.groups.Groups.of_all.Given as goal
 
 -- the policies so far are kept
 abbrev pub invariant-loop-policy : goal.invariant-loop-policy
-invariant-loop-policy l =
-    (i : Inquiry) (store : Entities) (table : Table) (depth : ℕ) → IsEvaluatorOf i store table depth l.evaluator → AreScopesOf i store l.scopes → Keeps l.with_false i store table depth (map (λ p. policy_seen p.now) l.yielded) l.groups
+invariant-loop-policy g l =
+    (i : Inquiry) (store : Entities) (table : Table) (depth : ℕ) → IsEvaluatorOf g.F.ExtensionFunctionObject.answers i store table depth l.evaluator → AreScopesOf i store l.scopes → Keeps l.with_false i store table depth (map (λ p. policy_seen p.now) l.yielded) l.groups

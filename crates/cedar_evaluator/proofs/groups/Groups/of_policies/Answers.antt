@@ -12,7 +12,7 @@ use Rattle.cedar_evaluator.proofs.Responding.{if_ok}
 use Rattle.cedar_evaluator.proofs.groups.Groups.of_policies.Goals as goal
 
 pub returns-in-Some : goal.returns-in-Some
-returns-in-Some c =
+returns-in-Some g c =
     let es = c.args.policies.now in
     let found = subst (λ o. IfSome o (λ positions. (i : Inquiry) (store : Entities) → AreScopesOf i store c.args.scopes.now → AreCandidates i store es positions.items)) c.in-Some.is c.in_ok-positions.ensures in
     if_ok c.of_those_at.result

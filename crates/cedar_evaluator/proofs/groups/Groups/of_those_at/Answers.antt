@@ -10,7 +10,7 @@ use Rattle.cedar_evaluator.proofs.groups.Groups.of_those_at.Goals as goal
 use Rattle.cedar_evaluator.proofs.groups.Groups.of_those_at.Goals.{in-Some+in_ok-evaluate_without_false, in_default}
 
 pub loop-position-preserved : goal.loop-position-preserved
-loop-position-preserved c = λ i store table depth is scopes.
+loop-position-preserved g c = λ i store table depth is scopes.
     let es = c.args.policies.now in
     let ps = c.args.positions.now in
     let k = c.loop-position.position-index in
@@ -26,7 +26,7 @@ loop-position-preserved c = λ i store table depth is scopes.
     ]
 
 pub returns : goal.returns
-returns c = λ i store table depth is scopes.
+returns g c = λ i store table depth is scopes.
     let es = c.args.policies.now in
     let ps = c.args.positions.now in
     subst (λ (qs : List ℕ). Keeps false i store table depth (policies_at es qs) c.loop-position.groups) (take_all c.loop-position.position-index ps c.loop-position-test.false) (c.loop-position.invariant i store table depth is scopes)

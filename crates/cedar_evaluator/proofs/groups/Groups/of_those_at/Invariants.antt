@@ -9,5 +9,5 @@ use Rattle.cedar_evaluator.proofs.groups.Groups.of_those_at.Given as goal
 
 -- the policies at the positions so far are kept
 abbrev pub invariant-loop-position : goal.invariant-loop-position
-invariant-loop-position l =
-    (i : Inquiry) (store : Entities) (table : Table) (depth : ℕ) → IsEvaluatorOf i store table depth l.evaluator → AreScopesOf i store l.scopes → Keeps false i store table depth (policies_at l.policies (take l.position-index l.positions)) l.groups
+invariant-loop-position g l =
+    (i : Inquiry) (store : Entities) (table : Table) (depth : ℕ) → IsEvaluatorOf g.F.ExtensionFunctionObject.answers i store table depth l.evaluator → AreScopesOf i store l.scopes → Keeps false i store table depth (policies_at l.policies (take l.position-index l.positions)) l.groups

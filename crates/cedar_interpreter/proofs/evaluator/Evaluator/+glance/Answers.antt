@@ -6,5 +6,5 @@ use Rattle.cedar_interpreter.proofs.Glanced.{attribute_tells}
 use Rattle.cedar_interpreter.proofs.evaluator.Evaluator.+glance.Goals as goal
 
 pub glance_attribute-returns : goal.glance_attribute-returns
-glance_attribute-returns t c =
+glance_attribute-returns g t c =
     attribute_tells c.args.self.now c.args.depth (rc_str_bytes c.args.attr.now) c.as_str-2.result.now (bare c.args.of.now) (value_lent c.in_ok-lent.lent) c.attribute_lent.result c.as_str-2.ensures.value c.in_ok-lent.ensures c.attribute_lent.ensures

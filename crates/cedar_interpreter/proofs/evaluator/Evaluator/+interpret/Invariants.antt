@@ -5,29 +5,29 @@ use Rattle.cedar_interpreter.proofs.Serving.{Goes}
 use Rattle.cedar_interpreter.proofs.evaluator.Evaluator.+interpret.Given as goal
 
 abbrev pub invariant-interpret_parts-loop-part : goal.invariant-interpret_parts-loop-part
-invariant-interpret_parts-loop-part l =
-    Goes l.self l.slots l.depth (map (λ e. bare e.now) (drop l.part-index l.parts)) (map partial_of l.answers.items) (map (λ e. bare e.now) l.parts)
+invariant-interpret_parts-loop-part g l =
+    Goes g.F.ExtensionFunctionObject.answers l.self l.slots l.depth (map (λ e. bare e.now) (drop l.part-index l.parts)) (map partial_of l.answers.items) (map (λ e. bare e.now) l.parts)
 
 abbrev pub decreases-interpret_within : goal.decreases-interpret_within
-decreases-interpret_within l = 4 * l.depth + 1
+decreases-interpret_within g l = 4 * l.depth + 1
 
 abbrev pub decreases-interpret_form : goal.decreases-interpret_form
-decreases-interpret_form l = 4 * l.depth
+decreases-interpret_form g l = 4 * l.depth
 
 abbrev pub decreases-interpret_if : goal.decreases-interpret_if
-decreases-interpret_if l = 4 * l.depth + 3
+decreases-interpret_if g l = 4 * l.depth + 3
 
 abbrev pub decreases-interpret_and : goal.decreases-interpret_and
-decreases-interpret_and l = 4 * l.depth + 3
+decreases-interpret_and g l = 4 * l.depth + 3
 
 abbrev pub decreases-interpret_or : goal.decreases-interpret_or
-decreases-interpret_or l = 4 * l.depth + 3
+decreases-interpret_or g l = 4 * l.depth + 3
 
 abbrev pub decreases-interpret_attribute : goal.decreases-interpret_attribute
-decreases-interpret_attribute l = 4 * l.depth + 3
+decreases-interpret_attribute g l = 4 * l.depth + 3
 
 abbrev pub decreases-interpret_strict : goal.decreases-interpret_strict
-decreases-interpret_strict l = 4 * l.depth + 3
+decreases-interpret_strict g l = 4 * l.depth + 3
 
 abbrev pub decreases-interpret_parts : goal.decreases-interpret_parts
-decreases-interpret_parts l = 4 * l.depth + 2
+decreases-interpret_parts g l = 4 * l.depth + 2

@@ -8,7 +8,7 @@ use Rattle.cedar_interpreter.proofs.Glanced.{attribute_of_variable, attribute_of
 use Rattle.cedar_interpreter.proofs.evaluator.Evaluator.glance_attribute_of.Goals as goal
 
 pub returns-in_ok-seen-in-Some : goal.returns-in_ok-seen-in-Some
-returns-in_ok-seen-in-Some c =
+returns-in_ok-seen-in-Some g c =
     let ev = c.args.self.now in
     let store = ev.entities.now in
     let u = c.in-Some.field-0-0.now.value in
@@ -17,5 +17,5 @@ returns-in_ok-seen-in-Some c =
     (λ facts has held. c.attribute_of_held.ensures store facts u has held)
 
 pub returns-in_ok-lent-in-None : goal.returns-in_ok-lent-in-None
-returns-in_ok-lent-in-None c =
+returns-in_ok-lent-in-None g c =
     attribute_of_variable c.args.self.now c.args.attr.now (variable_of c.args.var) c.attribute_lent.result (value_lent c.in_ok-lent-in-None.lent) c.in_ok-lent-in-None.ensures c.attribute_lent.ensures

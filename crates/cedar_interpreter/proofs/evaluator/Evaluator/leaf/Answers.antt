@@ -11,14 +11,14 @@ use Rattle.cedar_interpreter.proofs.Applied.{same_part, leaf_as}
 use Rattle.cedar_interpreter.proofs.evaluator.Evaluator.leaf.Goals as goal
 
 pub returns-in_ok-variable-in-Var : goal.returns-in_ok-variable-in-Var
-returns-in_ok-variable-in-Var c =
+returns-in_ok-variable-in-Var g c =
     λ facts. leaf_as facts (held_by c.args.self.now c.args.slots.now) (bare c.args.expr.now) (Var (variable_of c.in-Var.var)) (Ok c.in_ok-variable-in-Var.field-0) (bare_is (Unit {0}) c.args.expr.now ∙ ap bare_kind c.in-Var.is ∙ bare-Var (Unit {0}) c.in-Var.var)
     (same_part facts (partial_of c.in_ok-variable-in-Var.field-0) (partial_of (variable_in c.args.self.now.variables (variable_of c.in-Var.var))) c.in_ok-variable-in-Var.ensures)
 
 pub returns-in-Slot : goal.returns-in-Slot
-returns-in-Slot c =
+returns-in-Slot g c =
     λ facts. leaf_as facts (held_by c.args.self.now c.args.slots.now) (bare c.args.expr.now) (Slot c.in-Slot.slot) c.bound.result (bare_is (Unit {0}) c.args.expr.now ∙ ap bare_kind c.in-Slot.is ∙ bare-Slot (Unit {0}) c.in-Slot.slot) (c.bound.ensures facts)
 
 pub returns-in-Unknown : goal.returns-in-Unknown
-returns-in-Unknown c =
+returns-in-Unknown g c =
     λ facts. leaf_as facts (held_by c.args.self.now c.args.slots.now) (bare c.args.expr.now) (Unknown (unknown_name c.in-Unknown.name) (unknown_type c.in-Unknown.name)) c.unknown.result (bare_is (Unit {0}) c.args.expr.now ∙ ap bare_kind c.in-Unknown.is ∙ bare-Unknown (Unit {0}) c.in-Unknown.name) (c.unknown.ensures facts)

@@ -6,4 +6,4 @@ use Rattle.cedar_interpreter.proofs.Asked.{is_evaluator}
 use Rattle.cedar_interpreter.proofs.evaluator.Evaluator.new.Goals as goal
 
 pub returns : goal.returns
-returns c = is_evaluator (request_parts c.args.request.now) c.args.entities.now (as_table c.args.extensions.now) c.args.depth _ c.in_ok-variables.ensures refl refl refl refl
+returns g c = is_evaluator g.F.ExtensionFunctionObject.answers (request_parts c.args.request.now) c.args.entities.now (as_table g.F.ExtensionFunctionObject.answers c.args.extensions.now) c.args.depth _ c.in_ok-variables.ensures refl refl refl refl

@@ -14,20 +14,20 @@ use Rattle.cedar_interpreter.specs.Restricted.{table_of, limit_of}
 use Rattle.cedar_interpreter.proofs.restricted.RestrictedEvaluator.interpret.Goals as goal
 
 pub returns-in-Ok-Value-clause-meaning : goal.returns-in-Ok-Value-clause-meaning
-returns-in-Ok-Value-clause-meaning c =
-    subst (λ (p : PartialValue). MeansKnown (table_of c.args.self.now) (limit_of c.args.self.now) (borrowed_tree c.args.expr) (Ok p)) c.in-Ok-Value.field-0-is c.in-Ok-Value.ensures.meaning
+returns-in-Ok-Value-clause-meaning g c =
+    subst (λ (p : PartialValue). MeansKnown (table_of g.F.ExtensionFunctionObject.answers c.args.self.now) (limit_of c.args.self.now) (borrowed_tree c.args.expr) (Ok p)) c.in-Ok-Value.field-0-is c.in-Ok-Value.ensures.meaning
 
 pub returns-in_ok-non_value-in-Ok-Residual-clause-meaning : goal.returns-in_ok-non_value-in-Ok-Residual-clause-meaning
-returns-in_ok-non_value-in-Ok-Residual-clause-meaning c =
-    λ known facts has request. absurd (subst (λ (p : PartialValue). MeansKnown (table_of c.args.self.now) (limit_of c.args.self.now) (borrowed_tree c.args.expr) (Ok p)) c.in-Ok-Residual.field-0-is c.in-Ok-Residual.ensures.meaning known facts has request)
+returns-in_ok-non_value-in-Ok-Residual-clause-meaning g c =
+    λ known facts has request. absurd (subst (λ (p : PartialValue). MeansKnown (table_of g.F.ExtensionFunctionObject.answers c.args.self.now) (limit_of c.args.self.now) (borrowed_tree c.args.expr) (Ok p)) c.in-Ok-Residual.field-0-is c.in-Ok-Residual.ensures.meaning known facts has request)
 
 pub returns-in_ok-non_value-in-Ok-Residual-clause-answer : goal.returns-in_ok-non_value-in-Ok-Residual-clause-answer
-returns-in_ok-non_value-in-Ok-Residual-clause-answer c =
+returns-in_ok-non_value-in-Ok-Residual-clause-answer g c =
     λ facts has.
-    let a = answer_in (table_of c.args.self.now) facts (borrowed_tree c.args.expr) in
-    let found = subst (λ (p : PartialValue). Answers (table_of c.args.self.now) (limit_of c.args.self.now) (borrowed_tree c.args.expr) (Ok p)) c.in-Ok-Residual.field-0-is c.in-Ok-Residual.ensures.answer facts has in
+    let a = answer_in (table_of g.F.ExtensionFunctionObject.answers c.args.self.now) facts (borrowed_tree c.args.expr) in
+    let found = subst (λ (p : PartialValue). Answers (table_of g.F.ExtensionFunctionObject.answers c.args.self.now) (limit_of c.args.self.now) (borrowed_tree c.args.expr) (Ok p)) c.in-Ok-Residual.field-0-is c.in-Ok-Residual.ensures.answer facts has in
     subst (FailsBy (limit_of c.args.self.now < height (borrowed_tree c.args.expr)) (λ k. (a ≡ Failed k) ⊎ ((k ≡ NonValue) × (is_left a ≡ true)))) (sym c.in_ok-non_value-in-Ok-Residual.ensures.kind)
     (inr (refl, ap is_left found.1))
 
 pub returns-in-Err-clause-answer : goal.returns-in-Err-clause-answer
-returns-in-Err-clause-answer c = λ facts has. fails_on (failure_of c.in-Err.error) (λ k e. inl e) (λ d. d) (c.in-Err.ensures.answer facts has)
+returns-in-Err-clause-answer g c = λ facts has. fails_on (failure_of c.in-Err.error) (λ k e. inl e) (λ d. d) (c.in-Err.ensures.answer facts has)

@@ -7,4 +7,4 @@ use Rattle.cedar_policy_set.specs.declared.errors.PolicySetValidationError.{Poli
 use Rattle.cedar_policy_set.proofs.sets.PolicySet.try_validate.Given as goal
 
 abbrev pub invariant-loop-bound : goal.invariant-loop-bound
-invariant-loop-bound l = (r : Result Unit PolicySetValidationError) → ValidatesAll (as_table l.extensions) (seen l.bound-iterator) r → ValidatesAll (as_table l.extensions) l.self r
+invariant-loop-bound g l = (r : Result Unit PolicySetValidationError) → ValidatesAll (as_table g.F.ExtensionFunctionObject.answers l.extensions) (seen l.bound-iterator) r → ValidatesAll (as_table g.F.ExtensionFunctionObject.answers l.extensions) l.self r

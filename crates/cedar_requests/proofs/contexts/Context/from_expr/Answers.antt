@@ -9,8 +9,8 @@ use Rattle.cedar_requests.proofs.Refusing.{at_err, evaluation_refused}
 use Rattle.cedar_requests.proofs.contexts.Context.from_expr.Goals as goal
 
 pub returns-in_err-evaluated : goal.returns-in_err-evaluated
-returns-in_err-evaluated c =
-    let table = as_table c.args.extensions.now in
+returns-in_err-evaluated g c =
+    let table = as_table g.F.ExtensionFunctionObject.answers c.args.extensions.now in
     let t = borrowed_tree c.args.expr in
     let written : is_record_tree (borrowed_tree c.args.expr) ≡ true = search rules in
     at_err (Creates table c.args.depth t) _ c.from_residual-in_err-evaluated.result c.from_residual-in_err-evaluated.ensures.1 (λ e is. subst (λ y. Creates table c.args.depth t (Err y)) (sym is)
