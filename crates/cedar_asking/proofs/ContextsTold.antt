@@ -27,8 +27,7 @@ use Rattle.cedar_world.specs.First.{IsData}
 use Rattle.cedar_extensions.specs.Failures.{OfKind, failure_of}
 use Rattle.cedar_extensions.specs.Giving.{FailsBy}
 use Rattle.cedar_extensions.specs.declared.evaluation_error.EvaluationError.{EvaluationError}
-use Rattle.cedar_extensions.specs.Table.{as_table}
-use Rattle.cedar_extensions.specs.declared.extensions.Extensions.{Extensions}
+use Rattle.cedar_extensions.specs.Table.{Table}
 use Rattle.cedar_interpreter.specs.Asking.{context_asked}
 use Rattle.cedar_interpreter.specs.Operating.{HasFunctions}
 use Rattle.cedar_policy_set.proofs.WorldLaws.{ties_are}
@@ -38,6 +37,7 @@ use Rattle.cedar_requests.specs.Telling.{OfSubstituted, TellsContext}
 use Rattle.cedar_requests.specs.declared.contexts.Context.{Context}
 use Rattle.cedar_requests.specs.declared.contexts.Context.TheVariants as context
 use Rattle.cedar_substitution.specs.Told.{told_for}
+use Rattle.cedar_bodies.specs.Built.{GivesBuilt}
 use Rattle.cedar_evaluator.specs.Concretizing.{ContextTold}
 use Rattle.cedar_asking.specs.Keeping.{IsNamed}
 use Rattle.cedar_asking.specs.Tells.{told_in}
@@ -83,7 +83,7 @@ nothing_held = ap (λ (o : Option Value). name_held o (codes "context") None) (g
 
 -- ---- telling
 
-module _ (law : PlainAnswers) (apart : LeavesDontMatter) (stay : ContextsStay) (tell : ToldContextsAreEvaluated) (facts : Facts) (good : HoldsMade facts) (plain : HoldPlain facts) (extensions : Extensions) (depth : ℕ) (served : HasFunctions (as_table extensions) facts)
+module _ (law : PlainAnswers) (apart : LeavesDontMatter) (stay : ContextsStay) (tell : ToldContextsAreEvaluated) (facts : Facts) (good : HoldsMade facts) (plain : HoldPlain facts) (table : Table) (gives : GivesBuilt table) (depth : ℕ) (served : HasFunctions table facts)
     (told : List (RcStr Global × Value)) (made_told : AreMadeTold facts (told_in told)) where
   module _ (ks : List Text) (ts : Trees) (given : IsData (WithEntries ks ts)) (named : IsNamed (WithEntries ks ts)) where
     abbrev written : Tree
@@ -114,23 +114,23 @@ module _ (law : PlainAnswers) (apart : LeavesDontMatter) (stay : ContextsStay) (
     left_again : (t : Tree) → ResidualTree t ≡ first → partial_in facts (held_names (told_in told)) t ≡ later
     left_again t e = ap (λ (a : Answer). partial_in facts (held_names (told_in told)) (best_effort facts a written)) e ∙ again
 
-    record_told : (p new : Either Value Tree) → part_answer p ≡ first → ContextTold (as_table extensions) depth told (Some p) (Some new) → part_answer new ≡ later
+    record_told : (p new : Either Value Tree) → part_answer p ≡ first → ContextTold table depth told (Some p) (Some new) → part_answer new ≡ later
     record_told (Left v) new e (c, is, same) = ap part_answer (sym is ∙ same) ∙ value_stays v e
     record_told (Right t) new e (c, is, tells) =
         ap part_answer (sym is)
-        ∙ tell extensions depth told (told_in told) (holds_told told) t (left_is_data t e).0 (left_is_data t e).1 (λ h. left_calls_none t e) (Ok c) tells facts served made_told
+        ∙ tell table gives depth told (told_in told) (holds_told told) t (left_is_data t e).0 (left_is_data t e).1 (λ h. left_calls_none t e) (Ok c) tells facts served made_told
         ∙ left_again t e
 
-    record_fails : (p : Either Value Tree) (error : EvaluationError) (k : Kind) → part_answer p ≡ first → TellsContext (as_table extensions) depth told p (Err error) → failure_of error ≡ OfKind k → later ≡ Failed k
+    record_fails : (p : Either Value Tree) (error : EvaluationError) (k : Kind) → part_answer p ≡ first → TellsContext table depth told p (Err error) → failure_of error ≡ OfKind k → later ≡ Failed k
     record_fails (Left v) error k e tells is = absurd tells
     record_fails (Right t) error k e tells is =
         sym (left_again t e)
         ∙ subst (λ f. FailsBy (OfSubstituted told t (λ u. depth < height u)) (λ k. partial_in facts (held_names (told_in told)) t ≡ Failed k) f) is
-        (tell extensions depth told (told_in told) (holds_told told) t (left_is_data t e).0 (left_is_data t e).1 (λ h. left_calls_none t e) (Err error) tells facts served made_told)
+        (tell table gives depth told (told_in told) (holds_told told) t (left_is_data t e).0 (left_is_data t e).1 (λ h. left_calls_none t e) (Err error) tells facts served made_told)
 
   -- the context of the request with what is told is what is held of the question's then
   pub context_again : (c : Entries) → IsData c → IsNamed c → (o : Option Context) (new : Option (Either Value Tree)) → context_asked (option_map context_part o) ≡ context_held facts finite.empty c →
-      ContextTold (as_table extensions) depth told (option_map context_part o) new → context_asked new ≡ context_held facts (told_in told) c
+      ContextTold table depth told (option_map context_part o) new → context_asked new ≡ context_held facts (told_in told) c
   context_again NoContext given named None None e none = ap (λ (o : Option Value). name_held o (codes "context") None) (sym (holds_told told (codes "context") ∙ none))
   context_again NoContext given named None (Some p) e (v, is, same) = ap part_answer same ∙ ap (λ (o : Option Value). name_held o (codes "context") None) (sym (holds_told told (codes "context") ∙ is))
   context_again NoContext given named (Some c) new e h = absurd (no_unknown_asked c (codes "context") (e ∙ nothing_held))
@@ -140,5 +140,5 @@ module _ (law : PlainAnswers) (apart : LeavesDontMatter) (stay : ContextsStay) (
 
   -- where telling it fails, so does what is held then
   pub context_fails : (ks : List Text) (ts : Trees) → IsData (WithEntries ks ts) → IsNamed (WithEntries ks ts) → (p : Either Value Tree) → part_answer p ≡ context_held facts finite.empty (WithEntries ks ts) →
-      (error : EvaluationError) (k : Kind) → TellsContext (as_table extensions) depth told p (Err error) → failure_of error ≡ OfKind k → context_held facts (told_in told) (WithEntries ks ts) ≡ Failed k
+      (error : EvaluationError) (k : Kind) → TellsContext table depth told p (Err error) → failure_of error ≡ OfKind k → context_held facts (told_in told) (WithEntries ks ts) ≡ Failed k
   context_fails ks ts given named p e error k tells is = record_fails ks ts given named p error k e tells is

@@ -35,8 +35,7 @@ use Rattle.cedar_constraints.specs.Bindings.{unbound}
 use Rattle.cedar_entities.specs.declared.store.Entities.{Entities}
 use Rattle.cedar_extensions.specs.Failures.{Failure, OfKind, LimitMet, MemoryRanOut, failure_of}
 use Rattle.cedar_extensions.specs.declared.evaluation_error.EvaluationError.{EvaluationError}
-use Rattle.cedar_extensions.specs.Table.{as_table}
-use Rattle.cedar_extensions.specs.declared.extensions.Extensions.{Extensions}
+use Rattle.cedar_extensions.specs.Table.{Table}
 use Rattle.cedar_interpreter.specs.Asking.{context_asked, request_held}
 use Rattle.cedar_interpreter.specs.Operating.{HasFunctions}
 use Rattle.cedar_policy_set.specs.Entries.{Entries}
@@ -56,7 +55,7 @@ use Rattle.cedar_evaluator.specs.declared.errors.ConcretizationError.TheVariants
 use Rattle.cedar_evaluator.specs.declared.errors.ReauthorizationError.{ReauthorizationError}
 use Rattle.cedar_evaluator.specs.declared.errors.ReauthorizationError.TheVariants as reauthorization
 use Rattle.cedar_evaluator.specs.declared.partial_response.PartialResponse.{PartialResponse}
-use Rattle.cedar_bodies.proofs.Built.{gives_built}
+use Rattle.cedar_bodies.specs.Built.{GivesBuilt}
 use Rattle.cedar_asking.specs.Answering.{AreOf}
 use Rattle.cedar_asking.specs.Erring.{with_failure}
 use Rattle.cedar_asking.specs.Keeping.{IsNamed, AreTold, KeepsQuestion, IsFirstResponse}
@@ -106,7 +105,7 @@ not_both x None e f = cc
 not_both x (Some y) e f = cc
 
 module _ (c : Rests) (by : Setting) (world : World) (q : Question) (first : PartialResponse) (response : IsFirstResponse by world q first) (told : List (RcStr Global × Value)) (are : AreTold q told)
-    (es : Entries) (s : Entities) (extensions : Extensions) (depth : ℕ) (now : AreOf by world es s (as_table extensions) depth) where
+    (es : Entries) (s : Entities) (table : Table) (gives : GivesBuilt table) (depth : ℕ) (now : AreOf by world es s table depth) where
   abbrev facts : Facts
   facts = facts_of by world
 
@@ -131,14 +130,14 @@ module _ (c : Rests) (by : Setting) (world : World) (q : Question) (first : Part
   plain : HoldPlain facts
   plain = first_plain c.plain c.finds by world facts are_facts q first response
 
-  served : HasFunctions (as_table extensions) facts
-  served = table_is_served by world facts (as_table extensions) are_facts now.setting.functions
+  served : HasFunctions table facts
+  served = table_is_served by world facts table are_facts now.setting.functions
 
   alone_good : HoldsMade alone
-  alone_good = functions_are_made by (as_table extensions) (gives_built extensions) now.setting.functions
+  alone_good = functions_are_made by table gives now.setting.functions
 
   alone_plain : HoldPlain alone
-  alone_plain = functions_are_plain by (as_table extensions) (gives_built extensions) now.setting.functions
+  alone_plain = functions_are_plain by table gives now.setting.functions
 
   uncalled : (ks : List Text) (ts : Trees) → IsNamed (WithEntries ks ts) → hold_call ts ≡ false
   uncalled ks ts named = or_right (some_name_of (is_one_of variable_names) ts) (hold_call ts) named.well
@@ -149,11 +148,11 @@ module _ (c : Rests) (by : Setting) (world : World) (q : Question) (first : Part
 
   -- ---- what is answered
 
-  module _ (d : AnswersRest) (again : PartialResponse) (r : IsReauthorized s (as_table extensions) depth told first again) where
-    not_failed : (f : Facts) → HasFunctions response.table f → HasFunctions (as_table extensions) f → HoldsMade f → HoldPlain f → (k : Kind) → context_held f (told_in told) q.context ≡ Failed k → ⊥
+  module _ (d : AnswersRest) (again : PartialResponse) (r : IsReauthorized s table depth told first again) where
+    not_failed : (f : Facts) → HasFunctions response.table f → HasFunctions table f → HoldsMade f → HoldPlain f → (k : Kind) → context_held f (told_in told) q.context ≡ Failed k → ⊥
     not_failed f of_first of_now made_f plain_f k e =
         asked_fails r.request.context k
-        (variable_again by response.table q first.request.value asked response.named told are f of_first c.plain c.apart c.stay c.tell made_f plain_f extensions depth of_now (made_told f) r.request r.concrete Context ∙ e)
+        (variable_again by response.table q first.request.value asked response.named told are f of_first c.plain c.apart c.stay c.tell made_f plain_f table gives depth of_now (made_told f) r.request r.concrete Context ∙ e)
 
     fine : context_errs by q.context (told_in told) ≡ false
     fine = errs_none q.context asked.is_data response.named (not_failed alone response.of.setting.functions now.setting.functions alone_good alone_plain)
@@ -162,7 +161,7 @@ module _ (c : Rests) (by : Setting) (world : World) (q : Question) (first : Part
     accepted = accepts_told d.prompt facts good (told_in told) (made_told facts) q.context (not_failed facts served_first served good plain)
 
     held : request_held (record { request = r.request; told = told_for told }) unbound ≡ held_of facts q no_slots (told_in told)
-    held = held_again by response.table q first.request.value asked response.named told are facts served_first c.plain c.apart c.stay c.tell good plain extensions depth served (made_told facts) r.request r.concrete
+    held = held_again by response.table q first.request.value asked response.named told are facts served_first c.plain c.apart c.stay c.tell good plain table gives depth served (made_told facts) r.request r.concrete
 
     module _ (listed : List (Text × ErrorKind)) (new : Answer) (says : SaysHeld (holding_in again) listed new) where
       errors : map with_failure listed ≡ errors_of r.kept
@@ -174,7 +173,7 @@ module _ (c : Rests) (by : Setting) (world : World) (q : Question) (first : Part
       says_again : Says (map judged r.kept) new
       says_again =
           says_rules r.kept d.made
-          (once_again c.plain c.finds by world facts are_facts q first response told r.request held s (as_table extensions) depth (store_has_facts by world facts s are_facts now.shows now.closed now.whole) served r.kept r.each settled)
+          (once_again c.plain c.finds by world facts are_facts q first response told r.request held s table depth (store_has_facts by world facts s are_facts now.shows now.closed now.whole) served r.kept r.each settled)
           new
           (says.decided ∙ ap (λ (h : Holding). decision (judged_held h)) r.holds)
           (says.must ∙ ap (λ (h : Holding). ids_of (ids_with (in_must (judged_held h)) (judged_held h))) r.holds)
@@ -192,7 +191,7 @@ module _ (c : Rests) (by : Setting) (world : World) (q : Question) (first : Part
       is_answered old last answer keeps extends joined =
           let stands = d.later by world facts (record { question = q; told = told_in old; last = last }) (told_in told) (map judged all_later) new answer are_facts extends (made_told facts) accepted keeps.steady
           (d.again by world facts q (told_in told) are_facts good (first_names c.plain c.finds by world facts are_facts q first response d.conditions) asked.is_data (asked.accepted facts served_first) (made_told facts) accepted)
-          (judges_again c.plain c.finds by world facts are_facts q first response told r.request held s (as_table extensions) depth (store_has_facts by world facts s are_facts now.shows now.closed now.whole) served r.kept r.each settled d.conditions)
+          (judges_again c.plain c.finds by world facts are_facts q first response told r.request held s table depth (store_has_facts by world facts s are_facts now.shows now.closed now.whole) served r.kept r.each settled d.conditions)
           says_all joined in
           record { later = stands.later; keeps = record { response = response; are_told = are; steady = stands.steady }; fine = fine }
 
@@ -202,26 +201,26 @@ module _ (c : Rests) (by : Setting) (world : World) (q : Question) (first : Part
   conflicts_none = no_conflicts by response.table q first.request.value asked response.named told are facts served_first
 
   written_errs : (x : Written) (o : Option contexts.Context) (p : Either Value Tree) (error : EvaluationError) (k : Kind) → IsData x → IsNamed x → context_asked (option_map context_part o) ≡ context_held alone finite.empty x →
-      option_map context_part o ≡ Some p → TellsContext (as_table extensions) depth told p (Err error) → failure_of error ≡ OfKind k → context_errs by x (told_in told) ≡ true
+      option_map context_part o ≡ Some p → TellsContext table depth told p (Err error) → failure_of error ≡ OfKind k → context_errs by x (told_in told) ≡ true
   written_errs NoContext None p error k given named e is tells of = cc
   written_errs NoContext (Some d) p error k given named e is tells of = absurd (no_unknown_asked d _ (e ∙ nothing_held))
   written_errs (WithEntries ks ts) o p error k given named e is tells of =
       c.parts.fails by (told_in told) ks ts given (uncalled ks ts named) k
-      (context_fails c.plain c.apart c.stay c.tell alone alone_good alone_plain extensions depth now.setting.functions told (made_told alone) ks ts given named p (sym (ap context_asked is) ∙ e) error k tells of)
+      (context_fails c.plain c.apart c.stay c.tell alone alone_good alone_plain table gives depth now.setting.functions told (made_told alone) ks ts given named p (sym (ap context_asked is) ∙ e) error k tells of)
 
-  context_failure : (p : Either Value Tree) (error : EvaluationError) → (request_asked first).context ≡ Some p → TellsContext (as_table extensions) depth told p (Err error) → (f : Failure) → failure_of error ≡ f → IsContextFailure by q told f
+  context_failure : (p : Either Value Tree) (error : EvaluationError) → (request_asked first).context ≡ Some p → TellsContext table depth told p (Err error) → (f : Failure) → failure_of error ≡ f → IsContextFailure by q told f
   context_failure p error is tells (OfKind k) of = written_errs q.context first.request.value.context p error k asked.is_data response.named (asked.holds alone response.of.setting.functions Context) is tells of
   context_failure p error is tells LimitMet of = tt
   context_failure p error is tells MemoryRanOut of = tt
 
-  refused_by : (e : ConcretizationError) → IsRefused (as_table extensions) depth told (request_asked first) e → IsWhyNotTold by q told (reauthorization.ConcretizationError e)
+  refused_by : (e : ConcretizationError) → IsRefused table depth told (request_asked first) e → IsWhyNotTold by q told (reauthorization.ConcretizationError e)
   refused_by (concretization.ValueError name kind given) (v, h, is) = not_both _ _ conflicts_none h.first
   refused_by (concretization.VarConfictError name existing given) (v, h, is) = not_both _ _ conflicts_none h.first
   refused_by (concretization.EntityTypeConfictError name existing given) (v, h, is) = not_both _ _ conflicts_none h.first
   refused_by (concretization.ValueEval error) (none, errs) = let (p, is, tells) = errs in context_failure p error is tells (failure_of error) refl
   refused_by (concretization.Memory error) h = tt
 
-  pub is_refused : (e : ReauthorizationError) → Reauthorizes s (as_table extensions) depth told first (Err e) → IsWhyNotTold by q told e
+  pub is_refused : (e : ReauthorizationError) → Reauthorizes s table depth told first (Err e) → IsWhyNotTold by q told e
   is_refused (reauthorization.PolicySetError error) h = h response.responds.apart
   is_refused (reauthorization.ConcretizationError error) h = refused_by error h
   is_refused (reauthorization.Memory error) h = tt

@@ -21,18 +21,15 @@ use Rattle.cedar_world.specs.Values.{fails, holds_open, errs, errs_alone, contex
 use Rattle.cedar_trees.specs.Bare.{bare}
 use Rattle.cedar_trees.specs.declared.expr.Expr.{Expr}
 use Rattle.cedar_extensions.specs.Failures.{failure_of}
-use Rattle.cedar_extensions.specs.Holding.{are_named}
-use Rattle.cedar_extensions.specs.Tables.{functions_in}
 use Rattle.cedar_extensions.specs.declared.evaluation_error.EvaluationError.{EvaluationError}
-use Rattle.cedar_extensions.specs.Table.{Table, as_table}
-use Rattle.cedar_extensions.specs.declared.extensions.Extensions.{Extensions}
+use Rattle.cedar_extensions.specs.Table.{Table}
 use Rattle.cedar_bodies.specs.Built.{GivesBuilt}
 use Rattle.cedar_bodies.specs.Fields.{Serves, part_answer, IsEvaluated}
 use Rattle.cedar_bodies.specs.Questions.{question_of, StandsAt, LendsContext}
 use Rattle.cedar_bodies.specs.Reading.{TreesAreRead, IsRead}
 use Rattle.cedar_bodies.specs.Refusals.{refusal_by}
 use Rattle.cedar_bodies.specs.declared.questions.AskBody.{AskBody}
-use Rattle.cedar_bodies.proofs.Entries.{part_read, failure_is}
+use Rattle.cedar_bodies.proofs.Entries.{GivesNoText, part_read, failure_is}
 use Rattle.cedar_replies.specs.declared.refusal.Refusal.{Refusal}
 use Rattle.cedar_replies.specs.declared.refusal.Refusal.TheVariants.{Depth, Evaluation, BadUnknown, Memory}
 use Rattle.cedar_requests.specs.Contexts.{context_part, is_record}
@@ -151,15 +148,15 @@ means_read : (by : Setting) (ks : List Text) (us : Trees) (p : Either Value Tree
 means_read by ks us (Left v) h uncalled = λ none. (v, h.0)
 means_read by ks us (Right r) h uncalled = λ none. absurd (true≢false (sym h.0 ∙ (λ i. none i || uncalled i)))
 
-module _ (read : TreesAreRead) (by : Setting) (extensions : Extensions) (functions_named : are_named (functions_in extensions) ≡ true) (depth : ℕ) where
+module _ (read : TreesAreRead) (by : Setting) (table : Table) (texts : GivesNoText table) (depth : ℕ) where
   module _ (ks : List Text) (ts : Trees) where
     abbrev written_record : Tree
     written_record = Apply (MakeRecord ks) ts
 
-    record_taken : is_restricted written_record ≡ true → Serves (as_table extensions) by (holds_call written_record) → (c : Context) → AnswersContext (as_table extensions) depth written_record (Ok c) → badly_named written_record ≡ false
-        → IsTakenAs by (entries_in written_record) (as_table extensions) (Some c)
+    record_taken : is_restricted written_record ≡ true → Serves table by (holds_call written_record) → (c : Context) → AnswersContext table depth written_record (Ok c) → badly_named written_record ≡ false
+        → IsTakenAs by (entries_in written_record) table (Some c)
     record_taken given serves c answers well =
-        let is_read = part_read read extensions functions_named depth written_record given by serves (context_part c) (answers (functions_alone by.functions) serves.functions) in
+        let is_read = part_read read table texts depth written_record given by serves (context_part c) (answers (functions_alone by.functions) serves.functions) in
         let named_well : holds_bad_unknown (WithEntries ks (all_named ts)) ≡ false = sym (all_bad_as_named ts given) ∙ well in
         record {
           evaluated = both_given (record { restricted = given; uncalled = serves.held; answers = answers });
@@ -168,21 +165,21 @@ module _ (read : TreesAreRead) (by : Setting) (extensions : Extensions) (functio
           named = named_well;
         }
 
-    record_unnamed : is_restricted written_record ≡ true → Serves (as_table extensions) by (holds_call written_record) → (c : Context) → AnswersContext (as_table extensions) depth written_record (Ok c) → badly_named written_record ≡ true
+    record_unnamed : is_restricted written_record ≡ true → Serves table by (holds_call written_record) → (c : Context) → AnswersContext table depth written_record (Ok c) → badly_named written_record ≡ true
         → (context_errs by (entries_in written_record) map.empty ≡ false) × (holds_bad_unknown (entries_in written_record) ≡ true)
     record_unnamed given serves c answers badly =
-        let is_read = part_read read extensions functions_named depth written_record given by serves (context_part c) (answers (functions_alone by.functions) serves.functions) in
+        let is_read = part_read read table texts depth written_record given by serves (context_part c) (answers (functions_alone by.functions) serves.functions) in
         (errs_as_alone by (named written_record) ∙ fine_read by (named written_record) (context_part c) is_read, sym (all_bad_as_named ts given) ∙ badly)
 
-  module _ (t : Tree) (record_is : IsDataRecord t) (serves : Serves (as_table extensions) by (holds_call t)) where
-    taken : (c : Context) → AnswersContext (as_table extensions) depth t (Ok c) → badly_named t ≡ false → IsTakenAs by (entries_in t) (as_table extensions) (Some c)
+  module _ (t : Tree) (record_is : IsDataRecord t) (serves : Serves table by (holds_call t)) where
+    taken : (c : Context) → AnswersContext table depth t (Ok c) → badly_named t ≡ false → IsTakenAs by (entries_in t) table (Some c)
     taken c answers well =
-        subst (λ (u : Tree). is_restricted u ≡ true → Serves (as_table extensions) by (holds_call u) → AnswersContext (as_table extensions) depth u (Ok c) → badly_named u ≡ false → IsTakenAs by (entries_in u) (as_table extensions) (Some c))
+        subst (λ (u : Tree). is_restricted u ≡ true → Serves table by (holds_call u) → AnswersContext table depth u (Ok c) → badly_named u ≡ false → IsTakenAs by (entries_in u) table (Some c))
         (sym record_is.is) (λ given served answer named. record_taken record_is.names record_is.values given served c answer named) record_is.restricted serves answers well
 
-    unnamed : (c : Context) → AnswersContext (as_table extensions) depth t (Ok c) → badly_named t ≡ true → (context_errs by (entries_in t) map.empty ≡ false) × (holds_bad_unknown (entries_in t) ≡ true)
+    unnamed : (c : Context) → AnswersContext table depth t (Ok c) → badly_named t ≡ true → (context_errs by (entries_in t) map.empty ≡ false) × (holds_bad_unknown (entries_in t) ≡ true)
     unnamed c answers badly =
-        subst (λ (u : Tree). is_restricted u ≡ true → Serves (as_table extensions) by (holds_call u) → AnswersContext (as_table extensions) depth u (Ok c) → badly_named u ≡ true → (context_errs by (entries_in u) map.empty ≡ false) × (holds_bad_unknown (entries_in u) ≡ true))
+        subst (λ (u : Tree). is_restricted u ≡ true → Serves table by (holds_call u) → AnswersContext table depth u (Ok c) → badly_named u ≡ true → (context_errs by (entries_in u) map.empty ≡ false) × (holds_bad_unknown (entries_in u) ≡ true))
         (sym record_is.is) (λ given served answer named. record_unnamed record_is.names record_is.values given served c answer named) record_is.restricted serves answers badly
 
     errs_so : errs_alone by (named t) ≡ true → context_errs by (entries_in t) map.empty ≡ true
@@ -190,50 +187,50 @@ module _ (read : TreesAreRead) (by : Setting) (extensions : Extensions) (functio
         subst (λ (u : Tree). errs_alone by (named u) ≡ true → context_errs by (entries_in u) map.empty ≡ true)
         (sym record_is.is) (λ err. errs_as_alone by (Apply (MakeRecord record_is.names) (all_named record_is.values)) ∙ err) h
 
-  module _ (e : Bor (Expr (Unit {0}))) (record_is : IsDataRecord (bare e.now)) (serves : Serves (as_table extensions) by (holds_call (bare e.now))) where
-    evaluated_well : (c : Context) → Creates (as_table extensions) depth (bare e.now) (Ok c) → badly_named (bare e.now) ≡ false → EvaluatesContext by (as_table extensions) depth (Some e) (Ok (Some c))
+  module _ (e : Bor (Expr (Unit {0}))) (record_is : IsDataRecord (bare e.now)) (serves : Serves table by (holds_call (bare e.now))) where
+    evaluated_well : (c : Context) → Creates table depth (bare e.now) (Ok c) → badly_named (bare e.now) ≡ false → EvaluatesContext by table depth (Some e) (Ok (Some c))
     evaluated_well c made well = taken (bare e.now) record_is serves c made.answer well
 
-    evaluated_badly : (c : Context) → Creates (as_table extensions) depth (bare e.now) (Ok c) → badly_named (bare e.now) ≡ true → EvaluatesContext by (as_table extensions) depth (Some e) (Err BadUnknown)
+    evaluated_badly : (c : Context) → Creates table depth (bare e.now) (Ok c) → badly_named (bare e.now) ≡ true → EvaluatesContext by table depth (Some e) (Err BadUnknown)
     evaluated_badly c made badly = let both = unnamed (bare e.now) record_is serves c made.answer badly in record { fine = both.0; unnamed = both.1 }
 
-    refused : (r : Refusal) → IsEvaluated (as_table extensions) depth (bare e.now) (Err r) → EvaluatesContext by (as_table extensions) depth (Some e) (Err r)
+    refused : (r : Refusal) → IsEvaluated table depth (bare e.now) (Err r) → EvaluatesContext by table depth (Some e) (Err r)
     refused Evaluation h = errs_so (bare e.now) record_is serves (h by serves)
     refused Depth h = h
     refused Memory h = tt
     refused r h = absurd h
 
-    evaluated_not : (error : EvaluationError) (r : Refusal) → r ≡ refusal_by (failure_of error) → AnswersContext (as_table extensions) depth (bare e.now) (Err error) → EvaluatesContext by (as_table extensions) depth (Some e) (Err r)
+    evaluated_not : (error : EvaluationError) (r : Refusal) → r ≡ refusal_by (failure_of error) → AnswersContext table depth (bare e.now) (Err error) → EvaluatesContext by table depth (Some e) (Err r)
     evaluated_not error r is answers =
-        refused r (subst (λ (x : Refusal). IsEvaluated (as_table extensions) depth (bare e.now) (Err x)) (sym is) (failure_is read extensions functions_named depth (bare e.now) record_is.restricted (failure_of error) answers))
+        refused r (subst (λ (x : Refusal). IsEvaluated table depth (bare e.now) (Err x)) (sym is) (failure_is read table texts depth (bare e.now) record_is.restricted (failure_of error) answers))
 
-    context_refused : (error : ContextCreationError) (r : Refusal) → IsWhyNone error r → Creates (as_table extensions) depth (bare e.now) (Err error) → EvaluatesContext by (as_table extensions) depth (Some e) (Err r)
+    context_refused : (error : ContextCreationError) (r : Refusal) → IsWhyNone error r → Creates table depth (bare e.now) (Err error) → EvaluatesContext by table depth (Some e) (Err r)
     context_refused (creation.Evaluation error) r is made = evaluated_not error r is made.answer
-    context_refused (creation.Memory error) r is made = subst (λ (x : Refusal). EvaluatesContext by (as_table extensions) depth (Some e) (Err x)) (sym is) tt
+    context_refused (creation.Memory error) r is made = subst (λ (x : Refusal). EvaluatesContext by table depth (Some e) (Err x)) (sym is) tt
     context_refused (creation.NotARecord error) r is made = absurd (true≢false (sym (ap is_record record_is.is) ∙ made.written.0))
     context_refused (creation.ExpressionConstruction error) r is made = absurd made.written
 
   -- the same where the context is one that may be written, and its record is lent as u
-  module _ (w : Written) (e : Bor (Expr (Unit {0}))) (is : w ≡ Some e) (given : IsWrittenAsData w) (serves : Serves (as_table extensions) by (holds_call_in w)) (u : Tree) (same : u ≡ bare e.now) where
+  module _ (w : Written) (e : Bor (Expr (Unit {0}))) (is : w ≡ Some e) (given : IsWrittenAsData w) (serves : Serves table by (holds_call_in w)) (u : Tree) (same : u ≡ bare e.now) where
     record_given : IsDataRecord (bare e.now)
     record_given = subst IsWrittenAsData is given
 
-    record_served : Serves (as_table extensions) by (holds_call (bare e.now))
-    record_served = subst (λ (x : Written). Serves (as_table extensions) by (holds_call_in x)) is serves
+    record_served : Serves table by (holds_call (bare e.now))
+    record_served = subst (λ (x : Written). Serves table by (holds_call_in x)) is serves
 
-    record_made : (result : Result Context ContextCreationError) → Creates (as_table extensions) depth u result → Creates (as_table extensions) depth (bare e.now) result
-    record_made result = subst (λ (t : Tree). Creates (as_table extensions) depth t result) same
+    record_made : (result : Result Context ContextCreationError) → Creates table depth u result → Creates table depth (bare e.now) result
+    record_made result = subst (λ (t : Tree). Creates table depth t result) same
 
-    of_written : (result : Result (Option Context) Refusal) → EvaluatesContext by (as_table extensions) depth (Some e) result → EvaluatesContext by (as_table extensions) depth w result
-    of_written result = subst (λ (x : Written). EvaluatesContext by (as_table extensions) depth x result) (sym is)
+    of_written : (result : Result (Option Context) Refusal) → EvaluatesContext by table depth (Some e) result → EvaluatesContext by table depth w result
+    of_written result = subst (λ (x : Written). EvaluatesContext by table depth x result) (sym is)
 
-    pub named_well : (c : Context) → Creates (as_table extensions) depth u (Ok c) → badly_named (bare e.now) ≡ false → EvaluatesContext by (as_table extensions) depth w (Ok (Some c))
+    pub named_well : (c : Context) → Creates table depth u (Ok c) → badly_named (bare e.now) ≡ false → EvaluatesContext by table depth w (Ok (Some c))
     named_well c made well = of_written (Ok (Some c)) (evaluated_well e record_given record_served c (record_made (Ok c) made) well)
 
-    pub named_badly : (c : Context) → Creates (as_table extensions) depth u (Ok c) → badly_named (bare e.now) ≡ true → EvaluatesContext by (as_table extensions) depth w (Err BadUnknown)
+    pub named_badly : (c : Context) → Creates table depth u (Ok c) → badly_named (bare e.now) ≡ true → EvaluatesContext by table depth w (Err BadUnknown)
     named_badly c made badly = of_written (Err BadUnknown) (evaluated_badly e record_given record_served c (record_made (Ok c) made) badly)
 
-    pub not_made : (error : ContextCreationError) (r : Refusal) → IsWhyNone error r → Creates (as_table extensions) depth u (Err error) → EvaluatesContext by (as_table extensions) depth w (Err r)
+    pub not_made : (error : ContextCreationError) (r : Refusal) → IsWhyNone error r → Creates table depth u (Err error) → EvaluatesContext by table depth w (Err r)
     not_made error r why made = of_written (Err r) (context_refused e record_given record_served error r why (record_made (Err error) made))
 
 none_given : (by : Setting) (table : Table) (depth : ℕ) → EvaluatesContext by table depth None (Ok None)

@@ -15,8 +15,7 @@ use Rattle.cedar_world.specs.World.{World}
 use Rattle.cedar_telling.specs.Joined.{IsJoined}
 use Rattle.cedar_entities.specs.declared.store.Entities.{Entities}
 use Rattle.cedar_extensions.specs.Failures.{Failure, OfKind, failure_of}
-use Rattle.cedar_extensions.specs.Table.{Table, as_table}
-use Rattle.cedar_extensions.specs.declared.extensions.Extensions.{Extensions}
+use Rattle.cedar_extensions.specs.Table.{Table}
 use Rattle.cedar_interpreter.specs.Asking.{untold}
 use Rattle.cedar_policy_set.specs.Entries.{Entries, IsWhole}
 use Rattle.cedar_replies.specs.declared.error_kind.ErrorKind.{ErrorKind}
@@ -59,10 +58,10 @@ module _ (by : Setting) (world : World) (q : Question) (first : PartialResponse)
 -- where no limit is met, the first response taken up again, joined with the last answer, answers the question
 abbrev pub TellsAreAnswered : Type 0
 TellsAreAnswered =
-    (by : Setting) (world : World) (q : Question) (first again : PartialResponse) (old told : List (RcStr Global × Value)) (es : Entries) (s : Entities) (extensions : Extensions) (depth : ℕ)
+    (by : Setting) (world : World) (q : Question) (first again : PartialResponse) (old told : List (RcStr Global × Value)) (es : Entries) (s : Entities) (table : Table) (depth : ℕ)
     (listed : List (Text × ErrorKind)) (last new answer : Answer)
-    → KeepsQuestion by world q first old last → AreOf by world es s (as_table extensions) depth → AreTold q told → Extends (told_in old) (told_in told)
-    → Reauthorizes s (as_table extensions) depth told first (Ok again) → SaysHeld (holding_in again) listed new → IsJoined last new answer
+    → GivesBuilt table → KeepsQuestion by world q first old last → AreOf by world es s table depth → AreTold q told → Extends (told_in old) (told_in told)
+    → Reauthorizes s table depth told first (Ok again) → SaysHeld (holding_in again) listed new → IsJoined last new answer
     → IsAnsweredLater by world q first old told last answer
 
 -- the context's evaluation failed, by an error that it meets wherever it is evaluated; or the limit was met, or memory ran out
@@ -79,7 +78,7 @@ IsWhyNotTold by q told e = ⊥
 
 abbrev pub TellsAreRefused : Type 0
 TellsAreRefused =
-    (by : Setting) (world : World) (q : Question) (first : PartialResponse) (old told : List (RcStr Global × Value)) (es : Entries) (s : Entities) (extensions : Extensions) (depth : ℕ) (last : Answer) (e : ReauthorizationError)
-    → KeepsQuestion by world q first old last → AreOf by world es s (as_table extensions) depth → AreTold q told
-    → Reauthorizes s (as_table extensions) depth told first (Err e)
+    (by : Setting) (world : World) (q : Question) (first : PartialResponse) (old told : List (RcStr Global × Value)) (es : Entries) (s : Entities) (table : Table) (depth : ℕ) (last : Answer) (e : ReauthorizationError)
+    → GivesBuilt table → KeepsQuestion by world q first old last → AreOf by world es s table depth → AreTold q told
+    → Reauthorizes s table depth told first (Err e)
     → IsWhyNotTold by q told e

@@ -34,6 +34,7 @@ use cedar_evaluator::authorizer::Authorizer;
 use cedar_evaluator::errors::{ConcretizationError, ReauthorizationError};
 use cedar_evaluator::partial_response::PartialResponse;
 use cedar_extensions::extensions::Extensions;
+use cedar_extensions::objects::ExtensionFunctionObject;
 use cedar_policy_set::sets::PolicySet;
 use cedar_replies::{Answer, Erring, PolicyIds, Refusal};
 use cedar_requests::Request;
@@ -77,15 +78,15 @@ fn answer_by(alloc: Global, response: &PartialResponse) -> Result<Answer, Refusa
 /// response that says so, by which [`answer_told`] goes on. (Cedar language reference, "Authorization".)
 ///
 /// It is refused `Depth` where the evaluation of some policy nests deeper than `depth`, and `Memory`.
-pub fn answer(
+pub fn answer<F: ExtensionFunctionObject>(
     alloc: Global,
     request: Request,
     policies: &PolicySet,
     entities: &Entities,
-    extensions: &Extensions<'_>,
+    extensions: &Extensions<'_, F>,
     depth: u32,
 ) -> Result<(PartialResponse, Answer), Refusal>
-    ensures { (by : Setting) (world : World) (q : Question) → AreOf by world policies.now entities.now (as_table extensions.now) depth → IsRequestOf by (as_table extensions.now) q (request_parts request) → IsNamed q.context → AnswersAsked by world q result }
+    ensures { (by : Setting) (world : World) (q : Question) → AreOf by world policies.now entities.now (as_table F.answers extensions.now) depth → IsRequestOf by (as_table F.answers extensions.now) q (request_parts request) → IsNamed q.context → AnswersAsked by world q result }
 {
     cedar_world::worlds_have_facts();
     worlds_are_shown();
@@ -120,16 +121,16 @@ fn why_not_told(error: &ReauthorizationError) -> Refusal
 ///
 /// It is refused `Evaluation` where the context errs with these values, `Depth` where an evaluation nests
 /// deeper than `depth`, and `Memory`.
-pub fn answer_told(
+pub fn answer_told<F: ExtensionFunctionObject>(
     alloc: Global,
     first: &PartialResponse,
     told: &HashMap<RcStr, Value>,
     last: &Answer,
     entities: &Entities,
-    extensions: &Extensions<'_>,
+    extensions: &Extensions<'_, F>,
     depth: u32,
 ) -> Result<Answer, Refusal>
-    ensures { (by : Setting) (world : World) (q : Question) (old : List (Name Memory × Valued)) (es : Entries) → KeepsQuestion by world q first.now old (answer_of last.now) → AreOf by world es entities.now (as_table extensions.now) depth → AreTold q told.now.entries → Extends (told_in old) (told_in told.now.entries) → AnswersTold by world q first.now old told.now.entries (answer_of last.now) result }
+    ensures { (by : Setting) (world : World) (q : Question) (old : List (Name Memory × Valued)) (es : Entries) → KeepsQuestion by world q first.now old (answer_of last.now) → AreOf by world es entities.now (as_table F.answers extensions.now) depth → AreTold q told.now.entries → Extends (told_in old) (told_in told.now.entries) → AnswersTold by world q first.now old told.now.entries (answer_of last.now) result }
 {
     tells_are_answered();
     tells_are_refused();

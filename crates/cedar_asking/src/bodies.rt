@@ -13,6 +13,7 @@ use crate::unknowns::is_badly_named;
 use cedar_bodies::version_laws::trees_are_read;
 use cedar_bodies::{ask_body, refusal};
 use cedar_extensions::extensions::Extensions;
+use cedar_extensions::objects::ExtensionFunctionObject;
 use cedar_literals::uids::EntityUID;
 use cedar_replies::Refusal;
 use cedar_requests::{Context, ContextCreationError, EntityUIDEntry, Request};
@@ -45,14 +46,14 @@ fn why_none(error: &ContextCreationError) -> Refusal
 
 // What the record that a body has for its context is evaluated to, where each unknown in it has a name of
 // its own.
-fn context_of(
+fn context_of<F: ExtensionFunctionObject>(
     alloc: Global,
     written: Option<&Expr>,
-    extensions: &Extensions<'_>,
+    extensions: &Extensions<'_, F>,
     depth: u32,
 ) -> Result<Option<Context>, Refusal>
     requires { IsWrittenAsData written }
-    ensures { (by : Setting) → Serves (as_table extensions.now) by (holds_call_in written.entry) → EvaluatesContext by (as_table extensions.now) depth written.entry result }
+    ensures { (by : Setting) → Serves (as_table F.answers extensions.now) by (holds_call_in written.entry) → EvaluatesContext by (as_table F.answers extensions.now) depth written.entry result }
 {
     trees_are_read();
     let Some(record) = written else {
@@ -73,13 +74,13 @@ fn context_of(
 /// `resource` and a record for `context` or none; `Evaluation` where some part of the context that holds no
 /// unknown errs; `BadUnknown` where `unknown` is called there on what is no text, or on the name of a
 /// variable; `Depth` only where the body is higher than `depth`; and `Memory`.
-pub fn request_of(
+pub fn request_of<F: ExtensionFunctionObject>(
     alloc: Global,
     body: &RestrictedExpr,
-    extensions: &Extensions<'_>,
+    extensions: &Extensions<'_, F>,
     depth: u32,
 ) -> Result<Request, Refusal>
-    ensures { (by : Setting) → Serves (as_table extensions.now) by (holds_call (restricted_tree body.now)) → AsksBody by (as_table extensions.now) depth (restricted_tree body.now) result }
+    ensures { (by : Setting) → Serves (as_table F.answers extensions.now) by (holds_call (restricted_tree body.now)) → AsksBody by (as_table F.answers extensions.now) depth (restricted_tree body.now) result }
 {
     questions_are_asked();
     let Some(asked) = ask_body(body.as_ref()) else {

@@ -21,6 +21,7 @@ ghost use Rattle.cedar_asking.specs.TellSteps.{IsGivenRestricted, fits_attribute
 use crate::wanted::{asks_for, takes};
 use cedar_bodies::{AskBody, all_evaluated, ask_body, entries_of};
 use cedar_extensions::extensions::Extensions;
+use cedar_extensions::objects::ExtensionFunctionObject;
 use cedar_replies::Refusal;
 use cedar_restricted::partial_values::PartialValue;
 use cedar_restricted::restricted::RestrictedExpr;
@@ -118,15 +119,15 @@ fn with_values(
 /// is no unknown of the question; `AlreadyTold` where one was told before; `WrongKind` where the principal,
 /// the action or the resource is told what is no entity, or the context what is no record; `Depth` only
 /// where the body is higher than `depth`; and `Memory`.
-pub fn told_by(
+pub fn told_by<F: ExtensionFunctionObject>(
     alloc: Global,
     body: &RestrictedExpr,
     question: &RestrictedExpr,
     told: &HashMap<RcStr, Value>,
-    extensions: &Extensions<'_>,
+    extensions: &Extensions<'_, F>,
     depth: u32,
 ) -> Result<HashMap<RcStr, Value>, Refusal>
-    ensures { (by : Setting) (q : Question) → Serves (as_table extensions.now) by (holds_call (restricted_tree body.now)) → world.ask_body (restricted_tree question.now) ≡ Some q → TellsBody by q (told_in told.now.entries) depth (restricted_tree body.now) result }
+    ensures { (by : Setting) (q : Question) → Serves (as_table F.answers extensions.now) by (holds_call (restricted_tree body.now)) → world.ask_body (restricted_tree question.now) ≡ Some q → TellsBody by q (told_in told.now.entries) depth (restricted_tree body.now) result }
 {
     let Some(entries) = entries_of(body.as_ref()) else {
         return Err(Refusal::Shape);

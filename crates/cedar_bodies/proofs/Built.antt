@@ -21,6 +21,7 @@ use Rattle.cedar_partial_evaluation.specs.Partial.{Answer, Evaluated, ResidualTr
 use Rattle.cedar_partial_evaluation.specs.Question.{name_held}
 use Rattle.cedar_world.specs.Bodies.{named, all_named, named_call, unknown_or}
 use Rattle.cedar_world.specs.Functions.{is_the_unknown, one_string}
+use Rattle.cedar_extensions.specs.Answering.{FunctionAnswers}
 use Rattle.cedar_extensions.specs.Functions.{meaning_in, meaning_of}
 use Rattle.cedar_extensions.specs.Holding.{found_in}
 use Rattle.cedar_extensions.specs.Table.{Table, as_table}
@@ -60,18 +61,24 @@ text_built : (vs : Values) → IsBuiltOption (one_string vs)
 text_built (a_value (Plain (String s)) no_values) = tt
 text_built vs = tt
 
--- the built-in function gives a text, and a table has no other
-answer_built : (g : Function) (vs : Values) → IsBuiltOption ((meaning_in g).answer vs)
-answer_built function.Unknown vs = text_built vs
+each_built : (o : Option Value) → ((v : Value) → o ≡ Some v → IsBuilt v) → IsBuiltOption o
+each_built None h = tt
+each_built (Some v) h = h v refl
 
-given_built : (o : Option ExtensionFunction) (f : language.Function) (vs : Values) (v : Value) → option_map meaning_of o ≡ Some f → f.answer vs ≡ Some v → IsBuilt v
-given_built None f vs v is h = cc
-given_built (Some g) f vs v is h =
-    let same : meaning_of g ≡ f = cc in
-    subst IsBuiltOption (ap (λ (x : language.Function). x.answer vs) same ∙ h) (answer_built g.function vs)
+module _ {F : Type 0} (answers : F → FunctionAnswers) where
+  -- the built-in function gives a text, and a caller's a built value
+  answer_built : (g : Function F) (vs : Values) → IsBuiltOption ((meaning_in answers g).answer vs)
+  answer_built function.Unknown vs = text_built vs
+  answer_built (function.Callers f) vs = each_built ((answers f.object).given vs) ((answers f.object).built vs)
 
-pub gives_built : (extensions : Extensions) → GivesBuilt (as_table extensions)
-gives_built extensions n f vs v is h = given_built (found_in (functions_in extensions) n) f vs v is h
+  given_built : (o : Option (ExtensionFunction F)) (f : language.Function) (vs : Values) (v : Value) → option_map (meaning_of answers) o ≡ Some f → f.answer vs ≡ Some v → IsBuilt v
+  given_built None f vs v is h = cc
+  given_built (Some g) f vs v is h =
+      let same : meaning_of answers g ≡ f = cc in
+      subst IsBuiltOption (ap (λ (x : language.Function). x.answer vs) same ∙ h) (answer_built g.function vs)
+
+  pub gives_built : (extensions : Extensions F) → GivesBuilt (as_table answers extensions)
+  gives_built extensions n f vs v is h = given_built (found_in (functions_in extensions) n) f vs v is h
 
 abbrev pub IsBuiltOutcome : Outcome → Type 0
 IsBuiltOutcome (Gives v) = IsBuilt v

@@ -13,8 +13,8 @@ use Rattle.cedar_language.specs.Height.{height}
 use Rattle.cedar_language.specs.Facts.{Facts}
 use Rattle.cedar_language.specs.Restricted.{is_restricted, are_restricted}
 use Rattle.cedar_language.specs.Tree.{String, Call, MakeSet, MakeRecord, Tree, Lit, Unknown, Apply, Trees, no_trees, a_tree}
-use Rattle.cedar_language.specs.Value.{Value, Plain, Values, Gives}
-use Rattle.cedar_language.specs.Operators.{called}
+use Rattle.cedar_language.specs.Value.{Value, Plain, Values, FailedExtensionFunctionExecution, WrongNumArguments, Gives, Fails}
+use Rattle.cedar_language.specs.Operators.{called, count, or_fails, takes}
 use Rattle.cedar_partial_evaluation.specs.Partial.{Answer, Evaluated, ResidualTree, Failed, partial_in}
 use Rattle.cedar_world.specs.Bodies.{named, all_named, named_call, unknown_or, holds_call, hold_call}
 use Rattle.cedar_world.specs.Functions.{is_the_unknown}
@@ -26,7 +26,8 @@ use Rattle.cedar_trees.specs.declared.expr.Expr.{Expr}
 use Rattle.cedar_extensions.specs.Failures.{Failure, OfKind, LimitMet, MemoryRanOut, failure_of}
 use Rattle.cedar_extensions.specs.Giving.{FailsBy}
 use Rattle.cedar_extensions.specs.declared.evaluation_error.EvaluationError.{EvaluationError}
-use Rattle.cedar_extensions.specs.Functions.{function_name, meaning_of, names_unknown}
+use Rattle.cedar_extensions.specs.Answering.{FunctionAnswers}
+use Rattle.cedar_extensions.specs.Functions.{function_name, meaning_in, meaning_of, names_unknown, is_unknown}
 use Rattle.cedar_extensions.specs.Holding.{found_in, is_named, are_named}
 use Rattle.cedar_extensions.specs.Table.{Table, as_table}
 use Rattle.cedar_extensions.specs.Tables.{functions_in}
@@ -63,29 +64,42 @@ and_right : (a b : Bool) → (a && b) ≡ true → b ≡ true
 and_right true b h = h
 and_right false b h = cc
 
-is_built_in : (g : Function) → names_unknown g ≡ true
-is_built_in function.Unknown = refl
+named_so : {F : Type 0} (f : ExtensionFunction F) → is_unknown f ≡ true → is_named f ≡ true → is_the_unknown (function_name f) ≡ true
+named_so f u h = sym (ap (λ b. cond b (is_the_unknown (function_name f)) (not (is_the_unknown (function_name f)))) u) ∙ h
 
-named_so : (f : ExtensionFunction) → is_named f ≡ true → is_the_unknown (function_name f) ≡ true
-named_so f h = sym (ap (λ b. cond b (is_the_unknown (function_name f)) (not (is_the_unknown (function_name f)))) (is_built_in f.function)) ∙ h
-
-module _ (n : Name) (f : ExtensionFunction) where
-  named_here : (g : ExtensionFunction) (gs : List ExtensionFunction) → is_named g ≡ true → (found_in gs n ≡ Some f → is_the_unknown n ≡ true) → (b : Bool) → same_name (function_name g) n ≡ b → cond b (Some g) (found_in gs n) ≡ Some f → is_the_unknown n ≡ true
-  named_here g gs h below true i e = ap is_the_unknown (sym ((names_same (function_name g) n).0 i)) ∙ named_so g h
+module _ {F : Type 0} (n : Name) (f : ExtensionFunction F) (u : is_unknown f ≡ true) where
+  named_here : (g : ExtensionFunction F) (gs : List (ExtensionFunction F)) → is_named g ≡ true → (found_in gs n ≡ Some f → is_the_unknown n ≡ true) → (b : Bool) → same_name (function_name g) n ≡ b → cond b (Some g) (found_in gs n) ≡ Some f → is_the_unknown n ≡ true
+  named_here g gs h below true i e =
+      let same : g ≡ f = cc in
+      ap is_the_unknown (sym ((names_same (function_name g) n).0 i)) ∙ named_so g (ap is_unknown same ∙ u) h
   named_here g gs h below false i e = below e
 
-  found_is_named : (fs : List ExtensionFunction) → are_named fs ≡ true → found_in fs n ≡ Some f → is_the_unknown n ≡ true
+  found_is_named : (fs : List (ExtensionFunction F)) → are_named fs ≡ true → found_in fs n ≡ Some f → is_the_unknown n ≡ true
   found_is_named [] h e = cc
   found_is_named (g ∷ gs) h e = named_here g gs (and_left _ _ h) (found_is_named gs (and_right _ _ h)) (same_name (function_name g) n) refl e
 
-called_is_named : (fs : List ExtensionFunction) → are_named fs ≡ true → (n : Name) (vs : Values) (v : Value) (o : Option ExtensionFunction) → found_in fs n ≡ o → called (option_map meaning_of o) vs ≡ Gives v → is_the_unknown n ≡ true
-called_is_named fs h n vs v None is gives = cc
-called_is_named fs h n vs v (Some f) is gives = found_is_named n f fs h is
+given_by : (b : Bool) (o : Option Value) (v : Value) → cond b (or_fails FailedExtensionFunctionExecution o) (Fails WrongNumArguments) ≡ Gives v → o ≡ Some v
+given_by true (Some w) v e = cc
+given_by true None v e = cc
+given_by false o v e = cc
 
--- the built-in function is all that today's tables hold
-pub no_text : (extensions : Extensions) → are_named (functions_in extensions) ≡ true → (by : Setting) → HasFunctions (as_table extensions) (functions_alone by.functions) → GiveNoText by.functions
-no_text extensions h by has n vs s gives =
-    called_is_named (functions_in extensions) h n vs (Plain (String s)) (found_in (functions_in extensions) n) refl (sym (ap (λ o. called o vs) (has n)) ∙ gives)
+module _ {F : Type 0} (answers : F → FunctionAnswers) where
+  -- a function that gives a text is the built-in one
+  gives_text : (g : Function F) (vs : Values) (s : Text) → called (Some (meaning_in answers g)) vs ≡ Gives (Plain (String s)) → names_unknown g ≡ true
+  gives_text function.Unknown vs s gives = refl
+  gives_text (function.Callers f) vs s gives = absurd ((answers f.object).no_text vs s (given_by (takes f.takes (count vs)) ((answers f.object).given vs) (Plain (String s)) gives))
+
+  called_is_named : (fs : List (ExtensionFunction F)) → are_named fs ≡ true → (n : Name) (vs : Values) (s : Text) (o : Option (ExtensionFunction F)) → found_in fs n ≡ o → called (option_map (meaning_of answers) o) vs ≡ Gives (Plain (String s)) → is_the_unknown n ≡ true
+  called_is_named fs h n vs s None is gives = cc
+  called_is_named fs h n vs s (Some f) is gives = found_is_named n f (gives_text f.function vs s gives) fs h is
+
+-- a table has `unknown` alone of the functions that give a text
+abbrev pub GivesNoText : Table → Type 0
+GivesNoText table = (by : Setting) → HasFunctions table (functions_alone by.functions) → GiveNoText by.functions
+
+pub no_text : {F : Type 0} (answers : F → FunctionAnswers) (extensions : Extensions F) → are_named (functions_in extensions) ≡ true → GivesNoText (as_table answers extensions)
+no_text answers extensions h by has n vs s gives =
+    called_is_named answers (functions_in extensions) h n vs s (found_in (functions_in extensions) n) refl (sym (ap (λ o. called o vs) (has n)) ∙ gives)
 
 -- ---- trees without calls of `unknown`
 
@@ -121,26 +135,26 @@ functions_of table = record {
   written = λ e. record { function = []; arguments = no_trees };
 }
 
-module _ (read : TreesAreRead) (extensions : Extensions) (functions_named : are_named (functions_in extensions) ≡ true) (depth : ℕ) (t : Tree) (restricted : is_restricted t ≡ true) where
-  answered : (by : Setting) → Serves (as_table extensions) by (holds_call t) → (a : Answer) → answer_in (as_table extensions) (functions_alone by.functions) t ≡ a → IsRead by (named t) a
+module _ (read : TreesAreRead) (table : Table) (texts : GivesNoText table) (depth : ℕ) (t : Tree) (restricted : is_restricted t ≡ true) where
+  answered : (by : Setting) → Serves table by (holds_call t) → (a : Answer) → answer_in table (functions_alone by.functions) t ≡ a → IsRead by (named t) a
   answered by serves a is =
-      subst (IsRead by (named t)) (ap (partial_in (functions_alone by.functions) nothing_told) (sym (names_as (as_table extensions).has_unknown t restricted serves.held)) ∙ is)
-      (read by (no_text extensions functions_named by serves.functions) t restricted)
+      subst (IsRead by (named t)) (ap (partial_in (functions_alone by.functions) nothing_told) (sym (names_as table.has_unknown t restricted serves.held)) ∙ is)
+      (read by (texts by serves.functions) t restricted)
 
-  pub part_read : (by : Setting) → Serves (as_table extensions) by (holds_call t) → (p : Either Value Tree) → IsAnswer (functions_alone by.functions) (answer_in (as_table extensions) (functions_alone by.functions) t) p → IsRead by (named t) (part_answer p)
+  pub part_read : (by : Setting) → Serves table by (holds_call t) → (p : Either Value Tree) → IsAnswer (functions_alone by.functions) (answer_in table (functions_alone by.functions) t) p → IsRead by (named t) (part_answer p)
   part_read by serves (Left v) h = answered by serves (Evaluated v) h
   part_read by serves (Right r) h = answered by serves (ResidualTree h.0) h.1
 
-  pub value_is : (p : PartialValue) → evaluation.Answers (as_table extensions) depth t (Ok p) → IsEvaluated (as_table extensions) depth t (Ok p)
+  pub value_is : (p : PartialValue) → evaluation.Answers table depth t (Ok p) → IsEvaluated table depth t (Ok p)
   value_is p h by serves = part_read by serves (partial_of p) (h (functions_alone by.functions) serves.functions)
 
-  pub failure_is : (f : Failure) → ((facts : Facts) → HasFunctions (as_table extensions) facts → FailsBy (depth < height t) (λ k. answer_in (as_table extensions) facts t ≡ Failed k) f) → IsEvaluated (as_table extensions) depth t (Err (refusal_by f))
+  pub failure_is : (f : Failure) → ((facts : Facts) → HasFunctions table facts → FailsBy (depth < height t) (λ k. answer_in table facts t ≡ Failed k) f) → IsEvaluated table depth t (Err (refusal_by f))
   failure_is (OfKind k) h = λ by serves. answered by serves (Failed k) (h (functions_alone by.functions) serves.functions)
-  failure_is LimitMet h = h (functions_of (as_table extensions)) (λ n. refl)
+  failure_is LimitMet h = h (functions_of table) (λ n. refl)
   failure_is MemoryRanOut h = tt
 
-  pub refusal_is : (e : EvaluationError) (r : Refusal) → r ≡ refusal_by (failure_of e) → evaluation.Answers (as_table extensions) depth t (Err e) → IsEvaluated (as_table extensions) depth t (Err r)
-  refusal_is e r is h = subst (λ x. IsEvaluated (as_table extensions) depth t (Err x)) (sym is) (failure_is (failure_of e) h)
+  pub refusal_is : (e : EvaluationError) (r : Refusal) → r ≡ refusal_by (failure_of e) → evaluation.Answers table depth t (Err e) → IsEvaluated table depth t (Err r)
+  refusal_is e r is h = subst (λ x. IsEvaluated table depth t (Err x)) (sym is) (failure_is (failure_of e) h)
 
 -- ---- the loop
 

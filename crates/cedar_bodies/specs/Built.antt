@@ -5,25 +5,13 @@ use Rattle.std.specs.List.{AllByRecursion}
 use Rattle.either.specs.declared.Either.{Either}
 use Rattle.either.specs.declared.Either.TheVariants.{Left, Right}
 use Rattle.cedar_language.specs.Facts.{Function}
-use Rattle.cedar_language.specs.Order.{IsRising}
 use Rattle.cedar_language.specs.Tree.{Tree}
 use Rattle.cedar_language.specs.Uid.{Text, Name, Uid}
-use Rattle.cedar_language.specs.Value.{Value, Plain, SetOf, RecordOf, ExtensionOf, Values, no_values, a_value}
+use Rattle.cedar_language.specs.Value.{Value, Values}
 use Rattle.cedar_world.specs.World as world
 use Rattle.cedar_world.specs.EntityEdits.{Version}
 use Rattle.cedar_extensions.specs.Table.{Table}
-
--- literals, sets that rise, and records of such values
-abbrev mutual
-  pub IsBuilt : Value → Type 0
-  IsBuilt (Plain l) = Unit {0}
-  IsBuilt (SetOf vs) = IsRising vs × AreBuilt vs
-  IsBuilt (RecordOf ks vs) = AreBuilt vs
-  IsBuilt (ExtensionOf e) = ⊥
-
-  pub AreBuilt : Values → Type 0
-  AreBuilt no_values = Unit {0}
-  AreBuilt (a_value v vs) = IsBuilt v × AreBuilt vs
+pub use Rattle.cedar_extensions.specs.Answering.{IsBuilt, AreBuilt}
 
 -- where it is a value
 abbrev pub IsBuiltPart : Either Value Tree → Type 0

@@ -10,6 +10,7 @@ ghost use Rattle.cedar_bodies.specs.Fields.{unrestricted, AreEvaluated};
 
 use crate::values::evaluated;
 use cedar_extensions::extensions::Extensions;
+use cedar_extensions::objects::ExtensionFunctionObject;
 use cedar_replies::Refusal;
 use cedar_restricted::partial_values::PartialValue;
 use cedar_trees::expr::Expr;
@@ -31,14 +32,14 @@ fn is_residual(value: &PartialValue) -> bool
 ///
 /// It is refused `Evaluation` where some part of a tree errs that holds no unknown, `Depth` where a tree is
 /// higher than `depth`, and `Memory`. The table of functions is the one that the body was read with.
-pub fn all_evaluated(
+pub fn all_evaluated<F: ExtensionFunctionObject>(
     alloc: Global,
     entries: &BTreeMap<RcStr, Expr>,
-    extensions: &Extensions<'_>,
+    extensions: &Extensions<'_, F>,
     depth: u32,
 ) -> Result<Option<BTreeMap<RcStr, PartialValue>>, Refusal>
     requires { some_field unrestricted (fields_in entries.now) ≡ false }
-    ensures { AreEvaluated (as_table extensions.now) depth (fields_in entries.now) result }
+    ensures { AreEvaluated (as_table F.answers extensions.now) depth (fields_in entries.now) result }
 {
     let mut values = BTreeMap::new(alloc);
     let mut holds_unknown = false;
@@ -56,14 +57,14 @@ pub fn all_evaluated(
 }
 
 // The same of fields that may be left out.
-pub fn evaluated_fields(
+pub fn evaluated_fields<F: ExtensionFunctionObject>(
     alloc: Global,
     entries: Option<&BTreeMap<RcStr, Expr>>,
-    extensions: &Extensions<'_>,
+    extensions: &Extensions<'_, F>,
     depth: u32,
 ) -> Result<Option<BTreeMap<RcStr, PartialValue>>, Refusal>
     requires { some_field unrestricted (lent_fields entries) ≡ false }
-    ensures { AreEvaluated (as_table extensions.now) depth (lent_fields entries.entry) result }
+    ensures { AreEvaluated (as_table F.answers extensions.now) depth (lent_fields entries.entry) result }
 {
     match entries {
         None => Ok(Some(BTreeMap::new(alloc))),

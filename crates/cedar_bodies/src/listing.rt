@@ -13,19 +13,20 @@ use crate::making::entity_of;
 use crate::{EntityBody, entity_bodies};
 use cedar_entities::entity::Entity;
 use cedar_extensions::extensions::Extensions;
+use cedar_extensions::objects::ExtensionFunctionObject;
 use cedar_replies::Refusal;
 use cedar_restricted::borrowed::BorrowedRestrictedExpr;
 use std::alloc::Global;
 
 // The entities of bodies, or none where some attribute or tag holds an unknown.
-fn entities_of(
+fn entities_of<F: ExtensionFunctionObject>(
     alloc: Global,
     bodies: &[EntityBody<'_>],
-    extensions: &Extensions<'_>,
+    extensions: &Extensions<'_, F>,
     depth: u32,
 ) -> Result<Option<Vec<Entity>>, Refusal>
     requires { some_entry unrestricted (map written_of bodies.now) ≡ false }
-    ensures { AreMade (as_table extensions.now) depth (map written_of bodies.now) result }
+    ensures { AreMade (as_table F.answers extensions.now) depth (map written_of bodies.now) result }
 {
     let mut entities = Vec::new(alloc);
     let mut holds_unknown = false;
@@ -49,13 +50,13 @@ fn entities_of(
 /// of an attribute or tag errs that holds no unknown, and `NotAValue` where none does and one of these
 /// holds an unknown. `Depth` stands only where the body is higher than the limit, and `Memory` where
 /// there was none. The table of functions is the one that the body was read with.
-pub fn listed_entities(
+pub fn listed_entities<F: ExtensionFunctionObject>(
     alloc: Global,
     body: BorrowedRestrictedExpr<'_>,
-    extensions: &Extensions<'_>,
+    extensions: &Extensions<'_, F>,
     depth: u32,
 ) -> Result<Vec<Entity>, Refusal>
-    ensures listed { (by : Setting) → Serves (as_table extensions.now) by (holds_call (borrowed_tree body.entry)) → AreListed by depth (borrowed_tree body.entry) result }
+    ensures listed { (by : Setting) → Serves (as_table F.answers extensions.now) by (holds_call (borrowed_tree body.entry)) → AreListed by depth (borrowed_tree body.entry) result }
     ensures versions { IfOk result (λ entities. ShowVersions entities.items) }
 {
     let Some(bodies) = entity_bodies(alloc, body.as_expr())? else {

@@ -11,6 +11,7 @@ use crate::EntityBody;
 use crate::entry_fields::evaluated_fields;
 use cedar_entities::entity::Entity;
 use cedar_extensions::extensions::Extensions;
+use cedar_extensions::objects::ExtensionFunctionObject;
 use cedar_literals::uids::EntityUID;
 use cedar_replies::Refusal;
 use cedar_restricted::partial_values::PartialValue;
@@ -50,15 +51,15 @@ fn entity(
 }
 
 // The entity of a body, or none where some attribute or tag holds an unknown.
-pub fn entity_of(
+pub fn entity_of<F: ExtensionFunctionObject>(
     alloc: Global,
     body: &EntityBody<'_>,
-    extensions: &Extensions<'_>,
+    extensions: &Extensions<'_, F>,
     depth: u32,
 ) -> Result<Option<Entity>, Refusal>
     requires attributes { some_field unrestricted (lent_fields body.now.attrs) ≡ false }
     requires tags { some_field unrestricted (lent_fields body.now.tags) ≡ false }
-    ensures { IsMade (as_table extensions.now) depth (written_of body.now) result }
+    ensures { IsMade (as_table F.answers extensions.now) depth (written_of body.now) result }
 {
     let attrs = evaluated_fields(alloc, body.attrs, extensions, depth)?;
     let tags = evaluated_fields(alloc, body.tags, extensions, depth)?;

@@ -13,6 +13,7 @@ ghost use Rattle.cedar_bodies.specs.Refusals.{refusal_by};
 use cedar_extensions::evaluation_error::EvaluationError;
 use cedar_extensions::extensions::Extensions;
 use cedar_extensions::lookups::ExtensionFunctionLookupError;
+use cedar_extensions::objects::ExtensionFunctionObject;
 use cedar_replies::Refusal;
 use cedar_restricted::borrowed::BorrowedRestrictedExpr;
 use cedar_restricted::partial_values::PartialValue;
@@ -43,14 +44,14 @@ pub fn refusal(error: &EvaluationError) -> Refusal
 }
 
 // What a tree is evaluated to.
-pub fn evaluated(
+pub fn evaluated<F: ExtensionFunctionObject>(
     alloc: Global,
     expr: &Expr,
-    extensions: &Extensions<'_>,
+    extensions: &Extensions<'_, F>,
     depth: u32,
 ) -> Result<PartialValue, Refusal>
     requires { is_restricted (bare expr.now) ≡ true }
-    ensures evaluated { IsEvaluated (as_table extensions.now) depth (bare expr.now) result }
+    ensures evaluated { IsEvaluated (as_table F.answers extensions.now) depth (bare expr.now) result }
     ensures built { IfOk result (λ value. IsBuiltPart (partial_of value)) }
 {
     let tree = BorrowedRestrictedExpr::new_unchecked(expr);

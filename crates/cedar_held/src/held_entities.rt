@@ -16,6 +16,7 @@ use crate::stores::{add_to, put_into, remove_from};
 use cedar_bodies::{listed_entities, set_of, uids_of};
 use cedar_entities::store::Entities;
 use cedar_extensions::extensions::Extensions;
+use cedar_extensions::objects::ExtensionFunctionObject;
 use cedar_replies::Refusal;
 use cedar_restricted::borrowed::BorrowedRestrictedExpr;
 use std::alloc::Global;
@@ -75,14 +76,14 @@ impl HeldEntities {
     ///
     /// It is refused as [`listed_entities`] refuses the body, and `Cycle` where the parents would lead
     /// back to some entity. A refused put changes nothing.
-    pub fn put(
+    pub fn put<F: ExtensionFunctionObject>(
         &mut self,
         alloc: Global,
         body: BorrowedRestrictedExpr<'_>,
-        extensions: &Extensions<'_>,
+        extensions: &Extensions<'_, F>,
         depth: u32,
     ) -> Result<(), Refusal>
-        ensures { (by : Setting) → Serves (as_table extensions.now) by (holds_call (borrowed_tree body.entry)) → PutsBody by depth (borrowed_tree body.entry) self.old result self.new }
+        ensures { (by : Setting) → Serves (as_table F.answers extensions.now) by (holds_call (borrowed_tree body.entry)) → PutsBody by depth (borrowed_tree body.entry) self.old result self.new }
     {
         let versions = listed_entities(alloc, body, extensions, depth)?;
         put_into(alloc, &mut self.store, versions)
@@ -93,14 +94,14 @@ impl HeldEntities {
     /// It is refused as [`listed_entities`] refuses the body; `Duplicate` where a listed version isn't
     /// the one held, which has all its ancestors listed, or of a new entity isn't the first one listed;
     /// and `Cycle` where the parents would lead back to some entity. A refused call changes nothing.
-    pub fn add(
+    pub fn add<F: ExtensionFunctionObject>(
         &mut self,
         alloc: Global,
         body: BorrowedRestrictedExpr<'_>,
-        extensions: &Extensions<'_>,
+        extensions: &Extensions<'_, F>,
         depth: u32,
     ) -> Result<(), Refusal>
-        ensures { (by : Setting) → Serves (as_table extensions.now) by (holds_call (borrowed_tree body.entry)) → AddsBody by depth (borrowed_tree body.entry) self.old result self.new }
+        ensures { (by : Setting) → Serves (as_table F.answers extensions.now) by (holds_call (borrowed_tree body.entry)) → AddsBody by depth (borrowed_tree body.entry) self.old result self.new }
     {
         let versions = listed_entities(alloc, body, extensions, depth)?;
         add_to(alloc, &mut self.store, versions)

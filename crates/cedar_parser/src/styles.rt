@@ -7,6 +7,7 @@ ghost use Rattle.cedar_parser.specs.Settings.{functions_of, is_method};
 use cedar_conversion_leaves::ExtStyles;
 use cedar_extensions::extensions::Extensions;
 use cedar_extensions::functions::{CallStyle, ExtensionFunction};
+use cedar_extensions::objects::ExtensionFunctionObject;
 use cedar_names::errors::ParseNameError;
 use cedar_names::identifiers::UnreservedId;
 use cedar_names::names::Name;
@@ -16,31 +17,43 @@ use std::alloc::{AllocError, Global};
 pub trait StylesOfExtensions {
     /// The names of the table's functions, `unknown` among them where the table has it. Refused for memory
     /// alone.
-    fn from_extensions(alloc: Global, extensions: &Extensions<'_>) -> Result<ExtStyles, AllocError>
-        ensures { IfOk result (λ styles. styles ≡ body_names (functions_of extensions.now)) };
+    fn from_extensions<F: ExtensionFunctionObject>(
+        alloc: Global,
+        extensions: &Extensions<'_, F>,
+    ) -> Result<ExtStyles, AllocError>
+        ensures { IfOk result (λ styles. styles ≡ body_names (functions_of F.answers extensions.now)) };
 
     /// The names of the table's functions but `unknown`, which policies never call. Refused for memory
     /// alone.
-    fn for_policies(alloc: Global, extensions: &Extensions<'_>) -> Result<ExtStyles, AllocError>
-        ensures { IfOk result (λ styles. styles ≡ policy_names (functions_of extensions.now)) };
+    fn for_policies<F: ExtensionFunctionObject>(
+        alloc: Global,
+        extensions: &Extensions<'_, F>,
+    ) -> Result<ExtStyles, AllocError>
+        ensures { IfOk result (λ styles. styles ≡ policy_names (functions_of F.answers extensions.now)) };
 }
 
 impl StylesOfExtensions for ExtStyles {
-    fn from_extensions(
+    fn from_extensions<F: ExtensionFunctionObject>(
         alloc: Global,
-        extensions: &Extensions<'_>,
+        extensions: &Extensions<'_, F>,
     ) -> Result<ExtStyles, AllocError> {
         body_styles(alloc, extensions)
     }
 
-    fn for_policies(alloc: Global, extensions: &Extensions<'_>) -> Result<ExtStyles, AllocError> {
+    fn for_policies<F: ExtensionFunctionObject>(
+        alloc: Global,
+        extensions: &Extensions<'_, F>,
+    ) -> Result<ExtStyles, AllocError> {
         policy_styles(alloc, extensions)
     }
 }
 
 // The names of the table's functions, `unknown` among them where the table has it.
-fn body_styles(alloc: Global, extensions: &Extensions<'_>) -> Result<ExtStyles, AllocError>
-    ensures { IfOk result (λ styles. styles ≡ body_names (functions_of extensions.now)) }
+fn body_styles<F: ExtensionFunctionObject>(
+    alloc: Global,
+    extensions: &Extensions<'_, F>,
+) -> Result<ExtStyles, AllocError>
+    ensures { IfOk result (λ styles. styles ≡ body_names (functions_of F.answers extensions.now)) }
 {
     let mut functions = Vec::new(alloc);
     if extensions.holds_unknown() {
@@ -51,8 +64,11 @@ fn body_styles(alloc: Global, extensions: &Extensions<'_>) -> Result<ExtStyles, 
 }
 
 // The names of the table's functions but `unknown`.
-fn policy_styles(alloc: Global, extensions: &Extensions<'_>) -> Result<ExtStyles, AllocError>
-    ensures { IfOk result (λ styles. styles ≡ policy_names (functions_of extensions.now)) }
+fn policy_styles<F: ExtensionFunctionObject>(
+    alloc: Global,
+    extensions: &Extensions<'_, F>,
+) -> Result<ExtStyles, AllocError>
+    ensures { IfOk result (λ styles. styles ≡ policy_names (functions_of F.answers extensions.now)) }
 {
     let functions = with_functions(alloc, Vec::new(alloc), extensions)?;
     Ok(ExtStyles::new(functions, methods(alloc, extensions)?))
@@ -60,12 +76,12 @@ fn policy_styles(alloc: Global, extensions: &Extensions<'_>) -> Result<ExtStyles
 
 // These names, and behind them those of the table's functions that aren't methods; `unknown` isn't
 // among the latter.
-fn with_functions(
+fn with_functions<F: ExtensionFunctionObject>(
     alloc: Global,
     names: Vec<Name>,
-    extensions: &Extensions<'_>,
+    extensions: &Extensions<'_, F>,
 ) -> Result<Vec<Name>, AllocError>
-    ensures { IfOk result (λ all. all.items ≡ names.items ++ (policy_names (functions_of extensions.now)).functions) }
+    ensures { IfOk result (λ all. all.items ≡ names.items ++ (policy_names (functions_of F.answers extensions.now)).functions) }
 {
     let mut all = names;
     for function in extensions.all_funcs() {
@@ -77,8 +93,11 @@ fn with_functions(
 }
 
 // The names of the table's methods, where they have no namespace.
-fn methods(alloc: Global, extensions: &Extensions<'_>) -> Result<Vec<UnreservedId>, AllocError>
-    ensures { IfOk result (λ methods. methods.items ≡ (policy_names (functions_of extensions.now)).methods) }
+fn methods<F: ExtensionFunctionObject>(
+    alloc: Global,
+    extensions: &Extensions<'_, F>,
+) -> Result<Vec<UnreservedId>, AllocError>
+    ensures { IfOk result (λ methods. methods.items ≡ (policy_names (functions_of F.answers extensions.now)).methods) }
 {
     let mut methods = Vec::new(alloc);
     for function in extensions.all_funcs() {
@@ -90,7 +109,7 @@ fn methods(alloc: Global, extensions: &Extensions<'_>) -> Result<Vec<UnreservedI
 }
 
 // Whether texts may call it behind its first argument.
-fn is_method(function: &ExtensionFunction) -> bool
+fn is_method<F>(function: &ExtensionFunction<F>) -> bool
     ensures { result ≡ is_method (function_style function.now) (function_name function.now) }
 {
     function.style() == CallStyle::MethodStyle && function.name().is_unqualified()

@@ -1,5 +1,5 @@
 -- What is kept of the open question, for the policies and entities held; and what it is answered once more is told.
-use Rattle.std.proofs.Common.{BuildHasherDefault, FoldHasher, ◌≡◌, ◌∙◌, sym, ap, subst, refl, ◌≤◌, true, false, ℕ, Option, Some, None, Ok, Err, List, []}
+use Rattle.std.proofs.Common.{BuildHasherDefault, FoldHasher, ◌≡◌, ◌∙◌, sym, ap, subst, refl, ◌≤◌, true, false, Option, Some, None, Ok, Err, List, []}
 use mathlib.Core.Bool.{Bool-set}
 use Rattle.std.proofs.Math.Logic.{∥∥₁_elim, ∥∥₁_map}
 use Rattle.std.specs.Option.{unwrap_or, option_map}
@@ -31,8 +31,7 @@ use Rattle.cedar_asking.specs.Responses.{AnswersTold}
 use Rattle.cedar_asking.specs.TellLaws.{MoreIsTold}
 use Rattle.cedar_asking.specs.Tells.{TellMore, told_in}
 use Rattle.cedar_entities.specs.declared.store.Entities.{Entities as Store}
-use Rattle.cedar_extensions.specs.Table.{as_table}
-use Rattle.cedar_extensions.specs.declared.extensions.Extensions.{Extensions}
+use Rattle.cedar_extensions.specs.Table.{Table}
 use Rattle.cedar_policy_set.specs.Entries.{Entries}
 use Rattle.cedar_replies.specs.Refusals.{refusal_of}
 use Rattle.cedar_replies.specs.Replies.{answer_of}
@@ -43,7 +42,6 @@ use Rattle.cedar_restricted.specs.Views.{restricted_tree}
 use Rattle.cedar_session.specs.Open.{KeepsAsked, KeepsOpen, question_in, nothing_given}
 use Rattle.cedar_session.specs.Sessions.{asked_of}
 use Rattle.cedar_session.specs.declared.asked.Asked.{Asked}
-use Rattle.cedar_texts.specs.Settings.{setting_with}
 use Rattle.cedar_session.proofs.LaterProp.{later_prop}
 use Rattle.cedar_session.proofs.Telling.{context_fails, too_deep, no_memory, told}
 
@@ -58,17 +56,14 @@ abbrev Map : Type 0
 Map = HashMap (RcStr Global) Value (BuildHasherDefault FoldHasher)
 
 -- the store holds the entities of the world, by the functions and the limit of the session
-pub record IsStoreOf (table : Extensions) (depth : ℕ) (entities : Entities) (s : Store) : Type 0 where
-  pub setting : IsSettingOf (as_table table) depth (setting_with table depth)
+pub record IsStoreOf (by : Setting) (table : Table) (entities : Entities) (s : Store) : Type 0 where
+  pub setting : IsSettingOf table by.depth by
   pub shows : Shows (held_at s) entities
   pub closed : IsClosed s
   pub whole : is_partial_store s ≡ false
   pub built : HoldBuilt entities
 
-module _ (table : Extensions) (depth : ℕ) (policies : Policies) (entities : Entities) where
-  abbrev by : Setting
-  by = setting_with table depth
-
+module _ (by : Setting) (policies : Policies) (entities : Entities) where
   -- what is held, with no open question, and with one
   abbrev pub bare : World
   bare = record { policies = policies; entities = entities; asked = None }
@@ -77,12 +72,12 @@ module _ (table : Extensions) (depth : ℕ) (policies : Policies) (entities : En
   world_with o = record { policies = policies; entities = entities; asked = option_map asked_of o }
 
   -- entities that stay keep it
-  pub stays : (new : Entities) → new ≡ entities → (o : Option Asked) → ∥ KeepsOpen table depth policies entities o ∥₁ → ∥ KeepsOpen table depth policies new o ∥₁
-  stays new same o h = subst (λ (e : Entities). ∥ KeepsOpen table depth policies e o ∥₁) (sym same) h
+  pub stays : (new : Entities) → new ≡ entities → (o : Option Asked) → ∥ KeepsOpen by policies entities o ∥₁ → ∥ KeepsOpen by policies new o ∥₁
+  stays new same o h = subst (λ (e : Entities). ∥ KeepsOpen by policies e o ∥₁) (sym same) h
 
   -- what is kept of a question that was just asked
   pub begins : (asked : Asked) (q : Question) (answer : Answer) → ask_body (restricted_tree asked.body) ≡ Some q → asked.told.entries ≡ [] → asked.answer ≡ answer
-      → KeepsQuestion by bare q asked.first [] (answer_of answer) → KeepsAsked table depth policies entities asked
+      → KeepsQuestion by bare q asked.first [] (answer_of answer) → KeepsAsked by policies entities asked
   begins asked q answer asks none same keeps =
       let is : question_in (restricted_tree asked.body) ≡ q = ap (λ o. unwrap_or o nothing_given) asks in
       record {
@@ -93,9 +88,9 @@ module _ (table : Extensions) (depth : ℕ) (policies : Policies) (entities : En
             (subst (λ (a : Answer). KeepsQuestion by bare q asked.first [] (answer_of a)) (sym same) keeps));
       }
 
-  module _ (asked : Asked) (o : Option Asked) (is : o ≡ Some asked) (steady : ∥ KeepsOpen table depth policies entities o ∥₁) where
-    kept : ∥ KeepsAsked table depth policies entities asked ∥₁
-    kept = subst (λ x. ∥ KeepsOpen table depth policies entities x ∥₁) is steady
+  module _ (asked : Asked) (o : Option Asked) (is : o ≡ Some asked) (steady : ∥ KeepsOpen by policies entities o ∥₁) where
+    kept : ∥ KeepsAsked by policies entities asked ∥₁
+    kept = subst (λ x. ∥ KeepsOpen by policies entities x ∥₁) is steady
 
     pub was_open : option_map asked_of o ≡ Some (asked_of asked)
     was_open = ap (option_map asked_of) is
@@ -108,14 +103,14 @@ module _ (table : Extensions) (depth : ℕ) (policies : Policies) (entities : En
     question = question_in (restricted_tree asked.body)
 
     -- what an answer once these values are told is said to be
-    abbrev Says : Map → Store → Result Answer Refusal → Type 0
-    Says all s result =
-        (es : Entries) → KeepsQuestion by bare question asked.first asked.told.entries (answer_of asked.answer) → AreOf by bare es s (as_table table) depth
+    abbrev Says : Table → Map → Store → Result Answer Refusal → Type 0
+    Says table all s result =
+        (es : Entries) → KeepsQuestion by bare question asked.first asked.told.entries (answer_of asked.answer) → AreOf by bare es s table by.depth
         → AreTold question all.entries → Extends (told_in asked.told.entries) (told_in all.entries)
         → AnswersTold by bare question asked.first asked.told.entries all.entries (answer_of asked.answer) result
 
-    module _ (lasting : MoreIsTold) (reads : AnswersReadWhatIsInForce) (all : Map) (fs : Fields) (more : TellMore by question (told_in asked.told.entries) fs (told_in all.entries)) (s : Store) (holds : IsStoreOf table depth entities s) where
-      answered : (result : Result Answer Refusal) → Says all s result → KeepsAsked table depth policies entities asked
+    module _ (lasting : MoreIsTold) (reads : AnswersReadWhatIsInForce) (table : Table) (all : Map) (fs : Fields) (more : TellMore by question (told_in asked.told.entries) fs (told_in all.entries)) (s : Store) (holds : IsStoreOf by table entities s) where
+      answered : (result : Result Answer Refusal) → Says table all s result → KeepsAsked by policies entities asked
           → AnswersTold by bare question asked.first asked.told.entries all.entries (answer_of asked.answer) result
       answered result says k =
           let are_told = lasting by question asked.told.entries all.entries fs k.keeps.are_told more in
@@ -135,21 +130,21 @@ module _ (table : Extensions) (depth : ℕ) (policies : Policies) (entities : En
       later_here : (answer : world.Answer) → IsLaterAnswer by bare (asked_of asked) (told_in all.entries) answer → IsLaterAnswer by (world_with o) (asked_of asked) (told_in all.entries) answer
       later_here answer h = ((reads.alike by bare (world_with o) (record { entities = refl; policies = λ id. refl })).later (asked_of asked) (told_in all.entries) answer).0 h
 
-      module _ (answer copy : Answer) (same : copy ≡ answer) (says : Says all s (Ok answer)) (new : Option Asked) (new_is : new ≡ option_map (λ (a : Asked). record a { told = all; answer = copy }) o) where
+      module _ (answer copy : Answer) (same : copy ≡ answer) (says : Says table all s (Ok answer)) (new : Option Asked) (new_is : new ≡ option_map (λ (a : Asked). record a { told = all; answer = copy }) o) where
         goes_on : new ≡ Some (record asked { told = all; answer = copy })
         goes_on = new_is ∙ ap (option_map (λ (a : Asked). record a { told = all; answer = copy })) is
 
         -- what is kept then
-        pub keeps_on : ∥ KeepsOpen table depth policies entities new ∥₁
+        pub keeps_on : ∥ KeepsOpen by policies entities new ∥₁
         keeps_on =
-            subst (λ x. ∥ KeepsOpen table depth policies entities x ∥₁) (sym goes_on)
+            subst (λ x. ∥ KeepsOpen by policies entities x ∥₁) (sym goes_on)
             (∥∥₁_map kept (λ k. record {
               states = k.states;
               keeps = subst (λ a. KeepsQuestion by bare question asked.first all.entries (answer_of a)) (sym same) (answered (Ok answer) says k).keeps;
             }))
 
-      module _ (text : uid.Text) (once : BodiesAreOne by) (tree : Tree) (is_read : IsBodyWithin by depth text tree) (low : height tree ≤ depth) (restricted : is_restricted tree ≡ true) (body : tell_body tree ≡ Some fs) where
-        module _ (answer copy : Answer) (same : copy ≡ answer) (says : Says all s (Ok answer)) (new : Option Asked) (new_is : new ≡ option_map (λ (a : Asked). record a { told = all; answer = copy }) o) where
+      module _ (text : uid.Text) (once : BodiesAreOne by) (tree : Tree) (is_read : IsBodyWithin by by.depth text tree) (low : height tree ≤ by.depth) (restricted : is_restricted tree ≡ true) (body : tell_body tree ≡ Some fs) where
+        module _ (answer copy : Answer) (same : copy ≡ answer) (says : Says table all s (Ok answer)) (new : Option Asked) (new_is : new ≡ option_map (λ (a : Asked). record a { told = all; answer = copy }) o) where
           accepts : Step by (world_with o) Tell text (Answered (answer_of answer)) (opens (world_with o) question (told_in all.entries) (answer_of answer))
           accepts =
               told by (world_with o) text once (asked_of asked) was_open tree is_read low restricted fs body (told_in all.entries) more
@@ -161,7 +156,7 @@ module _ (table : Extensions) (depth : ℕ) (policies : Policies) (entities : En
               subst (λ n. Step by (world_with o) Tell text (Answered (answer_of answer)) (world_with n)) (sym (goes_on answer copy same says new new_is))
               (subst (λ (a : Answer). Step by (world_with o) Tell text (Answered (answer_of answer)) (opens (world_with o) question (told_in all.entries) (answer_of a))) (sym same) accepts)
 
-        pub refused : (r : Refusal) → Says all s (Err r) → Step by (world_with o) Tell text (Refused (refusal_of r)) (world_with o)
+        pub refused : (r : Refusal) → Says table all s (Err r) → Step by (world_with o) Tell text (Refused (refusal_of r)) (world_with o)
         refused refusal.Evaluation says =
             context_fails by (world_with o) text once (asked_of asked) was_open tree is_read low restricted fs body (told_in all.entries) more (∥∥₁_elim kept (Bool-set _ _) (answered (Err refusal.Evaluation) says))
         refused refusal.Depth says = too_deep by (world_with o) text once (asked_of asked) was_open tree is_read low restricted fs body (told_in all.entries) more

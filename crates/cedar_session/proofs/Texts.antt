@@ -21,6 +21,7 @@ use Rattle.cedar_texts.specs.Settings.{setting_with}
 use Rattle.cedar_language.specs.Facts.{Written}
 use Rattle.cedar_language.specs.Value.{Extension}
 use Rattle.cedar_world.specs.Functions.{function_of}
+use Rattle.cedar_extensions.specs.Answering.{FunctionAnswers}
 use Rattle.cedar_extensions.specs.Defining.{defined}
 use Rattle.cedar_extensions.specs.Table.{as_table}
 use Rattle.cedar_extensions.specs.Tables.{functions_in, holds_unknown, function_called}
@@ -49,9 +50,10 @@ pub read_tree : (by : Setting) (text : uid.Text) (s t : Tree) → t ≡ s → Is
 read_tree by text s t same h = subst (λ x. IsBodyWithin by by.depth text x × (height x ≤ by.depth)) (h.3 ∙ sym same) (h.1, h.2)
 
 -- a session's functions are those of its table
-pub serves : (table : Extensions) (depth : ℕ) (s t : Tree) → t ≡ s → ((written : Extension → Written) (name : uid.Name) → function_of (defined written (functions_in table)) name ≡ function_called table name)
-    → (holds_unknown table ≡ false → holds_call s ≡ false) → Serves (as_table table) (setting_with table depth) (holds_call t)
-serves table depth s t same are calls = record {
-  functions = λ name. are (setting_with table depth).functions.written name;
+pub serves : {F : Type 0} (answers : F → FunctionAnswers) (extensions : Extensions F) (depth : ℕ) (s t : Tree) → t ≡ s
+    → ((written : Extension → Written) (name : uid.Name) → function_of (defined answers written (functions_in extensions)) name ≡ function_called answers extensions name)
+    → (holds_unknown extensions ≡ false → holds_call s ≡ false) → Serves (as_table answers extensions) (setting_with answers extensions depth) (holds_call t)
+serves answers extensions depth s t same are calls = record {
+  functions = λ name. are (setting_with answers extensions depth).functions.written name;
   held = λ none. ap holds_call same ∙ calls none;
 }

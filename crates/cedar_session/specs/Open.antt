@@ -1,16 +1,15 @@
 -- What a session keeps of its open question.
-use Rattle.std.specs.Prelude.{◌≡◌, ℕ, Option, Some, None}
+use Rattle.std.specs.Prelude.{◌≡◌, Option, Some, None}
 use Rattle.std.specs.Option.{unwrap_or}
 use Rattle.cedar_language.specs.Tree.{Tree}
 use Rattle.cedar_world.specs.Asking.{Question, Missing, NoContext}
 use Rattle.cedar_world.specs.Bodies.{ask_body}
+use Rattle.cedar_world.specs.Setting.{Setting}
 use Rattle.cedar_world.specs.World.{Policies, Entities}
 use Rattle.cedar_asking.specs.Keeping.{KeepsQuestion}
-use Rattle.cedar_extensions.specs.declared.extensions.Extensions.{Extensions}
 use Rattle.cedar_replies.specs.Replies.{answer_of}
 use Rattle.cedar_restricted.specs.Views.{restricted_tree}
 use Rattle.cedar_session.specs.declared.asked.Asked.{Asked}
-use Rattle.cedar_texts.specs.Settings.{setting_with}
 
 -- a question of which nothing is given
 abbrev pub nothing_given : Question
@@ -21,10 +20,10 @@ abbrev pub question_in : Tree → Question
 question_in tree = unwrap_or (ask_body tree) nothing_given
 
 -- the body states a question, whose first response, told values and last answer are those for these policies and entities
-pub record KeepsAsked (table : Extensions) (depth : ℕ) (policies : Policies) (entities : Entities) (asked : Asked) : Type 0 where
+pub record KeepsAsked (by : Setting) (policies : Policies) (entities : Entities) (asked : Asked) : Type 0 where
   pub states : ask_body (restricted_tree asked.body) ≡ Some (question_in (restricted_tree asked.body))
-  pub keeps : KeepsQuestion (setting_with table depth) (record { policies = policies; entities = entities; asked = None }) (question_in (restricted_tree asked.body)) asked.first asked.told.entries (answer_of asked.answer)
+  pub keeps : KeepsQuestion by (record { policies = policies; entities = entities; asked = None }) (question_in (restricted_tree asked.body)) asked.first asked.told.entries (answer_of asked.answer)
 
-abbrev pub KeepsOpen : Extensions → ℕ → Policies → Entities → Option Asked → Type 0
-KeepsOpen table depth policies entities None = Unit {0}
-KeepsOpen table depth policies entities (Some asked) = KeepsAsked table depth policies entities asked
+abbrev pub KeepsOpen : Setting → Policies → Entities → Option Asked → Type 0
+KeepsOpen by policies entities None = Unit {0}
+KeepsOpen by policies entities (Some asked) = KeepsAsked by policies entities asked

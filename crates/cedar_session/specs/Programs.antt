@@ -3,9 +3,11 @@ use Rattle.std.specs.Prelude.{◌≡◌, ℕ, List, true, false, Option, Result,
 use Rattle.cedar_frames.specs.declared.watched.Watched.{Watched}
 use Rattle.cedar_frames.specs.Watching.{watched_failed}
 use Rattle.cedar_frames.specs.Reading.{Reads}
+use Rattle.cedar_extensions.specs.Answering.{no_answers}
 use Rattle.cedar_extensions.specs.Lookups.{IsUnknownAlone}
 use Rattle.cedar_extensions.specs.Tables.{functions_in}
 use Rattle.cedar_extensions.specs.declared.extensions.Extensions.{Extensions}
+use Rattle.cedar_extensions.specs.declared.objects.NoFunction.{NoFunction}
 use Rattle.cedar_texts.specs.Settings.{setting_with}
 use Rattle.cedar_world.specs.RunText.{RunText, TextBeforeFailure, TextCutShort}
 use Rattle.cedar_world.specs.Setting.{Setting}
@@ -19,9 +21,13 @@ use Rattle.cedar_session.specs.declared.running.RunError.{RunError}
 abbrev pub program_depth : ℕ
 program_depth = 256
 
--- every extension there is, that of the built-in `unknown`, with the program's limit
+-- the functions of a table that has none of a caller's, with the program's limit
+abbrev pub program_setting : Extensions NoFunction → Setting
+program_setting table = setting_with (λ function. no_answers) table program_depth
+
+-- every extension there is, that of the built-in `unknown`
 abbrev pub IsProgramSetting : Setting → Type 0
-IsProgramSetting by = (table : Extensions) × IsUnknownAlone (functions_in table) × (by ≡ setting_with table program_depth)
+IsProgramSetting by = (table : Extensions NoFunction) × IsUnknownAlone (functions_in table) × (by ≡ program_setting table)
 
 -- how a run that ended so is told
 abbrev pub status_of : Result End RunError → ℕ

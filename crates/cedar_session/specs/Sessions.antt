@@ -6,6 +6,7 @@ use Rattle.std.specs.Option.{option_map}
 use Rattle.cedar_restricted.specs.Views.{restricted_tree}
 use Rattle.cedar_world.specs.World as world
 use Rattle.cedar_world.specs.World.{World}
+use Rattle.cedar_extensions.specs.declared.objects.ExtensionFunctionObject.{Ghosts}
 use Rattle.cedar_texts.specs.Settings.{setting_with}
 use Rattle.cedar_world.specs.Setting.{Setting}
 use Rattle.cedar_world.specs.Commands as commands
@@ -19,14 +20,14 @@ use Rattle.cedar_session.specs.declared.asked.Asked.{Asked}
 use Rattle.cedar_session.specs.declared.session.Session.{Session}
 
 -- the functions that a session knows, and its limit
-abbrev pub setting_of : Session → Setting
-setting_of session = setting_with session.extensions.now session.depth
+abbrev pub setting_of : {F : Type 0} {functions : Ghosts F} → Session F functions → Setting
+setting_of {functions = functions} session = setting_with functions.answers session.extensions.now session.depth
 
 abbrev pub asked_of : Asked → world.Asked
 asked_of asked = record { question = question_in (restricted_tree asked.body); told = told_in asked.told.entries; last = answer_of asked.answer }
 
 -- the policies, templates and links, the entities held, and the open question
-abbrev pub world_of : Session → World
+abbrev pub world_of : {F : Type 0} {functions : Ghosts F} → Session F functions → World
 world_of session = record { policies = session.policies; entities = session.entities; asked = option_map asked_of session.asked }
 
 -- what a `load`, an edit, and an `ask` or a `tell` are answered

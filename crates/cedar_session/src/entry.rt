@@ -2,8 +2,7 @@
 ghost use Rattle.std.specs.Prelude.{◌≡◌, ◌≢◌, ◌⊎◌, ◌↔◌, ◌<◌, ◌≤◌, false, true};
 ghost use Rattle.cedar_frames.specs.declared.fault.Fault as frames;
 ghost use Rattle.cedar_frames.specs.Watching.{watched_failed};
-ghost use Rattle.cedar_session.specs.Programs.{IsProgramSetting, program_depth, status_of, Answers, FailsToRead, FailsToWrite};
-ghost use Rattle.cedar_texts.specs.Settings.{setting_with};
+ghost use Rattle.cedar_session.specs.Programs.{IsProgramSetting, program_setting, status_of, Answers, FailsToRead, FailsToWrite};
 ghost use Rattle.cedar_world.specs.Setting.{Setting};
 
 use crate::running::{End, RunError, run};
@@ -40,10 +39,10 @@ fn answered<R: Read, W: Write>(
     requires input { watched_failed input.old ≡ false }
     requires output { watched_failed output.old ≡ false }
     ensures other { result ≢ 1 }
-    ensures end { result ≡ 0 → Answers R.remaining W.contents (setting_with extensions.now program_depth) input.old input.new output.old output.new End.Clean }
-    ensures fault { result ≡ 2 → (fault : frames.Fault) × Answers R.remaining W.contents (setting_with extensions.now program_depth) input.old input.new output.old output.new (End.Fault fault) }
-    ensures device { result ≡ 3 → FailsToRead R.remaining W.contents (setting_with extensions.now program_depth) input.old input.new output.old output.new
-        ⊎ FailsToWrite R.remaining W.contents (setting_with extensions.now program_depth) input.old input.new output.old output.new }
+    ensures end { result ≡ 0 → Answers R.remaining W.contents (program_setting extensions.now) input.old input.new output.old output.new End.Clean }
+    ensures fault { result ≡ 2 → (fault : frames.Fault) × Answers R.remaining W.contents (program_setting extensions.now) input.old input.new output.old output.new (End.Fault fault) }
+    ensures device { result ≡ 3 → FailsToRead R.remaining W.contents (program_setting extensions.now) input.old input.new output.old output.new
+        ⊎ FailsToWrite R.remaining W.contents (program_setting extensions.now) input.old input.new output.old output.new }
     ensures unread { result ≡ 4 → (input.new ≡ input.old) × (output.new ≡ output.old) }
     ensures bound { result ≤ 4 }
 {

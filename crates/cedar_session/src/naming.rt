@@ -4,6 +4,7 @@ ghost use Rattle.cedar_session.specs.Reading.{ReadsId};
 
 use cedar_bodies::string_of;
 use cedar_extensions::extensions::Extensions;
+use cedar_extensions::objects::ExtensionFunctionObject;
 use cedar_replies::Refusal;
 use cedar_texts::read_body;
 use std::alloc::Global;
@@ -11,13 +12,13 @@ use std::rc::RcStr;
 
 /// The id that the body of a text states, which is a string. It is refused `Text`, `Depth`,
 /// `NotRestricted`, `Shape` where the body is something else, and `Memory`.
-pub(crate) fn read_id(
+pub(crate) fn read_id<F: ExtensionFunctionObject>(
     alloc: Global,
     text: &str,
-    extensions: &Extensions<'_>,
+    extensions: &Extensions<'_, F>,
     depth: u32,
 ) -> Result<RcStr, Refusal>
-    ensures { ReadsId (setting_with extensions.now depth) text.now result }
+    ensures { ReadsId (setting_with F.answers extensions.now depth) text.now result }
 {
     let body = read_body(alloc, text, extensions, depth)?;
     let Some(id) = string_of(body.as_ref()) else {

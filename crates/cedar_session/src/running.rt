@@ -11,6 +11,7 @@ ghost use Rattle.cedar_session.specs.Running.{end_of, EndsInput, Adds};
 use crate::command::Command;
 use crate::finishing::{finish, send_answer};
 use crate::session::Session;
+use cedar_extensions::objects::ExtensionFunctionObject;
 use cedar_frames::{Fault, Next, Verb, Watched, next_frame, read_byte};
 use cedar_replies::{Refusal, Reply};
 use std::io::{Read, Write};
@@ -37,8 +38,8 @@ pub enum RunError {
 }
 
 /// Answers the command of a frame. A body that isn't UTF-8 takes no memory to refuse.
-fn answer(
-    session: &mut Session<'_, '_>,
+fn answer<F: ExtensionFunctionObject>(
+    session: &mut Session<'_, '_, F>,
     verb: Verb,
     body: &Option<Vec<u8>>,
 ) -> Result<Reply, Refusal>
@@ -66,8 +67,8 @@ fn answer(
 /// failed: the whole frames before are answered, and nothing follows. `RunError::Write` is told
 /// only where the writer failed, be it when it was flushed: the command whose answer failed has been
 /// done.
-pub fn run<R: Read, W: Write>(
-    session: &mut Session<'_, '_>,
+pub fn run<R: Read, W: Write, F: ExtensionFunctionObject>(
+    session: &mut Session<'_, '_, F>,
     reader: &mut Watched<R>,
     writer: &mut Watched<W>,
 ) -> Result<End, RunError>

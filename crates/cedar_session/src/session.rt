@@ -5,6 +5,7 @@ ghost use Rattle.cedar_world.specs.World.{new_world};
 ghost use Rattle.cedar_replies.specs.Replies.{reply_of};
 ghost use Rattle.cedar_session.specs.Commands.{command_verb, command_text};
 ghost use Rattle.cedar_session.specs.Open.{KeepsOpen};
+ghost use Rattle.cedar_texts.specs.Settings.{setting_with};
 
 use crate::asked::{Asked, close, go_on};
 use crate::command::Command;
@@ -12,6 +13,7 @@ use crate::naming::read_id;
 use cedar_asking::{answer, answer_told, request_of, told_by};
 use cedar_bodies::link_body;
 use cedar_extensions::extensions::Extensions;
+use cedar_extensions::objects::{ExtensionFunctionObject, NoFunction};
 use cedar_held::{HeldEntities, HeldPolicies};
 use cedar_policy_parts::PolicyID;
 use cedar_replies::{Answer, Refusal, Reply};
@@ -31,17 +33,17 @@ use std::collections::HashMap;
 /// a function that the session doesn't know, `Depth` where its nesting or the height of its tree is more
 /// than the session's limit, and `NotRestricted` where it holds anything else than a body may, as a
 /// variable or an operator; what else a command is refused is said there.
-pub struct Session<'e, 'f> {
+pub struct Session<'e, 'f, F: ExtensionFunctionObject = NoFunction> {
     allocator: Global,
-    extensions: &'e Extensions<'f>,
+    extensions: &'e Extensions<'f, F>,
     depth: u32,
     policies: HeldPolicies,
     entities: HeldEntities,
     asked: Option<Asked>,
-    ghost steady: { ∥ KeepsOpen extensions.now depth policies entities asked ∥₁ },
+    ghost steady: { ∥ KeepsOpen (setting_with F.answers extensions.now depth) policies entities asked ∥₁ },
 }
 
-impl Drop for Session<'_, '_> {
+impl<F: ExtensionFunctionObject> Drop for Session<'_, '_, F> {
     fn drop(self) {
         let Session {
             allocator: _,
@@ -54,11 +56,10 @@ impl Drop for Session<'_, '_> {
     }
 }
 
-impl<'e, 'f> Session<'e, 'f> {
+impl<'e, 'f, F: ExtensionFunctionObject> Session<'e, 'f, F> {
     ghost use Rattle.cedar_frames.specs.declared.verb.Verb.TheVariants.{Load as LoadVerb, Link as LinkVerb, Unlink as UnlinkVerb, RemoveStatic as RemoveStaticVerb, RemoveTemplate as RemoveTemplateVerb, Add as AddVerb, Put as PutVerb, Remove as RemoveVerb, Ask as AskVerb, Tell as TellVerb};
     ghost use Rattle.cedar_world.specs.Step.{Step};
     ghost use Rattle.cedar_session.specs.Sessions.{world_of, setting_of, load_reply, edit_reply, ask_reply};
-    ghost use Rattle.cedar_texts.specs.Settings.{setting_with};
 
     /// A session without policies and entities, in which no question is open.
     ///
@@ -70,11 +71,11 @@ impl<'e, 'f> Session<'e, 'f> {
     /// It is refused [`Refusal::Memory`] alone.
     pub fn new(
         allocator: Global,
-        extensions: &'e Extensions<'f>,
+        extensions: &'e Extensions<'f, F>,
         depth: u32,
-    ) -> Result<Session<'e, 'f>, Refusal>
+    ) -> Result<Session<'e, 'f, F>, Refusal>
         ensures world { IfOk result (λ session. world_of session ≡ new_world) }
-        ensures setting { IfOk result (λ session. setting_of session ≡ setting_with extensions.now depth) }
+        ensures setting { IfOk result (λ session. setting_of session ≡ setting_with F.answers extensions.now depth) }
         ensures err { OnErr result (IsErrOf result Refusal.Memory) }
     {
         Ok(Session {

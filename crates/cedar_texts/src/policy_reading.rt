@@ -6,6 +6,7 @@ ghost use Rattle.cedar_texts.specs.PolicyReading.{CallNoUnknown, ReadsPolicies, 
 use crate::refusals::of_text;
 use cedar_conversion_leaves::ExtStyles;
 use cedar_extensions::extensions::Extensions;
+use cedar_extensions::objects::ExtensionFunctionObject;
 use cedar_parser::prelude::StylesOfExtensions;
 use cedar_parser::strict::parse_policyset_strict;
 use cedar_policy_set::sets::PolicySet;
@@ -19,13 +20,13 @@ use std::alloc::Global;
 ///
 /// It is refused `Text` where the text is no policies within any nesting; `Depth` where its nesting is
 /// more than `depth`; and `Memory`.
-pub fn read_policies(
+pub fn read_policies<F: ExtensionFunctionObject>(
     alloc: Global,
     text: &str,
-    extensions: &Extensions<'_>,
+    extensions: &Extensions<'_, F>,
     depth: u32,
 ) -> Result<PolicySet, Refusal>
-    ensures policies { ReadsPolicies (setting_with extensions.now depth) text.now result }
+    ensures policies { ReadsPolicies (setting_with F.answers extensions.now depth) text.now result }
     ensures names { IfOk result (λ set. CallNoUnknown set) }
 {
     // This runs no code: its contract is the law that no policy calls `unknown`.

@@ -10,6 +10,7 @@ use crate::refusals::of_body;
 use cedar_conversion_leaves::ExtStyles;
 use cedar_data::read_data;
 use cedar_extensions::extensions::Extensions;
+use cedar_extensions::objects::ExtensionFunctionObject;
 use cedar_grammar::texts_call_the_table;
 use cedar_parser::prelude::StylesOfExtensions;
 use cedar_parser::strict::parse_restrictedexpr;
@@ -25,13 +26,13 @@ use std::alloc::Global;
 /// It is refused `Text` where the text is no expression within any nesting; `Depth` where its nesting
 /// or the height of its tree is more than `depth`; `NotRestricted` where it holds more than literals,
 /// sets, records and calls; and `Memory`.
-pub fn read_body(
+pub fn read_body<F: ExtensionFunctionObject>(
     alloc: Global,
     text: &str,
-    extensions: &Extensions<'_>,
+    extensions: &Extensions<'_, F>,
     depth: u32,
 ) -> Result<RestrictedExpr, Refusal>
-    ensures body { ReadsBody (setting_with extensions.now depth) text.now result }
+    ensures body { ReadsBody (setting_with F.answers extensions.now depth) text.now result }
     ensures calls { IfOk result (λ body. holds_unknown extensions.now ≡ false → holds_call (restricted_tree body) ≡ false) }
 {
     // These run no code: their contracts are laws of texts and names.

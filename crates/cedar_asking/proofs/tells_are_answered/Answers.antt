@@ -3,7 +3,7 @@ use Rattle.cedar_asking.proofs.LaterTells.{is_answered}
 use Rattle.cedar_asking.proofs.tells_are_answered.Goals as goal
 
 pub returns : goal.returns
-returns c by world q first again old told es s extensions depth listed last new answer keeps now are extends made says joined =
+returns c by world q first again old told es s table depth listed last new answer gives keeps now are extends made says joined =
     is_answered
     (record {
       exist = c.worlds_have_facts.ensures;
@@ -14,7 +14,7 @@ returns c by world q first again old told es s extensions depth listed last new 
       parts = c.contexts_err_in_parts.ensures;
       tell = c.told_contexts_are_evaluated.ensures;
     })
-    by world q first keeps.response told are es s extensions depth now
+    by world q first keeps.response told are es s table gives depth now
     (record {
       conditions = c.linking_binds_the_condition.ensures;
       made = c.answers_are_made.ensures;

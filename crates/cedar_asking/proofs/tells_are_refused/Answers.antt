@@ -3,7 +3,7 @@ use Rattle.cedar_asking.proofs.LaterTells.{is_refused}
 use Rattle.cedar_asking.proofs.tells_are_refused.Goals as goal
 
 pub returns : goal.returns
-returns c by world q first old told es s extensions depth last e keeps now are refused =
+returns c by world q first old told es s table depth last e gives keeps now are refused =
     is_refused
     (record {
       exist = c.worlds_have_facts.ensures;
@@ -14,4 +14,4 @@ returns c by world q first old told es s extensions depth last e keeps now are r
       parts = c.contexts_err_in_parts.ensures;
       tell = c.told_contexts_are_evaluated.ensures;
     })
-    by world q first keeps.response told are es s extensions depth now e refused
+    by world q first keeps.response told are es s table gives depth now e refused

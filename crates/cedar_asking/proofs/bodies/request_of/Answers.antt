@@ -12,11 +12,11 @@ use Rattle.cedar_asking.proofs.Stated.{written_as_data, serves_written, unasked,
 use Rattle.cedar_asking.proofs.bodies.request_of.Goals as goal
 
 pub context_of-requires : goal.context_of-requires
-context_of-requires c = written_as_data (bare c.as_ref.result.now) c.as_ref.ensures.restricted c.in-Some.asked.context c.in-Some.ensures.lent
+context_of-requires g c = written_as_data (bare c.as_ref.result.now) c.as_ref.ensures.restricted c.in-Some.asked.context c.in-Some.ensures.lent
 
 pub returns-in_err-context : goal.returns-in_err-context
-returns-in_err-context c = λ by serves.
-    let table = as_table c.args.extensions.now in
+returns-in_err-context g c = λ by serves.
+    let table = as_table g.F.ExtensionFunctionObject.answers c.args.extensions.now in
     let tree = restricted_tree c.args.body.now in
     let b = c.in-Some.asked in
     let lent = subst (λ (t : Tree). LendsContext t b.context) c.as_ref.ensures.tree c.in-Some.ensures.lent in
@@ -24,11 +24,11 @@ returns-in_err-context c = λ by serves.
     rw (p.1, p.2) (unasked by table c.args.depth tree b (sym (c.in-Some.ensures.question ∙ ap ask_body c.as_ref.ensures.tree)) lent c.in_err-context.field-0.0 (c.in_err-context.ensures by (serves_written tree table by b.context lent serves)))
 
 pub returns : goal.returns
-returns c = λ by serves.
-    let table = as_table c.args.extensions.now in
+returns g c = λ by serves.
+    let table = as_table g.F.ExtensionFunctionObject.answers c.args.extensions.now in
     let tree = restricted_tree c.args.body.now in
     let b = c.in-Some.asked in
     let lent = subst (λ (t : Tree). LendsContext t b.context) c.as_ref.ensures.tree c.in-Some.ensures.lent in
-    is_asked by table c.args.depth tree b (sym (c.in-Some.ensures.question ∙ ap ask_body c.as_ref.ensures.tree)) lent c.questions_are_asked.ensures (gives_built c.args.extensions.now) c.new_unchecked.result
+    is_asked by table c.args.depth tree b (sym (c.in-Some.ensures.question ∙ ap ask_body c.as_ref.ensures.tree)) lent c.questions_are_asked.ensures (gives_built g.F.ExtensionFunctionObject.answers c.args.extensions.now) c.new_unchecked.result
     c.in_ok-principal.principal c.in_ok-action.action c.in_ok-resource.resource c.in_ok-context.context c.new_unchecked.ensures
     c.in_ok-principal.ensures c.in_ok-action.ensures c.in_ok-resource.ensures (c.in_ok-context.ensures by (serves_written tree table by b.context lent serves))

@@ -10,59 +10,60 @@ use Rattle.cedar_trees.specs.Bare.{bare, record_tree}
 use Rattle.cedar_world.specs.Bodies.{ask_body}
 use Rattle.cedar_asking.proofs.TellParts.{record_restricted, given_restricted}
 use Rattle.cedar_asking.proofs.TellBodies.{refused, not_values, no_unknown, told_again, misfit, all_told}
+use Rattle.cedar_asking.proofs.telling.told_by.Given.{Over}
 use Rattle.cedar_asking.proofs.telling.told_by.Goals as goal
 use Rattle.cedar_asking.proofs.telling.told_by.Goals.{In-Some, In-Some-2, In-Some-ask_body}
 
-is_record : (c : In-Some) → restricted_tree c.args.body.now ≡ record_tree (fields_in c.in-Some.entries.now)
-is_record c = sym c.as_ref.ensures.tree ∙ c.in-Some.ensures.tree
+is_record : (g : Over) (c : In-Some g) → restricted_tree c.args.body.now ≡ record_tree (fields_in c.in-Some.entries.now)
+is_record g c = sym c.as_ref.ensures.tree ∙ c.in-Some.ensures.tree
 
-is_stated : (c : In-Some-ask_body) → Some (question_of c.in-Some-ask_body.asked) ≡ ask_body (restricted_tree c.args.question.now)
-is_stated c = c.in-Some-ask_body.ensures.question ∙ ap ask_body c.as_ref-2.ensures.tree
+is_stated : (g : Over) (c : In-Some-ask_body g) → Some (question_of c.in-Some-ask_body.asked) ≡ ask_body (restricted_tree c.args.question.now)
+is_stated g c = c.in-Some-ask_body.ensures.question ∙ ap ask_body c.as_ref-2.ensures.tree
 
-evaluated_is : (c : In-Some-2) → AreEvaluated (as_table c.args.extensions.now) c.args.depth (fields_in c.in-Some.entries.now) (Ok (Some c.in-Some-2.values))
-evaluated_is c = rw c.in-Some-2.is at c.in_ok-values.ensures
+evaluated_is : (g : Over) (c : In-Some-2 g) → AreEvaluated (as_table g.F.ExtensionFunctionObject.answers c.args.extensions.now) c.args.depth (fields_in c.in-Some.entries.now) (Ok (Some c.in-Some-2.values))
+evaluated_is g c = rw c.in-Some-2.is at c.in_ok-values.ensures
 
 pub all_evaluated-requires : goal.all_evaluated-requires
-all_evaluated-requires c = record_restricted (bare c.as_ref.result.now) (fields_in c.in-Some.entries.now) c.in-Some.ensures.tree c.as_ref.ensures.restricted
+all_evaluated-requires g c = record_restricted (bare c.as_ref.result.now) (fields_in c.in-Some.entries.now) c.in-Some.ensures.tree c.as_ref.ensures.restricted
 
 pub returns-in_err-values : goal.returns-in_err-values
-returns-in_err-values c = λ by q serves a.
+returns-in_err-values g c = λ by q serves a.
     let p = err_from_is_err_and c.from_residual.result c.from_residual.ensures.1 in
-    rw (p.1, p.2) (refused _ c.args.told.now (as_table c.args.extensions.now) c.args.depth (restricted_tree c.args.body.now) (restricted_tree c.args.question.now) (fields_in c.in-Some.entries.now) (is_record (goal.at.returns-in_err-values c).In-Some)
+    rw (p.1, p.2) (refused _ c.args.told.now (as_table g.F.ExtensionFunctionObject.answers c.args.extensions.now) c.args.depth (restricted_tree c.args.body.now) (restricted_tree c.args.question.now) (fields_in c.in-Some.entries.now) (is_record g (goal.at.returns-in_err-values g c).In-Some)
     c.in_err-values.field-0.0 c.in_err-values.ensures by q serves a)
 
 pub returns-in_default-2 : goal.returns-in_default-2
-returns-in_default-2 c =
-    let none : AreEvaluated (as_table c.args.extensions.now) c.args.depth (fields_in c.in-Some.entries.now) (Ok None) = rw c.in_default-2.is at c.in_ok-values.ensures in
-    not_values _ c.args.told.now (as_table c.args.extensions.now) c.args.depth (restricted_tree c.args.body.now) (restricted_tree c.args.question.now) (fields_in c.in-Some.entries.now) (is_record (goal.at.returns-in_default-2 c).In-Some) none
+returns-in_default-2 g c =
+    let none : AreEvaluated (as_table g.F.ExtensionFunctionObject.answers c.args.extensions.now) c.args.depth (fields_in c.in-Some.entries.now) (Ok None) = rw c.in_default-2.is at c.in_ok-values.ensures in
+    not_values _ c.args.told.now (as_table g.F.ExtensionFunctionObject.answers c.args.extensions.now) c.args.depth (restricted_tree c.args.body.now) (restricted_tree c.args.question.now) (fields_in c.in-Some.entries.now) (is_record g (goal.at.returns-in_default-2 g c).In-Some) none
 
 pub names_no_unknown-requires : goal.names_no_unknown-requires
-names_no_unknown-requires c = given_restricted (bare c.as_ref-2.result.now) c.as_ref-2.ensures.restricted c.in-Some-ask_body.asked.context c.in-Some-ask_body.ensures.lent
+names_no_unknown-requires g c = given_restricted (bare c.as_ref-2.result.now) c.as_ref-2.ensures.restricted c.in-Some-ask_body.asked.context c.in-Some-ask_body.ensures.lent
 
 pub returns-then-names_no_unknown : goal.returns-then-names_no_unknown
-returns-then-names_no_unknown c =
-    no_unknown _ c.args.told.now (as_table c.args.extensions.now) c.args.depth (restricted_tree c.args.body.now) (restricted_tree c.args.question.now) (fields_in c.in-Some.entries.now) (is_record (goal.at.returns-then-names_no_unknown c).In-Some)
-    c.in-Some-2.values (evaluated_is (goal.at.returns-then-names_no_unknown c).In-Some-2) c.in-Some-ask_body.asked (is_stated (goal.at.returns-then-names_no_unknown c).In-Some-ask_body)
+returns-then-names_no_unknown g c =
+    no_unknown _ c.args.told.now (as_table g.F.ExtensionFunctionObject.answers c.args.extensions.now) c.args.depth (restricted_tree c.args.body.now) (restricted_tree c.args.question.now) (fields_in c.in-Some.entries.now) (is_record g (goal.at.returns-then-names_no_unknown g c).In-Some)
+    c.in-Some-2.values (evaluated_is g (goal.at.returns-then-names_no_unknown g c).In-Some-2) c.in-Some-ask_body.asked (is_stated g (goal.at.returns-then-names_no_unknown g c).In-Some-ask_body)
     (sym c.names_no_unknown.ensures ∙ c.if-names_no_unknown.true)
 
 pub returns-then-names_told : goal.returns-then-names_told
-returns-then-names_told c =
-    told_again _ c.args.told.now (as_table c.args.extensions.now) c.args.depth (restricted_tree c.args.body.now) (restricted_tree c.args.question.now) (fields_in c.in-Some.entries.now) (is_record (goal.at.returns-then-names_told c).In-Some)
-    c.in-Some-2.values (evaluated_is (goal.at.returns-then-names_told c).In-Some-2) c.in-Some-ask_body.asked (is_stated (goal.at.returns-then-names_told c).In-Some-ask_body)
+returns-then-names_told g c =
+    told_again _ c.args.told.now (as_table g.F.ExtensionFunctionObject.answers c.args.extensions.now) c.args.depth (restricted_tree c.args.body.now) (restricted_tree c.args.question.now) (fields_in c.in-Some.entries.now) (is_record g (goal.at.returns-then-names_told g c).In-Some)
+    c.in-Some-2.values (evaluated_is g (goal.at.returns-then-names_told g c).In-Some-2) c.in-Some-ask_body.asked (is_stated g (goal.at.returns-then-names_told g c).In-Some-ask_body)
     (sym c.names_no_unknown.ensures ∙ c.if-names_no_unknown.false) (sym c.names_told.ensures ∙ c.if-names_told.true)
 
 pub holds_misfit-requires : goal.holds_misfit-requires
-holds_misfit-requires c = given_restricted (bare c.as_ref-2.result.now) c.as_ref-2.ensures.restricted c.in-Some-ask_body.asked.context c.in-Some-ask_body.ensures.lent
+holds_misfit-requires g c = given_restricted (bare c.as_ref-2.result.now) c.as_ref-2.ensures.restricted c.in-Some-ask_body.asked.context c.in-Some-ask_body.ensures.lent
 
 pub returns-then-holds_misfit : goal.returns-then-holds_misfit
-returns-then-holds_misfit c =
-    misfit _ c.args.told.now (as_table c.args.extensions.now) c.args.depth (restricted_tree c.args.body.now) (restricted_tree c.args.question.now) (fields_in c.in-Some.entries.now) (is_record (goal.at.returns-then-holds_misfit c).In-Some)
-    c.in-Some-2.values (evaluated_is (goal.at.returns-then-holds_misfit c).In-Some-2) c.in-Some-ask_body.asked (is_stated (goal.at.returns-then-holds_misfit c).In-Some-ask_body)
+returns-then-holds_misfit g c =
+    misfit _ c.args.told.now (as_table g.F.ExtensionFunctionObject.answers c.args.extensions.now) c.args.depth (restricted_tree c.args.body.now) (restricted_tree c.args.question.now) (fields_in c.in-Some.entries.now) (is_record g (goal.at.returns-then-holds_misfit g c).In-Some)
+    c.in-Some-2.values (evaluated_is g (goal.at.returns-then-holds_misfit g c).In-Some-2) c.in-Some-ask_body.asked (is_stated g (goal.at.returns-then-holds_misfit g c).In-Some-ask_body)
     (sym c.names_no_unknown.ensures ∙ c.if-names_no_unknown.false) (sym c.names_told.ensures ∙ c.if-names_told.false) (sym c.holds_misfit.ensures ∙ c.if-holds_misfit.true)
 
 pub returns : goal.returns
-returns c =
-    all_told _ c.args.told.now (as_table c.args.extensions.now) c.args.depth (restricted_tree c.args.body.now) (restricted_tree c.args.question.now) (fields_in c.in-Some.entries.now) (is_record (goal.at.returns c).In-Some)
-    c.in-Some-2.values (evaluated_is (goal.at.returns c).In-Some-2) c.in-Some-ask_body.asked (is_stated (goal.at.returns c).In-Some-ask_body)
+returns g c =
+    all_told _ c.args.told.now (as_table g.F.ExtensionFunctionObject.answers c.args.extensions.now) c.args.depth (restricted_tree c.args.body.now) (restricted_tree c.args.question.now) (fields_in c.in-Some.entries.now) (is_record g (goal.at.returns g c).In-Some)
+    c.in-Some-2.values (evaluated_is g (goal.at.returns g c).In-Some-2) c.in-Some-ask_body.asked (is_stated g (goal.at.returns g c).In-Some-ask_body)
     (sym c.names_no_unknown.ensures ∙ c.if-names_no_unknown.false) (sym c.names_told.ensures ∙ c.if-names_told.false) (sym c.holds_misfit.ensures ∙ c.if-holds_misfit.false)
     c.in_ok-with_values.field-0 c.in_ok-with_values.ensures

@@ -5,4 +5,4 @@ use Rattle.cedar_bodies.proofs.Listed.{IsUnderway}
 use Rattle.cedar_bodies.proofs.listing.entities_of.Given as goal
 
 abbrev pub invariant-loop-body : goal.invariant-loop-body
-invariant-loop-body l = IsUnderway (as_table l.extensions) (map written_of l.bodies) (map written_of (drop l.body-index l.bodies)) l.entities.items l.holds_unknown
+invariant-loop-body g l = IsUnderway (as_table g.F.ExtensionFunctionObject.answers l.extensions) (map written_of l.bodies) (map written_of (drop l.body-index l.bodies)) l.entities.items l.holds_unknown

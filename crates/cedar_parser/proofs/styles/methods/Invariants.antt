@@ -8,6 +8,6 @@ use Rattle.cedar_parser.proofs.styles.methods.Given as goal
 
 -- the names so far and those to come are all
 abbrev pub invariant-loop-function : goal.invariant-loop-function
-invariant-loop-function l =
+invariant-loop-function g l =
     (are_named (functions_left l.function-iterator) ≡ true)
-    × (l.methods.items ++ method_names (callers (functions_left l.function-iterator)) ≡ method_names (callers (functions_in l.extensions)))
+    × (l.methods.items ++ method_names (callers g.F.ExtensionFunctionObject.answers (functions_left l.function-iterator)) ≡ method_names (callers g.F.ExtensionFunctionObject.answers (functions_in l.extensions)))

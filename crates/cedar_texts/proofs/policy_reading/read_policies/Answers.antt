@@ -6,8 +6,8 @@ use Rattle.cedar_texts.proofs.Readings.{policies_read, names_read}
 use Rattle.cedar_texts.proofs.policy_reading.read_policies.Goals as goal
 
 pub returns : goal.returns
-returns c =
-    let by = setting_with c.args.extensions.now c.args.depth in
+returns g c =
+    let by = setting_with g.F.ExtensionFunctionObject.answers c.args.extensions.now c.args.depth in
     let reads = subst (λ names. ReadsSet names c.args.depth c.args.text.now c.policy_set.result) c.in_ok-styles.ensures c.policy_set.ensures in
     record {
       policies = policies_read by c.args.text.now c.policy_set.result reads;

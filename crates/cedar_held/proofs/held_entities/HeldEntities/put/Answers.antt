@@ -9,12 +9,12 @@ use Rattle.cedar_held.proofs.BuiltEdits.{put_built}
 use Rattle.cedar_held.proofs.held_entities.HeldEntities.put.Goals as goal
 
 pub returns-in_err-versions : goal.returns-in_err-versions
-returns-in_err-versions c =
+returns-in_err-versions g c =
     let p = err_from_is_err_and c.from_residual.result c.from_residual.ensures.1 in
     rw (p.1, p.2) (λ by serves. put_unread by c.args.depth (borrowed_tree c.args.body) c.args.self.now c.in_err-versions.field-0.0 (c.in_err-versions.ensures.listed by serves))
 
 pub invariant_of-self-inside : goal.invariant_of-self-inside
-invariant_of-self-inside c =
+invariant_of-self-inside g c =
     let old = c.args.self.now in
     let versions = c.in_ok-versions.ensures.versions in
     let shows = shows_as c.self.inside.store c.self.inside.shown old c.self.view_is in (
@@ -24,7 +24,7 @@ invariant_of-self-inside c =
     )
 
 pub invariant_of-self : goal.invariant_of-self
-invariant_of-self c =
+invariant_of-self g c =
     let old = c.args.self.now in
     let versions = c.in_ok-versions.ensures.versions in
     let shows = shows_as c.self.inside.store c.self.inside.shown old c.self.view_is in
@@ -36,7 +36,7 @@ invariant_of-self c =
     }
 
 pub returns : goal.returns
-returns c =
+returns g c =
     let old = c.args.self.now in
     let shows = shows_as c.self.inside.store c.self.inside.shown old c.self.view_is in
     λ by serves.

@@ -8,37 +8,37 @@ use Rattle.cedar_session.proofs.Kept.{stays}
 use Rattle.cedar_session.proofs.session.Session.add.Goals as goal
 
 pub returns-in_err-body-clause-step : goal.returns-in_err-body-clause-step
-returns-in_err-body-clause-step c =
+returns-in_err-body-clause-step g c =
     let by = setting_of c.args.self.now in
     let p = err_from_is_err_and c.from_residual.result c.from_residual.ensures.1 in
     rw (p.1, p.2) (add_unread by (world_of c.args.self.now) c.args.text.now (c.texts_are_one.ensures.bodies by) c.in_err-body.field-0.0 c.in_err-body.ensures.body)
 
 pub returns-in_err-add-clause-step : goal.returns-in_err-add-clause-step
-returns-in_err-add-clause-step c =
+returns-in_err-add-clause-step g c =
     let by = setting_of c.args.self.now in
     let old = world_of c.args.self.now in
     let once = c.texts_are_one.ensures.bodies by in
     let tree = borrowed_tree c.as_borrowed-listed.result in
     let read = read_tree by c.args.text.now (restricted_tree c.in_ok-body.body) tree c.as_borrowed-listed.ensures c.in_ok-body.ensures.body in
-    let edited = c.in_err-add.ensures by (serves c.args.self.now.extensions.now c.args.self.now.depth (restricted_tree c.in_ok-body.body) (borrowed_tree c.as_borrowed-listed.result) c.as_borrowed-listed.ensures c.names_are_defined.ensures c.in_ok-body.ensures.calls) in
+    let edited = c.in_err-add.ensures by (serves g.F.ExtensionFunctionObject.answers c.args.self.now.extensions.now c.args.self.now.depth (restricted_tree c.in_ok-body.body) (borrowed_tree c.as_borrowed-listed.result) c.as_borrowed-listed.ensures c.names_are_defined.ensures c.in_ok-body.ensures.calls) in
     let same = add_changes_nothing by old c.args.text.now once tree read.0 read.1 c.as_borrowed-listed.result.restricted c.in_err-add.field-0.0 c.add.new.self edited in
     let p = err_from_is_err_and c.from_residual-in_err-add.result c.from_residual-in_err-add.ensures.1 in
     rw (p.1, p.2) (add_refused by old c.args.text.now once tree read.0 read.1 c.as_borrowed-listed.result.restricted c.in_err-add.field-0.0 c.add.new.self edited same)
 
 pub returns-clause-step : goal.returns-clause-step
-returns-clause-step c =
+returns-clause-step g c =
     let by = setting_of c.args.self.now in
     let tree = borrowed_tree c.as_borrowed-listed.result in
     let read = read_tree by c.args.text.now (restricted_tree c.in_ok-body.body) tree c.as_borrowed-listed.ensures c.in_ok-body.ensures.body in
-    rw (c.close.ensures) (add_done by (world_of c.args.self.now) c.args.text.now (c.texts_are_one.ensures.bodies by) tree read.0 read.1 c.as_borrowed-listed.result.restricted c.add.new.self (c.in_ok-add.ensures by (serves c.args.self.now.extensions.now c.args.self.now.depth (restricted_tree c.in_ok-body.body) (borrowed_tree c.as_borrowed-listed.result) c.as_borrowed-listed.ensures c.names_are_defined.ensures c.in_ok-body.ensures.calls)))
+    rw (c.close.ensures) (add_done by (world_of c.args.self.now) c.args.text.now (c.texts_are_one.ensures.bodies by) tree read.0 read.1 c.as_borrowed-listed.result.restricted c.add.new.self (c.in_ok-add.ensures by (serves g.F.ExtensionFunctionObject.answers c.args.self.now.extensions.now c.args.self.now.depth (restricted_tree c.in_ok-body.body) (borrowed_tree c.as_borrowed-listed.result) c.as_borrowed-listed.ensures c.names_are_defined.ensures c.in_ok-body.ensures.calls)))
 
 pub invariant_of-self : goal.invariant_of-self
-invariant_of-self c =
+invariant_of-self g c =
     let by = setting_of c.args.self.now in
     let old = world_of c.args.self.now in
     let once = c.texts_are_one.ensures.bodies by in
     let tree = borrowed_tree c.as_borrowed-listed.result in
     let read = read_tree by c.args.text.now (restricted_tree c.in_ok-body.body) tree c.as_borrowed-listed.ensures c.in_ok-body.ensures.body in
-    let edited = c.in_err-add.ensures by (serves c.args.self.now.extensions.now c.args.self.now.depth (restricted_tree c.in_ok-body.body) (borrowed_tree c.as_borrowed-listed.result) c.as_borrowed-listed.ensures c.names_are_defined.ensures c.in_ok-body.ensures.calls) in
+    let edited = c.in_err-add.ensures by (serves g.F.ExtensionFunctionObject.answers c.args.self.now.extensions.now c.args.self.now.depth (restricted_tree c.in_ok-body.body) (borrowed_tree c.as_borrowed-listed.result) c.as_borrowed-listed.ensures c.names_are_defined.ensures c.in_ok-body.ensures.calls) in
     let same = add_changes_nothing by old c.args.text.now once tree read.0 read.1 c.as_borrowed-listed.result.restricted c.in_err-add.field-0.0 c.add.new.self edited in
-    record { steady = stays c.args.self.now.extensions.now c.args.self.now.depth c.args.self.now.policies c.args.self.now.entities c.add.new.self same c.args.self.now.asked c.args.self.now.steady }
+    record { steady = stays by c.args.self.now.policies c.args.self.now.entities c.add.new.self same c.args.self.now.asked c.args.self.now.steady }

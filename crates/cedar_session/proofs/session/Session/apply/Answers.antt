@@ -8,11 +8,11 @@ use Rattle.cedar_session.specs.Sessions.{setting_of, world_of}
 use Rattle.cedar_session.proofs.session.Session.apply.Goals as goal
 
 pub returns-in_ok-ask-in-Ask-clause-step : goal.returns-in_ok-ask-in-Ask-clause-step
-returns-in_ok-ask-in-Ask-clause-step c =
+returns-in_ok-ask-in-Ask-clause-step g c =
     subst (λ command. Step (setting_of c.args.self.now) (world_of c.args.self.now) (command_verb command) (command_text command) (Answered (answer_of c.in_ok-ask-in-Ask.field-0)) (world_of c.ask.new.self))
     (sym c.in-Ask.is) c.in_ok-ask-in-Ask.ensures.step
 
 pub returns-in_ok-tell-in-Tell-clause-step : goal.returns-in_ok-tell-in-Tell-clause-step
-returns-in_ok-tell-in-Tell-clause-step c =
+returns-in_ok-tell-in-Tell-clause-step g c =
     subst (λ command. Step (setting_of c.args.self.now) (world_of c.args.self.now) (command_verb command) (command_text command) (Answered (answer_of c.in_ok-tell-in-Tell.field-0)) (world_of c.tell.new.self))
     (sym c.in-Tell.is) c.in_ok-tell-in-Tell.ensures.step

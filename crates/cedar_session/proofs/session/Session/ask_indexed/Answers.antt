@@ -13,27 +13,27 @@ use Rattle.cedar_session.proofs.Asking.{unread_ask, unasked, unanswered, answere
 use Rattle.cedar_session.proofs.session.Session.ask_indexed.Goals as goal
 
 pub returns-in_err-body-clause-step : goal.returns-in_err-body-clause-step
-returns-in_err-body-clause-step c =
+returns-in_err-body-clause-step g c =
     let by = setting_of c.args.self.now in
     let p = err_from_is_err_and c.from_residual.result c.from_residual.ensures.1 in
     rw (p.1, p.2) (unread_ask by (world_of c.args.self.now) c.args.text.now (c.texts_are_one.ensures.bodies by) c.in_err-body.field-0.0 c.in_err-body.ensures.body)
 
 pub returns-in_err-request-clause-step : goal.returns-in_err-request-clause-step
-returns-in_err-request-clause-step c =
+returns-in_err-request-clause-step g c =
     let by = setting_of c.args.self.now in
     let tree = restricted_tree c.in_ok-body.body in
     let read = read_tree by c.args.text.now tree tree refl c.in_ok-body.ensures.body in
-    let served = serves c.args.self.now.extensions.now c.args.self.now.depth tree tree refl c.names_are_defined.ensures c.in_ok-body.ensures.calls in
+    let served = serves g.F.ExtensionFunctionObject.answers c.args.self.now.extensions.now c.args.self.now.depth tree tree refl c.names_are_defined.ensures c.in_ok-body.ensures.calls in
     let p = err_from_is_err_and c.from_residual-in_err-request.result c.from_residual-in_err-request.ensures.1 in
-    rw (p.1, p.2) (unasked by (world_of c.args.self.now) c.args.text.now (c.texts_are_one.ensures.bodies by) tree read.0 read.1 c.in_ok-body.body.restricted (as_table c.args.self.now.extensions.now) c.in_err-request.field-0.0 (c.in_err-request.ensures by served))
+    rw (p.1, p.2) (unasked by (world_of c.args.self.now) c.args.text.now (c.texts_are_one.ensures.bodies by) tree read.0 read.1 c.in_ok-body.body.restricted (as_table g.F.ExtensionFunctionObject.answers c.args.self.now.extensions.now) c.in_err-request.field-0.0 (c.in_err-request.ensures by served))
 
 pub returns-in_err-first-clause-step : goal.returns-in_err-first-clause-step
-returns-in_err-first-clause-step c =
+returns-in_err-first-clause-step g c =
     let self = c.args.self.now in
     let by = setting_of self in
     let tree = restricted_tree c.in_ok-body.body in
     let read = read_tree by c.args.text.now tree tree refl c.in_ok-body.ensures.body in
-    let served = serves self.extensions.now self.depth tree tree refl c.names_are_defined.ensures c.in_ok-body.ensures.calls in
+    let served = serves g.F.ExtensionFunctionObject.answers self.extensions.now self.depth tree tree refl c.names_are_defined.ensures c.in_ok-body.ensures.calls in
     let asked = c.in_ok-request.ensures by served in
     let named : IsNamed asked.0.context = record { well = asked.2.named; untyped = question_untyped (is_answered by.functions) tree asked.0 ((c.calls_are_found.ensures by).bodies c.args.text.now tree (self.depth, read.0)) asked.1 } in
     let answered = c.in_err-first.ensures by (world_of self) asked.0 (record {
@@ -50,12 +50,12 @@ returns-in_err-first-clause-step c =
     rw (p.1, p.2) (unanswered by (world_of self) c.args.text.now (c.texts_are_one.ensures.bodies by) tree read.0 read.1 c.in_ok-body.body.restricted asked.0 asked.1 asked.2.fine asked.2.named c.in_err-first.field-0.0 answered)
 
 pub returns-clause-step : goal.returns-clause-step
-returns-clause-step c =
+returns-clause-step g c =
     let self = c.args.self.now in
     let by = setting_of self in
     let tree = restricted_tree c.in_ok-body.body in
     let read = read_tree by c.args.text.now tree tree refl c.in_ok-body.ensures.body in
-    let served = serves self.extensions.now self.depth tree tree refl c.names_are_defined.ensures c.in_ok-body.ensures.calls in
+    let served = serves g.F.ExtensionFunctionObject.answers self.extensions.now self.depth tree tree refl c.names_are_defined.ensures c.in_ok-body.ensures.calls in
     let asked = c.in_ok-request.ensures by served in
     let named : IsNamed asked.0.context = record { well = asked.2.named; untyped = question_untyped (is_answered by.functions) tree asked.0 ((c.calls_are_found.ensures by).bodies c.args.text.now tree (self.depth, read.0)) asked.1 } in
     let first = c.in_ok-first.ensures by (world_of self) asked.0 (record {
@@ -72,15 +72,15 @@ returns-clause-step c =
     c.in_ok-first.answer c.in_ok-kept.kept c.in_ok-kept.ensures.cases c.new.result.entries c.new.ensures.empty first.answers
 
 pub invariant_of-self-2 : goal.invariant_of-self-2
-invariant_of-self-2 c =
+invariant_of-self-2 g c =
     let self = c.args.self.now in
     let by = setting_of self in
     let tree = restricted_tree c.in_ok-body.body in
     let read = read_tree by c.args.text.now tree tree refl c.in_ok-body.ensures.body in
-    let served = serves self.extensions.now self.depth tree tree refl c.names_are_defined.ensures c.in_ok-body.ensures.calls in
+    let served = serves g.F.ExtensionFunctionObject.answers self.extensions.now self.depth tree tree refl c.names_are_defined.ensures c.in_ok-body.ensures.calls in
     let asked = c.in_ok-request.ensures by served in
     let named : IsNamed asked.0.context = record { well = asked.2.named; untyped = question_untyped (is_answered by.functions) tree asked.0 ((c.calls_are_found.ensures by).bodies c.args.text.now tree (self.depth, read.0)) asked.1 } in
-    let first = c.in_ok-first.ensures by (bare self.extensions.now self.depth self.policies self.entities) asked.0 (record {
+    let first = c.in_ok-first.ensures by (bare by self.policies self.entities) asked.0 (record {
       setting = record { functions = served.functions; depth_is = refl };
       slots = c.set-policies.ensures.slots;
       names = c.set-policies.ensures.names;
@@ -91,6 +91,6 @@ invariant_of-self-2 c =
       built = c.store-entities.ensures.built;
     }) asked.2.is_request named in
     record {
-      steady = ∣ begins self.extensions.now self.depth self.policies self.entities (record { body = c.in_ok-body.body; first = c.in_ok-first.first; told = c.new.result; answer = c.in_ok-kept.kept })
+      steady = ∣ begins by self.policies self.entities (record { body = c.in_ok-body.body; first = c.in_ok-first.first; told = c.new.result; answer = c.in_ok-kept.kept })
           asked.0 c.in_ok-first.answer asked.1 c.new.ensures.empty c.in_ok-kept.ensures.cases first.keeps ∣₁;
     }

@@ -7,13 +7,13 @@ use Rattle.cedar_session.proofs.Edits.{remove_unread, remove_refused, remove_cha
 use Rattle.cedar_session.proofs.session.Session.remove.Goals as goal
 
 pub returns-in_err-body-clause-step : goal.returns-in_err-body-clause-step
-returns-in_err-body-clause-step c =
+returns-in_err-body-clause-step g c =
     let by = setting_of c.args.self.now in
     let p = err_from_is_err_and c.from_residual.result c.from_residual.ensures.1 in
     rw (p.1, p.2) (remove_unread by (world_of c.args.self.now) c.args.text.now (c.texts_are_one.ensures.bodies by) c.in_err-body.field-0.0 c.in_err-body.ensures.body)
 
 pub returns-in_err-remove-clause-step : goal.returns-in_err-remove-clause-step
-returns-in_err-remove-clause-step c =
+returns-in_err-remove-clause-step g c =
     let by = setting_of c.args.self.now in
     let old = world_of c.args.self.now in
     let once = c.texts_are_one.ensures.bodies by in
@@ -25,7 +25,7 @@ returns-in_err-remove-clause-step c =
     rw (p.1, p.2) (remove_refused by old c.args.text.now once tree read.0 read.1 c.as_borrowed.result.restricted c.in_err-remove.field-0.0 c.remove.new.self edited same)
 
 pub returns-clause-step : goal.returns-clause-step
-returns-clause-step c =
+returns-clause-step g c =
     let by = setting_of c.args.self.now in
     let tree = borrowed_tree c.as_borrowed.result in
     let read = read_tree by c.args.text.now (restricted_tree c.in_ok-body.body) tree c.as_borrowed.ensures c.in_ok-body.ensures.body in

@@ -1,0 +1,26 @@
+-- A method that is pushed is the next of the names.
+use Rattle.std.proofs.Common.{◌≡◌, ◌∙◌, ◌++◌, ◌∷◌, [], subst, ap, rules, true, false}
+use Rattle.cedar_names.specs.Names.{basename_of}
+use Rattle.cedar_world.specs.Functions.{method_names}
+use Rattle.cedar_extensions.specs.Functions.{function_name, function_style, is_unknown}
+use Rattle.cedar_extensions.specs.Holding.{are_named}
+use Rattle.cedar_extensions.specs.Tables.{functions_in, functions_left}
+use Rattle.cedar_parser.specs.Settings.{is_method}
+use Rattle.cedar_parser.proofs.Callers.{callers, rest_named, method_listed, pushed_next}
+use Rattle.cedar_parser.proofs.styles.methods.Goals as goal
+
+pub loop-function-preserved-then-is_method : goal.loop-function-preserved-then-is_method
+loop-function-preserved-then-is_method g c =
+    let answers = g.F.ExtensionFunctionObject.answers in
+    let f = c.in-Some.function.now in
+    let rest = functions_left c.next.new.self in
+    let step : functions_left c.loop-function.function-iterator ≡ f ∷ rest = c.in-Some.ensures.steps in
+    let named = subst (λ fs. are_named fs ≡ true) step c.loop-function.invariant.0 in
+    let other : is_unknown f ≡ false = search rules in
+    let method : is_method (function_style f) (function_name f) ≡ true = search rules in
+    let pushed : c.push.new.self.items ≡ c.loop-function.methods.items ++ basename_of (function_name f) ∷ [] = search rules in (
+      rest_named answers f rest named,
+      pushed_next c.loop-function.methods.items c.push.new.self.items (method_names (callers answers (functions_left c.loop-function.function-iterator))) (method_names (callers answers rest))
+          (method_names (callers answers (functions_in c.args.extensions.now))) (basename_of (function_name f)) c.loop-function.invariant.1
+          (ap (λ fs. method_names (callers answers fs)) step ∙ method_listed answers f rest named other method) pushed,
+    )
