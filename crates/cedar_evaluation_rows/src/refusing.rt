@@ -1,5 +1,6 @@
 // A schema that refuses everything.
 use cedar_extensions::extensions::Extensions;
+use cedar_extensions::objects::ExtensionFunctionObject;
 use cedar_literals::uids::EntityUID;
 use cedar_requests::{Context, Request, RequestSchema};
 use thiserror::Error;
@@ -23,19 +24,19 @@ impl RequestSchema for RefusesAll {
 
     ghost validates_scope = { λ schema principal action resource result. IsErr result };
 
-    fn validate_request(
+    fn validate_request<F: ExtensionFunctionObject>(
         &self,
         _request: &Request,
-        _extensions: &Extensions<'_>,
+        _extensions: &Extensions<'_, F>,
     ) -> Result<(), Refused> {
         Err(Refused)
     }
 
-    fn validate_context(
+    fn validate_context<F: ExtensionFunctionObject>(
         &self,
         _context: &Context,
         _action: &EntityUID,
-        _extensions: &Extensions<'_>,
+        _extensions: &Extensions<'_, F>,
     ) -> Result<(), Refused> {
         Err(Refused)
     }

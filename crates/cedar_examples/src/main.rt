@@ -5,6 +5,7 @@
 mod asking;
 mod editing;
 mod frames;
+mod functions;
 mod linking;
 mod telling;
 
@@ -15,13 +16,15 @@ use std::alloc::Global;
 /// How deep texts may nest, and evaluations may go.
 const DEPTH: u32 = 256;
 
-/// Shows each example. Texts may call the functions of the table of extensions.
+/// Shows each example. Texts may call the functions of the table of extensions, but those of the last, which
+/// makes a table of its own.
 fn show_each(rt: &impl Print, alloc: Global, extensions: &Extensions<'_>) -> Result<()> {
     asking::show(rt, alloc, extensions)?;
     linking::show(rt, alloc, extensions)?;
     editing::show(rt, alloc)?;
     frames::show(rt, alloc, extensions)?;
-    telling::show(rt, alloc, extensions)
+    telling::show(rt, alloc, extensions)?;
+    functions::show(rt, alloc)
 }
 
 fn main(rt: HostRuntime) -> Result<()> {

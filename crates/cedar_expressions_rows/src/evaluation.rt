@@ -4,6 +4,7 @@ use cedar_expressions::ast::{
     BorrowedRestrictedExpr, Expr, PartialValue, RestrictedExpressionError,
 };
 use cedar_expressions::evaluator::{EvaluationError, interpret_restricted};
+use cedar_expressions::extensions::ExtensionFunctionObject;
 use cedar_restricted_rows::partial_values::told;
 use cedar_rows::{Answer, no_case};
 use std::alloc::Global;
@@ -15,11 +16,11 @@ fn told_answer(alloc: Global, found: Result<PartialValue, EvaluationError>) -> A
     }
 }
 
-fn within(
+fn within<F: ExtensionFunctionObject>(
     alloc: Global,
     depth: u32,
     expr: Result<BorrowedRestrictedExpr<'_>, RestrictedExpressionError>,
-    table: &Extensions<'_>,
+    table: &Extensions<'_, F>,
 ) -> Answer {
     match expr {
         Ok(expr) => told_answer(alloc, interpret_restricted(alloc, expr, table, depth)),
@@ -28,7 +29,12 @@ fn within(
 }
 
 /// What the expression on top is evaluated to within this depth.
-pub(crate) fn answer(alloc: Global, depth: &str, stack: &[Expr], table: &Extensions<'_>) -> Answer {
+pub(crate) fn answer<F: ExtensionFunctionObject>(
+    alloc: Global,
+    depth: &str,
+    stack: &[Expr],
+    table: &Extensions<'_, F>,
+) -> Answer {
     let depth = depth.parse::<u32>().unwrap_or(0);
     match stack.last() {
         Some(expr) => within(

@@ -79,9 +79,9 @@ pub(crate) fn taken(
     said(alloc, table.holds_unknown())
 }
 
-fn told_function(
+fn told_function<F>(
     alloc: Global,
-    found: Result<&ExtensionFunction, ExtensionFunctionLookupError>,
+    found: Result<&ExtensionFunction<F>, ExtensionFunctionLookupError>,
 ) -> Answer {
     match found {
         Ok(function) => function.name().to_string(alloc),
@@ -101,7 +101,7 @@ fn joined<'a, I: Iterator<Item = &'a Name> + Drop>(alloc: Global, names: I) -> A
     Ok(text)
 }
 
-fn of_name(alloc: Global, verb: &str, name: &Name, table: &Extensions<'_>) -> Answer {
+fn of_name<F>(alloc: Global, verb: &str, name: &Name, table: &Extensions<'_, F>) -> Answer {
     match verb {
         "func" => told_function(alloc, table.func(alloc, name)),
         _ => match FunctionTypes::return_type(table, name) {
@@ -112,7 +112,12 @@ fn of_name(alloc: Global, verb: &str, name: &Name, table: &Extensions<'_>) -> An
 }
 
 /// What the table has, and what it has of this name.
-pub(crate) fn sought(alloc: Global, verb: &str, name: &str, table: &Extensions<'_>) -> Answer {
+pub(crate) fn sought<F>(
+    alloc: Global,
+    verb: &str,
+    name: &str,
+    table: &Extensions<'_, F>,
+) -> Answer {
     match verb {
         "ext_names" => joined(alloc, table.ext_names()),
         "ext_types" => joined(alloc, table.ext_types()),
@@ -156,7 +161,11 @@ pub(crate) fn made(
     hold(alloc, unknown(alloc, name, ty), functions)
 }
 
-fn told_output(alloc: Global, output: Result<ExtensionOutputValue, EvaluationError>) -> Answer {
+/// The value or the unknown that a function gave, or why it gave none.
+pub(crate) fn told_output(
+    alloc: Global,
+    output: Result<ExtensionOutputValue, EvaluationError>,
+) -> Answer {
     match output {
         Ok(ExtensionOutputValue::Known(value)) => told(alloc, &PartialValue::from(value)),
         Ok(ExtensionOutputValue::Unknown(unknown)) => unknown.to_string(alloc),
@@ -164,7 +173,7 @@ fn told_output(alloc: Global, output: Result<ExtensionOutputValue, EvaluationErr
     }
 }
 
-fn told_types(alloc: Global, types: &[SchemaType]) -> Answer {
+pub(crate) fn told_types(alloc: Global, types: &[SchemaType]) -> Answer {
     let mut text = String::new(alloc);
     for ty in types {
         separate(&mut text)?;

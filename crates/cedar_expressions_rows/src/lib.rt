@@ -2,12 +2,14 @@
 //! between. What a step makes is kept, or stands on a stack; a line's answer is that of its last step.
 #![tactic(auto)]
 
+mod callers;
 mod errors;
 mod evaluation;
 mod extensions;
 mod operators;
 mod policies;
 mod registers;
+mod samples;
 mod sections;
 mod validation;
 

@@ -1,4 +1,5 @@
 // What steps leave to later ones: stacks, which a line starts empty, and registers, which stay.
+use crate::samples::Samples;
 use cedar_expressions::Extensions;
 use cedar_expressions::ast::{
     Argument, Expr, ExprBuilder, Extension, ExtensionFunction, PartialValue, Value,
@@ -23,6 +24,7 @@ pub(crate) struct Expressions {
     pub(crate) builder: ExprBuilder,
     pub(crate) extension: Option<Extension>,
     pub(crate) table: Extensions<'static>,
+    pub(crate) samples: Samples,
 }
 
 impl Drop for Expressions {
@@ -40,6 +42,7 @@ impl Drop for Expressions {
             builder: _,
             extension: _,
             table: _,
+            samples: _,
         } = self;
     }
 }
@@ -58,6 +61,7 @@ pub(crate) fn empty(alloc: Global) -> Expressions {
         builder: ExprBuilder::new(alloc),
         extension: None,
         table: Extensions::none(alloc),
+        samples: None,
     }
 }
 

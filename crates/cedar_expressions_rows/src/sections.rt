@@ -1,6 +1,6 @@
 // Which section knows a step.
 use crate::registers::Expressions;
-use crate::{errors, evaluation, extensions, operators, validation};
+use crate::{errors, evaluation, extensions, operators, samples, validation};
 use cedar_restricted_rows::{bounded, partial_values, substitution};
 use cedar_rows::Answer;
 use cedar_tree_rows::{builders, shapes, trees};
@@ -95,6 +95,15 @@ fn judged(
         "gather" => extensions::gathered(alloc, verb),
         "operate" => operators::answer(alloc, verb, one, &mut held.values, &held.table),
         "evaluate" => evaluation::answer(alloc, verb, &held.stack, &held.table),
+        _ => sampled(alloc, section, verb, one, held),
+    }
+}
+
+fn sampled(alloc: Global, section: &str, verb: &str, one: &str, held: &mut Expressions) -> Answer {
+    match section {
+        "sample" => samples::called(alloc, verb, one, &mut held.values),
+        "take-samples" => samples::taken(alloc, verb, &mut held.samples),
+        "samples" => samples::asked(alloc, verb, one, &held.stack, &held.samples),
         _ => validation::answer(alloc, &held.stack, &held.table),
     }
 }
