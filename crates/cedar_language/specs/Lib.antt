@@ -7,6 +7,7 @@ pub mod Value
 pub mod Order
 pub mod Pattern
 pub mod Facts
+pub mod Constructing
 pub mod Operators
 pub mod Meaning
 pub mod Means

@@ -9,7 +9,7 @@ use Rattle.cedar_language.specs.Order.{same_text}
 use Rattle.cedar_language.specs.Operators.{applied}
 use Rattle.cedar_partial_evaluation.specs.MadeAgain.{tree_of, trees_of}
 use Rattle.cedar_partial_evaluation.specs.Partial.{Answer, Evaluated, ResidualTree, Failed, Answers, AllEvaluated, SomeResiduals, SomeFailed, answer_of, best_effort, last_answer, and_answer, or_answer, if_answer, and_next, LeafAnswers, is_projectable, are_projectable, built_answer, projected_in, all_projected_in, found_tree, entry_answer, attribute_answer, has_entry_answer, has_answer, is_answer, stated_type, types_differ, equal_answer, residual_answer, apply_answer, partial_in, all_partial_in}
-use Rattle.cedar_partial_evaluation.specs.Alike.{AlikeBut, itself, differing, if_alike, and_alike, or_alike, apply_alike, AllAlikeBut, none_alike, more_alike, SameBut, AllSameBut, IsWrittenOtherwise, Alike, AllAlike, LikenessIsAlwaysKept, ProjectingIsEvaluating, gathered, is_some_left, WriteEach, GatheredAlwaysSplits}
+use Rattle.cedar_partial_evaluation.specs.Alike.{AlikeBut, itself, differing, if_alike, and_alike, or_alike, apply_alike, AllAlikeBut, none_alike, more_alike, SameBut, AllSameBut, NoneDiffer, Alike, AllAlike, LikenessIsAlwaysKept, ProjectingIsEvaluating, gathered, is_some_left, WriteEach, GatheredAlwaysSplits}
 use Rattle.cedar_partial_evaluation.proofs.Sound.{and_true}
 
 -- a tree that partial evaluation doesn't look into
@@ -317,8 +317,8 @@ module _ (facts : Facts) where
 -- ---- operands
 
 module _ (facts : Facts) where
-  written_opaque : (s t : Tree) → IsWrittenOtherwise facts s t → (is_opaque s ≡ true) × (is_opaque t ≡ true)
-  written_opaque s t (e, f, us, is, also) = (ap is_opaque is, ap is_opaque also)
+  none_opaque : (s t : Tree) → NoneDiffer s t → (is_opaque s ≡ true) × (is_opaque t ≡ true)
+  none_opaque s t h = absurd h
 
   -- what the operands after the first have been split into
   abbrev Splits : Bool → Trees → Answers → Type 0
@@ -345,11 +345,11 @@ module _ (facts : Facts) where
 
 pub likeness_is_kept : LikenessIsAlwaysKept
 likeness_is_kept facts = record {
-  next = next_same facts (IsWrittenOtherwise facts) (written_opaque facts);
-  applied = apply_same facts (IsWrittenOtherwise facts) (written_opaque facts);
-  and_kept = and_same facts (IsWrittenOtherwise facts) (written_opaque facts);
-  or_kept = or_same facts (IsWrittenOtherwise facts) (written_opaque facts);
-  if_kept = if_same facts (IsWrittenOtherwise facts) (written_opaque facts);
+  next = next_same facts NoneDiffer (none_opaque facts);
+  applied = apply_same facts NoneDiffer (none_opaque facts);
+  and_kept = and_same facts NoneDiffer (none_opaque facts);
+  or_kept = or_same facts NoneDiffer (none_opaque facts);
+  if_kept = if_same facts NoneDiffer (none_opaque facts);
 }
 
 pub projecting_is_evaluating : ProjectingIsEvaluating
@@ -360,3 +360,21 @@ gathered_splits facts = record {
   trees = λ us ps h some. subst (λ b. Splits facts b us (gathered facts ps)) some (splits facts us ps h);
   values = λ us ps h none. subst (λ b. Splits facts b us (gathered facts ps)) none (splits facts us ps h);
 }
+
+-- ---- trees that differ in no part
+
+mutual
+  one : {s t : Tree} → AlikeBut NoneDiffer s t → s ≡ t
+  one itself = refl
+  one (differing d) = absurd d
+  one (if_alike h k l) = rw (one h, one k, one l) refl
+  one (and_alike h k) = rw (one h, one k) refl
+  one (or_alike h k) = rw (one h, one k) refl
+  one (apply_alike {op} h) = ap (Apply op) (all_one h)
+
+  all_one : {ts us : Trees} → AllAlikeBut NoneDiffer ts us → ts ≡ us
+  all_one none_alike = refl
+  all_one (more_alike h k) = rw (one h, all_one k) refl
+
+pub alike_is : (facts : Facts) (s t : Tree) → Alike facts s t → s ≡ t
+alike_is facts s t h = one h

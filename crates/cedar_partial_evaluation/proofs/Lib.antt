@@ -8,7 +8,6 @@ mod Filling
 mod Telling
 mod Early
 mod EarlyRows
-mod Like
 mod Mentions
 mod Linking
 mod Unbound
@@ -18,5 +17,5 @@ mod Leaves
 mod Errors
 mod ReadUnknowns
 mod LinkingEarly
-mod Alike
+pub mod Alike
 mod DataErrors

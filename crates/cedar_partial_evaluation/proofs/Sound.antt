@@ -1,13 +1,14 @@
 -- What trees for values settle to, and what is settled where nothing is open.
-use Rattle.std.proofs.Common.{◌≡◌, ◌≢◌, Bool, true, false, not, cond, ◌&&◌, Option, Some, None, List, [], ◌∷◌, refl, sym, ◌∙◌, ap}
+use Rattle.std.proofs.Common.{◌≡◌, ◌≢◌, ℕ, Bool, true, false, not, cond, ◌&&◌, Option, Some, None, List, [], ◌∷◌, refl, sym, ◌∙◌, ap}
 use Rattle.cedar_language.specs.Uid.{Text, Name, Uid}
 use Rattle.cedar_language.specs.Tree.{Boolean, Entity, Operator, Tree, Trees, no_trees, a_tree}
 use Rattle.cedar_language.specs.Value.{Value, Plain, SetOf, RecordOf, ExtensionOf, Values, no_values, a_value, Outcome, Gives, Fails}
 use Rattle.cedar_language.specs.Order.{same, same_text, same_name}
 use Rattle.cedar_language.specs.Facts.{Facts}
+use Rattle.cedar_language.specs.Constructing.{longs_of}
 use Rattle.cedar_language.specs.Operators.{found, applied}
 use Rattle.cedar_partial_evaluation.specs.Settling.{Settling, Open, Errs, Is, Settlings, SomeOpen, SomeErrs, AllAre, kindless, boolean, and_settled, or_settled, if_settled, and_more, apply_settled, LeafSettlings, settled_in, all_settled_in}
-use Rattle.cedar_partial_evaluation.specs.MadeAgain.{tree_of, trees_of, IsMadeAgain, AreMadeAgain}
+use Rattle.cedar_partial_evaluation.specs.MadeAgain.{tree_of, trees_of, long_values, IsMadeAgain, AreMadeAgain}
 use Rattle.cedar_partial_evaluation.specs.Partial.{answer_of, found_tree}
 use Rattle.cedar_partial_evaluation.specs.Fair.{read}
 use Rattle.cedar_language.proofs.Rising.{rising_same}
@@ -18,13 +19,17 @@ use Rattle.std.proofs.Common.{true≢false}
 abbrev set_is : Values → Settling
 set_is vs = Is (SetOf vs)
 
+longs_are : (facts : Facts) (around : LeafSettlings) (bs : List ℕ) → all_settled_in facts around (longs_of bs) ≡ AllAre (long_values bs)
+longs_are facts around [] = refl
+longs_are facts around (b ∷ bs) = rw (longs_are facts around bs) refl
+
 -- a value's tree has the value, whatever stands around
 mutual
   pub tree_of_is : (facts : Facts) (around : LeafSettlings) (v : Value) → IsMadeAgain facts v → settled_in facts around (tree_of facts v) ≡ Is v
   tree_of_is facts around (Plain l) h = refl
   tree_of_is facts around (SetOf vs) h = rw (trees_of_are facts around vs h.1) (ap set_is (rising_same vs h.0))
   tree_of_is facts around (RecordOf ks vs) h = rw (trees_of_are facts around vs h) refl
-  tree_of_is facts around (ExtensionOf e) h = h around
+  tree_of_is facts around (ExtensionOf e) h = rw (longs_are facts around e.key) (ap kindless h)
 
   pub trees_of_are : (facts : Facts) (around : LeafSettlings) (vs : Values) → AreMadeAgain facts vs → all_settled_in facts around (trees_of facts vs) ≡ AllAre vs
   trees_of_are facts around no_values h = refl

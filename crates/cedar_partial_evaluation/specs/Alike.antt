@@ -1,11 +1,9 @@
--- Trees that are the same but for parts in which they may differ, and answers that are the same but for such trees. A value
--- in code holds its own representation, so a residual there may write an extension value otherwise than `Facts` does.
+-- Trees that are the same but for parts in which they may differ, and answers that are the same but for such trees.
 use Rattle.std.specs.Prelude.{◌≡◌, Bool, true, false, List, [], ◌∷◌}
-use Rattle.cedar_language.specs.Uid.{Name}
-use Rattle.cedar_language.specs.Tree.{Operator, Call, Tree, If, And, Or, Apply, Trees, no_trees, a_tree}
-use Rattle.cedar_language.specs.Value.{Extension, Values, no_values}
+use Rattle.cedar_language.specs.Tree.{Operator, Tree, If, And, Or, Apply, Trees, no_trees, a_tree}
+use Rattle.cedar_language.specs.Value.{Values, no_values}
 use Rattle.cedar_language.specs.Facts.{Facts}
-use Rattle.cedar_partial_evaluation.specs.MadeAgain.{call_of, tree_of, trees_of}
+use Rattle.cedar_partial_evaluation.specs.MadeAgain.{tree_of, trees_of}
 use Rattle.cedar_partial_evaluation.specs.Partial.{Answer, Evaluated, ResidualTree, Failed, Answers, AllEvaluated, SomeResiduals, SomeFailed, and_answer, or_answer, if_answer, and_next, LeafAnswers, is_projectable, projected_in, apply_answer, partial_in}
 
 -- `Differ s t`: the one may stand where the other does
@@ -34,23 +32,22 @@ module _ (Differ : Tree → Tree → Type 0) where
   AllSameBut (SomeResiduals rs) bs = (ts : Trees) × (bs ≡ SomeResiduals ts) × AllAlikeBut rs ts
   AllSameBut (SomeFailed k) bs = bs ≡ SomeFailed k
 
--- ---- extension values
+-- ---- what code leaves, against what is left here: it differs in no part
 
--- a call stands where `Facts` writes an extension value
-abbrev pub IsWrittenOtherwise : Facts → Tree → Tree → Type 0
-IsWrittenOtherwise facts s t = (e : Extension) × (f : Name) × (us : Trees) × (s ≡ Apply (Call f) us) × (t ≡ call_of (facts.written e))
+abbrev pub NoneDiffer : Tree → Tree → Type 0
+NoneDiffer s t = ⊥
 
 abbrev pub Alike : Facts → Tree → Tree → Type 0
-Alike facts = AlikeBut (IsWrittenOtherwise facts)
+Alike facts = AlikeBut NoneDiffer
 
 abbrev pub AllAlike : Facts → Trees → Trees → Type 0
-AllAlike facts = AllAlikeBut (IsWrittenOtherwise facts)
+AllAlike facts = AllAlikeBut NoneDiffer
 
 abbrev pub Same : Facts → Answer → Answer → Type 0
-Same facts = SameBut (IsWrittenOtherwise facts)
+Same facts = SameBut NoneDiffer
 
 abbrev pub AllSame : Facts → Answers → Answers → Type 0
-AllSame facts = AllSameBut (IsWrittenOtherwise facts)
+AllSame facts = AllSameBut NoneDiffer
 
 -- every construct makes the same answer of the same answers
 pub record LikenessIsKept (facts : Facts) : Type 0 where

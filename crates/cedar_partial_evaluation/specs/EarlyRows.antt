@@ -58,7 +58,6 @@ nothing_held = record {
   entity = λ u. None;
   reaches = λ u v. false;
   function = rank_function;
-  written = λ e. record { function = rank_name; arguments = no_trees };
 }
 
 abbrev pub asked : Entries → Question
@@ -117,7 +116,6 @@ hands_back = record {
   entity = λ u. None;
   reaches = λ u v. false;
   function = λ n. Some (record { takes = Some 1; answer = handed_back });
-  written = λ e. record { function = rank_name; arguments = no_trees };
 }
 
 -- `context.y && (context.x && 1 + "a" == 2)`: the error on the right is kept back until the left is told

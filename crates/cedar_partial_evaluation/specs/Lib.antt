@@ -9,7 +9,6 @@ pub mod Question
 pub mod Filling
 pub mod Telling
 pub mod Early
-pub mod Like
 pub mod Mentions
 pub mod Linking
 pub mod Unbound

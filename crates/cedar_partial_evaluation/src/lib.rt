@@ -1,7 +1,6 @@
 // What is answered while parts of a question are unknown: settling, partial evaluation and telling, in definitions and their laws.
 #![tactic(auto)]
 
-ghost use Rattle.cedar_partial_evaluation.specs.Like.{LikeTreesAgreeAlways, WrittenIsAnswered};
 ghost use Rattle.cedar_partial_evaluation.specs.Mentions.{KnownTreesSettle, NamesDontMatter, WithoutUnknowns};
 ghost use Rattle.cedar_partial_evaluation.specs.Leaves.{KnownIsNeverLeft, LeavesDontMatter, MentionedIsMeant};
 ghost use Rattle.cedar_partial_evaluation.specs.Errors.{SettlingIsOne};
@@ -106,16 +105,6 @@ pub fn early_answers_are_prompt()
 /// A policy that settles to an error errs in the early answer, with a kind to which it settles.
 pub fn early_kinds_are_settled()
     ensures { EarlyKindsAreSettled }
-{}
-
-/// Trees that differ only in how they write extension values settle alike.
-pub fn like_trees_agree()
-    ensures { LikeTreesAgreeAlways }
-{}
-
-/// What writes an extension value is answered by it.
-pub fn written_is_answered()
-    ensures { WrittenIsAnswered }
 {}
 
 /// A tree that mentions nothing unknown settles.

@@ -1,6 +1,4 @@
-mod PlainValues
 mod PlainAnswers
-mod PlainWritten
 mod ContextErrors
 mod Members
 mod KnownAnswer

@@ -1,17 +1,17 @@
--- Answers in which no extension value stands, and which write none.
-use Rattle.std.proofs.Common.{◌≡◌, Bool, true, false, cond, ◌||◌, Option, Some, None, List, [], ◌∷◌, refl}
+-- What is left calls no function for an unknown, where the tree calls none.
+use Rattle.std.proofs.Common.{◌≡◌, ℕ, Bool, true, false, cond, ◌||◌, Option, Some, None, List, [], ◌∷◌, refl}
 use Rattle.cedar_language.specs.Uid.{Text, Name}
 use Rattle.cedar_language.specs.Tree.{Boolean, EntityType, Operator, Equal, GetAttr, HasAttr, MakeRecord, Tree, Lit, Var, Slot, Unknown, If, And, Or, Apply, Trees, no_trees, a_tree}
 use Rattle.cedar_language.specs.Tree as tree
 use Rattle.cedar_language.specs.Value.{Value, Plain, SetOf, RecordOf, ExtensionOf, Values, no_values, a_value, Outcome, Gives, Fails}
+use Rattle.cedar_language.specs.Constructing.{longs_of}
 use Rattle.cedar_language.specs.Order.{same_text}
 use Rattle.cedar_language.specs.Facts.{Facts}
 use Rattle.cedar_language.specs.Operators.{applied}
 use Rattle.cedar_partial_evaluation.specs.MadeAgain.{tree_of, trees_of}
 use Rattle.cedar_partial_evaluation.specs.Partial.{Answer, Evaluated, ResidualTree, Failed, Answers, AllEvaluated, SomeResiduals, SomeFailed, answer_of, best_effort, last_answer, and_answer, or_answer, if_answer, and_next, are_projectable, LeafAnswers, built_answer, projected_in, all_projected_in, found_tree, entry_answer, attribute_answer, has_entry_answer, has_answer, is_answer, stated_type, types_differ, equal_answer, residual_answer, apply_answer, partial_in, all_partial_in}
 use Rattle.cedar_partial_evaluation.specs.ReadUnknowns.{is_unknown_call, calls_unknown, some_calls_unknown}
-use Rattle.cedar_telling.specs.Plain.{IsPlainValue, ArePlainValues, HoldPlain, IsPlainAnswer, ArePlainLeaves}
-use Rattle.cedar_telling.proofs.PlainValues.{IsPlainOutcome, applied_plain}
+use Rattle.cedar_telling.specs.Plain.{IsPlainAnswer, ArePlainLeaves, PlainAnswers}
 
 pub both_false : (a b : Bool) → (a || b) ≡ false → (a ≡ false) × (b ≡ false)
 both_false true b h = cc
@@ -37,30 +37,33 @@ found_tree_plain (k ∷ ks) (a_tree t ts) a h =
     let (ht, hts) = both_false (calls_unknown t) (some_calls_unknown ts) h in
     found_tree_step (same_text k a) t (found_tree ks ts a) ht (found_tree_plain ks ts a hts)
 
--- values in which no extension value stands, or trees that call no function for an unknown
+-- trees that are left call no function for an unknown
 abbrev pub ArePlainAnswers : Answers → Type 0
-ArePlainAnswers (AllEvaluated vs) = ArePlainValues vs
 ArePlainAnswers (SomeResiduals rs) = some_calls_unknown rs ≡ false
-ArePlainAnswers (SomeFailed k) = Unit {0}
+ArePlainAnswers ps = Unit {0}
 
-answer_plain : (o : Outcome) → IsPlainOutcome o → IsPlainAnswer (answer_of o)
-answer_plain (Gives v) h = h
-answer_plain (Fails k) h = tt
+answer_plain : (o : Outcome) → IsPlainAnswer (answer_of o)
+answer_plain (Gives v) = tt
+answer_plain (Fails k) = tt
+
+longs_plain : (bs : List ℕ) → some_calls_unknown (longs_of bs) ≡ false
+longs_plain [] = refl
+longs_plain (b ∷ bs) = longs_plain bs
 
 module _ (facts : Facts) where
   mutual
-    tree_plain : (v : Value) → IsPlainValue v → calls_unknown (tree_of facts v) ≡ false
-    tree_plain (Plain l) h = refl
-    tree_plain (SetOf vs) h = trees_plain vs h
-    tree_plain (RecordOf ks vs) h = trees_plain vs h
-    tree_plain (ExtensionOf e) h = absurd h
+    tree_plain : (v : Value) → calls_unknown (tree_of facts v) ≡ false
+    tree_plain (Plain l) = refl
+    tree_plain (SetOf vs) = trees_plain vs
+    tree_plain (RecordOf ks vs) = trees_plain vs
+    tree_plain (ExtensionOf e) = longs_plain e.key
 
-    trees_plain : (vs : Values) → ArePlainValues vs → some_calls_unknown (trees_of facts vs) ≡ false
-    trees_plain no_values h = refl
-    trees_plain (a_value v vs) h = neither (calls_unknown (tree_of facts v)) (some_calls_unknown (trees_of facts vs)) (tree_plain v h.0) (trees_plain vs h.1)
+    trees_plain : (vs : Values) → some_calls_unknown (trees_of facts vs) ≡ false
+    trees_plain no_values = refl
+    trees_plain (a_value v vs) = neither (calls_unknown (tree_of facts v)) (some_calls_unknown (trees_of facts vs)) (tree_plain v) (trees_plain vs)
 
   best_effort_plain : (p : Answer) (t : Tree) → IsPlainAnswer p → calls_unknown t ≡ false → calls_unknown (best_effort facts p t) ≡ false
-  best_effort_plain (Evaluated v) t h i = tree_plain v h
+  best_effort_plain (Evaluated v) t h i = tree_plain v
   best_effort_plain (ResidualTree r) t h i = h
   best_effort_plain (Failed k) t h i = i
 
@@ -101,16 +104,16 @@ module _ (facts : Facts) where
 
   next_plain : (p : Answer) (ps : Answers) → IsPlainAnswer p → ArePlainAnswers ps → ArePlainAnswers (and_next facts p ps)
   next_plain (Failed k) ps h i = tt
-  next_plain (Evaluated v) (AllEvaluated vs) h i = (h, i)
-  next_plain (Evaluated v) (SomeResiduals rs) h i = neither (calls_unknown (tree_of facts v)) (some_calls_unknown rs) (tree_plain v h) i
+  next_plain (Evaluated v) (AllEvaluated vs) h i = tt
+  next_plain (Evaluated v) (SomeResiduals rs) h i = neither (calls_unknown (tree_of facts v)) (some_calls_unknown rs) (tree_plain v) i
   next_plain (Evaluated v) (SomeFailed k) h i = tt
-  next_plain (ResidualTree r) (AllEvaluated vs) h i = neither (calls_unknown r) (some_calls_unknown (trees_of facts vs)) h (trees_plain vs i)
+  next_plain (ResidualTree r) (AllEvaluated vs) h i = neither (calls_unknown r) (some_calls_unknown (trees_of facts vs)) h (trees_plain vs)
   next_plain (ResidualTree r) (SomeResiduals rs) h i = neither (calls_unknown r) (some_calls_unknown rs) h i
   next_plain (ResidualTree r) (SomeFailed k) h i = tt
 
-  module _ (good : HoldPlain facts) (holds : LeafAnswers) (leaves : ArePlainLeaves holds) where
+  module _ (holds : LeafAnswers) (leaves : ArePlainLeaves holds) where
     built_plain : (o : Operator) (ps : Answers) → is_unknown_call o ≡ false → ArePlainAnswers ps → IsPlainAnswer (built_answer facts o ps)
-    built_plain o (AllEvaluated vs) c h = answer_plain (applied facts o vs) (applied_plain facts good o vs h)
+    built_plain o (AllEvaluated vs) c h = answer_plain (applied facts o vs)
     built_plain o (SomeResiduals rs) c h = neither (is_unknown_call o) (some_calls_unknown rs) c h
     built_plain o (SomeFailed k) c h = tt
 
@@ -168,7 +171,7 @@ module _ (facts : Facts) where
     left_plain o rs c h = neither (is_unknown_call o) (some_calls_unknown rs) c h
 
     apply_plain : (o : Operator) (ps : Answers) → is_unknown_call o ≡ false → ArePlainAnswers ps → IsPlainAnswer (apply_answer facts holds o ps)
-    apply_plain o (AllEvaluated vs) c h = answer_plain (applied facts o vs) (applied_plain facts good o vs h)
+    apply_plain o (AllEvaluated vs) c h = answer_plain (applied facts o vs)
     apply_plain o (SomeResiduals rs) c h = left_plain o rs c h
     apply_plain o (SomeFailed k) c h = tt
 
@@ -197,3 +200,6 @@ module _ (facts : Facts) where
       all_plain (a_tree t ts) h =
           let (ht, hts) = both_false (calls_unknown t) (some_calls_unknown ts) h in
           next_plain (partial_in facts holds t) (all_partial_in facts holds ts) (plain t ht) (all_plain ts hts)
+
+pub plain_answers : PlainAnswers
+plain_answers = λ facts holds leaves t h. plain facts holds leaves t h

@@ -8,7 +8,7 @@ ghost use Rattle.cedar_telling.specs.Plain.{PlainAnswers};
 
 // ---- evaluations
 
-/// Where no extension value is held, an answer has none, and what is left of a tree doesn't depend on how such values are written.
+/// What is left of a tree that calls no function for an unknown calls none.
 pub fn plain_answers()
     ensures { PlainAnswers }
 {}

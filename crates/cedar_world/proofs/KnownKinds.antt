@@ -1,5 +1,5 @@
 -- A policy of a text errs with ordinary kinds alone where all is known.
-use Rattle.std.proofs.Common.{◌≡◌, ◌⊎◌, inl, inr, ℕ, zero, suc, Bool, true, false, ◌&&◌, Option, Some, None, is_some, List, [], ◌∷◌, ◌++◌, Contains, map, not, refl, sym, ◌∙◌, ap, subst, true≢false}
+use Rattle.std.proofs.Common.{◌≡◌, ◌⊎◌, inl, inr, ℕ, zero, suc, Bool, true, false, ◌&&◌, Option, Some, None, is_some, List, [], ◌∷◌, ◌++◌, Contains, map, not, cond, refl, sym, ◌∙◌, ap, subst, true≢false}
 use Rattle.std.specs.List.{list_all}
 use Rattle.cedar_language.specs.Uid.{Text, Name, Uid}
 use Rattle.cedar_language.specs.Tree as tree
@@ -16,6 +16,7 @@ use Rattle.cedar_grammar.specs.Names.{Names}
 use Rattle.cedar_grammar.specs.Policies.{Each, no_more, one_more, PolicyWithin, ArePolicies}
 use Rattle.cedar_grammar.specs.Policy.{Policy, Target, the_entity, the_slot, Constraint, anything, equals, within, of_type, of_type_within, constraint_tree, constraint_slots, bound_constraint, ActionConstraint, any_action, action_equals, action_within_any, action_tree, scope_tree, with_body, body_slots, bound_body, bound, condition}
 use Rattle.cedar_grammar.specs.Token.{Token}
+use Rattle.cedar_language.specs.Constructing.{is_the_constructor, constructor_function}
 use Rattle.cedar_world.specs.Functions.{policy_names, function_of, is_the_unknown}
 use Rattle.cedar_world.specs.KnownKinds.{IsOrdinary, ErrsOrdinarily, TextsErrOrdinarily}
 use Rattle.cedar_world.specs.LinkLaws.{LinksAreStatic}
@@ -183,6 +184,10 @@ none_left : (ss : List SlotId) → are_some ss ≡ false → ss ≡ []
 none_left [] e = refl
 none_left (s ∷ ss) e = absurd (true≢false e)
 
+still_some : {A : Type 0} (b : Bool) (x : A) (o : Option A) → is_some o ≡ true → is_some (cond b (Some x) o) ≡ true
+still_some true x o h = refl
+still_some false x o h = h
+
 pub texts_err_ordinarily : LinksAreStatic → BodiesHoldNoSlot → ((by : Setting) → CallsAreFound by) → TextsErrOrdinarily
 texts_err_ordinarily static free found by entities facts are text ss reads s among b exact request =
     let names = policy_names by.functions in
@@ -191,6 +196,7 @@ texts_err_ordinarily static free found by entities facts are text ss reads s amo
     let no_slot = none_left _ (static b s exact) in
     let calls = at_one (λ p. calls_only passes (condition p)) ss ((found by).policies text ss reads) s (contained ss s among) in
     let is_found : (name : Name) → passes name ≡ true → is_some (facts.function name) ≡ true =
-    λ name h. ap is_some (are.function name) ∙ and_left (is_answered by.functions name) (not (is_the_unknown name)) h in
+    λ name h. ap is_some (are.function name)
+    ∙ still_some (is_the_constructor name) constructor_function (function_of by.functions name) (and_left (is_answered by.functions name) (not (is_the_unknown name)) h) in
     with_body_fine facts (request_at request (λ s. None)) (binding_of b) passes is_found (scope_tree s) (scope_tree (linked b s)) s.body calls (free names reads.0 one.0 s one.1 one.2)
     (scope_fine facts (request_at request (λ s. None)) (binding_of b) passes is_found (linked b s) (first_empty _ _ no_slot) (second_empty _ _ no_slot))

@@ -6,7 +6,6 @@ use Rattle.std.specs.Ordering.{eq_by_cmp}
 use Rattle.std.specs.FinMap as map
 use Rattle.std.specs.FinSet as set
 use Rattle.cedar_language.specs.Uid.{Name, Uid}
-use Rattle.cedar_language.specs.Value.{Extension}
 use Rattle.cedar_language.specs.Facts.{Facts, Reaches, edge, further}
 use Rattle.cedar_world.specs.Orders.{UidSet, uid_cmp}
 use Rattle.cedar_world.specs.Reach.{IsParent}
@@ -109,7 +108,6 @@ exist by world = record {
   entity = λ uid. refl;
   ancestors = λ a b. (leads_path (parents_at world.entities) (map.keys world.entities) a b, path_leads (parents_at world.entities) (map.keys world.entities) (stops_held world.entities));
   function = λ name. refl;
-  written = λ e. refl;
 }
 
 pub facts_are_one : (by : Setting) (world : World) (a b : Facts) → AreFactsOf by world a → AreFactsOf by world b → a ≡ b
@@ -118,8 +116,7 @@ facts_are_one by world a b f g =
     let reaches : (x y : Uid) → a.reaches x y ≡ b.reaches x y =
     λ x y. both_ways (a.reaches x y) (b.reaches x y) (λ h. (g.ancestors x y).1 ((f.ancestors x y).0 h)) (λ h. (f.ancestors x y).1 ((g.ancestors x y).0 h)) in
     let function : (name : Name) → a.function name ≡ b.function name = λ name. f.function name ∙ sym (g.function name) in
-    let written : (e : Extension) → a.written e ≡ b.written e = λ e. f.written e ∙ sym (g.written e) in
-    λ i. record { entity = λ uid. entity uid i; reaches = λ x y. reaches x y i; function = λ name. function name i; written = λ e. written e i }
+    λ i. record { entity = λ uid. entity uid i; reaches = λ x y. reaches x y i; function = λ name. function name i }
 
 no_parents : (entities : Entities) → entities ≡ map.empty → (a b : Uid) → set.contains (parents_at entities a) b ≡ true → ⊥
 no_parents entities e a b h =

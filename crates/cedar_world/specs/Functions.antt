@@ -3,8 +3,9 @@
 use Rattle.std.specs.Prelude.{Bool, not, Option, Some, None, List, [], ◌∷◌, filter, codes, if◌then◌else◌}
 use Rattle.cedar_language.specs.Uid.{Text, Name}
 use Rattle.cedar_language.specs.Tree.{String}
-use Rattle.cedar_language.specs.Value.{Value, Plain, Values, no_values, a_value, Extension}
-use Rattle.cedar_language.specs.Facts.{Function, Written}
+use Rattle.cedar_language.specs.Value.{Value, Plain, Values, no_values, a_value}
+use Rattle.cedar_language.specs.Facts.{Function}
+use Rattle.cedar_language.specs.Constructing.{or_constructor}
 use Rattle.cedar_grammar.specs.Names.{Names, is_name}
 
 -- how a function is called: by its name before all its arguments, or behind the first one
@@ -17,11 +18,10 @@ pub record NamedFunction : Type 0 where
   pub style : CallStyle
   pub function : Function
 
--- the caller's functions, whether the built-in `unknown` stands beside them, and how extension values are written
+-- the caller's functions, and whether the built-in `unknown` stands beside them
 pub record Functions : Type 0 where
   pub table : List NamedFunction
   pub has_unknown : Bool
-  pub written : Extension → Written
 
 -- ---- the function by which an unknown is named
 
@@ -74,8 +74,12 @@ abbrev pub first_named : Name → List NamedFunction → Option Function
 first_named name [] = None
 first_named name (f ∷ fs) = if is_name name f.name then Some f.function else first_named name fs
 
--- the function that a name calls
+-- the function of the table that a name calls
 abbrev pub function_of : Functions → Name → Option Function
 function_of fs name =
     if is_the_unknown name then (if fs.has_unknown then Some unknown_function else None)
     else first_named name (callers_functions fs)
+
+-- what a name calls in an evaluation
+abbrev pub evaluated_function : Functions → Name → Option Function
+evaluated_function fs = or_constructor (function_of fs)

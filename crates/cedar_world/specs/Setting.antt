@@ -15,7 +15,7 @@ use Rattle.cedar_grammar.specs.Policies.{Reads, ReadsExpr}
 use Rattle.cedar_grammar.specs.Nesting.{loose_nesting}
 use Rattle.cedar_world.specs.Syntax.{PolicySyntax}
 use Rattle.cedar_world.specs.Asking.{Question, Told}
-use Rattle.cedar_world.specs.Functions.{Functions, policy_names, body_names, function_of}
+use Rattle.cedar_world.specs.Functions.{Functions, policy_names, body_names, evaluated_function}
 
 -- the functions that texts may call, and the limit of depth
 pub record Setting : Type 0 where
@@ -71,8 +71,7 @@ abbrev pub functions_alone : Functions → Facts
 functions_alone functions = record {
   entity = λ uid. None;
   reaches = λ a b. false;
-  function = function_of functions;
-  written = functions.written;
+  function = evaluated_function functions;
 }
 
 -- what a restricted tree means, where the unknown names have these values

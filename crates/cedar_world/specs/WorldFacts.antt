@@ -22,7 +22,6 @@ facts_of by world = record {
   entity = λ uid. seen (map.get world.entities uid);
   reaches = leads_through (parents_at world.entities) (map.keys world.entities);
   function = (functions_alone by.functions).function;
-  written = (functions_alone by.functions).written;
 }
 
 pub record WorldsHaveFacts : Type 0 where

@@ -1,5 +1,5 @@
--- No leaf, entity or function brings in an extension value, so no construct of a tree gives or writes one.
-use Rattle.cedar_telling.proofs.PlainWritten.{plain_answers as law}
+-- No construct of a tree brings in such a call, and what writes a value is none.
+use Rattle.cedar_telling.proofs.PlainAnswers.{plain_answers as law}
 use Rattle.cedar_telling.proofs.plain_answers.Goals as goal
 
 pub returns : goal.returns
