@@ -4,8 +4,6 @@ use Rattle.std.specs.Prelude.{Bool, true, false, not, cond, ◌&&◌, ◌||◌, 
 use Rattle.std.specs.List.{list_any}
 use Rattle.cedar_language.specs.Uid.{Name}
 use Rattle.cedar_language.specs.Facts as facts
-use Rattle.cedar_language.specs.Facts.{Written}
-use Rattle.cedar_language.specs.Value.{Extension as Extended}
 use Rattle.cedar_language.specs.Order.{same_name}
 use Rattle.cedar_names.specs.Laws.{same_name_equiv}
 use Rattle.cedar_names.proofs.Sameness.{names_same}
@@ -76,8 +74,8 @@ module _ {F : Type 0} (answers : F → FunctionAnswers) (n : Name) (is : is_the_
   others [] = refl
   others (f ∷ fs) = other_here f fs (is_the_unknown (function_name f)) refl (others fs)
 
-pub names_are_defined : {F : Type 0} (answers : F → FunctionAnswers) (written : Extended → Written) (fs : List (ExtensionFunction F)) → are_named fs ≡ true → (n : Name) → function_of (defined answers written fs) n ≡ option_map (meaning_of answers) (found_in fs n)
-names_are_defined answers written fs named n = by_name (is_the_unknown n) refl where
-  by_name : (u : Bool) → is_the_unknown n ≡ u → cond (is_the_unknown n) (cond (list_any is_unknown fs) (Some unknown_function) None) (first_named n (callers_functions (defined answers written fs))) ≡ option_map (meaning_of answers) (found_in fs n)
-  by_name true e = ap (λ b. cond b (cond (list_any is_unknown fs) (Some unknown_function) None) (first_named n (callers_functions (defined answers written fs)))) e ∙ built_in answers n e fs named
-  by_name false e = ap (λ b. cond b (cond (list_any is_unknown fs) (Some unknown_function) None) (first_named n (callers_functions (defined answers written fs)))) e ∙ others answers n e fs
+pub names_are_defined : {F : Type 0} (answers : F → FunctionAnswers) (fs : List (ExtensionFunction F)) → are_named fs ≡ true → (n : Name) → function_of (defined answers fs) n ≡ option_map (meaning_of answers) (found_in fs n)
+names_are_defined answers fs named n = by_name (is_the_unknown n) refl where
+  by_name : (u : Bool) → is_the_unknown n ≡ u → cond (is_the_unknown n) (cond (list_any is_unknown fs) (Some unknown_function) None) (first_named n (callers_functions (defined answers fs))) ≡ option_map (meaning_of answers) (found_in fs n)
+  by_name true e = ap (λ b. cond b (cond (list_any is_unknown fs) (Some unknown_function) None) (first_named n (callers_functions (defined answers fs)))) e ∙ built_in answers n e fs named
+  by_name false e = ap (λ b. cond b (cond (list_any is_unknown fs) (Some unknown_function) None) (first_named n (callers_functions (defined answers fs)))) e ∙ others answers n e fs

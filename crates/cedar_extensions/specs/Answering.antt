@@ -1,5 +1,6 @@
 -- What functions of a caller's answer. (Cedar language reference, "Extension functions".)
-use Rattle.std.specs.Prelude.{◌≡◌, ⊤, Option, Some, None, Result, Ok, Err}
+use Rattle.std.specs.Prelude.{◌≡◌, ◌<◌, ⊤, Option, Some, None, Result, Ok, Err}
+use Rattle.std.specs.List.{AllByRecursion}
 use Rattle.cedar_language.specs.Uid.{Text}
 use Rattle.cedar_language.specs.Tree.{String}
 use Rattle.cedar_language.specs.Order.{IsRising}
@@ -7,20 +8,20 @@ use Rattle.cedar_language.specs.Value.{Value, Plain, SetOf, RecordOf, ExtensionO
 use Rattle.cedar_extensions.specs.declared.objects.CallError.{CallError}
 use Rattle.cedar_extensions.specs.declared.objects.CallError.TheVariants.{NoAnswer, Memory}
 
--- literals, sets that rise, and records of such values: no extension value stands in them
+-- literals, sets that rise, records of such values, and extension values with keys of bytes
 abbrev mutual
   pub IsBuilt : Value → Type 0
   IsBuilt (Plain l) = Unit {0}
   IsBuilt (SetOf vs) = IsRising vs × AreBuilt vs
   IsBuilt (RecordOf ks vs) = AreBuilt vs
-  IsBuilt (ExtensionOf e) = ⊥
+  IsBuilt (ExtensionOf e) = AllByRecursion (λ b. b < 256) e.key
 
   pub AreBuilt : Values → Type 0
   AreBuilt no_values = Unit {0}
   AreBuilt (a_value v vs) = IsBuilt v × AreBuilt vs
 
--- what a function gives, where it gives a value: so far none in which an extension value stands, and no text, which the
--- built-in function would take for the name of an unknown
+-- what a function gives, where it gives a value: so far no text, which the built-in function would take for the name of an
+-- unknown
 pub record FunctionAnswers : Type 0 where
   pub given : Values → Option Value
   pub built : (vs : Values) (v : Value) → given vs ≡ Some v → IsBuilt v

@@ -40,7 +40,7 @@ functions_in table = flat_map extension_functions (extensions_in table)
 abbrev pub holds_unknown : {F : Type 0} → Extensions F → Bool
 holds_unknown table = list_any is_unknown (functions_in table)
 
--- what the name calls, as the definitions have functions
+-- the function of the table that the name calls, as the definitions have functions
 abbrev pub function_called : {F : Type 0} → (F → FunctionAnswers) → Extensions F → Name → Option facts.Function
 function_called answers table n = option_map (meaning_of answers) (found_in (functions_in table) n)
 

@@ -163,18 +163,15 @@ impl<F> Extensions<'_, F> {
 }
 
 impl<F: ExtensionFunctionObject> Extensions<'_, F> {
-    ghost use Rattle.cedar_language.specs.Facts.{Written};
     ghost use Rattle.cedar_language.specs.Uid as language;
-    ghost use Rattle.cedar_language.specs.Value.{Extension as Extended};
     ghost use Rattle.cedar_world.specs.Functions.{function_of};
     ghost use Rattle.cedar_extensions.specs.Defining.{defined};
     ghost use Rattle.cedar_extensions.specs.Tables.{functions_in, function_called};
 
-    /// What a name calls is what the definitions say of these functions, however extension values are
-    /// written.
+    /// What a name calls is what the definitions say of these functions.
     pub fn names_are_defined(&self)
-        ensures { (written : Extended → Written) (name : language.Name) →
-            function_of (defined F.answers written (functions_in self.now)) name ≡ function_called F.answers self.now name }
+        ensures { (name : language.Name) →
+            function_of (defined F.answers (functions_in self.now)) name ≡ function_called F.answers self.now name }
     {}
 }
 

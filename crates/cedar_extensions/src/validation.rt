@@ -10,6 +10,7 @@ use crate::validation_errors::ExprValidationError;
 use cedar_names::names::Name;
 use cedar_shapes::iteration::ExprIterator;
 use cedar_trees::expr::{Expr, ExprKind};
+use cedar_values::extension_values::is_constructor;
 use std::alloc::Global;
 
 /// Expressions whose calls of extension functions can be checked before they are evaluated.
@@ -21,10 +22,11 @@ pub trait ExprValidation {
     // its bare tree
     ghost tree: { Self → Tree };
 
-    /// Accepted where each call in it names a function of the table and has as many arguments as that
-    /// function takes. Else it is refused for the first other call in the order of `ExprIterator`:
-    /// `FuncDoesNotExist` where the table lacks the function, `WrongNumArguments` with the number that
-    /// it takes and the number given. Also refused for want of memory.
+    /// Accepted where each call in it names a function of the table, or the language's own constructor
+    /// of extension values, and has as many arguments as that function takes. Else it is refused for
+    /// the first other call in the order of `ExprIterator`: `FuncDoesNotExist` where the table lacks the
+    /// function, `WrongNumArguments` with the number that it takes and the number given. Also refused
+    /// for want of memory.
     /// (Cedar language reference, "Extension functions".)
     fn try_validate<F: ExtensionFunctionObject>(
         &self,
@@ -72,6 +74,9 @@ fn check_call<F: ExtensionFunctionObject>(
 ) -> Result<(), ExprValidationError>
     ensures { Checks (as_table F.answers extensions.now) (name.now, actual) result }
 {
+    if is_constructor(name) {
+        return Ok(());
+    }
     let function = extensions.func(alloc, name)?;
     let Some(expected) = function.arity() else {
         return Ok(());

@@ -1,3 +1,4 @@
+pub mod Constructions
 pub mod Gathering
 pub mod ReadBack
 pub mod Rising

@@ -1,9 +1,10 @@
 -- Values that are written and read back.
-use Rattle.std.proofs.Common.{◌≡◌, ◌∙◌, refl, ap, sym, Bool, true, false}
+use Rattle.std.proofs.Common.{◌≡◌, ◌∙◌, ℕ, List, [], ◌∷◌, refl, ap, sym, Bool, true, false}
 use Rattle.std.specs.Prelude.{◌&&◌, ◌||◌, Option, Some, None, option_map}
 use Rattle.cedar_language.specs.Tree.{Operator, MakeSet, MakeRecord, Call, Tree, Lit, Var, Slot, Unknown, If, And, Or, Apply, Trees, no_trees, a_tree}
 use Rattle.cedar_language.specs.Value.{Value, Plain, SetOf, RecordOf, ExtensionOf, Values, no_values, a_value, Gives}
 use Rattle.cedar_language.specs.Order.{set_of}
+use Rattle.cedar_language.specs.Constructing.{longs_of}
 use Rattle.cedar_language.specs.Facts.{Facts}
 use Rattle.cedar_language.specs.Meaning.{Request, GivesAll, more_of, apply_of, meaning, meanings}
 use Rattle.cedar_language.specs.Restricted.{is_restricted, are_restricted}
@@ -13,12 +14,16 @@ use Rattle.cedar_restricted.specs.Expressing.{is_ground, are_ground, Expresses, 
 use Rattle.cedar_restricted.specs.Reading.{both, value_in, values_in}
 use Rattle.cedar_restricted.specs.Laws.{holds_extension, hold_extension}
 
+longs_ground : (bs : List ℕ) → are_ground (longs_of bs) ≡ true
+longs_ground [] = refl
+longs_ground (b ∷ bs) = longs_ground bs
+
 mutual
   pub ground : (v : Value) (t : Tree) → Expresses v t → is_ground t ≡ true
   ground (Plain l) t h = ap is_ground h
   ground (SetOf vs) t h = ap is_ground h.1 ∙ grounds vs h.0 h.2
   ground (RecordOf ks vs) t h = ap is_ground h.1 ∙ grounds vs h.0 h.2
-  ground (ExtensionOf e) t h = ap is_ground h.2 ∙ h.3
+  ground (ExtensionOf e) t h = ap is_ground h ∙ longs_ground e.key
 
   grounds : (vs : Values) (ts : Trees) → ExpressAll vs ts → are_ground ts ≡ true
   grounds no_values no_trees h = refl
@@ -81,7 +86,7 @@ mutual
   not_back (Plain l) t h y = cc
   not_back (SetOf vs) t h y = ap value_in h.1 ∙ ap (option_map set_of) (none_back vs h.0 h.2 y)
   not_back (RecordOf ks vs) t h y = ap value_in h.1 ∙ ap (option_map (RecordOf ks)) (none_back vs h.0 h.2 y)
-  not_back (ExtensionOf e) t h y = ap value_in h.2
+  not_back (ExtensionOf e) t h y = ap value_in h
 
   none_back : (vs : Values) (ts : Trees) → ExpressAll vs ts → hold_extension vs ≡ true → values_in ts ≡ None
   none_back no_values no_trees h y = cc

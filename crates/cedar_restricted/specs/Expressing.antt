@@ -1,6 +1,6 @@
--- How values are written as expressions. Several calls may make one extension value, so this is a relation.
+-- How values are written as expressions.
 use Rattle.std.specs.Prelude.{◌≡◌, ⊤, Bool, true, false, ◌&&◌}
-use Rattle.cedar_language.specs.Uid.{Name}
+use Rattle.cedar_language.specs.Constructing.{construction}
 use Rattle.cedar_language.specs.Tree.{MakeSet, MakeRecord, Call, Tree, Lit, Apply, Trees, no_trees, a_tree}
 use Rattle.cedar_language.specs.Value.{Value, Plain, SetOf, RecordOf, ExtensionOf, Values, no_values, a_value}
 
@@ -17,14 +17,14 @@ abbrev mutual
   are_ground no_trees = true
   are_ground (a_tree t ts) = is_ground t && are_ground ts
 
--- the tree writes the value: a set by its members in rising order, a record by its keys, and an extension value by a call of
--- some function
+-- the tree writes the value: a set by its members in rising order, a record by its keys, and an extension value by the call of
+-- the constructor that gives it again
 abbrev mutual
   pub Expresses : Value → Tree → Type 0
   Expresses (Plain l) t = t ≡ Lit l
   Expresses (SetOf vs) t = (ts : Trees) × (t ≡ Apply MakeSet ts) × ExpressAll vs ts
   Expresses (RecordOf ks vs) t = (ts : Trees) × (t ≡ Apply (MakeRecord ks) ts) × ExpressAll vs ts
-  Expresses (ExtensionOf e) t = (f : Name) × (ts : Trees) × (t ≡ Apply (Call f) ts) × (are_ground ts ≡ true)
+  Expresses (ExtensionOf e) t = t ≡ construction e
 
   -- so many trees, each of which writes the value at its place
   pub ExpressAll : Values → Trees → Type 0

@@ -11,3 +11,4 @@ pub mod ShapesOnly
 pub mod Converting
 pub mod Sameness
 pub mod SameOffence
+pub mod Constructing

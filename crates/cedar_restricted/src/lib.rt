@@ -3,6 +3,7 @@
 #![tactic(auto)]
 
 pub mod borrowed;
+pub mod constructing;
 pub mod conversions;
 pub mod elements;
 pub mod errors;

@@ -7,6 +7,7 @@ ghost use Rattle.cedar_trees.specs.Bare.{bare, bare_entries};
 ghost use Rattle.cedar_values.specs.Kinds.{value_of, keys_of, values_of};
 ghost use Rattle.cedar_restricted.specs.Expressing.{Expresses, ExpressAll};
 
+use crate::constructing::construction;
 use crate::partial_values::PartialValue;
 use crate::representations::{argument_expr, call_expr};
 use cedar_names::conversions::FromIn;
@@ -32,7 +33,8 @@ impl ToExpr for Value {
 
     ghost is_written = { Expresses };
 
-    /// Its literal, its members, its attributes, or the call that makes it, each at its own place.
+    /// Its literal, its members, its attributes, or the call of the language's own constructor that gives
+    /// it again, each at its own place.
     fn to_expr(&self, alloc: Global) -> Result<Expr, AllocError> {
         value_expr(alloc, self)
     }
@@ -57,7 +59,7 @@ impl ToExpr for RepresentableExtensionValue {
 
     ghost is_written = { λ value tree. (tree ≡ written_call value) × (is_ground tree ≡ true) };
 
-    /// The call that makes it.
+    /// Its representation: the call of the function that makes it.
     fn to_expr(&self, alloc: Global) -> Result<Expr, AllocError> {
         call_expr(alloc, self)
     }
@@ -130,7 +132,7 @@ fn kind_expr(alloc: Global, kind: &ValueKind) -> Result<Expr, AllocError>
             let entries = field_exprs(alloc, fields)?;
             Ok(Expr::record_arc(Rc::new(alloc, entries)?))
         }
-        ValueKind::ExtensionValue(value) => call_expr(alloc, value),
+        ValueKind::ExtensionValue(value) => construction(alloc, value.value()),
     }
 }
 

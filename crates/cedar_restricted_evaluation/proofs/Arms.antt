@@ -41,7 +41,7 @@ use Rattle.cedar_restricted.specs.declared.partial_values.PartialValue.{PartialV
 use Rattle.cedar_restricted_evaluation.specs.Evaluations.{HasFunctions, nothing_told, named_by, all_named_by, answer_in}
 use Rattle.cedar_restricted_evaluation.specs.Findings.{IsCalled, Calls, IsFound, Errs, Evaluates, answers_in, AreFound, SomeErrs}
 use Rattle.cedar_restricted_evaluation.proofs.Naming.{by_naming, names_unknown_so}
-use Rattle.cedar_restricted_evaluation.proofs.Gathering.{rising_plain, all_values, all_plain, one_text, some_residuals, all_restricted, some_waits}
+use Rattle.cedar_restricted_evaluation.proofs.Gathering.{all_values, one_text, some_residuals, all_restricted, some_waits}
 
 -- ---- leaves
 
@@ -60,7 +60,6 @@ module _ (table : Table) where
   pub literal_found : (l : Literal) → IsFound table (Lit l) (Left (Plain l))
   literal_found l = record {
     answer = λ facts has. ap (partial_in facts nothing_told) (named_lit table.has_unknown l);
-    plain = refl;
     text = λ s e. cc;
   }
 
@@ -115,14 +114,12 @@ module _ (table : Table) (op : Operator) (builds : Builds op) (ts : List Tree) w
 pub set_found : (table : Table) (ts : List Tree) (ps : List (Either Value Tree)) → AreFound table ts ps → (vs : List Value) → ps ≡ map Left vs → IsFound table (Apply MakeSet (trees ts)) (Left (set_of (all_of vs)))
 set_found table ts ps found vs is = record {
   answer = built_answer table MakeSet set_builds ts ps found vs is;
-  plain = rising_plain (all_of vs) (all_plain table ts ps vs found is);
   text = λ s e. cc;
 }
 
 pub record_found : (table : Table) (ks : List Text) (ts : List Tree) (ps : List (Either Value Tree)) → AreFound table ts ps → (vs : List Value) → ps ≡ map Left vs → IsFound table (Apply (MakeRecord ks) (trees ts)) (Left (RecordOf ks (all_of vs)))
 record_found table ks ts ps found vs is = record {
   answer = built_answer table (MakeRecord ks) (record_builds ks) ts ps found vs is;
-  plain = all_plain table ts ps vs found is;
   text = λ s e. cc;
 }
 
@@ -184,7 +181,6 @@ module _ (table : Table) (f : Name) where
       pub call_found : (p : Either Value Tree) → IsCalled table f (all_of vs) p → IsFound table (Apply (Call f) (trees ts)) p
       call_found (Left v) h = record {
         answer = λ facts has. call_answer facts (trees ts) table.has_unknown (AllEvaluated (all_of vs)) (Evaluated v) (all_values table ts ps vs found is facts has) (function_answer facts has ∙ ap answer_of h.gives) (λ n b i same. true≢false (sym i ∙ h.other));
-        plain = h.plain;
         text = λ s e. absurd (h.no_text s e);
       }
       call_found (Right r) h =

@@ -2,10 +2,8 @@
 use Rattle.std.proofs.Common.{◌≡◌, ◌≤◌, ◌∙◌, ℕ, refl, ap, sym, subst, List, [], ◌∷◌, ◌++◌, append_assoc, length, suc, map, arith}
 use Rattle.std.proofs.lemmas.List.{append-nil, length-map}
 use Rattle.std.specs.List.{list_any}
-use Rattle.std.specs.Prelude.{Bool, true, false, ◌&&◌, ◌||◌, ◌<◌, Result, Ok, Err, IfOk}
+use Rattle.std.specs.Prelude.{Bool, true, false, ◌&&◌, ◌<◌, Result, Ok, Err, IfOk}
 use Rattle.std.specs.Result.{IsErr, IsErrAnd}
-use Rattle.std.specs.declared.cmp.Ordering.{Ordering}
-use Rattle.std.specs.declared.cmp.Ordering.TheVariants as ordering
 use Rattle.either.specs.declared.Either.{Either}
 use Rattle.either.specs.declared.Either.TheVariants.{Left, Right}
 use Rattle.cedar_language.specs.Uid.{Text}
@@ -13,7 +11,7 @@ use Rattle.cedar_language.specs.Tree.{String, MakeSet, MakeRecord, Tree, Lit, Ap
 use Rattle.cedar_language.specs.Value.{Value, Plain, SetOf, RecordOf, ExtensionOf, Values, no_values, a_value, Kind}
 use Rattle.cedar_language.specs.Facts.{Facts}
 use Rattle.cedar_language.specs.Height.{height, heights}
-use Rattle.cedar_language.specs.Order.{all_of, placed, put, rising, value_cmp}
+use Rattle.cedar_language.specs.Order.{all_of}
 use Rattle.cedar_language.specs.Restricted.{is_restricted, are_restricted}
 use Rattle.cedar_partial_evaluation.specs.MadeAgain.{tree_of, trees_of}
 use Rattle.cedar_partial_evaluation.specs.Partial.{Answer, Evaluated, ResidualTree, Answers, AllEvaluated, SomeResiduals, SomeFailed, and_next, all_partial_in}
@@ -23,49 +21,26 @@ use Rattle.cedar_extensions.specs.Giving.{FailsBy, GivesBy, fails_on}
 use Rattle.cedar_extensions.specs.declared.evaluation_error.EvaluationError.{EvaluationError}
 use Rattle.cedar_extensions.specs.Table.{Table}
 use Rattle.cedar_restricted.specs.Expressing.{is_ground, are_ground, Expresses, ExpressAll}
-use Rattle.cedar_restricted.specs.Laws.{holds_extension, hold_extension}
 use Rattle.cedar_restricted.specs.Splitting.{ExpressEach, is_residual}
 use Rattle.cedar_restricted.proofs.ReadBack.{ground, restricted}
 use Rattle.cedar_restricted_evaluation.specs.Evaluations.{HasFunctions, nothing_told, named_by, all_named_by, answer_in}
 use Rattle.cedar_restricted_evaluation.specs.Findings.{IsFound, Errs, answers_in, AreFound, SomeErrs}
 
--- ---- values without extension values
+-- ---- what writes a value is the tree for it
 
-or_left : (a b : Bool) → (a || b) ≡ false → a ≡ false
-or_left false b h = refl
-or_left true b h = h
-
-or_right : (a b : Bool) → (a || b) ≡ false → b ≡ false
-or_right false b h = h
-or_right true b h = cc
-
-placed_plain : (o : Ordering) (v w : Value) (ws vs : Values) → holds_extension v ≡ false → holds_extension w ≡ false → hold_extension ws ≡ false → hold_extension vs ≡ false → hold_extension (placed o v w ws vs) ≡ false
-placed_plain ordering.Less v w ws vs a b c d = rw (a, b) c
-placed_plain ordering.Equal v w ws vs a b c d = rw b c
-placed_plain ordering.Greater v w ws vs a b c d = rw b d
-
-put_plain : (v : Value) (ws : Values) → holds_extension v ≡ false → hold_extension ws ≡ false → hold_extension (put v ws) ≡ false
-put_plain v no_values a h = rw a refl
-put_plain v (a_value w ws) a h = placed_plain (value_cmp v w) v w ws (put v ws) a (or_left _ _ h) (or_right _ _ h) (put_plain v ws a (or_right _ _ h))
-
-pub rising_plain : (vs : Values) → hold_extension vs ≡ false → hold_extension (rising vs) ≡ false
-rising_plain no_values h = refl
-rising_plain (a_value v vs) h = put_plain v (rising vs) (or_left _ _ h) (rising_plain vs (or_right _ _ h))
-
--- what writes such a value is the tree for it
 module _ (facts : Facts) where
   mutual
-    writes : (v : Value) (t : Tree) → Expresses v t → holds_extension v ≡ false → t ≡ tree_of facts v
-    writes (Plain l) t h n = h
-    writes (SetOf vs) t h n = h.1 ∙ ap (Apply MakeSet) (write_all vs h.0 h.2 n)
-    writes (RecordOf ks vs) t h n = h.1 ∙ ap (Apply (MakeRecord ks)) (write_all vs h.0 h.2 n)
-    writes (ExtensionOf e) t h n = cc
+    writes : (v : Value) (t : Tree) → Expresses v t → t ≡ tree_of facts v
+    writes (Plain l) t h = h
+    writes (SetOf vs) t h = h.1 ∙ ap (Apply MakeSet) (write_all vs h.0 h.2)
+    writes (RecordOf ks vs) t h = h.1 ∙ ap (Apply (MakeRecord ks)) (write_all vs h.0 h.2)
+    writes (ExtensionOf e) t h = h
 
-    write_all : (vs : Values) (ts : Trees) → ExpressAll vs ts → hold_extension vs ≡ false → ts ≡ trees_of facts vs
-    write_all no_values no_trees h n = refl
-    write_all no_values (a_tree t ts) h n = absurd h
-    write_all (a_value v vs) no_trees h n = absurd h
-    write_all (a_value v vs) (a_tree t ts) h n = ap (λ u. a_tree u ts) (writes v t h.0 (or_left _ _ n)) ∙ ap (a_tree (tree_of facts v)) (write_all vs ts h.1 (or_right _ _ n))
+    write_all : (vs : Values) (ts : Trees) → ExpressAll vs ts → ts ≡ trees_of facts vs
+    write_all no_values no_trees h = refl
+    write_all no_values (a_tree t ts) h = absurd h
+    write_all (a_value v vs) no_trees h = absurd h
+    write_all (a_value v vs) (a_tree t ts) h = ap (λ u. a_tree u ts) (writes v t h.0) ∙ ap (a_tree (tree_of facts v)) (write_all vs ts h.1)
 
 -- ---- the answers of parts
 
@@ -125,11 +100,6 @@ module _ (table : Table) where
   values_gather facts [] = refl
   values_gather facts (v ∷ vs) = ap (and_next facts (Evaluated v)) (values_gather facts vs)
 
-  values_plain : (ts : List Tree) (vs : List Value) → AreFound table ts (map Left vs) → hold_extension (all_of vs) ≡ false
-  values_plain ts [] h = refl
-  values_plain [] (v ∷ vs) h = absurd h
-  values_plain (t ∷ ts) (v ∷ vs) h = rw h.0.plain (values_plain ts vs h.1)
-
   -- the one text among them is written
   text_written : (s : Text) (ts : List Tree) (vs : List Value) → AreFound table ts (map Left vs) → all_of vs ≡ a_value (Plain (String s)) no_values → trees ts ≡ a_tree (Lit (String s)) no_trees
   text_written s ts [] h e = cc
@@ -144,9 +114,6 @@ module _ (table : Table) where
 
     pub all_values : (facts : Facts) → HasFunctions table facts → answers_in table facts (trees ts) ≡ AllEvaluated (all_of vs)
     all_values facts has = answers_are facts has ts (map Left vs) found_values ∙ values_gather facts vs
-
-    pub all_plain : hold_extension (all_of vs) ≡ false
-    all_plain = values_plain ts vs found_values
 
     pub one_text : (s : Text) → all_of vs ≡ a_value (Plain (String s)) no_values → trees ts ≡ a_tree (Lit (String s)) no_trees
     one_text s e = text_written s ts vs found_values e
@@ -192,7 +159,7 @@ module _ (table : Table) where
     gathered ts [] (u ∷ us) h w = absurd w
     gathered ts (p ∷ ps) [] h w = absurd w
     gathered [] (p ∷ ps) (u ∷ us) h w = absurd h
-    gathered (t ∷ ts) (Left v ∷ ps) (u ∷ us) h w = value_before (list_any is_residual ps) v u (trees us) (gather facts ps) (writes facts v u w.0 h.0.plain) (gathered ts ps us h.1 w.1)
+    gathered (t ∷ ts) (Left v ∷ ps) (u ∷ us) h w = value_before (list_any is_residual ps) v u (trees us) (gather facts ps) (writes facts v u w.0) (gathered ts ps us h.1 w.1)
     gathered (t ∷ ts) (Right r ∷ ps) (u ∷ us) h w = residual_before (list_any is_residual ps) r u (trees us) (gather facts ps) w.0 (gathered ts ps us h.1 w.1)
 
   exprs_restricted : (ts : List Tree) (ps : List (Either Value Tree)) (us : List Tree) → AreFound table ts ps → ExpressEach ps us → are_restricted (trees us) ≡ true

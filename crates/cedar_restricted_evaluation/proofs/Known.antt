@@ -9,7 +9,6 @@ use Rattle.cedar_language.specs.Value.{Value, Kind, Outcome, Gives, Fails}
 use Rattle.cedar_language.specs.Facts.{Facts}
 use Rattle.cedar_language.specs.Height.{height}
 use Rattle.cedar_language.specs.Meaning.{Request, meaning}
-use Rattle.cedar_partial_evaluation.specs.Like.{itself}
 use Rattle.cedar_partial_evaluation.specs.Partial.{Evaluated, ResidualTree, Failed, Answers, AllEvaluated, SomeResiduals, SomeFailed, LeafAnswers, KnownIsMeaning, answer_of, leaf_answers_of, and_next, apply_answer, partial_in, all_partial_in}
 use Rattle.cedar_world.specs.Bodies.{named, all_named, named_call, unknown_or, holds_call, hold_call}
 use Rattle.cedar_world.specs.Functions.{is_the_unknown}
@@ -127,7 +126,7 @@ module _ (table : Table) (t : Tree) where
 
   answered : (facts : Facts) → HasFunctions table facts → (p : Either Value Tree) → IsFound table t p → IsAnswer facts (answer_in table facts t) p
   answered facts has (Left v) h = h.answer facts has
-  answered facts has (Right r) h = (r, h.answer facts has, itself)
+  answered facts has (Right r) h = h.answer facts has
 
   what_is_left : (p : Either Value Tree) → IsFound table t p → IsLeft p
   what_is_left (Left v) h = tt

@@ -1,28 +1,29 @@
 -- What names call in a table, and what calls of `unknown` name.
-use Rattle.std.proofs.Common.{◌≡◌, ◌∙◌, refl, ap, sym, subst, List, [], ◌∷◌}
+use Rattle.std.proofs.Common.{◌≡◌, ◌∙◌, ℕ, refl, ap, sym, subst, List, [], ◌∷◌}
 use Rattle.std.specs.Prelude.{Bool, true, false, not, cond, ◌&&◌, ◌||◌, Option, Some, None, option_map}
 use Rattle.std.specs.List.{list_any}
 use Rattle.cedar_language.specs.Uid.{Text, Name}
 use Rattle.cedar_language.specs.Order.{same_name}
-use Rattle.cedar_language.specs.Tree.{String, Call, Tree, Lit, Unknown, Apply, Trees, no_trees, a_tree}
-use Rattle.cedar_language.specs.Value.{Value, Plain, SetOf, RecordOf, ExtensionOf, Values, no_values, a_value, FailedExtensionFunctionExecution, WrongNumArguments, Gives, Fails}
+use Rattle.cedar_language.specs.Tree.{Literal, Boolean, String, Entity, Call, Tree, Lit, Unknown, Apply, Trees, no_trees, a_tree}
+use Rattle.cedar_language.specs.Constructing.{the_constructor, is_the_constructor, bytes_of, constructed, constructor_function, or_constructor}
+use Rattle.cedar_language.specs.Value as language
+use Rattle.cedar_language.specs.Value.{Value, Plain, Values, no_values, a_value, FailedExtensionFunctionExecution, WrongNumArguments, Gives, Fails}
+use Rattle.cedar_language.specs.Facts as facts
 use Rattle.cedar_language.specs.Operators.{called, count, or_fails, takes}
 use Rattle.either.specs.declared.Either.{Either}
 use Rattle.either.specs.declared.Either.TheVariants.{Left, Right}
 use Rattle.cedar_names.proofs.Sameness.{names_same}
 use Rattle.cedar_world.specs.Bodies.{unknown_or, named_call}
 use Rattle.cedar_world.specs.Functions.{the_unknown, is_the_unknown, unknown_function}
-use Rattle.cedar_extensions.specs.Answering.{FunctionAnswers, IsBuilt, AreBuilt}
+use Rattle.cedar_extensions.specs.Answering.{FunctionAnswers}
 use Rattle.cedar_extensions.specs.Functions.{function_name, meaning_in, meaning_of, names_unknown, is_unknown, output_value, IsOutput}
-use Rattle.cedar_extensions.specs.Tables.{functions_in}
-use Rattle.cedar_extensions.specs.Table.{as_table}
+use Rattle.cedar_extensions.specs.Tables.{functions_in, function_called, holds_unknown}
 use Rattle.cedar_extensions.specs.declared.extensions.Extensions.{Extensions}
 use Rattle.cedar_extensions.specs.declared.functions.ExtensionOutputValue.{ExtensionOutputValue}
 use Rattle.cedar_extensions.specs.declared.functions.ExtensionOutputValue.TheVariants as output
 use Rattle.cedar_trees.specs.Unknowns.{unknown_name, unknown_type}
 use Rattle.cedar_trees.specs.declared.unknowns.Unknown as code
-use Rattle.cedar_restricted.specs.Laws.{holds_extension, hold_extension}
-use Rattle.cedar_restricted_evaluation.specs.Findings.{IsCalled}
+use Rattle.cedar_restricted_evaluation.specs.Findings.{IsCalledBy, CallsBy}
 use Rattle.cedar_extensions.specs.Holding.{found_in, is_named, are_named}
 use Rattle.cedar_extensions.specs.declared.functions.Function.{Function}
 use Rattle.cedar_extensions.specs.declared.functions.Function.TheVariants as function
@@ -93,31 +94,17 @@ module _ {F : Type 0} (answers : F → FunctionAnswers) (n : Name) (is : is_the_
 
 -- ---- what a call gives
 
--- no extension value stands in a value that a caller's function gives
-mutual
-  plain_built : (v : Value) → IsBuilt v → holds_extension v ≡ false
-  plain_built (Plain l) h = refl
-  plain_built (SetOf vs) h = all_plain_built vs h.1
-  plain_built (RecordOf ks vs) h = all_plain_built vs h
-  plain_built (ExtensionOf e) h = absurd h
-
-  all_plain_built : (vs : Values) → AreBuilt vs → hold_extension vs ≡ false
-  all_plain_built no_values h = refl
-  all_plain_built (a_value v vs) h = rw (plain_built v h.0, all_plain_built vs h.1) refl
-
 given_by : (b : Bool) (o : Option Value) (v : Value) → cond b (or_fails FailedExtensionFunctionExecution o) (Fails WrongNumArguments) ≡ Gives v → o ≡ Some v
 given_by true (Some w) v e = cc
 given_by true None v e = cc
 given_by false o v e = cc
 
 module _ {F : Type 0} (answers : F → FunctionAnswers) where
-  callers_gives : (g : Function F) (vs : Values) (v : Value) → names_unknown g ≡ false → called (Some (meaning_in answers g)) vs ≡ Gives v → (holds_extension v ≡ false) × ((s : Text) → v ≡ Plain (String s) → ⊥)
+  callers_gives : (g : Function F) (vs : Values) (v : Value) → names_unknown g ≡ false → called (Some (meaning_in answers g)) vs ≡ Gives v → (s : Text) → v ≡ Plain (String s) → ⊥
   callers_gives function.Unknown vs v u e = cc
   callers_gives (function.Callers f) vs v u e =
-      let gives : (answers f.object).given vs ≡ Some v = given_by (takes f.takes (count vs)) ((answers f.object).given vs) v e in (
-        plain_built v ((answers f.object).built vs v gives),
-        λ s is. (answers f.object).no_text vs s (gives ∙ ap Some is),
-      )
+      let gives : (answers f.object).given vs ≡ Some v = given_by (takes f.takes (count vs)) ((answers f.object).given vs) v e in
+      λ s is. (answers f.object).no_text vs s (gives ∙ ap Some is)
 
   shape_unknown : (b : Bool) (u : code.Unknown) → IsOutput b (output.Unknown u) → b ≡ true
   shape_unknown true u h = refl
@@ -130,12 +117,12 @@ module _ {F : Type 0} (answers : F → FunctionAnswers) where
   -- the unknown that the built-in function gives
   pub unknown_called : (extensions : Extensions F) (n : Name) (vs : Values) (f : ExtensionFunction F) (o : ExtensionOutputValue) (u : code.Unknown) (p : Either Value Tree)
       → are_named (functions_in extensions) ≡ true → found_in (functions_in extensions) n ≡ Some f → called (Some (meaning_of answers f)) vs ≡ Gives (output_value o) → IsOutput (is_unknown f) o
-      → o ≡ output.Unknown u → p ≡ Right (Unknown (unknown_name u) (unknown_type u)) → IsCalled (as_table answers extensions) n vs p
+      → o ≡ output.Unknown u → p ≡ Right (Unknown (unknown_name u) (unknown_type u)) → IsCalledBy (function_called answers extensions n) (holds_unknown extensions) n vs p
   unknown_called extensions n vs f o u p named found gives shape same is =
       let there : IsOutput (is_unknown f) (output.Unknown u) = subst (λ o. IsOutput (is_unknown f) o) same shape in
       let built_in : is_unknown f ≡ true = shape_unknown (is_unknown f) u there in
       let untyped : unknown_type u ≡ None = subst (λ b. IsOutput b (output.Unknown u)) built_in there in
-      subst (λ q. IsCalled (as_table answers extensions) n vs q) (sym is) (record {
+      subst (λ q. IsCalledBy (function_called answers extensions n) (holds_unknown extensions) n vs q) (sym is) (record {
         name = unknown_name u;
         unknown = ap (λ ty. Unknown (unknown_name u) ty) untyped;
         gives = ap (λ g. called (option_map (meaning_of answers) g) vs) found ∙ gives ∙ ap (λ o. Gives (output_value o)) same;
@@ -146,18 +133,60 @@ module _ {F : Type 0} (answers : F → FunctionAnswers) where
   -- the value that a caller's function gives
   pub value_called : (extensions : Extensions F) (n : Name) (vs : Values) (f : ExtensionFunction F) (o : ExtensionOutputValue) (v : Value) (p : Either Value Tree)
       → are_named (functions_in extensions) ≡ true → found_in (functions_in extensions) n ≡ Some f → called (Some (meaning_of answers f)) vs ≡ Gives (output_value o) → IsOutput (is_unknown f) o
-      → o ≡ output.Known v → p ≡ Left v → IsCalled (as_table answers extensions) n vs p
+      → o ≡ output.Known v → p ≡ Left v → IsCalledBy (function_called answers extensions n) (holds_unknown extensions) n vs p
   value_called extensions n vs f o v p named found gives shape same is =
       let there : IsOutput (is_unknown f) (output.Known v) = subst (λ o. IsOutput (is_unknown f) o) same shape in
       let other : is_unknown f ≡ false = shape_known (is_unknown f) v there in
       let given : called (Some (meaning_of answers f)) vs ≡ Gives v = gives ∙ ap (λ o. Gives (output_value o)) same in
-      let fair = callers_gives f.function vs v other given in
-      subst (λ q. IsCalled (as_table answers extensions) n vs q) (sym is) (record {
+      subst (λ q. IsCalledBy (function_called answers extensions n) (holds_unknown extensions) n vs q) (sym is) (record {
         gives = ap (λ g. called (option_map (meaning_of answers) g) vs) found ∙ given;
         other = found_is_named n f false other (functions_in extensions) named found;
-        plain = fair.0;
-        no_text = fair.1;
+        no_text = callers_gives f.function vs v other given;
       })
+
+-- ---- the language's own constructor
+
+-- it isn't `unknown`
+pub constructs_no_unknown : (n : Name) → is_the_constructor n ≡ true → is_the_unknown n ≡ false
+constructs_no_unknown n is = ap is_the_unknown ((names_same n the_constructor).0 is)
+
+-- it gives extension values alone
+of_key : (key : Option (List ℕ)) (t : Name) (b : Bool) (l : Literal) → option_map (λ k. language.ExtensionOf (record { type_name = t; ordered = b; key = k })) key ≡ Some (Plain l) → ⊥
+of_key None t b l e = cc
+of_key (Some k) t b l e = cc
+
+pub no_literal : (vs : Values) (l : Literal) → constructed vs ≡ Some (Plain l) → ⊥
+no_literal (a_value (Plain (Entity u)) (a_value (Plain (Boolean b)) vs)) l e = of_key (bytes_of vs) u.type_name b l e
+no_literal vs l e = cc
+
+module _ (n : Name) (is : is_the_constructor n ≡ true) (function : Option facts.Function) (has_unknown : Bool) (found : function ≡ Some constructor_function) (vs : Values) where
+  -- the value that it gives
+  pub constructed_called : (v : Value) (p : Either Value Tree) → Some v ≡ constructed vs → p ≡ Left v → IsCalledBy function has_unknown n vs p
+  constructed_called v p e same = subst (λ q. IsCalledBy function has_unknown n vs q) (sym same) (record {
+    gives = ap (λ f. called f vs) found ∙ ap (or_fails FailedExtensionFunctionExecution) (sym e);
+    other = constructs_no_unknown n is;
+    no_text = λ s of_text. no_literal vs (String s) (sym e ∙ ap Some of_text);
+  })
+
+  -- and where it gives none
+  pub none_constructed : None ≡ constructed vs → called function vs ≡ Fails FailedExtensionFunctionExecution
+  none_constructed e = ap (λ f. called f vs) found ∙ ap (or_fails FailedExtensionFunctionExecution) (sym e)
+
+-- a name calls the constructor, or a function of the table
+pub calls_constructor : (n : Name) (function : Name → Option facts.Function) → is_the_constructor n ≡ true → or_constructor function n ≡ Some constructor_function
+calls_constructor n function is = ap (λ b. cond b (Some constructor_function) (function n)) is
+
+pub calls_declared : (n : Name) (function : Name → Option facts.Function) → is_the_constructor n ≡ false → or_constructor function n ≡ function n
+calls_declared n function is = ap (λ b. cond b (Some constructor_function) (function n)) is
+
+pub unknown_constructs_nothing : (n : Name) → is_the_unknown n ≡ true → is_the_constructor n ≡ false
+unknown_constructs_nothing n is = ap is_the_constructor ((names_same n the_unknown).0 is)
+
+-- `unknown` calls the built-in function where the table has it
+pub unknown_is_found : {F : Type 0} (answers : F → FunctionAnswers) (n : Name) → is_the_unknown n ≡ true → (fs : List (ExtensionFunction F)) → are_named fs ≡ true → list_any is_unknown fs ≡ true
+    → or_constructor (λ m. option_map (meaning_of answers) (found_in fs m)) n ≡ Some unknown_function
+unknown_is_found answers n is fs named held =
+    calls_declared n (λ m. option_map (meaning_of answers) (found_in fs m)) (unknown_constructs_nothing n is) ∙ held_is_found answers n is fs named held
 
 -- ---- calls that name unknowns
 

@@ -10,7 +10,6 @@ use Rattle.cedar_language.specs.Facts.{Facts}
 use Rattle.cedar_language.specs.Height.{height}
 use Rattle.cedar_language.specs.Meaning.{Request, meaning}
 use Rattle.cedar_language.specs.Restricted.{is_restricted}
-use Rattle.cedar_partial_evaluation.specs.Like.{IsLike}
 use Rattle.cedar_partial_evaluation.specs.Partial.{Answer, Evaluated, ResidualTree, Failed, LeafAnswers, partial_in}
 use Rattle.cedar_partial_evaluation.specs.Question.{held_names}
 use Rattle.cedar_world.specs.Bodies.{named, all_named, holds_call}
@@ -60,10 +59,10 @@ all_named_by false ts = ts
 abbrev pub answer_in : Table → Facts → Tree → Answer
 answer_in table facts t = partial_in facts nothing_told (named_by table.has_unknown t)
 
--- a value is the answer's, and a residual differs from the answer's at most in how it writes extension values
+-- it is the answer: its value, or what it leaves
 abbrev pub IsAnswer : Facts → Answer → Either Value Tree → Type 0
 IsAnswer facts a (Left v) = a ≡ Evaluated v
-IsAnswer facts a (Right r) = (t : Tree) × (a ≡ ResidualTree t) × IsLike facts r t
+IsAnswer facts a (Right r) = a ≡ ResidualTree r
 
 -- the same of every tree, against partial evaluation
 abbrev pub Answers : Table → ℕ → Tree → Result PartialValue EvaluationError → Type 0

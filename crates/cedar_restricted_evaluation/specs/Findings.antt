@@ -1,12 +1,12 @@
--- What is found of each part. No function gives an extension value so far, so a residual is the answer's itself.
-use Rattle.std.specs.Prelude.{◌≡◌, ⊤, true, false, List, [], ◌∷◌, map, None, Result}
+-- What is found of each part.
+use Rattle.std.specs.Prelude.{◌≡◌, ⊤, Bool, true, false, List, [], ◌∷◌, map, Option, None, Result}
 use Rattle.std.specs.Global.{Vec}
 use Rattle.either.specs.declared.Either.{Either}
 use Rattle.either.specs.declared.Either.TheVariants.{Left, Right}
 use Rattle.cedar_language.specs.Uid.{Text, Name}
 use Rattle.cedar_language.specs.Tree.{String, Tree, Lit, Unknown, Trees}
 use Rattle.cedar_language.specs.Value.{Value, Plain, Values, Gives, Fails, Kind}
-use Rattle.cedar_language.specs.Facts.{Facts}
+use Rattle.cedar_language.specs.Facts.{Function, Facts}
 use Rattle.cedar_language.specs.Operators.{called}
 use Rattle.cedar_language.specs.Restricted.{is_restricted}
 use Rattle.cedar_partial_evaluation.specs.Partial.{Answers, Evaluated, ResidualTree, Failed, SomeFailed, all_partial_in}
@@ -16,7 +16,6 @@ use Rattle.cedar_extensions.specs.Giving.{GivesBy}
 use Rattle.cedar_extensions.specs.declared.evaluation_error.EvaluationError.{EvaluationError}
 use Rattle.cedar_extensions.specs.Table.{Table}
 use Rattle.cedar_restricted.specs.Expressing.{is_ground}
-use Rattle.cedar_restricted.specs.Laws.{holds_extension}
 use Rattle.cedar_restricted.specs.PartialValues.{partial_of}
 use Rattle.cedar_restricted.specs.declared.partial_values.PartialValue.{PartialValue}
 use Rattle.cedar_restricted_evaluation.specs.Evaluations.{HasFunctions, nothing_told, all_named_by, answer_in}
@@ -24,23 +23,29 @@ use Rattle.cedar_restricted_evaluation.specs.Evaluations.{HasFunctions, nothing_
 -- ---- calls
 
 -- a value is what the function gives, and an unknown is named by the text that the built-in function gives
-abbrev pub IsCalled : Table → Name → Values → Either Value Tree → Type 0
-IsCalled table n vs (Left v) = record {
-  gives : called (table.function n) vs ≡ Gives v;
+abbrev pub IsCalledBy : Option Function → Bool → Name → Values → Either Value Tree → Type 0
+IsCalledBy function has_unknown n vs (Left v) = record {
+  gives : called function vs ≡ Gives v;
   other : is_the_unknown n ≡ false;
-  plain : holds_extension v ≡ false;
   no_text : (s : Text) → v ≡ Plain (String s) → ⊥;
 }
-IsCalled table n vs (Right r) = record {
+IsCalledBy function has_unknown n vs (Right r) = record {
   name : Text;
   unknown : r ≡ Unknown name None;
-  gives : called (table.function n) vs ≡ Gives (Plain (String name));
+  gives : called function vs ≡ Gives (Plain (String name));
   built_in : is_the_unknown n ≡ true;
-  held : table.has_unknown ≡ true;
+  held : has_unknown ≡ true;
 }
 
+-- the answer of this function, which the name calls; whether the built-in function is among those that names call
+abbrev pub CallsBy : Option Function → Bool → Name → Values → Result PartialValue EvaluationError → Type 0
+CallsBy function has_unknown n vs result = GivesBy (λ p. IsCalledBy function has_unknown n vs (partial_of p)) (λ k. called function vs ≡ Fails k) ⊥ result
+
+abbrev pub IsCalled : Table → Name → Values → Either Value Tree → Type 0
+IsCalled table n vs p = IsCalledBy (table.function n) table.has_unknown n vs p
+
 abbrev pub Calls : Table → Name → Values → Result PartialValue EvaluationError → Type 0
-Calls table n vs result = GivesBy (λ p. IsCalled table n vs (partial_of p)) (λ k. called (table.function n) vs ≡ Fails k) ⊥ result
+Calls table n vs result = CallsBy (table.function n) table.has_unknown n vs result
 
 -- ---- trees
 
@@ -48,7 +53,6 @@ Calls table n vs result = GivesBy (λ p. IsCalled table n vs (partial_of p)) (λ
 abbrev pub IsFound : Table → Tree → Either Value Tree → Type 0
 IsFound table t (Left v) = record {
   answer : (facts : Facts) → HasFunctions table facts → answer_in table facts t ≡ Evaluated v;
-  plain : holds_extension v ≡ false;
   text : (s : Text) → v ≡ Plain (String s) → t ≡ Lit (String s);
 }
 IsFound table t (Right r) = record {

@@ -1,5 +1,6 @@
 // Extension values.
 ghost use Rattle.std.specs.Prelude.{◌≡◌};
+ghost use Rattle.cedar_language.specs.Constructing.{is_the_constructor};
 ghost use Rattle.cedar_language.specs.Tree.{Apply, Call};
 ghost use Rattle.cedar_values.specs.Representations.{extension_of, function_of, written_call, written_all};
 
@@ -166,6 +167,14 @@ impl RepresentableExtensionValue {
     {
         self.args.as_slice()
     }
+}
+
+/// Whether calls of this name are those of the language's own constructor of extension values. No text
+/// calls it; it gives a value that stands in an expression again, whatever functions a table has.
+pub fn is_constructor(name: &Name) -> bool
+    ensures { result ≡ is_the_constructor name.now }
+{
+    name.is_unqualified() && name.basename_as_ref().as_str() == "extension_value"
 }
 
 impl StaticallyTyped for RepresentableExtensionValue {

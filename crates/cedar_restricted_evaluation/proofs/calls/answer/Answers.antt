@@ -1,15 +1,22 @@
--- An unknown comes of the built-in function alone, which gives it without a type, and a value of a caller's.
+-- A name calls the constructor, or a function that an extension declares.
+use Rattle.std.proofs.Common.{◌∙◌, sym, subst, Option}
+use Rattle.cedar_language.specs.Facts.{Function}
 use Rattle.cedar_language.specs.Order.{all_of}
-use Rattle.cedar_restricted.specs.PartialValues.{partial_of}
-use Rattle.cedar_restricted_evaluation.proofs.Naming.{unknown_called, value_called}
+use Rattle.cedar_extensions.specs.Tables.{function_called, holds_unknown}
+use Rattle.cedar_restricted_evaluation.specs.Findings.{CallsBy}
+use Rattle.cedar_restricted_evaluation.proofs.Naming.{calls_constructor, calls_declared}
 use Rattle.cedar_restricted_evaluation.proofs.calls.answer.Goals as goal
 
-pub returns-in-Unknown : goal.returns-in-Unknown
-returns-in-Unknown g c =
-    unknown_called g.F.ExtensionFunctionObject.answers c.args.extensions.now c.args.name.now (all_of c.args.args.now) c.in_ok-function.function.now c.in_ok-value.field-0 c.in-Unknown.unknown (partial_of c.unknown.result)
-    c.args.extensions.now.named c.in_ok-function.ensures c.in_ok-value.ensures.meaning c.in_ok-value.ensures.unknown c.in-Unknown.is c.unknown.ensures
+pub returns-then-is_constructor : goal.returns-then-is_constructor
+returns-then-is_constructor g c =
+    let declared = function_called g.F.ExtensionFunctionObject.answers c.args.extensions.now in
+    let has_unknown = holds_unknown c.args.extensions.now in
+    subst (λ (f : Option Function). CallsBy f has_unknown c.args.name.now (all_of c.args.args.now) c.construct.result)
+    (sym (calls_constructor c.args.name.now declared (sym c.is_constructor.ensures ∙ c.if-is_constructor.true))) (c.construct.ensures has_unknown)
 
-pub returns-in-Known : goal.returns-in-Known
-returns-in-Known g c =
-    value_called g.F.ExtensionFunctionObject.answers c.args.extensions.now c.args.name.now (all_of c.args.args.now) c.in_ok-function.function.now c.in_ok-value.field-0 c.in-Known.value (partial_of c.from.result)
-    c.args.extensions.now.named c.in_ok-function.ensures c.in_ok-value.ensures.meaning c.in_ok-value.ensures.unknown c.in-Known.is c.from.ensures
+pub returns-else-is_constructor : goal.returns-else-is_constructor
+returns-else-is_constructor g c =
+    let declared = function_called g.F.ExtensionFunctionObject.answers c.args.extensions.now in
+    let has_unknown = holds_unknown c.args.extensions.now in
+    subst (λ (f : Option Function). CallsBy f has_unknown c.args.name.now (all_of c.args.args.now) c.call_declared.result)
+    (sym (calls_declared c.args.name.now declared (sym c.is_constructor.ensures ∙ c.if-is_constructor.false))) c.call_declared.ensures

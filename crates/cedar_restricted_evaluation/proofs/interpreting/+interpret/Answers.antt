@@ -26,7 +26,7 @@ use Rattle.cedar_restricted_evaluation.proofs.Gathering.{values_length, exprs_le
 use Rattle.cedar_restricted_evaluation.proofs.Arms.{set_builds, record_builds, build_errs, build_waits, set_found, record_found, call_errs, call_waits, call_made, entries_length, expr_record, value_record, kept_tree, unknown_kept, found_as, tree-Set, tree-Record, lifted}
 use Rattle.cedar_extensions.specs.Table.{as_table}
 use Rattle.cedar_extensions.specs.Tables.{functions_in}
-use Rattle.cedar_restricted_evaluation.proofs.Naming.{held_is_found}
+use Rattle.cedar_restricted_evaluation.proofs.Naming.{unknown_is_found}
 use Rattle.cedar_restricted_evaluation.proofs.interpreting.+interpret.Goals as goal
 
 -- ---- items
@@ -198,7 +198,7 @@ interpret_call-returns-in-Left-clause-found g t c =
     let parts = map partial_of c.in_ok-args.args.items in
     let values : parts ≡ map Left c.in-Left.values.items = subst (IsSplitOf parts) c.in-Left.is c.in_ok-values.ensures in
     let given = subst (λ (vs : List Value). Calls (as_table g.F.ExtensionFunctionObject.answers c.args.extensions.now) c.args.name.now (all_of vs) c.call.result) c.deref.ensures.value c.call.ensures in
-    call_made (as_table g.F.ExtensionFunctionObject.answers c.args.extensions.now) c.args.name.now (map bare c.args.args.now) parts c.in_ok-args.ensures.found c.in-Left.values.items values (λ i b. held_is_found g.F.ExtensionFunctionObject.answers c.args.name.now i (functions_in c.args.extensions.now) c.args.extensions.now.named b) (c.args.depth < heights (trees (map bare c.args.args.now))) c.call.result given
+    call_made (as_table g.F.ExtensionFunctionObject.answers c.args.extensions.now) c.args.name.now (map bare c.args.args.now) parts c.in_ok-args.ensures.found c.in-Left.values.items values (λ i b. unknown_is_found g.F.ExtensionFunctionObject.answers c.args.name.now i (functions_in c.args.extensions.now) c.args.extensions.now.named b) (c.args.depth < heights (trees (map bare c.args.args.now))) c.call.result given
 
 pub interpret_call-returns-in-Left-clause-limit : goal.interpret_call-returns-in-Left-clause-limit
 interpret_call-returns-in-Left-clause-limit g t c = always c.call.result c.in_ok-args.ensures.limit
