@@ -1,27 +1,22 @@
 -- Contexts that are evaluated: what is held of a question's context is what the context answers.
-use Rattle.std.proofs.Common.{◌≡◌, ◌∙◌, refl, ap, sym, subst}
+use Rattle.std.proofs.Common.{◌≡◌, ◌∙◌, refl, ap, sym}
 use Rattle.std.specs.FinMap as map
 use Rattle.std.specs.Prelude.{Bool, true, false, ◌&&◌, ◌||◌, List}
 use Rattle.either.specs.declared.Either.{Either}
 use Rattle.either.specs.declared.Either.TheVariants.{Left, Right}
 use Rattle.cedar_language.specs.Uid.{Text, Name}
 use Rattle.cedar_language.specs.Tree.{MakeSet, MakeRecord, Call, Tree, Lit, Unknown, Apply, Trees, no_trees, a_tree}
-use Rattle.cedar_language.specs.Value.{Value, ExtensionOf, Extension, Values, Kind, Outcome, Gives, Fails}
-use Rattle.cedar_language.specs.Facts.{Facts, Written}
-use Rattle.cedar_language.specs.Operators.{called}
+use Rattle.cedar_language.specs.Value.{Value, Kind}
+use Rattle.cedar_language.specs.Facts.{Facts}
 use Rattle.cedar_language.specs.Restricted.{is_restricted, are_restricted}
-use Rattle.cedar_partial_evaluation.specs.Like.{Writes, IsLike, itself, writes_too, if_like, and_like, or_like, apply_like, AreLike, none_like, more_like}
-use Rattle.cedar_partial_evaluation.specs.Settling.{Is, Settlings, SomeOpen, SomeErrs, AllAre, kindless, apply_settled, all_settled_in}
-use Rattle.cedar_partial_evaluation.specs.Partial.{Answer, ResidualTree, Failed, partial_in}
-use Rattle.cedar_partial_evaluation.specs.Question.{IsAccepted, context_held, settled_names}
+use Rattle.cedar_partial_evaluation.specs.Partial.{Answer, Failed, partial_in}
+use Rattle.cedar_partial_evaluation.specs.Question.{IsAccepted, context_held}
 use Rattle.cedar_world.specs.Asking.{WithEntries}
 use Rattle.cedar_world.specs.Bodies.{unknown_or, named_call, named, all_named, holds_call, hold_call}
 use Rattle.cedar_world.specs.Functions.{is_the_unknown}
 use Rattle.cedar_extensions.specs.Table.{Table}
 use Rattle.cedar_requests.specs.Answers.{part_answer}
 use Rattle.cedar_restricted_evaluation.specs.Evaluations.{HasFunctions, named_by, answer_in, IsAnswer, nothing_told}
-use Rattle.cedar_bodies.specs.Built.{GivesBuilt}
-use Rattle.cedar_bodies.proofs.Built.{IsBuiltOutcome, call_built}
 use Rattle.cedar_asking.proofs.Data.{accepts, all_named_are_data}
 
 and_left : (a b : Bool) → (a && b) ≡ true → a ≡ true
@@ -40,43 +35,9 @@ or_right : (a b : Bool) → (a || b) ≡ false → b ≡ false
 or_right false b h = h
 or_right true b h = cc
 
-neither : (a b : Bool) → a ≡ false → b ≡ false → (a || b) ≡ false
-neither a b h k = rw (h, k) refl
-
--- ---- no function of the table gives an extension value
-
-module _ (table : Table) (gives : GivesBuilt table) (facts : Facts) (has : HasFunctions table facts) where
-  is_given : (f : Name) (vs : Values) (e : Extension) (o : Outcome) → called (facts.function f) vs ≡ o → kindless o ≡ Is (ExtensionOf e) → ⊥
-  is_given f vs e (Gives v) is h =
-      let same : v ≡ ExtensionOf e = cc in
-      subst IsBuiltOutcome (sym (ap (λ g. called g vs) (has f)) ∙ is ∙ ap Gives same) (call_built table gives f vs)
-  is_given f vs e (Fails k) is h = cc
-
-  none_settles : (f : Name) (xs : Settlings) (e : Extension) → apply_settled facts (Call f) xs ≡ Is (ExtensionOf e) → ⊥
-  none_settles f SomeOpen e h = cc
-  none_settles f SomeErrs e h = cc
-  none_settles f (AllAre vs) e h = is_given f vs e (called (facts.function f) vs) refl h
-
-  none_writes : (w : Written) (e : Extension) → Writes facts w e → ⊥
-  none_writes w e h = none_settles w.function (all_settled_in facts (settled_names map.empty) w.arguments) e (h (settled_names map.empty))
-
-  -- so what is like another tree is that tree
-  mutual
-    same_tree : {s t : Tree} → IsLike facts s t → s ≡ t
-    same_tree itself = refl
-    same_tree (writes_too {e} w x h k) = absurd (none_writes w e h)
-    same_tree (if_like h i j) = rw (same_tree h, same_tree i, same_tree j) refl
-    same_tree (and_like h i) = rw (same_tree h, same_tree i) refl
-    same_tree (or_like h i) = rw (same_tree h, same_tree i) refl
-    same_tree (apply_like {op} h) = ap (Apply op) (same_trees h)
-
-    same_trees : {ts us : Trees} → AreLike facts ts us → ts ≡ us
-    same_trees none_like = refl
-    same_trees (more_like h i) = rw (same_tree h, same_trees i) refl
-
-  pub answer_is : (p : Either Value Tree) (a : Answer) → IsAnswer facts a p → a ≡ part_answer p
-  answer_is (Left v) a h = h
-  answer_is (Right r) a h = h.1 ∙ ap ResidualTree (sym (same_tree h.2))
+pub answer_is : (facts : Facts) (p : Either Value Tree) (a : Answer) → IsAnswer facts a p → a ≡ part_answer p
+answer_is facts (Left v) a h = h
+answer_is facts (Right r) a h = h
 
 -- ---- trees without calls of `unknown`
 
@@ -107,7 +68,7 @@ not_failed : (p : Either Value Tree) (k : Kind) → part_answer p ≡ Failed k �
 not_failed (Left v) k h = cc
 not_failed (Right r) k h = cc
 
-module _ (table : Table) (gives : GivesBuilt table) (ks : List Text) (ts : Trees) (given : are_restricted ts ≡ true) (held : table.has_unknown ≡ false → hold_call ts ≡ false)
+module _ (table : Table) (ks : List Text) (ts : Trees) (given : are_restricted ts ≡ true) (held : table.has_unknown ≡ false → hold_call ts ≡ false)
     (p : Either Value Tree) (answers : (facts : Facts) → HasFunctions table facts → IsAnswer facts (answer_in table facts (Apply (MakeRecord ks) ts)) p) where
   -- the context as the world has it
   abbrev written : Tree
@@ -116,7 +77,7 @@ module _ (table : Table) (gives : GivesBuilt table) (ks : List Text) (ts : Trees
   pub context_is : (facts : Facts) → HasFunctions table facts → context_held facts map.empty (WithEntries ks (all_named ts)) ≡ part_answer p
   context_is facts has =
       ap (partial_in facts nothing_told) (sym (names_as table.has_unknown written given held))
-      ∙ answer_is table gives facts has p (answer_in table facts written) (answers facts has)
+      ∙ answer_is facts p (answer_in table facts written) (answers facts has)
 
   pub context_accepted : (facts : Facts) → HasFunctions table facts → IsAccepted facts map.empty (WithEntries ks (all_named ts))
   context_accepted facts has = accepts facts (WithEntries ks (all_named ts)) (all_named_are_data ts given) (λ k e. not_failed p k (sym (context_is facts has) ∙ e))

@@ -15,7 +15,6 @@ use Rattle.cedar_extensions.specs.Table.{Table}
 use Rattle.cedar_interpreter.specs.Asking.{context_asked, variable_asked}
 use Rattle.cedar_requests.specs.Holding.{RequestParts}
 use Rattle.cedar_restricted_evaluation.specs.Evaluations.{HasFunctions}
-use Rattle.cedar_bodies.specs.Built.{GivesBuilt}
 use Rattle.cedar_asking.specs.Contexts.{HasContext, neither_given, both_given, QuestionsAreAsked}
 use Rattle.cedar_asking.proofs.Asked.{context_is, context_accepted}
 use Rattle.cedar_asking.proofs.Data.{accepts, all_named_are_data}
@@ -31,18 +30,18 @@ none_asked facts = ap (λ o. name_held o (codes "context") None) (sym (get-empty
 no_failure : (t : Tree) (k : Kind) → ResidualTree t ≡ Failed k → ⊥
 no_failure t k e = cc
 
-module _ (table : Table) (gives : GivesBuilt table) where
+module _ (table : Table) where
   context_data : (c : Entries) (o : Option (Either Value Tree)) → HasContext table c o → IsData c
   context_data c o neither_given = tt
   context_data c o (both_given {ks} {ts} e) = all_named_are_data ts e.restricted
 
   context_held_so : (facts : Facts) → HasFunctions table facts → (c : Entries) (o : Option (Either Value Tree)) → HasContext table c o → context_asked o ≡ context_held facts map.empty c
   context_held_so facts has c o neither_given = none_asked facts
-  context_held_so facts has c o (both_given {ks} {ts} {p} e) = sym (context_is table gives ks ts e.restricted e.uncalled p e.answers facts has)
+  context_held_so facts has c o (both_given {ks} {ts} {p} e) = sym (context_is table ks ts e.restricted e.uncalled p e.answers facts has)
 
   context_taken : (facts : Facts) → HasFunctions table facts → (c : Entries) (o : Option (Either Value Tree)) → HasContext table c o → IsAccepted facts map.empty c
   context_taken facts has c o neither_given = accepts facts NoContext tt (λ k e. no_failure (Unknown (codes "context") None) k (none_asked facts ∙ e))
-  context_taken facts has c o (both_given {ks} {ts} {p} e) = context_accepted table gives ks ts e.restricted e.uncalled p e.answers facts has
+  context_taken facts has c o (both_given {ks} {ts} {p} e) = context_accepted table ks ts e.restricted e.uncalled p e.answers facts has
 
   variable_is : (q : Question) (r : RequestParts) → r.principal ≡ q.principal → r.action ≡ q.action → r.resource ≡ q.resource → HasContext table q.context r.context
       → (facts : Facts) → HasFunctions table facts → (v : Variable) → variable_asked r v ≡ variable_held facts q map.empty v
@@ -52,9 +51,9 @@ module _ (table : Table) (gives : GivesBuilt table) where
   variable_is q r p a e c facts has Context = context_held_so facts has q.context r.context c
 
 pub questions_are_asked : QuestionsAreAsked
-questions_are_asked by table q r gives p a e c means = record {
-  is_data = context_data table gives q.context r.context c;
-  holds = variable_is table gives q r p a e c;
-  accepted = λ facts has. context_taken table gives facts has q.context r.context c;
-  request = has_request by q (context_data table gives q.context r.context c) means;
+questions_are_asked by table q r p a e c means = record {
+  is_data = context_data table q.context r.context c;
+  holds = variable_is table q r p a e c;
+  accepted = λ facts has. context_taken table facts has q.context r.context c;
+  request = has_request by q (context_data table q.context r.context c) means;
 }

@@ -21,7 +21,7 @@ use Rattle.cedar_partial_evaluation.specs.Partial.{Answer, Evaluated, ResidualTr
 use Rattle.cedar_partial_evaluation.specs.Question.{Extends, AreMadeTold, name_held, held_names, context_held}
 use Rattle.cedar_partial_evaluation.specs.ReadUnknowns.{calls_unknown}
 use Rattle.cedar_partial_evaluation.specs.Telling.{ContextsStay}
-use Rattle.cedar_telling.specs.Plain.{HoldPlain, IsPlainAnswer, PlainAnswers}
+use Rattle.cedar_telling.specs.Plain.{IsPlainAnswer, PlainAnswers}
 use Rattle.cedar_world.specs.Asking.{Entries, NoContext, WithEntries, Told}
 use Rattle.cedar_world.specs.First.{IsData}
 use Rattle.cedar_extensions.specs.Failures.{OfKind, failure_of}
@@ -37,13 +37,12 @@ use Rattle.cedar_requests.specs.Telling.{OfSubstituted, TellsContext}
 use Rattle.cedar_requests.specs.declared.contexts.Context.{Context}
 use Rattle.cedar_requests.specs.declared.contexts.Context.TheVariants as context
 use Rattle.cedar_substitution.specs.Told.{told_for}
-use Rattle.cedar_bodies.specs.Built.{GivesBuilt}
 use Rattle.cedar_evaluator.specs.Concretizing.{ContextTold}
 use Rattle.cedar_asking.specs.Keeping.{IsNamed}
 use Rattle.cedar_asking.specs.Tells.{told_in}
 use Rattle.cedar_requests.specs.ToldContexts.{HoldTold, ToldContextsAreEvaluated}
 use Rattle.cedar_asking.proofs.Accepting.{data_stays}
-use Rattle.cedar_asking.proofs.Exactness.{empty_is_plain, names_plain, none_told, record_calls_none}
+use Rattle.cedar_asking.proofs.Exactness.{names_plain, none_told, record_calls_none}
 use Rattle.cedar_asking.proofs.Waiting.{IsDataTree, IsDataAnswer, left_data}
 
 -- ---- the values that entries tell
@@ -83,7 +82,7 @@ nothing_held = ap (λ (o : Option Value). name_held o (codes "context") None) (g
 
 -- ---- telling
 
-module _ (law : PlainAnswers) (apart : LeavesDontMatter) (stay : ContextsStay) (tell : ToldContextsAreEvaluated) (facts : Facts) (good : HoldsMade facts) (plain : HoldPlain facts) (table : Table) (gives : GivesBuilt table) (depth : ℕ) (served : HasFunctions table facts)
+module _ (law : PlainAnswers) (apart : LeavesDontMatter) (stay : ContextsStay) (tell : ToldContextsAreEvaluated) (facts : Facts) (good : HoldsMade facts) (table : Table) (depth : ℕ) (served : HasFunctions table facts)
     (told : List (RcStr Global × Value)) (made_told : AreMadeTold facts (told_in told)) where
   module _ (ks : List Text) (ts : Trees) (given : IsData (WithEntries ks ts)) (named : IsNamed (WithEntries ks ts)) where
     abbrev written : Tree
@@ -101,12 +100,12 @@ module _ (law : PlainAnswers) (apart : LeavesDontMatter) (stay : ContextsStay) (
     left_is_data : (t : Tree) → ResidualTree t ≡ first → IsDataTree t
     left_is_data t e =
         subst IsDataAnswer (sym e)
-        (left_data facts law plain (held_names finite.empty) (names_plain finite.empty empty_is_plain)
+        (left_data facts (held_names finite.empty)
         (λ n ty u. subst (λ (o : Option Value). IsDataAnswer (name_held o n ty)) (sym (get-empty text_cmp n)) (refl, u))
-        written given (record_calls_none (WithEntries ks ts) named.well given ks ts refl) named.untyped)
+        written given named.untyped)
 
     left_calls_none : (t : Tree) → ResidualTree t ≡ first → calls_unknown t ≡ false
-    left_calls_none t e = subst IsPlainAnswer (sym e) (law.plain facts plain (held_names finite.empty) (names_plain finite.empty empty_is_plain) written (record_calls_none (WithEntries ks ts) named.well given ks ts refl))
+    left_calls_none t e = subst IsPlainAnswer (sym e) (law facts (held_names finite.empty) (names_plain finite.empty) written (record_calls_none (WithEntries ks ts) named.well given ks ts refl))
 
     value_stays : (v : Value) → Evaluated v ≡ first → Evaluated v ≡ later
     value_stays v e = sym (data_stays facts apart written given v (sym e) (told_in told))
@@ -118,7 +117,7 @@ module _ (law : PlainAnswers) (apart : LeavesDontMatter) (stay : ContextsStay) (
     record_told (Left v) new e (c, is, same) = ap part_answer (sym is ∙ same) ∙ value_stays v e
     record_told (Right t) new e (c, is, tells) =
         ap part_answer (sym is)
-        ∙ tell table gives depth told (told_in told) (holds_told told) t (left_is_data t e).0 (left_is_data t e).1 (λ h. left_calls_none t e) (Ok c) tells facts served made_told
+        ∙ tell table depth told (told_in told) (holds_told told) t (left_is_data t e).0 (left_is_data t e).1 (λ h. left_calls_none t e) (Ok c) tells facts served made_told
         ∙ left_again t e
 
     record_fails : (p : Either Value Tree) (error : EvaluationError) (k : Kind) → part_answer p ≡ first → TellsContext table depth told p (Err error) → failure_of error ≡ OfKind k → later ≡ Failed k
@@ -126,7 +125,7 @@ module _ (law : PlainAnswers) (apart : LeavesDontMatter) (stay : ContextsStay) (
     record_fails (Right t) error k e tells is =
         sym (left_again t e)
         ∙ subst (λ f. FailsBy (OfSubstituted told t (λ u. depth < height u)) (λ k. partial_in facts (held_names (told_in told)) t ≡ Failed k) f) is
-        (tell table gives depth told (told_in told) (holds_told told) t (left_is_data t e).0 (left_is_data t e).1 (λ h. left_calls_none t e) (Err error) tells facts served made_told)
+        (tell table depth told (told_in told) (holds_told told) t (left_is_data t e).0 (left_is_data t e).1 (λ h. left_calls_none t e) (Err error) tells facts served made_told)
 
   -- the context of the request with what is told is what is held of the question's then
   pub context_again : (c : Entries) → IsData c → IsNamed c → (o : Option Context) (new : Option (Either Value Tree)) → context_asked (option_map context_part o) ≡ context_held facts finite.empty c →

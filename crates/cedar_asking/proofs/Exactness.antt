@@ -1,4 +1,4 @@
--- What was found of a policy is what its condition answers, where no extension value is held; and how what is left of it stands.
+-- What was found of a policy is what its condition answers; and how what is left of it stands.
 use Rattle.std.proofs.Common.{◌≡◌, ◌∙◌, refl, ap, sym, subst, Bool, true, false, Option, Some, None, List, codes}
 use Rattle.std.specs.Prelude.{⊤}
 use Rattle.std.specs.FinMap as finite
@@ -17,7 +17,8 @@ use Rattle.cedar_partial_evaluation.specs.Question.{Part, Given, Missing, part_h
 use Rattle.cedar_partial_evaluation.specs.ReadUnknowns.{calls_unknown}
 use Rattle.cedar_partial_evaluation.specs.Reauthorizing.{condition_again}
 use Rattle.cedar_partial_evaluation.specs.Unknowns.{fits}
-use Rattle.cedar_telling.specs.Plain.{IsPlainValue, HoldPlain, IsPlainAnswer, ArePlainLeaves, as_unknown_calls, PlainAnswers}
+use Rattle.cedar_partial_evaluation.proofs.Alike.{alike_is}
+use Rattle.cedar_telling.specs.Plain.{IsPlainAnswer, ArePlainLeaves, PlainAnswers}
 use Rattle.cedar_world.specs.Asking.{Entries, NoContext, WithEntries, Question, Told}
 use Rattle.cedar_world.specs.First.{IsData}
 use Rattle.cedar_world.specs.Setting.{Setting}
@@ -31,7 +32,7 @@ use Rattle.cedar_requests.specs.Holding.{RequestParts}
 use Rattle.cedar_evaluator.specs.Evaluations.{Found, Satisfied, Unsatisfied, Erred, Open, Finds}
 use Rattle.cedar_evaluator.specs.Residuals.{clause_policy}
 use Rattle.cedar_asking.specs.Requests.{IsRequestOf}
-use Rattle.cedar_asking.proofs.Plainness.{otherwise, all_call_none, or_right, slot_plain}
+use Rattle.cedar_asking.proofs.Plainness.{all_call_none, or_right, slot_plain}
 use Rattle.cedar_asking.proofs.Standings.{is_settled}
 use Rattle.cedar_asking.proofs.Taken.{clause_of}
 
@@ -41,27 +42,21 @@ part_plain : (p : Part) (n : Text) → IsPlainAnswer (part_held p None n)
 part_plain (Given u) n = tt
 part_plain (Missing ty) n = refl
 
-value_plain : (b : Bool) (v : Value) → IsPlainValue v → IsPlainAnswer (value_held b v)
-value_plain true v h = h
-value_plain false v h = tt
+value_plain : (b : Bool) (v : Value) → IsPlainAnswer (value_held b v)
+value_plain true v = tt
+value_plain false v = tt
 
-name_plain : (n : Text) (ty : Option ValueType) (o : Option Value) → ((v : Value) → o ≡ Some v → IsPlainValue v) → IsPlainAnswer (name_held o n ty)
-name_plain n ty None h = refl
-name_plain n ty (Some v) h = value_plain (fits ty v) v (h v refl)
-
-abbrev pub ArePlainTold : Told → Type 0
-ArePlainTold told = (n : Text) (v : Value) → finite.get told n ≡ Some v → IsPlainValue v
+name_plain : (n : Text) (ty : Option ValueType) (o : Option Value) → IsPlainAnswer (name_held o n ty)
+name_plain n ty None = refl
+name_plain n ty (Some v) = value_plain (fits ty v) v
 
 pub none_told : (n : Text) (v : Value) → finite.get {R = text_cmp} finite.empty n ≡ Some v → ⊥
 none_told n v h = let no : ◌≡◌ {A = Option Value} None (Some v) = sym (get-empty text_cmp n) ∙ h in cc
 
-pub empty_is_plain : ArePlainTold finite.empty
-empty_is_plain n v h = absurd (none_told n v h)
-
-pub names_plain : (told : Told) → ArePlainTold told → ArePlainLeaves (held_names told)
-names_plain told h = record {
+pub names_plain : (told : Told) → ArePlainLeaves (held_names told)
+names_plain told = record {
   variable = λ v. refl;
-  unknown = λ n ty. name_plain n ty (finite.get told n) (h n);
+  unknown = λ n ty. name_plain n ty (finite.get told n);
   slot = λ s. refl;
 }
 
@@ -75,17 +70,17 @@ record_calls_none (WithEntries js us) named given ks ts is =
     calls_in NoContext = false
     calls_in (WithEntries ks ts) = calls_unknown (Apply (MakeRecord ks) ts)
 
-module _ (law : PlainAnswers) (facts : Facts) (plain : HoldPlain facts) where
-  pub context_plain : (c : Entries) → holds_bad_unknown c ≡ false → IsData c → (told : Told) → ArePlainTold told → IsPlainAnswer (context_held facts told c)
-  context_plain NoContext named given told h = name_plain _ None (finite.get told _) (h _)
-  context_plain (WithEntries ks ts) named given told h = law.plain facts plain (held_names told) (names_plain told h) (Apply (MakeRecord ks) ts) (record_calls_none (WithEntries ks ts) named given ks ts refl)
+module _ (law : PlainAnswers) (facts : Facts) where
+  pub context_plain : (c : Entries) → holds_bad_unknown c ≡ false → IsData c → (told : Told) → IsPlainAnswer (context_held facts told c)
+  context_plain NoContext named given told = name_plain _ None (finite.get told _)
+  context_plain (WithEntries ks ts) named given told = law facts (held_names told) (names_plain told) (Apply (MakeRecord ks) ts) (record_calls_none (WithEntries ks ts) named given ks ts refl)
 
   module _ (by : Setting) (table : Table) (q : Question) (r : RequestParts) (asked : IsRequestOf by table q r) (named : holds_bad_unknown q.context ≡ false) (served : HasFunctions table facts) where
     held_plain : (v : Variable) → IsPlainAnswer (variable_held facts q finite.empty v)
     held_plain Principal = subst (λ o. IsPlainAnswer (part_held q.principal o (codes "principal"))) (sym (get-empty text_cmp (codes "principal"))) (part_plain q.principal (codes "principal"))
     held_plain Action = subst (λ o. IsPlainAnswer (part_held q.action o (codes "action"))) (sym (get-empty text_cmp (codes "action"))) (part_plain q.action (codes "action"))
     held_plain Resource = subst (λ o. IsPlainAnswer (part_held q.resource o (codes "resource"))) (sym (get-empty text_cmp (codes "resource"))) (part_plain q.resource (codes "resource"))
-    held_plain Context = context_plain q.context named asked.is_data finite.empty empty_is_plain
+    held_plain Context = context_plain q.context named asked.is_data finite.empty
 
     pub leaves_plain : (slots : Bindings) → ArePlainLeaves (request_held (untold r) slots)
     leaves_plain slots = record {
@@ -104,22 +99,17 @@ FoundAs b (Erred LimitMet) = ⊤
 FoundAs b (Erred MemoryRanOut) = ⊥
 FoundAs b (Open r) = b ≡ ResidualTree r
 
-module _ (law : PlainAnswers) (facts : Facts) (plain : HoldPlain facts) (holds : LeafAnswers) (leaves : ArePlainLeaves holds) (t : Tree) (calls : calls_unknown t ≡ false) where
-  one : partial_in (otherwise facts) holds t ≡ partial_in facts holds t
-  one = law.one facts plain holds leaves t calls as_unknown_calls
-
+module _ (law : PlainAnswers) (facts : Facts) (holds : LeafAnswers) (leaves : ArePlainLeaves holds) (t : Tree) (calls : calls_unknown t ≡ false) where
   left_plain : (u : Tree) → partial_in facts holds t ≡ ResidualTree u → calls_unknown u ≡ false
-  left_plain u e = subst IsPlainAnswer e (law.plain facts plain holds leaves t calls)
+  left_plain u e = subst IsPlainAnswer e (law facts holds leaves t calls)
 
-  pub found_as : (f : Found) → Finds (otherwise facts) (partial_in (otherwise facts) holds t) f → FoundAs (partial_in facts holds t) f
-  found_as Satisfied h = sym one ∙ h
-  found_as Unsatisfied h = sym one ∙ h
-  found_as (Erred (OfKind k)) h = ap standing_of_answer (sym one) ∙ h
+  pub found_as : (f : Found) → Finds facts (partial_in facts holds t) f → FoundAs (partial_in facts holds t) f
+  found_as Satisfied h = h
+  found_as Unsatisfied h = h
+  found_as (Erred (OfKind k)) h = h
   found_as (Erred LimitMet) h = tt
   found_as (Erred MemoryRanOut) h = h
-  found_as (Open r) (u, e, alike) =
-      let is : partial_in facts holds t ≡ ResidualTree u = sym one ∙ e in
-      is ∙ ap ResidualTree (sym (law.alike facts r u (left_plain u is) alike))
+  found_as (Open r) (u, e, alike) = e ∙ ap ResidualTree (sym (alike_is facts r u alike))
 
   pub clause_calls_none : (f : Found) → FoundAs (partial_in facts holds t) f → calls_unknown (clause_of f) ≡ false
   clause_calls_none Satisfied h = refl

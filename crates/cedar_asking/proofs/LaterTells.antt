@@ -20,7 +20,8 @@ use Rattle.cedar_partial_evaluation.specs.Telling.{ContextsStay}
 use Rattle.cedar_telling.specs.Again.{AgainIsSound}
 use Rattle.cedar_telling.specs.ContextErrors.{ContextsErrInParts}
 use Rattle.cedar_telling.specs.Joined.{IsJoined, LaterAnswersStand}
-use Rattle.cedar_telling.specs.Plain.{HoldPlain, PlainAnswers}
+use Rattle.cedar_language.specs.Constructing.{the_constructor}
+use Rattle.cedar_telling.specs.Plain.{PlainAnswers}
 use Rattle.cedar_world.specs.Answer.{Answer, ids_of}
 use Rattle.cedar_world.specs.Answers.{ids_with}
 use Rattle.cedar_world.specs.Asking.{Entries as Written, NoContext, WithEntries, Question}
@@ -70,8 +71,8 @@ use Rattle.cedar_asking.proofs.ContextsTold.{holds_told, context_fails, no_unkno
 use Rattle.cedar_asking.proofs.Errors.{errors_listed, settled_listed}
 use Rattle.cedar_asking.proofs.Facts.{store_has_facts, table_is_served, built_is_made}
 use Rattle.cedar_asking.proofs.Lists.{IsAmong}
-use Rattle.cedar_asking.proofs.Plainness.{functions_are_plain, functions_are_made, or_right}
-use Rattle.cedar_asking.proofs.Rejudged.{first_served, first_made, first_plain, first_names}
+use Rattle.cedar_asking.proofs.Plainness.{functions_are_made, or_right}
+use Rattle.cedar_asking.proofs.Rejudged.{first_served, first_made, first_names}
 use Rattle.cedar_asking.proofs.RequestTold.{no_conflicts, variable_again, held_again}
 use Rattle.cedar_asking.proofs.Sayings.{says_rules}
 use Rattle.cedar_asking.proofs.Standings.{judged, is_settled, no_slots}
@@ -118,17 +119,11 @@ module _ (c : Rests) (by : Setting) (world : World) (q : Question) (first : Part
   asked : IsRequestOf by response.table q (request_asked first)
   asked = subst (IsRequestOf by response.table q) (sym response.responds.asked) response.is_request
 
-  made_told : (f : Facts) → AreMadeTold f (told_in told)
-  made_told f n v e = built_is_made f v (are.built n v (sym (holds_told told n) ∙ e))
-
   served_first : HasFunctions response.table facts
   served_first = first_served c.plain c.finds by world facts are_facts q first response
 
   good : HoldsMade facts
   good = first_made c.plain c.finds by world facts are_facts q first response
-
-  plain : HoldPlain facts
-  plain = first_plain c.plain c.finds by world facts are_facts q first response
 
   served : HasFunctions table facts
   served = table_is_served by world facts table are_facts now.setting.functions
@@ -136,8 +131,9 @@ module _ (c : Rests) (by : Setting) (world : World) (q : Question) (first : Part
   alone_good : HoldsMade alone
   alone_good = functions_are_made by table gives now.setting.functions
 
-  alone_plain : HoldPlain alone
-  alone_plain = functions_are_plain by table gives now.setting.functions
+  -- each evaluation over the table knows the constructor of extension values
+  made_told : (f : Facts) → HasFunctions table f → AreMadeTold f (told_in told)
+  made_told f has n v e = built_is_made f (has the_constructor ∙ sym (now.setting.functions the_constructor)) v (are.built n v (sym (holds_told told n) ∙ e))
 
   uncalled : (ks : List Text) (ts : Trees) → IsNamed (WithEntries ks ts) → hold_call ts ≡ false
   uncalled ks ts named = or_right (some_name_of (is_one_of variable_names) ts) (hold_call ts) named.well
@@ -149,19 +145,19 @@ module _ (c : Rests) (by : Setting) (world : World) (q : Question) (first : Part
   -- ---- what is answered
 
   module _ (d : AnswersRest) (again : PartialResponse) (r : IsReauthorized s table depth told first again) where
-    not_failed : (f : Facts) → HasFunctions response.table f → HasFunctions table f → HoldsMade f → HoldPlain f → (k : Kind) → context_held f (told_in told) q.context ≡ Failed k → ⊥
-    not_failed f of_first of_now made_f plain_f k e =
+    not_failed : (f : Facts) → HasFunctions response.table f → HasFunctions table f → HoldsMade f → (k : Kind) → context_held f (told_in told) q.context ≡ Failed k → ⊥
+    not_failed f of_first of_now made_f k e =
         asked_fails r.request.context k
-        (variable_again by response.table q first.request.value asked response.named told are f of_first c.plain c.apart c.stay c.tell made_f plain_f table gives depth of_now (made_told f) r.request r.concrete Context ∙ e)
+        (variable_again by response.table q first.request.value asked response.named told are f of_first c.plain c.apart c.stay c.tell made_f table depth of_now (made_told f of_now) r.request r.concrete Context ∙ e)
 
     fine : context_errs by q.context (told_in told) ≡ false
-    fine = errs_none q.context asked.is_data response.named (not_failed alone response.of.setting.functions now.setting.functions alone_good alone_plain)
+    fine = errs_none q.context asked.is_data response.named (not_failed alone response.of.setting.functions now.setting.functions alone_good)
 
     accepted : IsAccepted facts (told_in told) q.context
-    accepted = accepts_told d.prompt facts good (told_in told) (made_told facts) q.context (not_failed facts served_first served good plain)
+    accepted = accepts_told d.prompt facts good (told_in told) (made_told facts served) q.context (not_failed facts served_first served good)
 
     held : request_held (record { request = r.request; told = told_for told }) unbound ≡ held_of facts q no_slots (told_in told)
-    held = held_again by response.table q first.request.value asked response.named told are facts served_first c.plain c.apart c.stay c.tell good plain table gives depth served (made_told facts) r.request r.concrete
+    held = held_again by response.table q first.request.value asked response.named told are facts served_first c.plain c.apart c.stay c.tell good table depth served (made_told facts served) r.request r.concrete
 
     module _ (listed : List (Text × ErrorKind)) (new : Answer) (says : SaysHeld (holding_in again) listed new) where
       errors : map with_failure listed ≡ errors_of r.kept
@@ -189,8 +185,8 @@ module _ (c : Rests) (by : Setting) (world : World) (q : Question) (first : Part
 
       pub is_answered : (old : List (RcStr Global × Value)) (last answer : Answer) → KeepsQuestion by world q first old last → Extends (told_in old) (told_in told) → IsJoined last new answer → IsAnsweredLater by world q first old told last answer
       is_answered old last answer keeps extends joined =
-          let stands = d.later by world facts (record { question = q; told = told_in old; last = last }) (told_in told) (map judged all_later) new answer are_facts extends (made_told facts) accepted keeps.steady
-          (d.again by world facts q (told_in told) are_facts good (first_names c.plain c.finds by world facts are_facts q first response d.conditions) asked.is_data (asked.accepted facts served_first) (made_told facts) accepted)
+          let stands = d.later by world facts (record { question = q; told = told_in old; last = last }) (told_in told) (map judged all_later) new answer are_facts extends (made_told facts served) accepted keeps.steady
+          (d.again by world facts q (told_in told) are_facts good (first_names c.plain c.finds by world facts are_facts q first response d.conditions) asked.is_data (asked.accepted facts served_first) (made_told facts served) accepted)
           (judges_again c.plain c.finds by world facts are_facts q first response told r.request held s table depth (store_has_facts by world facts s are_facts now.shows now.closed now.whole) served r.kept r.each settled d.conditions)
           says_all joined in
           record { later = stands.later; keeps = record { response = response; are_told = are; steady = stands.steady }; fine = fine }
@@ -206,7 +202,7 @@ module _ (c : Rests) (by : Setting) (world : World) (q : Question) (first : Part
   written_errs NoContext (Some d) p error k given named e is tells of = absurd (no_unknown_asked d _ (e ∙ nothing_held))
   written_errs (WithEntries ks ts) o p error k given named e is tells of =
       c.parts.fails by (told_in told) ks ts given (uncalled ks ts named) k
-      (context_fails c.plain c.apart c.stay c.tell alone alone_good alone_plain table gives depth now.setting.functions told (made_told alone) ks ts given named p (sym (ap context_asked is) ∙ e) error k tells of)
+      (context_fails c.plain c.apart c.stay c.tell alone alone_good table depth now.setting.functions told (made_told alone now.setting.functions) ks ts given named p (sym (ap context_asked is) ∙ e) error k tells of)
 
   context_failure : (p : Either Value Tree) (error : EvaluationError) → (request_asked first).context ≡ Some p → TellsContext table depth told p (Err error) → (f : Failure) → failure_of error ≡ f → IsContextFailure by q told f
   context_failure p error is tells (OfKind k) of = written_errs q.context first.request.value.context p error k asked.is_data response.named (asked.holds alone response.of.setting.functions Context) is tells of

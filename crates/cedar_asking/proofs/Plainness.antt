@@ -1,11 +1,8 @@
--- No extension value stands in what worlds, their functions and the requests of their questions hold.
-use Rattle.std.proofs.Common.{◌≡◌, ◌∙◌, refl, ap, sym, Bool, true, false, ◌&&◌, ◌||◌, Option, Some, None}
-use Rattle.std.specs.FinMap as finite
+-- What functions give without entities is made again, and data without names calls no function for an unknown.
+use Rattle.std.proofs.Common.{◌≡◌, ◌∙◌, refl, sym, Bool, true, false, ◌&&◌, ◌||◌, Option, Some, None}
 use Rattle.cedar_language.specs.Uid.{Uid}
 use Rattle.cedar_language.specs.Tree.{SlotId, MakeSet, MakeRecord, Call, Tree, Lit, Unknown, Apply, Trees, no_trees, a_tree}
-use Rattle.cedar_language.specs.Value.{Value, Plain, SetOf, RecordOf, ExtensionOf, Values, no_values, a_value}
 use Rattle.cedar_language.specs.Facts as language
-use Rattle.cedar_language.specs.Facts.{Facts}
 use Rattle.cedar_language.specs.Meaning.{slot_outcome}
 use Rattle.cedar_language.specs.Restricted.{is_restricted, are_restricted}
 use Rattle.cedar_partial_evaluation.specs.MadeAgain.{HoldsMade}
@@ -13,65 +10,24 @@ use Rattle.cedar_partial_evaluation.specs.Partial.{answer_of}
 use Rattle.cedar_partial_evaluation.specs.ReadUnknowns.{calls_unknown, some_calls_unknown}
 use Rattle.cedar_world.specs.Bodies.{holds_call, hold_call}
 use Rattle.cedar_world.specs.Setting.{Setting, functions_alone}
-use Rattle.cedar_world.specs.World.{World}
-use Rattle.cedar_world.specs.WorldFacts.{AreFactsOf}
-use Rattle.cedar_telling.specs.Plain.{IsPlainValue, ArePlainValues, HoldPlain, IsPlainAnswer, as_unknown_calls, written_with}
+use Rattle.cedar_telling.specs.Plain.{IsPlainAnswer}
 use Rattle.cedar_extensions.specs.Table.{Table}
-use Rattle.cedar_entities.specs.declared.store.Entities.{Entities}
-use Rattle.cedar_operators.specs.Store.{HasFacts}
-use Rattle.cedar_bodies.specs.Built.{IsBuilt, AreBuilt, HoldBuilt, GivesBuilt}
+use Rattle.cedar_bodies.specs.Built.{GivesBuilt}
 use Rattle.cedar_restricted_evaluation.specs.Evaluations.{HasFunctions}
-use Rattle.cedar_asking.proofs.Facts.{built_is_made, of_seen}
+use Rattle.cedar_asking.proofs.Facts.{built_is_made}
 
-mutual
-  pub built_is_plain : (v : Value) → IsBuilt v → IsPlainValue v
-  built_is_plain (Plain l) h = tt
-  built_is_plain (SetOf vs) h = built_are_plain vs h.1
-  built_is_plain (RecordOf ks vs) h = built_are_plain vs h
-  built_is_plain (ExtensionOf e) h = absurd h
-
-  built_are_plain : (vs : Values) → AreBuilt vs → ArePlainValues vs
-  built_are_plain no_values h = tt
-  built_are_plain (a_value v vs) h = (built_is_plain v h.0, built_are_plain vs h.1)
-
--- ---- the facts of a world, and functions without entities
-
-pub facts_are_plain : (by : Setting) (world : World) (facts : Facts) (table : Table) → GivesBuilt table → HasFunctions table facts → HoldBuilt world.entities → AreFactsOf by world facts → HoldPlain facts
-facts_are_plain by world facts table gives has built are = record {
-  attribute = λ u h a v e f.
-      let (d, is, same) = of_seen facts (finite.get world.entities u) h (sym (are.entity u) ∙ e) in
-      built_is_plain v (built.attribute u d a v is (sym (ap (λ (x : language.Held). x.attribute a) same) ∙ f));
-  tag = λ u h a v e f.
-      let (d, is, same) = of_seen facts (finite.get world.entities u) h (sym (are.entity u) ∙ e) in
-      built_is_plain v (built.tag u d a v is (sym (ap (λ (x : language.Held). x.tag a) same) ∙ f));
-  answer = λ n f vs v e h. built_is_plain v (gives n f vs v (sym (has n) ∙ e) h);
-}
+-- ---- functions without entities
 
 none_is_held : (h : language.Held) → ◌≡◌ {A = Option language.Held} None (Some h) → ⊥
 none_is_held h e = cc
 
 module _ (by : Setting) (table : Table) (gives : GivesBuilt table) (has : HasFunctions table (functions_alone by.functions)) where
-  pub functions_are_plain : HoldPlain (functions_alone by.functions)
-  functions_are_plain = record {
-    attribute = λ u h a v e f. absurd (none_is_held h e);
-    tag = λ u h a v e f. absurd (none_is_held h e);
-    answer = λ n f vs v e h. built_is_plain v (gives n f vs v (sym (has n) ∙ e) h);
-  }
-
   pub functions_are_made : HoldsMade (functions_alone by.functions)
   functions_are_made = record {
     attribute = λ u h a v e f. absurd (none_is_held h e);
     tag = λ u h a v e f. absurd (none_is_held h e);
-    answer = λ n f vs v e made h. built_is_made (functions_alone by.functions) v (gives n f vs v (sym (has n) ∙ e) h);
+    answer = λ n f vs v e made h. built_is_made (functions_alone by.functions) refl v (gives n f vs v (sym (has n) ∙ e) h);
   }
-
--- ---- facts that write extension values otherwise
-
-abbrev pub otherwise : Facts → Facts
-otherwise facts = written_with as_unknown_calls facts
-
-pub store_otherwise : (s : Entities) (facts : Facts) → HasFacts s facts → HasFacts s (otherwise facts)
-store_otherwise s facts h = record { whole = h.whole; closed = h.closed; entities = h.entities; reaches = h.reaches }
 
 -- ---- data that calls no `unknown`
 

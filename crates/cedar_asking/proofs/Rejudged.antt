@@ -13,7 +13,7 @@ use Rattle.cedar_partial_evaluation.specs.Partial.{Answer, LeafAnswers, partial_
 use Rattle.cedar_partial_evaluation.specs.Question.{held_of}
 use Rattle.cedar_partial_evaluation.specs.ReadUnknowns.{calls_unknown}
 use Rattle.cedar_partial_evaluation.specs.Reauthorizing.{condition_again}
-use Rattle.cedar_telling.specs.Plain.{HoldPlain, ArePlainLeaves, PlainAnswers}
+use Rattle.cedar_telling.specs.Plain.{ArePlainLeaves, PlainAnswers}
 use Rattle.cedar_world.specs.Asking.{Question}
 use Rattle.cedar_world.specs.First.{NamesNoUnknown}
 use Rattle.cedar_world.specs.Setting.{Setting}
@@ -38,7 +38,6 @@ use Rattle.cedar_asking.proofs.InForce.{written_entry, is_bound, written_by}
 use Rattle.cedar_asking.proofs.Lists.{IsAmong, contains}
 use Rattle.cedar_asking.proofs.Members.{gathered}
 use Rattle.cedar_asking.proofs.Naming.{is_other, no_call}
-use Rattle.cedar_asking.proofs.Plainness.{otherwise, facts_are_plain, store_otherwise}
 use Rattle.cedar_asking.proofs.Standings.{is_settled, nothing_bound, held_so, names_as_written}
 use Rattle.cedar_asking.proofs.Taken.{clause_of}
 
@@ -81,9 +80,6 @@ module _ (law : PlainAnswers) (finds : FindsAsWorlds) (by : Setting) (world : Wo
   pub first_made : HoldsMade facts
   first_made = facts_are_made by world facts response.table response.gives first_served response.of.built are
 
-  pub first_plain : HoldPlain facts
-  first_plain = facts_are_plain by world facts response.table response.gives first_served response.of.built are
-
   first_store : HasFacts response.store facts
   first_store = store_has_facts by world facts response.store are response.of.shows response.of.closed response.of.whole
 
@@ -97,7 +93,7 @@ module _ (law : PlainAnswers) (finds : FindsAsWorlds) (by : Setting) (world : Wo
   first_held e = request_held (untold response.request) (bindings_in e)
 
   first_leaves : (e : Entry) → ArePlainLeaves (first_held e)
-  first_leaves e = leaves_plain law facts first_plain by response.table q response.request response.is_request response.named.well first_served (bindings_in e)
+  first_leaves e = leaves_plain law facts by response.table q response.request response.is_request response.named.well first_served (bindings_in e)
 
   module _ (k : Kept) (in_ks : IsAmong k ks) (e : Text × Entry) (in_set : IsAmong e (policies_of es)) (of : IsKept (untold response.request) response.store response.table response.depth e k) where
     pub is_named : calls_only is_other (condition_in e.1) ≡ true
@@ -108,8 +104,8 @@ module _ (law : PlainAnswers) (finds : FindsAsWorlds) (by : Setting) (world : Wo
 
     pub first_found : FoundAs (partial_in facts (first_held e.1) (condition_in e.1)) k.found
     first_found =
-        found_as law facts first_plain (first_held e.1) (first_leaves e.1) (condition_in e.1) first_calls k.found
-        (of.found (otherwise facts) (record { entities = store_otherwise response.store facts first_store; functions = first_served; names_nothing = names_nothing response.table (condition_in e.1) first_calls }))
+        found_as law facts (first_held e.1) (first_leaves e.1) (condition_in e.1) first_calls k.found
+        (of.found facts (record { entities = first_store; functions = first_served; names_nothing = names_nothing response.table (condition_in e.1) first_calls }))
 
     at_limit : k.found ≡ Erred LimitMet → ⊥
     at_limit is =
@@ -131,7 +127,7 @@ module _ (law : PlainAnswers) (finds : FindsAsWorlds) (by : Setting) (world : Wo
         ∙ again_is_clause (partial_in facts (first_held e.1) (condition_in e.1)) k.found (settled_by (partial_in facts (first_held e.1) (condition_in e.1)) k.found refl first_found) first_found
 
     pub clause_calls_nothing : calls_unknown (clause_of k.found) ≡ false
-    clause_calls_nothing = clause_calls_none law facts first_plain (first_held e.1) (first_leaves e.1) (condition_in e.1) first_calls k.found first_found
+    clause_calls_nothing = clause_calls_none law facts (first_held e.1) (first_leaves e.1) (condition_in e.1) first_calls k.found first_found
 
   pub first_names : LinkConditions → NamesNoUnknown world
   first_names conditions id s force =

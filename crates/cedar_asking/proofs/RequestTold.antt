@@ -15,7 +15,7 @@ use Rattle.cedar_partial_evaluation.specs.MadeAgain.{HoldsMade}
 use Rattle.cedar_partial_evaluation.specs.Partial.{answer_of}
 use Rattle.cedar_partial_evaluation.specs.Question.{Part, AreMadeTold, part_held, name_held, variable_held, context_held, held_of}
 use Rattle.cedar_partial_evaluation.specs.Telling.{ContextsStay}
-use Rattle.cedar_telling.specs.Plain.{HoldPlain, PlainAnswers}
+use Rattle.cedar_telling.specs.Plain.{PlainAnswers}
 use Rattle.cedar_world.specs.Asking.{Entries, NoContext, WithEntries, Question}
 use Rattle.cedar_world.specs.Bodies.{some_name_of, is_one_of, hold_call}
 use Rattle.cedar_world.specs.Orders.{text_eq}
@@ -32,7 +32,6 @@ use Rattle.cedar_requests.specs.Holding.{RequestParts, request_parts}
 use Rattle.cedar_requests.specs.declared.contexts.Context as contexts
 use Rattle.cedar_requests.specs.declared.requests.Request.{Request}
 use Rattle.cedar_substitution.specs.Told.{told_for}
-use Rattle.cedar_bodies.specs.Built.{GivesBuilt}
 use Rattle.cedar_evaluator.specs.Concretizing.{part_conflict, record_conflict, context_conflict, or_first, first_conflict, part_told, IsConcreteRequest}
 use Rattle.cedar_asking.specs.Keeping.{IsNamed, AreTold}
 use Rattle.cedar_asking.specs.Requests.{IsRequestOf}
@@ -94,7 +93,7 @@ module _ (by : Setting) (table : Table) (q : Question) (request : Request) (aske
 
     -- ---- what is held
 
-    module _ (law : PlainAnswers) (apart : LeavesDontMatter) (stay : ContextsStay) (tell : ToldContextsAreEvaluated) (good : HoldsMade facts) (plain : HoldPlain facts) (now : Table) (now_gives : GivesBuilt now) (depth : ℕ) (now_served : HasFunctions now facts)
+    module _ (law : PlainAnswers) (apart : LeavesDontMatter) (stay : ContextsStay) (tell : ToldContextsAreEvaluated) (good : HoldsMade facts) (now : Table) (depth : ℕ) (now_served : HasFunctions now facts)
         (made_told : AreMadeTold facts (told_in told)) (more : RequestParts) (concrete : IsConcreteRequest now depth told (request_parts request) more) where
       part_is : (n : Text) (old new s : Part) → old ≡ s → new ≡ part_told old (told_for told n) → ((v : Value) → told_for told n ≡ Some v → fits_part s v ≡ true) → part_held new None n ≡ part_held s (finite.get (told_in told) n) n
       part_is n old new s e is fit =
@@ -106,7 +105,7 @@ module _ (by : Setting) (table : Table) (q : Question) (request : Request) (aske
       variable_again Principal = part_is (codes "principal") _ more.principal q.principal principal_is concrete.principal (principal_fits q named told are)
       variable_again Action = part_is (codes "action") _ more.action q.action action_is concrete.action (action_fits q named told are)
       variable_again Resource = part_is (codes "resource") _ more.resource q.resource resource_is concrete.resource (resource_fits q named told are)
-      variable_again Context = context_again law apart stay tell facts good plain now now_gives depth now_served told made_told q.context asked.is_data named request.context more.context context_is concrete.context
+      variable_again Context = context_again law apart stay tell facts good now depth now_served told made_told q.context asked.is_data named request.context more.context context_is concrete.context
 
       pub held_again : request_held (record { request = more; told = told_for told }) unbound ≡ held_of facts q no_slots (told_in told)
       held_again = λ i. record {

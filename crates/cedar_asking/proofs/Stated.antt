@@ -23,7 +23,6 @@ use Rattle.cedar_trees.specs.declared.expr.Expr.{Expr}
 use Rattle.cedar_extensions.specs.Failures.{failure_of}
 use Rattle.cedar_extensions.specs.declared.evaluation_error.EvaluationError.{EvaluationError}
 use Rattle.cedar_extensions.specs.Table.{Table}
-use Rattle.cedar_bodies.specs.Built.{GivesBuilt}
 use Rattle.cedar_bodies.specs.Fields.{Serves, part_answer, IsEvaluated}
 use Rattle.cedar_bodies.specs.Questions.{question_of, StandsAt, LendsContext}
 use Rattle.cedar_bodies.specs.Reading.{TreesAreRead, IsRead}
@@ -249,15 +248,15 @@ module _ (by : Setting) (table : Table) (depth : ℕ) (tree : Tree) (b : AskBody
   unasked Memory h = tt
   unasked r h = absurd h
 
-  pub is_asked : QuestionsAreAsked → GivesBuilt table → (request : Request) (p a r : EntityUIDEntry) (made : Option Context)
+  pub is_asked : QuestionsAreAsked → (request : Request) (p a r : EntityUIDEntry) (made : Option Context)
       → request_parts request ≡ record { principal = requests.part_of p; action = requests.part_of a; resource = requests.part_of r; context = option_map context_part made }
       → requests.part_of p ≡ (question_of b).principal → requests.part_of a ≡ (question_of b).action → requests.part_of r ≡ (question_of b).resource
       → EvaluatesContext by table depth b.context (Ok made) → AsksBody by table depth tree (Ok request)
-  is_asked law gives request p a r made parts of_p of_a of_r taken = (
+  is_asked law request p a r made parts of_p of_a of_r taken = (
     question_of b,
     asks,
     record {
-      is_request = law by table (question_of b) (request_parts request) gives
+      is_request = law by table (question_of b) (request_parts request)
           (ap (λ (x : RequestParts). x.principal) parts ∙ of_p) (ap (λ (x : RequestParts). x.action) parts ∙ of_a) (ap (λ (x : RequestParts). x.resource) parts ∙ of_r)
           (subst (HasContext table (context_written b.context)) (sym (ap (λ (x : RequestParts). x.context) parts)) taken.evaluated) taken.means;
       fine = taken.fine;

@@ -12,7 +12,6 @@ use Rattle.cedar_world.specs.Bodies.{all_named, hold_call, some_name_of}
 use Rattle.cedar_world.specs.Setting.{Setting, value_of}
 use Rattle.cedar_extensions.specs.Table.{Table}
 use Rattle.cedar_restricted_evaluation.specs.Evaluations.{HasFunctions, answer_in, IsAnswer}
-use Rattle.cedar_bodies.specs.Built.{GivesBuilt}
 use Rattle.cedar_requests.specs.Holding.{RequestParts}
 use Rattle.cedar_asking.specs.Requests.{IsRequestOf}
 
@@ -36,5 +35,5 @@ pub data HasContext (table : Table) : Entries → Option (Either Value Tree) →
 abbrev pub QuestionsAreAsked : Type 0
 QuestionsAreAsked =
     (by : Setting) (table : Table) (q : Question) (r : RequestParts)
-    → GivesBuilt table → r.principal ≡ q.principal → r.action ≡ q.action → r.resource ≡ q.resource → HasContext table q.context r.context → MeansRecord by q.context
+    → r.principal ≡ q.principal → r.action ≡ q.action → r.resource ≡ q.resource → HasContext table q.context r.context → MeansRecord by q.context
     → IsRequestOf by table q r

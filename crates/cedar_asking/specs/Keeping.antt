@@ -53,7 +53,7 @@ pub record IsFirstResponse (by : Setting) (world : World) (q : Question) (first 
   pub responds : RespondsWithoutFalse (untold request) store table depth policies first
   pub within : SomeAtLimit (holding_in first).errors → ⊥
 
--- the values told are for unknowns of the question and of their kinds, and no extension value stands in them
+-- the values told are for unknowns of the question and of their kinds, and their trees make them again
 pub record AreTold (q : Question) (told : List (RcStr Global × Value)) : Type 0 where
   pub built : (n : Text) (v : Value) → told_for told n ≡ Some v → IsBuilt v
   pub named : (n : Text) (v : Value) → told_for told n ≡ Some v → is_unknown q n ≡ true

@@ -43,7 +43,7 @@ StoresHaveWorldFacts = (by : Setting) (world : World) (facts : Facts) (s : Entit
 abbrev pub TablesServeWorlds : Type 0
 TablesServeWorlds = (by : Setting) (world : World) (facts : Facts) (table : Table) → AreFactsOf by world facts → HasFunctions table (functions_alone by.functions) → HasFunctions table facts
 
--- what a world holds is made again by trees for it, where no extension value stands in it and no function gives one
+-- what a world holds, and what functions give, is made again by trees for it, where sets in it rise and keys are bytes
 abbrev pub WorldsAreMade : Type 0
 WorldsAreMade = (by : Setting) (world : World) (facts : Facts) (table : Table) → GivesBuilt table → HasFunctions table facts → HoldBuilt world.entities → AreFactsOf by world facts → HoldsMade facts
 

@@ -1,5 +1,7 @@
--- The values that restricted trees are evaluated to are built: no function of a table gives an extension value.
-use Rattle.std.proofs.Common.{◌≡◌, ◌∙◌, ℕ, refl, ap, sym, subst, Bool, true, false, ◌&&◌, cond, Option, Some, None, option_map, List, [], ◌∷◌, ◌++◌, Ordering, Ok}
+-- The values that restricted trees are evaluated to are built.
+use Rattle.std.proofs.lemmas.Bool.{ltb-true}
+use Rattle.std.specs.Prelude.{nat_lt}
+use Rattle.std.proofs.Common.{◌≡◌, ◌∙◌, ◌<◌, pos, ℕ, refl, ap, sym, subst, Bool, true, false, ◌&&◌, cond, Option, Some, None, option_map, List, [], ◌∷◌, ◌++◌, Ordering, Ok}
 use Rattle.std.specs.FinMap as finite
 use Rattle.std.specs.FinMap.{get-empty}
 use Rattle.std.specs.List.{AllByRecursion}
@@ -14,9 +16,10 @@ use Rattle.cedar_language.specs.Operators.{called, count, or_fails, takes}
 use Rattle.cedar_language.specs.Order.{text_cmp, value_cmp, placed, put, rising}
 use Rattle.cedar_language.specs.OrderLaws.{text_cmp_total}
 use Rattle.cedar_language.specs.Restricted.{is_restricted, are_restricted}
-use Rattle.cedar_language.specs.Tree.{String, MakeSet, MakeRecord, Call, Tree, Lit, Unknown, Apply, Trees, no_trees, a_tree, ValueType}
+use Rattle.cedar_language.specs.Constructing.{is_the_constructor, and_byte, bytes_of, constructed, constructor_function}
+use Rattle.cedar_language.specs.Tree.{Boolean, Long, Entity, String, MakeSet, MakeRecord, Call, Tree, Lit, Unknown, Apply, Trees, no_trees, a_tree, ValueType}
 use Rattle.cedar_language.specs.Uid.{Text, Name}
-use Rattle.cedar_language.specs.Value.{Value, Plain, Values, no_values, a_value, WrongNumArguments, FailedExtensionFunctionExecution, Outcome, Gives, Fails}
+use Rattle.cedar_language.specs.Value.{Value, Plain, ExtensionOf, Values, no_values, a_value, WrongNumArguments, FailedExtensionFunctionExecution, Outcome, Gives, Fails}
 use Rattle.cedar_partial_evaluation.specs.Partial.{Answer, Evaluated, ResidualTree, Failed, Answers, AllEvaluated, SomeResiduals, SomeFailed, answer_of, and_next, apply_answer, partial_in, all_partial_in}
 use Rattle.cedar_partial_evaluation.specs.Question.{name_held}
 use Rattle.cedar_world.specs.Bodies.{named, all_named, named_call, unknown_or}
@@ -57,6 +60,32 @@ abbrev IsBuiltOption : Option Value → Type 0
 IsBuiltOption (Some v) = IsBuilt v
 IsBuiltOption None = Unit {0}
 
+-- what the constructor gives
+abbrev AreBytes : Option (List ℕ) → Type 0
+AreBytes (Some bs) = AllByRecursion (λ b. b < 256) bs
+AreBytes None = Unit {0}
+
+byte_more : (b : ℕ) (small : Bool) → nat_lt b 256 ≡ small → (bs : List ℕ) → AllByRecursion (λ c. c < 256) bs → AreBytes (cond small (Some (b ∷ bs)) None)
+byte_more b true is bs h = (ltb-true b 256 is, h)
+byte_more b false is bs h = tt
+
+and_byte_is : (b : ℕ) (o : Option (List ℕ)) → AreBytes o → AreBytes (and_byte b o)
+and_byte_is b (Some bs) h = subst (λ small. AreBytes (cond small (Some (b ∷ bs)) None)) refl (byte_more b (nat_lt b 256) refl bs h)
+and_byte_is b None h = tt
+
+are_bytes : (vs : Values) → AreBytes (bytes_of vs)
+are_bytes no_values = tt
+are_bytes (a_value (Plain (Long (pos b))) vs) = and_byte_is b (bytes_of vs) (are_bytes vs)
+are_bytes (a_value v vs) = tt
+
+of_bytes : (n : Name) (b : Bool) (o : Option (List ℕ)) → AreBytes o → IsBuiltOption (option_map (λ key. ExtensionOf (record { type_name = n; ordered = b; key = key })) o)
+of_bytes n b (Some bs) h = h
+of_bytes n b None h = tt
+
+constructed_built : (vs : Values) → IsBuiltOption (constructed vs)
+constructed_built (a_value (Plain (Entity u)) (a_value (Plain (Boolean b)) vs)) = of_bytes u.type_name b (bytes_of vs) (are_bytes vs)
+constructed_built vs = tt
+
 text_built : (vs : Values) → IsBuiltOption (one_string vs)
 text_built (a_value (Plain (String s)) no_values) = tt
 text_built vs = tt
@@ -77,8 +106,14 @@ module _ {F : Type 0} (answers : F → FunctionAnswers) where
       let same : meaning_of answers g ≡ f = cc in
       subst IsBuiltOption (ap (λ (x : language.Function). x.answer vs) same ∙ h) (answer_built g.function vs)
 
+  by_name : (b : Bool) (o : Option (ExtensionFunction F)) (f : language.Function) (vs : Values) (v : Value) → cond b (Some constructor_function) (option_map (meaning_of answers) o) ≡ Some f → f.answer vs ≡ Some v → IsBuilt v
+  by_name true o f vs v is h =
+      let same : constructor_function ≡ f = cc in
+      subst IsBuiltOption (ap (λ (x : language.Function). x.answer vs) same ∙ h) (constructed_built vs)
+  by_name false o f vs v is h = given_built o f vs v is h
+
   pub gives_built : (extensions : Extensions F) → GivesBuilt (as_table answers extensions)
-  gives_built extensions n f vs v is h = given_built (found_in (functions_in extensions) n) f vs v is h
+  gives_built extensions n f vs v is h = by_name (is_the_constructor n) (found_in (functions_in extensions) n) f vs v is h
 
 abbrev pub IsBuiltOutcome : Outcome → Type 0
 IsBuiltOutcome (Gives v) = IsBuilt v
@@ -204,7 +239,6 @@ functions_of table = record {
   entity = λ uid. None;
   reaches = λ a b. false;
   function = table.function;
-  written = λ e. record { function = []; arguments = no_trees };
 }
 
 part_built : (facts : Facts) (a : Answer) → IsBuiltAnswer a → (p : Either Value Tree) → IsAnswer facts a p → IsBuiltPart p

@@ -10,6 +10,7 @@ use Rattle.either.specs.declared.Either.{Either}
 use Rattle.either.specs.declared.Either.TheVariants.{Left, Right}
 use Rattle.cedar_language.specs.Uid.{Text, Name}
 use Rattle.cedar_language.specs.Height.{height}
+use Rattle.cedar_language.specs.Constructing.{is_the_constructor, constructed, constructor_function}
 use Rattle.cedar_language.specs.Facts.{Facts}
 use Rattle.cedar_language.specs.Restricted.{is_restricted, are_restricted}
 use Rattle.cedar_language.specs.Tree.{String, Call, MakeSet, MakeRecord, Tree, Lit, Unknown, Apply, Trees, no_trees, a_tree}
@@ -46,6 +47,7 @@ use Rattle.cedar_replies.specs.declared.refusal.Refusal.TheVariants as refusal
 use Rattle.cedar_restricted_evaluation.specs.Evaluations as evaluation
 use Rattle.cedar_restricted_evaluation.specs.Evaluations.{HasFunctions, named_by, answer_in, IsAnswer}
 use Rattle.cedar_entities.specs.Attributes.{Entries, seen_entries}
+use Rattle.cedar_bodies.proofs.Constructor.{no_literal}
 use Rattle.cedar_bodies.specs.Built.{IsBuiltPart}
 use Rattle.cedar_bodies.specs.Entities.{named_all}
 use Rattle.cedar_bodies.specs.Reading.{GiveNoText, TreesAreRead, nothing_told, IsRead}
@@ -98,8 +100,11 @@ abbrev pub GivesNoText : Table → Type 0
 GivesNoText table = (by : Setting) → HasFunctions table (functions_alone by.functions) → GiveNoText by.functions
 
 pub no_text : {F : Type 0} (answers : F → FunctionAnswers) (extensions : Extensions F) → are_named (functions_in extensions) ≡ true → GivesNoText (as_table answers extensions)
-no_text answers extensions h by has n vs s gives =
-    called_is_named answers (functions_in extensions) h n vs s (found_in (functions_in extensions) n) refl (sym (ap (λ o. called o vs) (has n)) ∙ gives)
+no_text answers extensions h by has n vs s gives = by_name (is_the_constructor n) (sym (ap (λ o. called o vs) (has n)) ∙ gives)
+  where
+    by_name : (b : Bool) → called (cond b (Some constructor_function) (option_map (meaning_of answers) (found_in (functions_in extensions) n))) vs ≡ Gives (Plain (String s)) → is_the_unknown n ≡ true
+    by_name true e = absurd (no_literal vs (String s) (given_by true (constructed vs) (Plain (String s)) e))
+    by_name false e = called_is_named answers (functions_in extensions) h n vs s (found_in (functions_in extensions) n) refl e
 
 -- ---- trees without calls of `unknown`
 
@@ -132,7 +137,6 @@ functions_of table = record {
   entity = λ uid. None;
   reaches = λ a b. false;
   function = table.function;
-  written = λ e. record { function = []; arguments = no_trees };
 }
 
 module _ (read : TreesAreRead) (table : Table) (texts : GivesNoText table) (depth : ℕ) (t : Tree) (restricted : is_restricted t ≡ true) where
@@ -143,7 +147,7 @@ module _ (read : TreesAreRead) (table : Table) (texts : GivesNoText table) (dept
 
   pub part_read : (by : Setting) → Serves table by (holds_call t) → (p : Either Value Tree) → IsAnswer (functions_alone by.functions) (answer_in table (functions_alone by.functions) t) p → IsRead by (named t) (part_answer p)
   part_read by serves (Left v) h = answered by serves (Evaluated v) h
-  part_read by serves (Right r) h = answered by serves (ResidualTree h.0) h.1
+  part_read by serves (Right r) h = answered by serves (ResidualTree r) h
 
   pub value_is : (p : PartialValue) → evaluation.Answers table depth t (Ok p) → IsEvaluated table depth t (Ok p)
   value_is p h by serves = part_read by serves (partial_of p) (h (functions_alone by.functions) serves.functions)

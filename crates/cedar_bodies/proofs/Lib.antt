@@ -3,6 +3,7 @@ pub mod ItemByItem
 pub mod Naming
 pub mod Wholes
 pub mod Carrying
+pub mod Constructor
 pub mod Built
 pub mod Entries
 pub mod Listed

@@ -16,9 +16,10 @@ use Rattle.cedar_partial_evaluation.specs.Filling.{names_told}
 use Rattle.cedar_partial_evaluation.specs.Partial.{Answer, Evaluated, ResidualTree, Failed, Answers, AllEvaluated, SomeResiduals, SomeFailed, answer_of, and_next, residual_answer, apply_answer, partial_in, all_partial_in}
 use Rattle.cedar_partial_evaluation.specs.Question.{name_held}
 use Rattle.cedar_world.specs.Bodies.{unknown_or, named_call, named, all_named, calls_unknown, some_name, some_name_of, holds_call, hold_call, some_part, some_part_of}
-use Rattle.cedar_world.specs.Functions.{is_the_unknown, one_string, unknown_function, function_of, first_named, callers_functions}
+use Rattle.cedar_world.specs.Functions.{is_the_unknown, one_string, unknown_function, function_of, evaluated_function, first_named, callers_functions}
 use Rattle.cedar_world.specs.Setting.{Setting, functions_alone, value_of}
 use Rattle.cedar_world.specs.Values.{fails, holds_open}
+use Rattle.cedar_bodies.proofs.Constructor.{unknown_constructs_nothing, calls_declared}
 use Rattle.cedar_bodies.specs.Reading.{GiveNoText, nothing_told, IsRead}
 
 or_true : (a : Bool) → (a || true) ≡ true
@@ -207,24 +208,26 @@ module _ (by : Setting) where
   -- ---- calls
 
   module _ (no_text : GiveNoText by.functions) (f : Name) (us : Trees) (names_nothing : NamesNothing f us) where
-    function_is : (b : Bool) → is_the_unknown f ≡ b → b ≡ true → (vs : Values) (v : Value) → called (function_of by.functions f) vs ≡ Gives v → called (Some unknown_function) vs ≡ Gives v
+    function_is : (b : Bool) → is_the_unknown f ≡ b → b ≡ true → (vs : Values) (v : Value) → called (evaluated_function by.functions f) vs ≡ Gives v → called (Some unknown_function) vs ≡ Gives v
     function_is false is e vs v h = cc
     function_is true is e vs v h =
-        held by.functions.has_unknown (ap (λ b. called (cond b (cond by.functions.has_unknown (Some unknown_function) None) (first_named f (callers_functions by.functions))) vs) (sym is) ∙ h)
+        held by.functions.has_unknown (
+        ap (λ b. called (cond b (cond by.functions.has_unknown (Some unknown_function) None) (first_named f (callers_functions by.functions))) vs) (sym is)
+        ∙ ap (λ o. called o vs) (sym (calls_declared f (function_of by.functions) (unknown_constructs_nothing f is))) ∙ h)
       where
         held : (b : Bool) → called (cond b (Some unknown_function) None) vs ≡ Gives v → called (Some unknown_function) vs ≡ Gives v
         held true h = h
         held false h = cc
 
     -- a call of `unknown` that names nothing gives nothing
-    other_called : (vs : Values) (v : Value) → AreValues us vs → called (function_of by.functions f) vs ≡ Gives v → is_the_unknown f ≡ false
+    other_called : (vs : Values) (v : Value) → AreValues us vs → called (evaluated_function by.functions f) vs ≡ Gives v → is_the_unknown f ≡ false
     other_called vs v h gives = not_true (is_the_unknown f) (λ is.
         let one = called_text vs v (function_is (is_the_unknown f) refl is vs v gives) in
         names_nothing one.0 (h.text one.0 one.1) is)
 
     call_found : (as_ : Answers) → AllFound us as_ → Found (Apply (Call f) us) (apply_answer facts nothing_told (Call f) as_)
     call_found (AllEvaluated vs) h =
-        outcome_found (Call f) us vs h (called (function_of by.functions f) vs) refl (λ v e. other_called vs v h e)
+        outcome_found (Call f) us vs h (called (evaluated_function by.functions f) vs) refl (λ v e. other_called vs v h e)
         (λ v s e is. true≢false (sym (no_text f vs s (e ∙ ap Gives is)) ∙ other_called vs v h e))
     call_found (SomeResiduals rs) h = residuals_found (Call f) us rs (record { waits = λ rs. refl }) h
     call_found (SomeFailed k) h = failed_found (Call f) us k h

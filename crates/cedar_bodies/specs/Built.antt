@@ -1,4 +1,4 @@
--- Values that are written again without calls: no extension value stands in them.
+-- Values that their trees make again: their sets rise, and the keys of their extension values are bytes.
 use Rattle.std.specs.Prelude.{◌≡◌, Some, List}
 use Rattle.std.specs.FinMap as finite
 use Rattle.std.specs.List.{AllByRecursion}

@@ -9,13 +9,13 @@ use Rattle.cedar_language.specs.Restricted.{is_restricted}
 use Rattle.cedar_partial_evaluation.specs.Partial.{Answer, Evaluated, ResidualTree, Failed, LeafAnswers, partial_in}
 use Rattle.cedar_partial_evaluation.specs.Question.{held_names}
 use Rattle.cedar_world.specs.Bodies.{named}
-use Rattle.cedar_world.specs.Functions.{Functions, is_the_unknown, function_of}
+use Rattle.cedar_world.specs.Functions.{Functions, is_the_unknown, evaluated_function}
 use Rattle.cedar_world.specs.Setting.{Setting, functions_alone, value_of}
 use Rattle.cedar_world.specs.Values.{holds_unknown, errs_alone}
 
 -- no function but `unknown` gives a text
 abbrev pub GiveNoText : Functions → Type 0
-GiveNoText functions = (n : Name) (vs : Values) (s : Text) → called (function_of functions n) vs ≡ Gives (Plain (String s)) → is_the_unknown n ≡ true
+GiveNoText functions = (n : Name) (vs : Values) (s : Text) → called (evaluated_function functions n) vs ≡ Gives (Plain (String s)) → is_the_unknown n ≡ true
 
 -- no unknown has a value
 abbrev pub nothing_told : LeafAnswers

@@ -22,8 +22,8 @@ use cedar_restricted::borrowed::BorrowedRestrictedExpr;
 use std::alloc::Global;
 use std::marker::Model;
 
-/// The entities that a session holds, whose attributes and tags are values in which no extension value
-/// stands. Contracts see them as the world does: with their direct parents alone, which never make a cycle.
+/// The entities that a session holds, whose attributes and tags are values that their trees make again.
+/// Contracts see them as the world does: with their direct parents alone, which never make a cycle.
 #[derive(Drop)]
 pub struct HeldEntities {
     store: Entities,

@@ -7,7 +7,7 @@ use Rattle.cedar_language.specs.Tree.{Tree, Lit, Trees, no_trees, a_tree}
 use Rattle.cedar_language.specs.Value.{Value, Plain, SetOf, RecordOf, ExtensionOf, Values, no_values, a_value, Kind}
 use Rattle.cedar_language.specs.Facts.{Facts}
 use Rattle.cedar_language.specs.Order.{all_of}
-use Rattle.cedar_partial_evaluation.specs.Alike.{Alike, itself, differing, apply_alike, AllAlike, none_alike, more_alike, Same, gathered, is_some_left, Writes, WriteEach}
+use Rattle.cedar_partial_evaluation.specs.Alike.{Alike, itself, apply_alike, AllAlike, none_alike, more_alike, Same, gathered, is_some_left, Writes, WriteEach}
 use Rattle.cedar_partial_evaluation.specs.MadeAgain.{tree_of, trees_of}
 use Rattle.cedar_partial_evaluation.specs.Partial.{Answer, Evaluated, AllEvaluated, SomeFailed, and_next, LeafAnswers, partial_in, all_partial_in}
 use Rattle.cedar_grammar.specs.Build.{trees}
@@ -24,7 +24,7 @@ module _ (facts : Facts) where
     writes_alike (Plain l) t h = subst (λ x. Alike facts x (Lit l)) (sym h) itself
     writes_alike (SetOf vs) t h = subst (λ x. Alike facts x (tree_of facts (SetOf vs))) (sym h.1) (apply_alike (write_alike vs h.0 h.2))
     writes_alike (RecordOf ks vs) t h = subst (λ x. Alike facts x (tree_of facts (RecordOf ks vs))) (sym h.1) (apply_alike (write_alike vs h.0 h.2))
-    writes_alike (ExtensionOf e) t h = differing (e, h.0, h.1, h.2, refl)
+    writes_alike (ExtensionOf e) t h = subst (λ x. Alike facts x (tree_of facts (ExtensionOf e))) (sym h) itself
 
     write_alike : (vs : Values) (ts : Trees) → ExpressAll vs ts → AllAlike facts ts (trees_of facts vs)
     write_alike no_values no_trees h = none_alike

@@ -6,6 +6,7 @@ pub mod Left
 pub mod Operated
 pub mod Projected
 pub mod Applied
+pub mod Called
 pub mod Told
 pub mod Serving
 pub mod Pairs

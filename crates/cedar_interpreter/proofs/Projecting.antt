@@ -32,13 +32,10 @@ module _ (facts : Facts) where
   inside (MakeRecord ks) ts h = h
   inside _ ts h = cc
 
-  no_call : (s t : Tree) → (f : Name) (us : Trees) → s ≡ Apply (Call f) us → is_projectable s ≡ true → s ≡ t
-  no_call s t f us is p = let q : is_projectable (Apply (Call f) us) ≡ true = ap is_projectable (sym is) ∙ p in cc
-
   mutual
     pub one_alike : {s t : Tree} → Alike facts s t → is_projectable s ≡ true → s ≡ t
     one_alike itself p = refl
-    one_alike (differing {s} {t} d) p = no_call s t d.1 d.2 d.3 p
+    one_alike (differing d) p = absurd d
     one_alike (if_alike h i j) p = cc
     one_alike (and_alike h i) p = cc
     one_alike (or_alike h i) p = cc

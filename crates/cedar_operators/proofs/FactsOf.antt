@@ -40,9 +40,8 @@ facts_of store others = record {
   entity = λ uid. option_map fact_of (held_at store uid);
   reaches = λ a b. set.contains (option_map_or ancestors_of (found_in store a) set.empty) b;
   function = others.function;
-  written = others.written;
 }
 
 pub stores_have_facts : StoresHaveFacts
 stores_have_facts store others whole closed values =
-    (facts_of store others, record { whole = whole; closed = closed; entities = λ uid. shown (held_at store uid) (values uid); reaches = λ a b. closed.ancestors a b }, refl, refl)
+    (facts_of store others, record { whole = whole; closed = closed; entities = λ uid. shown (held_at store uid) (values uid); reaches = λ a b. closed.ancestors a b }, refl)

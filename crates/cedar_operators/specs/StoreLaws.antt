@@ -21,4 +21,4 @@ HoldsValues store = (uid : Uid) → IfSome (held_at store uid) (λ h. AreValues 
 -- a closed store of values that isn't partial has facts, whatever the functions are
 abbrev pub StoresHaveFacts : Type 0
 StoresHaveFacts = (store : Entities) (others : Facts) → is_partial_store store ≡ false → IsClosed store → HoldsValues store →
-    (facts : Facts) × HasFacts store facts × (facts.function ≡ others.function) × (facts.written ≡ others.written)
+    (facts : Facts) × HasFacts store facts × (facts.function ≡ others.function)

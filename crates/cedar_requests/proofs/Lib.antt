@@ -6,6 +6,5 @@ mod RecordsStay
 mod Refusing
 mod ToldAnswers
 mod ToldRecords
-mod Unextended
 mod Untyped
 mod WrittenEntries

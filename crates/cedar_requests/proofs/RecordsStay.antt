@@ -1,13 +1,12 @@
 -- What a record is evaluated to is a record, or what is left of one.
-use Rattle.std.proofs.Common.{◌≡◌, refl, subst, List, []}
+use Rattle.std.proofs.Common.{◌≡◌, refl, subst, List}
 use Rattle.std.specs.Prelude.{Bool, true, false, None}
 use Rattle.either.specs.declared.Either.{Either}
 use Rattle.either.specs.declared.Either.TheVariants.{Left, Right}
 use Rattle.cedar_language.specs.Uid.{Text}
-use Rattle.cedar_language.specs.Tree.{Operator, MakeRecord, Tree, Apply, Trees, no_trees}
+use Rattle.cedar_language.specs.Tree.{MakeRecord, Tree, Apply, Trees}
 use Rattle.cedar_language.specs.Value.{Value}
 use Rattle.cedar_language.specs.Facts.{Facts}
-use Rattle.cedar_partial_evaluation.specs.Like.{IsLike, itself, writes_too, if_like, and_like, or_like, apply_like}
 use Rattle.cedar_partial_evaluation.specs.Partial.{Answer, Evaluated, ResidualTree, Failed, Answers, AllEvaluated, SomeResiduals, SomeFailed, LeafAnswers, apply_answer, partial_in, all_partial_in}
 use Rattle.cedar_extensions.specs.Table.{Table}
 use Rattle.cedar_restricted_evaluation.specs.Evaluations.{IsAnswer, nothing_told, named_by, all_named_by, answer_in}
@@ -20,7 +19,6 @@ functions_of table = record {
   entity = λ u. None;
   reaches = λ a b. false;
   function = table.function;
-  written = λ e. record { function = []; arguments = no_trees };
 }
 
 abbrev IsRecordAnswer : Answer → Type 0
@@ -41,21 +39,9 @@ record_answer : (facts : Facts) (table : Table) (t : Tree) → is_record t ≡ t
 record_answer facts table (Apply (MakeRecord ks) ts) h = named_record facts table.has_unknown ks ts
 record_answer facts table t h = cc
 
-same_operator : (op : Operator) (ts us : Trees) → is_record (Apply op us) ≡ true → is_record (Apply op ts) ≡ true
-same_operator (MakeRecord ks) ts us h = refl
-same_operator op ts us h = h
-
-like_record : (facts : Facts) (r t : Tree) → IsLike facts r t → is_record t ≡ true → is_record r ≡ true
-like_record facts r t itself h = h
-like_record facts r t (writes_too w x p q) h = h
-like_record facts r t (if_like a b c) h = h
-like_record facts r t (and_like a b) h = h
-like_record facts r t (or_like a b) h = h
-like_record facts r t (apply_like {op} {ts} {us} a) h = same_operator op ts us h
-
 part_of_record : (facts : Facts) (a : Answer) (p : Either Value Tree) → IsRecordAnswer a → IsAnswer facts a p → is_record_part p ≡ true
 part_of_record facts a (Left v) h is = subst IsRecordAnswer is h
-part_of_record facts a (Right r) h (t, is, like) = like_record facts r t like (subst IsRecordAnswer is h)
+part_of_record facts a (Right r) h is = subst IsRecordAnswer is h
 
 -- the answer of a record, seen in a table's functions alone
 pub record_stays : (table : Table) (t : Tree) (p : Either Value Tree) → is_record t ≡ true → IsAnswer (functions_of table) (answer_in table (functions_of table) t) p → is_record_part p ≡ true

@@ -1,7 +1,7 @@
 -- Data with values written in the places of its unknowns is answered as where these values are held.
-use Rattle.std.proofs.Common.{◌≡◌, ◌∙◌, ap, sym, refl, subst, List, ℕ, ◌<◌}
+use Rattle.std.proofs.Common.{◌≡◌, ◌∙◌, ap, sym, refl, subst, List, [], ◌∷◌, ℕ, ◌<◌}
 use Rattle.std.specs.FinMap.{get-empty}
-use Rattle.std.specs.Prelude.{Bool, true, false, ◌&&◌, ◌||◌, Option, None, Some, Result, Ok, Err}
+use Rattle.std.specs.Prelude.{pos, Bool, true, false, ◌&&◌, ◌||◌, Option, None, Some, Result, Ok, Err}
 use Rattle.std.specs.declared.alloc.Global.{Global}
 use Rattle.std.specs.declared.rc.RcStr.{RcStr}
 use Rattle.cedar_language.specs.Facts.{Facts}
@@ -9,30 +9,32 @@ use Rattle.cedar_language.specs.Height.{height}
 use Rattle.cedar_language.specs.Order.{text_cmp}
 use Rattle.cedar_language.specs.Restricted.{is_restricted, are_restricted}
 use Rattle.cedar_language.specs.Sets.{SetsAreFinite}
-use Rattle.cedar_language.specs.Tree.{Literal, ValueType, MakeSet, MakeRecord, Call, Tree, Lit, Unknown, Apply, Trees, no_trees, a_tree}
+use Rattle.cedar_language.specs.Constructing.{the_constructor, longs_of, construction}
+use Rattle.cedar_language.specs.Tree.{Literal, Boolean, Long, Entity, ValueType, MakeSet, MakeRecord, Call, Tree, Lit, Unknown, Apply, Trees, no_trees, a_tree}
 use Rattle.cedar_language.specs.Uid.{Text, Name}
-use Rattle.cedar_language.specs.Value.{Value, Plain, SetOf, RecordOf, ExtensionOf, Values, no_values, a_value}
-use Rattle.cedar_partial_evaluation.specs.MadeAgain.{IsMadeAgain, AreMadeAgain}
-use Rattle.cedar_partial_evaluation.specs.Partial.{Answer, Evaluated, Failed, Answers, AllEvaluated, SomeResiduals, SomeFailed, LeafAnswers, and_next, apply_answer, partial_in, all_partial_in}
+use Rattle.cedar_language.specs.Value.{Extension, Value, Plain, SetOf, RecordOf, ExtensionOf, Values, no_values, a_value}
+use Rattle.cedar_partial_evaluation.specs.MadeAgain.{long_values, IsMadeAgain, AreMadeAgain}
+use Rattle.cedar_partial_evaluation.specs.Partial.{Answer, Evaluated, Failed, Answers, AllEvaluated, SomeResiduals, SomeFailed, LeafAnswers, answer_of, and_next, apply_answer, partial_in, all_partial_in}
 use Rattle.cedar_partial_evaluation.specs.Question.{Told, AreMadeTold, held_names, name_held, value_held}
 use Rattle.cedar_partial_evaluation.specs.ReadUnknowns.{is_unknown_call, calls_unknown, some_calls_unknown}
 use Rattle.cedar_partial_evaluation.specs.Unknowns.{fits, EachUnknownOf}
+use Rattle.either.specs.declared.Either.{Either}
+use Rattle.either.specs.declared.Either.TheVariants.{Left, Right}
 use Rattle.cedar_extensions.specs.Failures.{failure_of}
 use Rattle.cedar_extensions.specs.Giving.{GivesBy, fails_on}
 use Rattle.cedar_extensions.specs.Table.{Table}
 use Rattle.cedar_extensions.specs.declared.evaluation_error.EvaluationError.{EvaluationError}
 use Rattle.cedar_restricted.specs.Expressing.{Expresses, ExpressAll}
 use Rattle.cedar_restricted.specs.Laws.{WrittenValuesAreGround, GroundTreesAreRestricted}
-use Rattle.cedar_restricted_evaluation.specs.Evaluations.{HasFunctions, nothing_told, named_by, all_named_by, answer_in}
+use Rattle.cedar_restricted_evaluation.specs.Evaluations.{HasFunctions, nothing_told, named_by, all_named_by, answer_in, IsAnswer}
 use Rattle.cedar_substitution.specs.Told.{told_for}
 use Rattle.cedar_substitution.specs.Typed.{StandsFor, Tells, SubstitutesValues}
 use Rattle.cedar_requests.specs.Answers.{part_answer}
 use Rattle.cedar_requests.specs.Contexts.{context_part}
 use Rattle.cedar_requests.specs.Telling.{OfSubstituted, TellsRecord}
-use Rattle.cedar_requests.specs.ToldContexts.{HoldTold, StatesNoType, GivesBuilt, ToldContextsAreEvaluated}
+use Rattle.cedar_requests.specs.ToldContexts.{HoldTold, StatesNoType, ToldContextsAreEvaluated}
 use Rattle.cedar_requests.specs.declared.contexts.Context.{Context}
 use Rattle.cedar_requests.proofs.PutIn.{put_in, all_put_in, substituted_is}
-use Rattle.cedar_requests.proofs.Unextended.{nothing_writes, part_is}
 use Rattle.cedar_requests.proofs.Untyped.{untyped_fits}
 
 -- ---- names
@@ -112,7 +114,34 @@ module _ (facts : Facts) (b : Bool) where
   next_by : (t : Tree) (ts : Trees) → answers_by (a_tree t ts) ≡ and_next facts (answer_by t) (answers_by ts)
   next_by t ts = ap (all_partial_in facts nothing_told) (named_more b t ts)
 
-module _ (finite_sets : SetsAreFinite) (table : Table) (gives : GivesBuilt table) (facts : Facts) (has : HasFunctions table facts) (b : Bool) where
+-- ---- an extension value that is constructed again
+
+named_longs : (b : Bool) (bs : List ℕ) → all_named_by b (longs_of bs) ≡ longs_of bs
+named_longs b [] = named_none b
+named_longs b (n ∷ bs) = named_more b (Lit (Long (pos n))) (longs_of bs) ∙ ap (λ t. a_tree t (all_named_by b (longs_of bs))) (named_lit b (Long (pos n))) ∙ ap (a_tree (Lit (Long (pos n)))) (named_longs b bs)
+
+named_parts : (b : Bool) (k l : Literal) (bs : List ℕ) → all_named_by b (a_tree (Lit k) (a_tree (Lit l) (longs_of bs))) ≡ a_tree (Lit k) (a_tree (Lit l) (longs_of bs))
+named_parts b k l bs =
+    named_more b (Lit k) (a_tree (Lit l) (longs_of bs))
+    ∙ ap (λ t. a_tree t (all_named_by b (a_tree (Lit l) (longs_of bs)))) (named_lit b k)
+    ∙ ap (a_tree (Lit k)) (named_more b (Lit l) (longs_of bs) ∙ ap (λ t. a_tree t (all_named_by b (longs_of bs))) (named_lit b l) ∙ ap (a_tree (Lit l)) (named_longs b bs))
+
+module _ (facts : Facts) (b : Bool) where
+  longs_answer : (bs : List ℕ) → all_partial_in facts nothing_told (longs_of bs) ≡ AllEvaluated (long_values bs)
+  longs_answer [] = refl
+  longs_answer (n ∷ bs) = ap (and_next facts (Evaluated (Plain (Long (pos n))))) (longs_answer bs)
+
+  constructed_answer : (e : Extension) → IsMadeAgain facts (ExtensionOf e) → answer_by facts b (construction e) ≡ Evaluated (ExtensionOf e)
+  constructed_answer e made =
+      ap (partial_in facts nothing_told) (named_other the_constructor b (parts_written e) (λ is. refl))
+      ∙ ap (λ ts. partial_in facts nothing_told (Apply (Call the_constructor) ts)) (named_parts b (Entity (record { type_name = e.type_name; id = [] })) (Boolean e.ordered) e.key)
+      ∙ ap (λ vs. apply_answer facts nothing_told (Call the_constructor) (and_next facts (Evaluated (Plain (Entity (record { type_name = e.type_name; id = [] })))) (and_next facts (Evaluated (Plain (Boolean e.ordered))) vs))) (longs_answer e.key)
+      ∙ ap answer_of made
+    where
+      parts_written : Extension → Trees
+      parts_written x = a_tree (Lit (Entity (record { type_name = x.type_name; id = [] }))) (a_tree (Lit (Boolean x.ordered)) (longs_of x.key))
+
+module _ (finite_sets : SetsAreFinite) (facts : Facts) (b : Bool) where
   -- ---- a value that is written
 
   mutual
@@ -127,7 +156,7 @@ module _ (finite_sets : SetsAreFinite) (table : Table) (gives : GivesBuilt table
         ap (answer_by facts b) is
         ∙ ap (partial_in facts nothing_told) (named_record ks b ts)
         ∙ ap (apply_answer facts nothing_told (MakeRecord ks)) (written_answers vs ts m each)
-    written_answer (ExtensionOf e) t m h = absurd (nothing_writes table gives facts has (facts.written e) e m)
+    written_answer (ExtensionOf e) t m h = ap (answer_by facts b) h ∙ constructed_answer facts b e m
 
     written_answers : (vs : Values) (ts : Trees) → AreMadeAgain facts vs → ExpressAll vs ts → answers_by facts b ts ≡ AllEvaluated vs
     written_answers no_values no_trees m h = ap (all_partial_in facts nothing_told) (named_none b)
@@ -174,19 +203,23 @@ module _ (finite_sets : SetsAreFinite) (table : Table) (gives : GivesBuilt table
 
 -- ---- contexts
 
-module _ (finite_sets : SetsAreFinite) (written : WrittenValuesAreGround) (ground : GroundTreesAreRestricted) (table : Table) (gives : GivesBuilt table) (depth : ℕ) (entries : List (RcStr Global × Value)) (told : Told) (same : HoldTold entries told)
+part_is : (facts : Facts) (a : Answer) (p : Either Value Tree) → IsAnswer facts a p → part_answer p ≡ a
+part_is facts a (Left v) is = sym is
+part_is facts a (Right r) is = sym is
+
+module _ (finite_sets : SetsAreFinite) (written : WrittenValuesAreGround) (ground : GroundTreesAreRestricted) (table : Table) (depth : ℕ) (entries : List (RcStr Global × Value)) (told : Told) (same : HoldTold entries told)
     (t : Tree) (d : is_restricted t ≡ true) (s : StatesNoType t) (c : table.has_unknown ≡ true → calls_unknown t ≡ false) (facts : Facts) (has : HasFunctions table facts) (made : AreMadeTold facts told) where
   substituted_answer : (u : Tree) → SubstitutesValues entries t u → answer_in table facts u ≡ partial_in facts (held_names told) t
   substituted_answer u (f, tells, is) =
       ap (answer_in table facts) (substituted_is written ground entries f tells t u d is.rising is.made)
-      ∙ put_answer finite_sets table gives facts has table.has_unknown entries told same made f tells t d s c
+      ∙ put_answer finite_sets facts table.has_unknown entries told same made f tells t d s c
 
   told_result : (result : Result Context EvaluationError) → TellsRecord table depth entries t None result
       → GivesBy (λ x. part_answer (context_part x) ≡ partial_in facts (held_names told) t) (λ k. partial_in facts (held_names told) t ≡ Failed k) (OfSubstituted entries t (λ u. depth < height u)) result
-  told_result (Ok x) (u, puts, is) = part_is table gives facts has (answer_in table facts u) (context_part x) (is.answer facts has) ∙ substituted_answer u puts
+  told_result (Ok x) (u, puts, is) = part_is facts (answer_in table facts u) (context_part x) (is.answer facts has) ∙ substituted_answer u puts
   told_result (Err e) h = fails_on (failure_of e) (λ k g. sym (substituted_answer g.0 g.1) ∙ g.2.answer facts has) (λ x. x) h
 
 pub told_contexts : SetsAreFinite → WrittenValuesAreGround → GroundTreesAreRestricted → ToldContextsAreEvaluated
-told_contexts finite_sets written ground = λ table gives depth entries told same t d s c result h facts has made.
-    told_result finite_sets written ground table gives depth entries told same t d s c facts has made result
+told_contexts finite_sets written ground = λ table depth entries told same t d s c result h facts has made.
+    told_result finite_sets written ground table depth entries told same t d s c facts has made result
     (subst (λ types. TellsRecord table depth entries t types result) (untyped_fits entries t s) h)

@@ -1,20 +1,19 @@
 -- What telling makes of a context that waits, by partial evaluation where the same values are held.
-use Rattle.std.specs.Prelude.{◌≡◌, ◌<◌, ℕ, true, false, List, Some, None, Result}
+use Rattle.std.specs.Prelude.{◌≡◌, ◌<◌, ℕ, true, false, List, None, Result}
 use Rattle.std.specs.FinMap as finite
 use Rattle.std.specs.declared.alloc.Global.{Global}
 use Rattle.std.specs.declared.rc.RcStr.{RcStr}
 use Rattle.either.specs.declared.Either.TheVariants.{Right}
-use Rattle.cedar_language.specs.Facts.{Facts, Function}
+use Rattle.cedar_language.specs.Facts.{Facts}
 use Rattle.cedar_language.specs.Height.{height}
 use Rattle.cedar_language.specs.Restricted.{is_restricted}
 use Rattle.cedar_language.specs.Tree.{Tree}
-use Rattle.cedar_language.specs.Uid.{Text, Name}
-use Rattle.cedar_language.specs.Value.{Value, Values}
+use Rattle.cedar_language.specs.Uid.{Text}
+use Rattle.cedar_language.specs.Value.{Value}
 use Rattle.cedar_partial_evaluation.specs.Partial.{Failed, partial_in}
 use Rattle.cedar_partial_evaluation.specs.Question.{Told, AreMadeTold, held_names}
 use Rattle.cedar_partial_evaluation.specs.ReadUnknowns.{calls_unknown}
 use Rattle.cedar_partial_evaluation.specs.Unknowns.{EachUnknown}
-use Rattle.cedar_extensions.specs.Answering.{IsBuilt}
 use Rattle.cedar_extensions.specs.Giving.{GivesBy}
 use Rattle.cedar_extensions.specs.Table.{Table}
 use Rattle.cedar_extensions.specs.declared.evaluation_error.EvaluationError.{EvaluationError}
@@ -33,16 +32,12 @@ HoldTold entries told = (n : Text) → finite.get told n ≡ told_for entries n
 abbrev pub StatesNoType : Tree → Type 0
 StatesNoType t = EachUnknown (λ n ty. ty ≡ None) t
 
--- each value that a function of the table gives is built
-abbrev pub GivesBuilt : Table → Type 0
-GivesBuilt table = (n : Name) (f : Function) (vs : Values) (v : Value) → table.function n ≡ Some f → f.answer vs ≡ Some v → IsBuilt v
-
 -- a context that waits is, once values are told, what partial evaluation of its tree answers where these values are held, kinds of
 -- errors included; the limit is met only where the tree with them in their places is higher. Its tree is as code has it: where the
 -- table has `unknown`, no call of it is left.
 abbrev pub ToldContextsAreEvaluated : Type 0
 ToldContextsAreEvaluated =
-    (table : Table) → GivesBuilt table → (depth : ℕ) (entries : List (RcStr Global × Value)) (told : Told) → HoldTold entries told
+    (table : Table) (depth : ℕ) (entries : List (RcStr Global × Value)) (told : Told) → HoldTold entries told
     → (t : Tree) → is_restricted t ≡ true → StatesNoType t → (table.has_unknown ≡ true → calls_unknown t ≡ false)
     → (result : Result Context EvaluationError) → TellsContext table depth entries (Right t) result
     → (facts : Facts) → HasFunctions table facts → AreMadeTold facts told

@@ -1,5 +1,5 @@
 -- Steps of a session, from what its texts are read as.
-use Rattle.std.proofs.Common.{◌≡◌, ◌≤◌, false, ◌∙◌, ℕ, List, None, Err, refl, sym, ap, subst}
+use Rattle.std.proofs.Common.{◌≡◌, ◌≤◌, false, cond, ◌∙◌, ℕ, List, Some, None, Err, refl, sym, ap, subst}
 use Rattle.cedar_language.specs.Uid as uid
 use Rattle.cedar_language.specs.Tree.{Tree}
 use Rattle.cedar_language.specs.Height.{height}
@@ -18,8 +18,7 @@ use Rattle.cedar_replies.specs.Refusals.{refusal_of}
 use Rattle.cedar_texts.specs.PolicyReading.{ReadsPolicies}
 use Rattle.cedar_texts.specs.Reading.{IsLowBody}
 use Rattle.cedar_texts.specs.Settings.{setting_with}
-use Rattle.cedar_language.specs.Facts.{Written}
-use Rattle.cedar_language.specs.Value.{Extension}
+use Rattle.cedar_language.specs.Constructing.{is_the_constructor, constructor_function}
 use Rattle.cedar_world.specs.Functions.{function_of}
 use Rattle.cedar_extensions.specs.Answering.{FunctionAnswers}
 use Rattle.cedar_extensions.specs.Defining.{defined}
@@ -51,9 +50,9 @@ read_tree by text s t same h = subst (λ x. IsBodyWithin by by.depth text x × (
 
 -- a session's functions are those of its table
 pub serves : {F : Type 0} (answers : F → FunctionAnswers) (extensions : Extensions F) (depth : ℕ) (s t : Tree) → t ≡ s
-    → ((written : Extension → Written) (name : uid.Name) → function_of (defined answers written (functions_in extensions)) name ≡ function_called answers extensions name)
+    → ((name : uid.Name) → function_of (defined answers (functions_in extensions)) name ≡ function_called answers extensions name)
     → (holds_unknown extensions ≡ false → holds_call s ≡ false) → Serves (as_table answers extensions) (setting_with answers extensions depth) (holds_call t)
 serves answers extensions depth s t same are calls = record {
-  functions = λ name. are (setting_with answers extensions depth).functions.written name;
+  functions = λ name. ap (cond (is_the_constructor name) (Some constructor_function)) (are name);
   held = λ none. ap holds_call same ∙ calls none;
 }

@@ -2,7 +2,6 @@
 use Rattle.std.proofs.Common.{sym, ◌∙◌, ap, subst}
 use Rattle.std.proofs.lemmas.Result.{err_from_is_err_and}
 use Rattle.cedar_bodies.specs.Questions.{LendsContext}
-use Rattle.cedar_bodies.proofs.Built.{gives_built}
 use Rattle.cedar_extensions.specs.Table.{as_table}
 use Rattle.cedar_language.specs.Tree.{Tree}
 use Rattle.cedar_restricted.specs.Views.{restricted_tree}
@@ -29,6 +28,6 @@ returns g c = λ by serves.
     let tree = restricted_tree c.args.body.now in
     let b = c.in-Some.asked in
     let lent = subst (λ (t : Tree). LendsContext t b.context) c.as_ref.ensures.tree c.in-Some.ensures.lent in
-    is_asked by table c.args.depth tree b (sym (c.in-Some.ensures.question ∙ ap ask_body c.as_ref.ensures.tree)) lent c.questions_are_asked.ensures (gives_built g.F.ExtensionFunctionObject.answers c.args.extensions.now) c.new_unchecked.result
+    is_asked by table c.args.depth tree b (sym (c.in-Some.ensures.question ∙ ap ask_body c.as_ref.ensures.tree)) lent c.questions_are_asked.ensures c.new_unchecked.result
     c.in_ok-principal.principal c.in_ok-action.action c.in_ok-resource.resource c.in_ok-context.context c.new_unchecked.ensures
     c.in_ok-principal.ensures c.in_ok-action.ensures c.in_ok-resource.ensures (c.in_ok-context.ensures by (serves_written tree table by b.context lent serves))

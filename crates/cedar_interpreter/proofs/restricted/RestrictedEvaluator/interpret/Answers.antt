@@ -27,7 +27,7 @@ returns-in_ok-non_value-in-Ok-Residual-clause-answer g c =
     let a = answer_in (table_of g.F.ExtensionFunctionObject.answers c.args.self.now) facts (borrowed_tree c.args.expr) in
     let found = subst (λ (p : PartialValue). Answers (table_of g.F.ExtensionFunctionObject.answers c.args.self.now) (limit_of c.args.self.now) (borrowed_tree c.args.expr) (Ok p)) c.in-Ok-Residual.field-0-is c.in-Ok-Residual.ensures.answer facts has in
     subst (FailsBy (limit_of c.args.self.now < height (borrowed_tree c.args.expr)) (λ k. (a ≡ Failed k) ⊎ ((k ≡ NonValue) × (is_left a ≡ true)))) (sym c.in_ok-non_value-in-Ok-Residual.ensures.kind)
-    (inr (refl, ap is_left found.1))
+    (inr (refl, ap is_left found))
 
 pub returns-in-Err-clause-answer : goal.returns-in-Err-clause-answer
 returns-in-Err-clause-answer g c = λ facts has. fails_on (failure_of c.in-Err.error) (λ k e. inl e) (λ d. d) (c.in-Err.ensures.answer facts has)
