@@ -1,4 +1,5 @@
 // Trees that are put on a stack, and what the one on its top says as the body of a command.
+use crate::ranks::Ranks;
 use crate::words::{Answer, no_case, number, parted, push, taken, tell};
 use cedar_bodies::{AskBody, EntityBody, ask_body, entity_bodies, listed_entities, uids_of};
 use cedar_entities::entity::Entity;
@@ -74,7 +75,7 @@ pub(crate) fn made(alloc: Global, text: &str, stack: &mut Vec<Expr>) -> Answer {
 pub(crate) fn read(
     alloc: Global,
     text: &str,
-    extensions: &Extensions<'_>,
+    extensions: &Extensions<'_, Ranks>,
     stack: &mut Vec<Expr>,
 ) -> Answer {
     let (verb, text) = parted(text);
@@ -89,7 +90,7 @@ pub(crate) fn read(
     }
 }
 
-fn listed(alloc: Global, tree: Expr, extensions: &Extensions<'_>, depth: u32) -> Answer {
+fn listed(alloc: Global, tree: Expr, extensions: &Extensions<'_, Ranks>, depth: u32) -> Answer {
     match RestrictedExpr::new(alloc, tree) {
         Ok(body) => entities_told(
             alloc,

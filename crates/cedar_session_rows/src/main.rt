@@ -1,14 +1,17 @@
 //! Answers rows, one a line: commands to a session, runs at devices of several kinds, and calls of the
-//! libraries below. A blank line begins a fresh session; any other is printed again with its answer.
+//! libraries below. A blank line begins a fresh session; any other is printed again with its answer. What
+//! `ranks` begins is a session with a caller's functions.
 #![tactic(auto)]
 
 mod bodies;
 mod devices;
 mod frames;
+mod ranks;
 mod replies;
 mod runs;
 mod words;
 
+use crate::ranks::Ranks;
 use crate::words::Answer;
 use cedar_session::{Extensions, Refusal, Session};
 use cedar_trees::expr::Expr;
@@ -20,8 +23,9 @@ const DEPTH: u32 = 256;
 
 /// What earlier lines left.
 struct Held<'e, 'f> {
-    extensions: &'e Extensions<'f>,
-    session: Session<'e, 'f>,
+    extensions: &'e Extensions<'f, Ranks>,
+    with_ranks: &'e Extensions<'f, Ranks>,
+    session: Session<'e, 'f, Ranks>,
     stack: Vec<Expr>,
 }
 
@@ -29,23 +33,34 @@ impl Drop for Held<'_, '_> {
     fn drop(self) {
         let Held {
             extensions: _,
+            with_ranks: _,
             session: _,
             stack: _,
         } = self;
     }
 }
 
-fn nothing<'e, 'f>(alloc: Global, extensions: &'e Extensions<'f>) -> Result<Held<'e, 'f>, Refusal> {
+fn nothing<'e, 'f>(
+    alloc: Global,
+    extensions: &'e Extensions<'f, Ranks>,
+    with_ranks: &'e Extensions<'f, Ranks>,
+) -> Result<Held<'e, 'f>, Refusal> {
     Ok(Held {
         extensions,
+        with_ranks,
         session: Session::new(alloc, extensions, DEPTH)?,
         stack: Vec::new(alloc),
     })
 }
 
-/// Begins a fresh session with this limit.
-fn begin(alloc: Global, depth: u32, held: &mut Held<'_, '_>) -> Answer {
-    match Session::new(alloc, held.extensions, depth) {
+/// Begins a fresh session with this table and limit.
+fn begin<'e, 'f>(
+    alloc: Global,
+    extensions: &'e Extensions<'f, Ranks>,
+    depth: u32,
+    held: &mut Held<'e, 'f>,
+) -> Answer {
+    match Session::new(alloc, extensions, depth) {
         Ok(session) => {
             held.session = session;
             String::from_str(alloc, "begun")
@@ -54,11 +69,16 @@ fn begin(alloc: Global, depth: u32, held: &mut Held<'_, '_>) -> Answer {
     }
 }
 
+fn depth_of(text: &str) -> u32 {
+    text.parse::<u32>().unwrap_or(DEPTH)
+}
+
 fn answer(alloc: Global, line: &str, held: &mut Held<'_, '_>) -> Answer {
     let (verb, text) = words::parted(line);
     match verb {
-        "" => begin(alloc, DEPTH, held),
-        "session" => begin(alloc, text.parse::<u32>().unwrap_or(DEPTH), held),
+        "" => begin(alloc, held.extensions, DEPTH, held),
+        "session" => begin(alloc, held.extensions, depth_of(text), held),
+        "ranks" => begin(alloc, held.with_ranks, depth_of(text), held),
         "run" => runs::at_devices(text, &mut held.session),
         "program" => runs::of_program(alloc, text),
         "failure" => runs::of_failure(alloc, text),
@@ -71,8 +91,13 @@ fn answer(alloc: Global, line: &str, held: &mut Held<'_, '_>) -> Answer {
 }
 
 fn main(rt: HostRuntime) -> io::Result<()> {
-    let extensions = Extensions::all_available(rt.alloc())?;
-    let Ok(mut held) = nothing(rt.alloc(), &extensions) else {
+    let Ok(extensions) = ranks::bare_table(rt.alloc()) else {
+        return println!(rt; "no table");
+    };
+    let Ok(with_ranks) = ranks::table(rt.alloc()) else {
+        return println!(rt; "no table");
+    };
+    let Ok(mut held) = nothing(rt.alloc(), &extensions, &with_ranks) else {
         return println!(rt; "no memory");
     };
     for line in rt.lines(rt.alloc()) {

@@ -1,5 +1,6 @@
 // Runs of a session over memory, and of the program's work, at devices of each kind.
 use crate::devices::{Asking, Broken, Drip, Hearing, Narrow};
+use crate::ranks::Ranks;
 use crate::words::{Answer, bytes, number, one_line, parted};
 use cedar_session::{End, RunError, Session, Watched, program, run};
 use std::alloc::{AllocError, Global};
@@ -18,7 +19,7 @@ fn frame(alloc: Global, verb: &str, body: &[u8]) -> Result<Vec<u8>, AllocError> 
 }
 
 fn ended<R: Read + Drop, W: Write>(
-    session: &mut Session<'_, '_>,
+    session: &mut Session<'_, '_, Ranks>,
     reader: R,
     writer: &mut W,
 ) -> Result<End, RunError> {
@@ -34,7 +35,7 @@ fn told(alloc: Global, written: &[u8], end: Result<End, RunError>) -> Answer {
 }
 
 /// The line that answers a command, where a run of its frame alone ends well.
-pub(crate) fn of_command(verb: &str, body: &str, session: &mut Session<'_, '_>) -> Answer {
+pub(crate) fn of_command(verb: &str, body: &str, session: &mut Session<'_, '_, Ranks>) -> Answer {
     let alloc = session.allocator();
     let body = bytes(alloc, body)?;
     let frame = frame(alloc, verb, body.as_slice())?;
@@ -48,7 +49,7 @@ pub(crate) fn of_command(verb: &str, body: &str, session: &mut Session<'_, '_>) 
 
 /// A run over any bytes: whole, a byte at a time, with a reader that breaks behind them, with a writer that
 /// has room for so many bytes, or at a client that waits for a line at each NUL.
-pub(crate) fn at_devices(text: &str, session: &mut Session<'_, '_>) -> Answer {
+pub(crate) fn at_devices(text: &str, session: &mut Session<'_, '_, Ranks>) -> Answer {
     let alloc = session.allocator();
     let (device, text) = parted(text);
     match device {
@@ -66,7 +67,7 @@ pub(crate) fn at_devices(text: &str, session: &mut Session<'_, '_>) -> Answer {
     told(alloc, written.as_slice(), end)
 }
 
-fn at_narrow(text: &str, session: &mut Session<'_, '_>) -> Answer {
+fn at_narrow(text: &str, session: &mut Session<'_, '_, Ranks>) -> Answer {
     let alloc = session.allocator();
     let (room, text) = parted(text);
     let given = bytes(alloc, text)?;
@@ -75,7 +76,7 @@ fn at_narrow(text: &str, session: &mut Session<'_, '_>) -> Answer {
     told(alloc, narrow.taken.as_slice(), end)
 }
 
-fn at_client(text: &str, session: &mut Session<'_, '_>) -> Answer {
+fn at_client(text: &str, session: &mut Session<'_, '_, Ranks>) -> Answer {
     let alloc = session.allocator();
     let given = bytes(alloc, text)?;
     let lines = Cell::new(0);
