@@ -70,7 +70,7 @@ byte_more b true is bs h = (ltb-true b 256 is, h)
 byte_more b false is bs h = tt
 
 and_byte_is : (b : ℕ) (o : Option (List ℕ)) → AreBytes o → AreBytes (and_byte b o)
-and_byte_is b (Some bs) h = subst (λ small. AreBytes (cond small (Some (b ∷ bs)) None)) refl (byte_more b (nat_lt b 256) refl bs h)
+and_byte_is b (Some bs) h = byte_more b (nat_lt b 256) refl bs h
 and_byte_is b None h = tt
 
 are_bytes : (vs : Values) → AreBytes (bytes_of vs)
@@ -234,7 +234,7 @@ named_by_restricted false t h = h
 -- ---- what an evaluation gives
 
 -- the functions of a table alone
-abbrev functions_of : Table → Facts
+abbrev pub functions_of : Table → Facts
 functions_of table = record {
   entity = λ uid. None;
   reaches = λ a b. false;

@@ -53,7 +53,7 @@ use Rattle.cedar_bodies.specs.Entities.{named_all}
 use Rattle.cedar_bodies.specs.Reading.{GiveNoText, TreesAreRead, nothing_told, IsRead}
 use Rattle.cedar_bodies.specs.Refusals.{refusal_by}
 use Rattle.cedar_bodies.specs.Fields.{deeper, Serves, part_answer, IsEvaluated, as_entries, HoldValues, err, hold_unknowns, AreValues, AreOpen, AreFound, AreEvaluated}
-use Rattle.cedar_bodies.proofs.Built.{built_append}
+use Rattle.cedar_bodies.proofs.Built.{built_append, functions_of}
 use Rattle.cedar_bodies.proofs.Carrying.{or_left, or_right, or_true, false_back, Carries, at_first, next_value, next_open, all_fine, all_unknowns, all_given}
 
 -- ---- the functions of a table
@@ -130,14 +130,6 @@ names_as true t r h = refl
 names_as false t r h = sym (unnamed t r (h refl))
 
 -- ---- one tree
-
--- nothing is held but the functions
-abbrev functions_of : Table → Facts
-functions_of table = record {
-  entity = λ uid. None;
-  reaches = λ a b. false;
-  function = table.function;
-}
 
 module _ (read : TreesAreRead) (table : Table) (texts : GivesNoText table) (depth : ℕ) (t : Tree) (restricted : is_restricted t ≡ true) where
   answered : (by : Setting) → Serves table by (holds_call t) → (a : Answer) → answer_in table (functions_alone by.functions) t ≡ a → IsRead by (named t) a

@@ -39,8 +39,8 @@ const AT_NOON: &str = r#"
 #[derive(Drop)]
 struct Between;
 
-// `answers` is what it gives, as `specs/Between.antt` defines it, with proofs that this is neither a text nor
-// made with an extension value. That `call` gives it is proved.
+// `answers` is what it gives, as `specs/Between.antt` defines it, with proofs that this is no text, and a
+// value whose sets rise and whose keys are bytes. That `call` gives it is proved.
 impl ExtensionFunctionObject for Between {
     ghost use Rattle.cedar_examples.specs.Between.{between, boolean_answers};
 

@@ -168,10 +168,6 @@ module _ (n : Name) (is : is_the_constructor n ≡ true) (function : Option fact
     no_text = λ s of_text. no_literal vs (String s) (sym e ∙ ap Some of_text);
   })
 
-  -- and where it gives none
-  pub none_constructed : None ≡ constructed vs → called function vs ≡ Fails FailedExtensionFunctionExecution
-  none_constructed e = ap (λ f. called f vs) found ∙ ap (or_fails FailedExtensionFunctionExecution) (sym e)
-
 -- a name calls the constructor, or a function of the table
 pub calls_constructor : (n : Name) (function : Name → Option facts.Function) → is_the_constructor n ≡ true → or_constructor function n ≡ Some constructor_function
 calls_constructor n function is = ap (λ b. cond b (Some constructor_function) (function n)) is
