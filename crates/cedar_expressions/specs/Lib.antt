@@ -24,6 +24,7 @@ pub use Rattle.cedar_values.specs.Kinds
 pub use Rattle.cedar_values.specs.Laws as ValueLaws
 pub use Rattle.cedar_values.specs.Occurring
 pub use Rattle.cedar_values.specs.Orders as ValueOrders
+pub use Rattle.cedar_values.specs.Readers as ValueReaders
 pub use Rattle.cedar_values.specs.Records as ValueRecords
 pub use Rattle.cedar_values.specs.Types as ValueTypes
 pub use Rattle.cedar_trees.specs.Bare

@@ -1,12 +1,13 @@
 // Reading identifiers and names from texts.
-ghost use Rattle.std.specs.Prelude.{List, ℕ, Result};
+ghost use Rattle.std.specs.Prelude.{◌≡◌, [], ◌∷◌, IfOk, List, ℕ, Result};
+ghost use Rattle.cedar_names.specs.Identifiers.{IsUnreservedId};
 ghost use Rattle.cedar_names.specs.Reading.{ReadsBy};
 ghost use Rattle.cedar_names.specs.declared.errors.ParseNameError.{ParseNameError};
 
 use crate::errors::{ParseNameError, ReservedNameError};
 use crate::identifiers::{AnyId, Id, UnreservedId, is_id, is_identifier};
 use crate::names::{InternalName, Name};
-use std::alloc::Global;
+use std::alloc::{AllocError, Global};
 use std::rc::RcStr;
 
 /// What can be read from its normalized text: the one that `Display` prints, without white space.
@@ -87,5 +88,22 @@ impl FromNormalizedStr for Name {
     fn from_normalized_str(alloc: Global, text: &str) -> Result<Name, ParseNameError> {
         let name = InternalName::from_normalized_str(alloc, text)?;
         Ok(Name::try_from(name)?)
+    }
+}
+
+impl Name {
+    /// The name of this identifier alone, without a namespace, where the identifier is known to be free
+    /// to use: no keyword, and not `__cedar`. Refused for memory alone. (Cedar language reference,
+    /// "Policy grammar".)
+    pub fn of_identifier(alloc: Global, identifier: &str) -> Result<Name, AllocError>
+        requires { IsUnreservedId identifier.now }
+        ensures { IfOk result (λ name. name ≡ identifier.now ∷ []) }
+    {
+        match Name::parse_unqualified_name(alloc, identifier) {
+            Ok(name) => Ok(name),
+            Err(ParseNameError::Memory(error)) => Err(error),
+            Err(ParseNameError::NotNormalized) => unreachable!(),
+            Err(ParseNameError::Reserved(_)) => unreachable!(),
+        }
     }
 }

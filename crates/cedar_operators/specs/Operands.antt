@@ -1,43 +1,17 @@
 -- What an operand is, where it is of the type that an operator takes.
-use Rattle.std.specs.Prelude.{◌≡◌, ℤ, Bool, true, false, Option, Some, None, Result}
-use Rattle.cedar_language.specs.Uid.{Text, Uid}
-use Rattle.cedar_language.specs.Tree.{Boolean, Long, String, Entity}
-use Rattle.cedar_language.specs.Value.{Extension, Value, Plain, SetOf, ExtensionOf, Values, no_values, a_value, TypeError, Outcome, Fails}
+use Rattle.std.specs.Prelude.{◌≡◌, Bool, true, false, Option, Some, None, Result}
+use Rattle.cedar_language.specs.Value.{Value, Values, no_values, a_value, TypeError, Outcome, Fails}
 use Rattle.cedar_literals.specs.declared.operators.BinaryOp.{BinaryOp}
 use Rattle.cedar_literals.specs.declared.operators.BinaryOp.TheVariants.{Add, Sub, Mul}
 use Rattle.cedar_extensions.specs.Giving.{GivesBy}
 use Rattle.cedar_extensions.specs.declared.evaluation_error.EvaluationError.{EvaluationError}
+pub use Rattle.cedar_values.specs.Readers.{boolean_in, long_in, text_in, uid_in, members_in, extension_in}
 
 abbrev pub one : Value → Values
 one v = a_value v no_values
 
 abbrev pub two : Value → Value → Values
 two v w = a_value v (a_value w no_values)
-
-abbrev pub boolean_in : Value → Option Bool
-boolean_in (Plain (Boolean b)) = Some b
-boolean_in v = None
-
-abbrev pub long_in : Value → Option ℤ
-long_in (Plain (Long n)) = Some n
-long_in v = None
-
-abbrev pub text_in : Value → Option Text
-text_in (Plain (String s)) = Some s
-text_in v = None
-
-abbrev pub uid_in : Value → Option Uid
-uid_in (Plain (Entity u)) = Some u
-uid_in v = None
-
--- the members of a set
-abbrev pub members_in : Value → Option Values
-members_in (SetOf vs) = Some vs
-members_in v = None
-
-abbrev pub extension_in : Value → Option Extension
-extension_in (ExtensionOf e) = Some e
-extension_in v = None
 
 -- the operand, or TypeError where it is of another type
 abbrev pub IsOperand : {X Y : Type 0} → (X → Y) → Option Y → Result X EvaluationError → Type 0

@@ -10,7 +10,6 @@ ghost use Rattle.cedar_extensions.specs.Giving.{Gives};
 ghost use Rattle.cedar_operators.specs.Operands.{two, long_in, extension_in, IsOperand};
 ghost use Rattle.cedar_operators.specs.Comparing.{is_relation, order_of_longs, order_of_extensions, order_of, seen};
 
-use crate::operands::{extension_value, long};
 use cedar_extensions::evaluation_error::EvaluationError;
 use cedar_extensions::extensions::Extensions;
 use cedar_literals::literals::Literal;
@@ -104,8 +103,8 @@ fn order(left: &Value, right: &Value) -> Option<Comparison>
 fn longs_order(left: &Value, right: &Value) -> Option<Comparison>
     ensures { order_of_longs (long_in left.now) (long_in right.now) ≡ option_map seen result }
 {
-    let x = long(left)?;
-    let y = long(right)?;
+    let x = left.as_long()?;
+    let y = right.as_long()?;
     Some(Comparison {
         is_less: x < y,
         is_less_or_equal: x <= y,
@@ -115,8 +114,8 @@ fn longs_order(left: &Value, right: &Value) -> Option<Comparison>
 fn extensions_order(left: &Value, right: &Value) -> Option<Comparison>
     ensures { order_of_extensions (extension_in left.now) (extension_in right.now) ≡ option_map seen result }
 {
-    let x = extension_value(left)?;
-    let y = extension_value(right)?;
+    let x = left.as_extension_value()?;
+    let y = right.as_extension_value()?;
     if are_comparable(x, y) {
         let order = x.key().cmp(y.key());
         Some(Comparison {
@@ -138,10 +137,10 @@ fn are_comparable(x: &ExtensionValue, y: &ExtensionValue) -> bool
 
 // The type that the other operand of a comparison fixes, if it is of one that can be compared.
 fn type_to_compare(alloc: Global, value: &Value) -> Result<Option<Type>, AllocError> {
-    if long(value).is_some() {
+    if value.as_long().is_some() {
         return Ok(Some(Type::Long));
     }
-    match extension_value(value) {
+    match value.as_extension_value() {
         Some(value) if value.supports_operator_overloading() => {
             let name = value.typename().clone(alloc)?;
             Ok(Some(Type::Extension { name }))

@@ -16,7 +16,7 @@ ghost use Rattle.cedar_operators.specs.Hierarchy.{is_within_entity, within_of};
 ghost use Rattle.cedar_entities.specs.Data.{ancestors_of};
 
 use crate::held::held;
-use crate::operands::{any_entity_type, get_as_entity, set, uid};
+use crate::operands::{any_entity_type, get_as_entity};
 use cedar_entities::entity::Entity;
 use cedar_entities::store::Entities;
 use cedar_extensions::evaluation_error::EvaluationError;
@@ -60,7 +60,7 @@ fn eval_in(
     ensures { IsOperand (λ b. b)
         (within_of (is_within_entity uid1.now.value (option_copied entity1.entry)) arg2.now) result }
 {
-    match uid(arg2) {
+    match arg2.as_entity() {
         Some(uid2) => Ok(is_within(uid1, entity1, uid2)),
         None => is_in_set(alloc, uid1, entity1, arg2),
     }
@@ -76,7 +76,7 @@ fn is_in_set(
     ensures { uid_in arg2.now ≡ None → IsOperand (λ b. b)
         (within_of (is_within_entity uid1.now.value (option_copied entity1.entry)) arg2.now) result }
 {
-    match set(arg2) {
+    match arg2.as_set() {
         Some(members) => is_within_some(alloc, uid1, entity1, members.authoritative()),
         None => Err(not_in_hierarchy(alloc, arg2)?),
     }

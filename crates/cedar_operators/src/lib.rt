@@ -19,6 +19,7 @@ pub use arithmetic::binary_arith;
 pub use attributes::{get_attr, has_attr, has_path};
 pub use comparing::binary_relation;
 pub use hierarchy::is_in;
+pub use operands::get_as_bool;
 pub use patterns::{is_like, is_of_type};
 pub use sets::{contains, contains_all, contains_any};
 pub use store_laws::stores_have_facts;

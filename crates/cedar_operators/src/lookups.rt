@@ -17,7 +17,7 @@ ghost use Rattle.cedar_operators.specs.Store.{HasFacts};
 ghost use Rattle.cedar_operators.specs.Lookups.{record_in, Shows};
 
 use crate::held::held;
-use crate::operands::{any_entity_type, uid};
+use crate::operands::any_entity_type;
 use cedar_entities::entity::Entity;
 use cedar_entities::store::Entities;
 use cedar_extensions::evaluation_error::EvaluationError;
@@ -149,7 +149,7 @@ fn find_in_entity<'a>(
         GivesBy (Shows (λ o. attribute facts attr.now of.now ≡ o))
         (λ k. (attribute facts attr.now of.now ≡ Fails k) × (k ≡ TypeError)) ⊥ result }
 {
-    match uid(of) {
+    match of.as_entity() {
         Some(uid) => in_entity(alloc, entities, uid, attr),
         None => Err(has_no_attributes(alloc, of)?),
     }

@@ -8,7 +8,6 @@ use cedar_conversion_leaves::ExtStyles;
 use cedar_extensions::extensions::Extensions;
 use cedar_extensions::functions::{CallStyle, ExtensionFunction};
 use cedar_extensions::objects::ExtensionFunctionObject;
-use cedar_names::errors::ParseNameError;
 use cedar_names::identifiers::UnreservedId;
 use cedar_names::names::Name;
 use std::alloc::{AllocError, Global};
@@ -119,10 +118,5 @@ fn is_method<F>(function: &ExtensionFunction<F>) -> bool
 fn unknown(alloc: Global) -> Result<Name, AllocError>
     ensures { IfOk result (λ name. name ≡ the_unknown) }
 {
-    match Name::parse_unqualified_name(alloc, "unknown") {
-        Ok(name) => Ok(name),
-        Err(ParseNameError::Memory(error)) => Err(error),
-        Err(ParseNameError::NotNormalized) => unreachable!(),
-        Err(ParseNameError::Reserved(_)) => unreachable!(),
-    }
+    Name::of_identifier(alloc, "unknown")
 }

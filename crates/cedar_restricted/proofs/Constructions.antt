@@ -6,7 +6,8 @@ use Rattle.cedar_language.specs.Value.{Extension, Value, Plain, ExtensionOf}
 use Rattle.cedar_language.specs.Constructing.{the_constructor, longs_of, construction, bytes_of, constructed}
 use Rattle.cedar_language.specs.Order.{all_of}
 use Rattle.cedar_grammar.specs.Build.{trees}
-use Rattle.cedar_restricted.specs.Constructing.{long_tree, type_in, boolean_in}
+use Rattle.cedar_restricted.specs.Constructing.{long_tree, type_in}
+use Rattle.cedar_values.specs.Readers.{boolean_in}
 
 longs_written : (bs : List ℕ) → trees (map long_tree bs) ≡ longs_of bs
 longs_written [] = refl

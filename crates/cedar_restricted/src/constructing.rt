@@ -4,11 +4,10 @@ ghost use Rattle.cedar_language.specs.Constructing as language;
 ghost use Rattle.cedar_language.specs.Constructing.{the_constructor, bytes_of};
 ghost use Rattle.cedar_language.specs.Order.{all_of};
 ghost use Rattle.cedar_trees.specs.Bare.{bare};
-ghost use Rattle.cedar_restricted.specs.Constructing.{byte_in, boolean_in, type_in, long_tree};
+ghost use Rattle.cedar_restricted.specs.Constructing.{byte_in, type_in, long_tree};
 
 use cedar_literals::literals::Literal;
 use cedar_literals::uids::{Eid, EntityType, EntityUID};
-use cedar_names::errors::ParseNameError;
 use cedar_names::names::Name;
 use cedar_trees::expr::Expr;
 use cedar_values::extension_values::{Argument, ExtensionValue, RepresentableExtensionValue};
@@ -20,12 +19,7 @@ use std::rc::{Rc, RcStr};
 fn constructor(alloc: Global) -> Result<Name, AllocError>
     ensures { IfOk result (λ name. name ≡ the_constructor) }
 {
-    match Name::parse_unqualified_name(alloc, "extension_value") {
-        Ok(name) => Ok(name),
-        Err(ParseNameError::Memory(error)) => Err(error),
-        Err(ParseNameError::NotNormalized) => unreachable!(),
-        Err(ParseNameError::Reserved(_)) => unreachable!(),
-    }
+    Name::of_identifier(alloc, "extension_value")
 }
 
 /// The call of the constructor that gives the extension value; refused for memory alone.
@@ -63,7 +57,7 @@ pub fn constructed(alloc: Global, args: &[Value]) -> Result<Option<Value>, Alloc
     let Some((second, longs)) = rest.split_first() else {
         return Ok(None);
     };
-    let (Some(typename), Some(ordered)) = (type_of(first), boolean_of(second)) else {
+    let (Some(typename), Some(ordered)) = (type_of(first), second.as_bool()) else {
         return Ok(None);
     };
     let Some(key) = key_of(alloc, longs)? else {
@@ -93,36 +87,18 @@ fn arguments(alloc: Global, values: &[Value]) -> Result<Vec<Argument>, AllocErro
 fn type_of(value: &Value) -> Option<&Name>
     ensures { option_map (λ name. name.now) result ≡ type_in value.now }
 {
-    match value.value_kind() {
-        ValueKind::Lit(literal) => match literal {
-            Literal::EntityUID(uid) => Some(uid.entity_type().name()),
-            Literal::Bool(_) | Literal::Long(_) | Literal::String(_) => None,
-        },
-        ValueKind::Set(_) | ValueKind::Record(_) | ValueKind::ExtensionValue(_) => None,
-    }
-}
-
-fn boolean_of(value: &Value) -> Option<bool>
-    ensures { result ≡ boolean_in value.now }
-{
-    match value.value_kind() {
-        ValueKind::Lit(literal) => match literal {
-            Literal::Bool(b) => Some(*b),
-            Literal::EntityUID(_) | Literal::Long(_) | Literal::String(_) => None,
-        },
-        ValueKind::Set(_) | ValueKind::Record(_) | ValueKind::ExtensionValue(_) => None,
+    match value.as_entity() {
+        Some(uid) => Some(uid.entity_type().name()),
+        None => None,
     }
 }
 
 fn byte_of(value: &Value) -> Option<u8>
     ensures { result ≡ byte_in value.now }
 {
-    match value.value_kind() {
-        ValueKind::Lit(literal) => match literal {
-            Literal::Long(n) => u8::try_from(*n).ok(),
-            Literal::EntityUID(_) | Literal::Bool(_) | Literal::String(_) => None,
-        },
-        ValueKind::Set(_) | ValueKind::Record(_) | ValueKind::ExtensionValue(_) => None,
+    match value.as_long() {
+        Some(n) => u8::try_from(n).ok(),
+        None => None,
     }
 }
 

@@ -7,6 +7,7 @@ pub mod Kinds
 pub mod Laws
 pub mod Occurring
 pub mod Orders
+pub mod Readers
 pub mod Records
 pub mod Sizes
 pub mod Types

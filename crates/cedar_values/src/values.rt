@@ -13,6 +13,7 @@ mod constructors;
 mod displays;
 mod hashes;
 mod orders;
+mod readers;
 mod sets;
 mod types;
 mod uids;
