@@ -97,7 +97,7 @@ module _ (law : PlainAnswers) (finds : FindsAsWorlds) (by : Setting) (world : Wo
         ∙ clause_calls_nothing law finds by world facts are q first response k in_ks e in_set of
 
     left_stands : standing_found l.found ≡ standing_of_answer (partial_in facts (request_held inquiry (bindings_in d.1)) (condition_in d.1))
-    left_stands = stands_as_found facts _ l.found (settled l in_later) (of_later.found facts (record { entities = has; functions = served; names_nothing = names_nothing table (condition_in d.1) left_calls }))
+    left_stands = stands_as_found _ l.found (settled l in_later) (of_later.found facts (record { entities = has; functions = served; names_nothing = names_nothing table (condition_in d.1) left_calls }))
 
     stands_so : standing_found l.found ≡ standing_of e.1
     stands_so =

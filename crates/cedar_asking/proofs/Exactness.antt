@@ -1,6 +1,5 @@
 -- What was found of a policy is what its condition answers; and how what is left of it stands.
 use Rattle.std.proofs.Common.{◌≡◌, ◌∙◌, refl, ap, sym, subst, Bool, true, false, Option, Some, None, List, codes}
-use Rattle.std.specs.Prelude.{⊤}
 use Rattle.std.specs.FinMap as finite
 use Rattle.std.specs.FinMap.{get-empty}
 use Rattle.cedar_grammar.specs.Build.{Keyed}
@@ -17,7 +16,6 @@ use Rattle.cedar_partial_evaluation.specs.Question.{Part, Given, Missing, part_h
 use Rattle.cedar_partial_evaluation.specs.ReadUnknowns.{calls_unknown}
 use Rattle.cedar_partial_evaluation.specs.Reauthorizing.{condition_again}
 use Rattle.cedar_partial_evaluation.specs.Unknowns.{fits}
-use Rattle.cedar_partial_evaluation.proofs.Alike.{alike_is}
 use Rattle.cedar_telling.specs.Plain.{IsPlainAnswer, ArePlainLeaves, PlainAnswers}
 use Rattle.cedar_world.specs.Asking.{Entries, NoContext, WithEntries, Question, Told}
 use Rattle.cedar_world.specs.First.{IsData}
@@ -91,27 +89,11 @@ module _ (law : PlainAnswers) (facts : Facts) where
 
 -- ---- what was found is what is answered
 
-abbrev pub FoundAs : Answer → Found → Type 0
-FoundAs b Satisfied = b ≡ Evaluated (Plain (Boolean true))
-FoundAs b Unsatisfied = b ≡ Evaluated (Plain (Boolean false))
-FoundAs b (Erred (OfKind k)) = standing_of_answer b ≡ Erring k
-FoundAs b (Erred LimitMet) = ⊤
-FoundAs b (Erred MemoryRanOut) = ⊥
-FoundAs b (Open r) = b ≡ ResidualTree r
-
 module _ (law : PlainAnswers) (facts : Facts) (holds : LeafAnswers) (leaves : ArePlainLeaves holds) (t : Tree) (calls : calls_unknown t ≡ false) where
   left_plain : (u : Tree) → partial_in facts holds t ≡ ResidualTree u → calls_unknown u ≡ false
   left_plain u e = subst IsPlainAnswer e (law facts holds leaves t calls)
 
-  pub found_as : (f : Found) → Finds facts (partial_in facts holds t) f → FoundAs (partial_in facts holds t) f
-  found_as Satisfied h = h
-  found_as Unsatisfied h = h
-  found_as (Erred (OfKind k)) h = h
-  found_as (Erred LimitMet) h = tt
-  found_as (Erred MemoryRanOut) h = h
-  found_as (Open r) (u, e, alike) = e ∙ ap ResidualTree (sym (alike_is facts r u alike))
-
-  pub clause_calls_none : (f : Found) → FoundAs (partial_in facts holds t) f → calls_unknown (clause_of f) ≡ false
+  pub clause_calls_none : (f : Found) → Finds (partial_in facts holds t) f → calls_unknown (clause_of f) ≡ false
   clause_calls_none Satisfied h = refl
   clause_calls_none Unsatisfied h = refl
   clause_calls_none (Erred e) h = refl
@@ -130,7 +112,7 @@ erring_again (ResidualTree r) k h = cc
 erring_again (Failed j) k h = refl
 
 -- a condition is taken up as what was found of it says
-pub again_is_clause : (b : Answer) (f : Found) → is_settled f ≡ true → FoundAs b f → condition_again b ≡ clause_of f
+pub again_is_clause : (b : Answer) (f : Found) → is_settled f ≡ true → Finds b f → condition_again b ≡ clause_of f
 again_is_clause b Satisfied s h = ap condition_again h
 again_is_clause b Unsatisfied s h = ap condition_again h
 again_is_clause b (Erred (OfKind k)) s h = erring_again b k h

@@ -120,7 +120,7 @@ module _ (r : RequestParts) (store : Entities) (table : Table) (depth : ℕ) whe
             syntax = written_entry e.1;
             in_force = ap (in_force_at world.policies) of.id ∙ is_in_force es whole slots finds world held e.0 e.1 at policy;
             effect = effect_as_written e.1 ∙ sym of.effect;
-            standing = stands_as_found facts _ k.found (settled k among) (of.found facts (serves e.1 (names e.0 e.1 at))) ∙ stands_as_written table q r asked.holds facts served early conditions e.1;
+            standing = stands_as_found _ k.found (settled k among) (of.found facts (serves e.1 (names e.0 e.1 at))) ∙ stands_as_written table q r asked.holds facts served early conditions e.1;
           })
 
       every_judged : (id : Text) → IsSome (in_force_at world.policies id) → (j : Judged) × Contains (map judged ks) j × (j.id ≡ id)

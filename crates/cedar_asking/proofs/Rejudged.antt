@@ -28,11 +28,11 @@ use Rattle.cedar_interpreter.specs.Operating.{HasFunctions, NamesNothing}
 use Rattle.cedar_operators.specs.Store.{HasFacts}
 use Rattle.cedar_policy_set.specs.Entries.{Entry, static_policy, template, link, Entries, policies_of}
 use Rattle.cedar_policy_set.specs.Worlds.{FindsAsWorlds}
-use Rattle.cedar_evaluator.specs.Evaluations.{Found, Satisfied, Unsatisfied, Erred, Open, bindings_in, condition_in, Kept, IsKept}
+use Rattle.cedar_evaluator.specs.Evaluations.{Found, Satisfied, Unsatisfied, Erred, Open, Finds, bindings_in, condition_in, Kept, IsKept}
 use Rattle.cedar_evaluator.specs.Responses.{Holding, error_id, errors_of}
 use Rattle.cedar_evaluator.specs.declared.partial_response.PartialResponse.{PartialResponse}
 use Rattle.cedar_asking.specs.Keeping.{IsFirstResponse}
-use Rattle.cedar_asking.proofs.Exactness.{leaves_plain, FoundAs, found_as, clause_calls_none, again_is_clause}
+use Rattle.cedar_asking.proofs.Exactness.{leaves_plain, clause_calls_none, again_is_clause}
 use Rattle.cedar_asking.proofs.Facts.{store_has_facts, table_is_served, facts_are_made}
 use Rattle.cedar_asking.proofs.InForce.{written_entry, is_bound, written_by}
 use Rattle.cedar_asking.proofs.Lists.{IsAmong, contains}
@@ -102,17 +102,15 @@ module _ (law : PlainAnswers) (finds : FindsAsWorlds) (by : Setting) (world : Wo
     first_calls : calls_unknown (condition_in e.1) ≡ false
     first_calls = no_call (condition_in e.1) is_named
 
-    pub first_found : FoundAs (partial_in facts (first_held e.1) (condition_in e.1)) k.found
-    first_found =
-        found_as law facts (first_held e.1) (first_leaves e.1) (condition_in e.1) first_calls k.found
-        (of.found facts (record { entities = first_store; functions = first_served; names_nothing = names_nothing response.table (condition_in e.1) first_calls }))
+    pub first_found : Finds (partial_in facts (first_held e.1) (condition_in e.1)) k.found
+    first_found = of.found facts (record { entities = first_store; functions = first_served; names_nothing = names_nothing response.table (condition_in e.1) first_calls })
 
     at_limit : k.found ≡ Erred LimitMet → ⊥
     at_limit is =
         let among = gathered (λ (k : Kept). error_id k.id k.found) k (k.id, LimitMet) ks in_ks (ap (error_id k.id) is) in
         response.within (k.id, subst (λ es. Contains es (k.id, LimitMet)) (sym (ap (λ (h : Holding). h.errors) response.responds.holds)) (contains (errors_of ks) (k.id, LimitMet) among))
 
-    settled_by : (b : Answer) (f : Found) → k.found ≡ f → FoundAs b f → is_settled f ≡ true
+    settled_by : (b : Answer) (f : Found) → k.found ≡ f → Finds b f → is_settled f ≡ true
     settled_by b Satisfied is h = refl
     settled_by b Unsatisfied is h = refl
     settled_by b (Erred (OfKind x)) is h = refl

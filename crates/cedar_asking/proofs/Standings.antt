@@ -55,13 +55,13 @@ is_settled (Erred LimitMet) = false
 is_settled (Erred MemoryRanOut) = false
 is_settled f = true
 
-pub stands_as_found : (facts : Facts) (b : Answer) (f : Found) → is_settled f ≡ true → Finds facts b f → standing_found f ≡ standing_of_answer b
-stands_as_found facts b Satisfied s h = sym (ap standing_of_answer h)
-stands_as_found facts b Unsatisfied s h = sym (ap standing_of_answer h)
-stands_as_found facts b (Erred (OfKind k)) s h = sym h
-stands_as_found facts b (Erred LimitMet) s h = cc
-stands_as_found facts b (Erred MemoryRanOut) s h = absurd h
-stands_as_found facts b (Open r) s (t, e, alike) = sym (ap standing_of_answer e)
+pub stands_as_found : (b : Answer) (f : Found) → is_settled f ≡ true → Finds b f → standing_found f ≡ standing_of_answer b
+stands_as_found b Satisfied s h = sym (ap standing_of_answer h)
+stands_as_found b Unsatisfied s h = sym (ap standing_of_answer h)
+stands_as_found b (Erred (OfKind k)) s h = sym h
+stands_as_found b (Erred LimitMet) s h = cc
+stands_as_found b (Erred MemoryRanOut) s h = absurd h
+stands_as_found b (Open r) s h = sym (ap standing_of_answer h)
 
 -- ---- what is held of the request is what is held of the question
 

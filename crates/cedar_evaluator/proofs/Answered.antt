@@ -1,11 +1,10 @@
 -- What an evaluation answers, by its answer's cases.
-use Rattle.std.proofs.Common.{◌≡◌, Bool, true, false, Option, Some, None, inl, refl, sym, ◌∙◌, ap, subst}
+use Rattle.std.proofs.Common.{◌≡◌, Bool, true, false, Some, None, inl, refl, sym, ◌∙◌, ap, subst}
 use Rattle.std.specs.Prelude.{⊤, Result, Ok, Err}
 use Rattle.either.specs.declared.Either.{Either}
 use Rattle.either.specs.declared.Either.TheVariants.{Left, Right}
 use Rattle.cedar_language.specs.Answering.{Erring}
 use Rattle.cedar_language.specs.Authorization.{standing_of}
-use Rattle.cedar_language.specs.Facts.{Facts}
 use Rattle.cedar_language.specs.Tree.{Boolean, Long, String, Entity}
 use Rattle.cedar_language.specs.Value.{Value, Plain, SetOf, RecordOf, ExtensionOf, TypeError, Outcome, Gives}
 use Rattle.cedar_partial_evaluation.specs.Early.{standing_of_answer}
@@ -17,7 +16,7 @@ use Rattle.cedar_extensions.specs.declared.evaluation_error.EvaluationError.{Eva
 use Rattle.cedar_interpreter.specs.Meeting.{IsLimit}
 use Rattle.cedar_operators.specs.Operands.{boolean_in, IsOperand}
 use Rattle.cedar_evaluator.specs.Evaluating.{found_by, JudgesAt, standing_by, StandsBy, StandsAt}
-use Rattle.cedar_evaluator.specs.Evaluations.{Found, Erred, Finds}
+use Rattle.cedar_evaluator.specs.Evaluations.{Erred, Finds}
 use Rattle.cedar_evaluator.specs.Grouping.{found_in, IsKeepable}
 
 -- ---- a value
@@ -34,13 +33,13 @@ stands (SetOf vs) s e = absurd (cc e)
 stands (RecordOf ks vs) s e = absurd (cc e)
 stands (ExtensionOf x) s e = absurd (cc e)
 
-found_boolean : (facts : Facts) (s : Bool) → Finds facts (Evaluated (Plain (Boolean s))) (found_by (Left s))
-found_boolean facts true = refl
-found_boolean facts false = refl
+found_boolean : (s : Bool) → Finds (Evaluated (Plain (Boolean s))) (found_by (Left s))
+found_boolean true = refl
+found_boolean false = refl
 
 -- an answer that is a Boolean
-pub found_answer : (facts : Facts) (s : Bool) (v : Value) (b : Answer) → boolean_in v ≡ Some s → b ≡ Evaluated v → Finds facts b (found_by (Left s))
-found_answer facts s v b e is = subst (λ a. Finds facts a (found_by (Left s))) (sym (is ∙ ap Evaluated (stands v s e))) (found_boolean facts s)
+pub found_answer : (s : Bool) (v : Value) (b : Answer) → boolean_in v ≡ Some s → b ≡ Evaluated v → Finds b (found_by (Left s))
+found_answer s v b e is = subst (λ a. Finds a (found_by (Left s))) (sym (is ∙ ap Evaluated (stands v s e))) (found_boolean s)
 
 no_boolean : (v : Value) → boolean_in v ≡ None → standing_of_answer (Evaluated v) ≡ Erring TypeError
 no_boolean (Plain (Boolean x)) e = absurd (cc e)
@@ -83,14 +82,14 @@ stands_by deep v meant (Err e) h is = fails_on (failure_of e) (λ k x. ap standi
 
 -- ---- what is found
 
-fails : (facts : Facts) (b : Answer) (f : Failure) → FailsBy ⊤ (λ k. standing_of_answer b ≡ Erring k) f → (Erred f ≡ Erred MemoryRanOut → ⊥) → Finds facts b (Erred f)
-fails facts b (OfKind k) h keepable = h
-fails facts b LimitMet h keepable = tt
-fails facts b MemoryRanOut h keepable = keepable refl
+fails : (b : Answer) (f : Failure) → FailsBy ⊤ (λ k. standing_of_answer b ≡ Erring k) f → (Erred f ≡ Erred MemoryRanOut → ⊥) → Finds b (Erred f)
+fails b (OfKind k) h keepable = h
+fails b LimitMet h keepable = tt
+fails b MemoryRanOut h keepable = keepable refl
 
-pub finds : (facts : Facts) (b : Answer) (answer : Result (Either Bool (Expr (Unit {0}))) EvaluationError) → JudgesAt facts b answer → IsKeepable answer → Finds facts b (found_in answer)
-finds facts b (Ok e) h keepable = h
-finds facts b (Err e) h keepable = fails facts b (failure_of e) h keepable
+pub finds : (b : Answer) (answer : Result (Either Bool (Expr (Unit {0}))) EvaluationError) → JudgesAt b answer → IsKeepable answer → Finds b (found_in answer)
+finds b (Ok e) h keepable = h
+finds b (Err e) h keepable = fails b (failure_of e) h keepable
 
 same_failure : (f g : Failure) → Erred f ≡ Erred g → f ≡ g
 same_failure f g e = cc

@@ -26,12 +26,12 @@ module _ {F : Type 0} (answers : F → FunctionAnswers) (ev : Evaluator F) (t u 
   of_policy P h = subst (λ (b : Bindings). P u b) same (subst (λ (x : Tree). P x bs) is h)
 
   pub judged_so : (answer : Result PartialValue EvaluationError) (result : Result (Either Bool (Expr (Unit {0}))) EvaluationError)
-      → ((facts : Facts) → Serves answers ev facts t → MeetsAt facts ⊤ (partial_in facts (held_by ev bs) t) answer)
-      → ((facts : Facts) (b : Answer) → MeetsAt facts ⊤ b answer → JudgesAt facts b result)
-      → (facts : Facts) → Serves answers ev facts u → JudgesAt facts (partial_in facts (held_by ev cs) u) result
+      → ((facts : Facts) → Serves answers ev facts t → MeetsAt ⊤ (partial_in facts (held_by ev bs) t) answer)
+      → ((b : Answer) → MeetsAt ⊤ b answer → JudgesAt b result)
+      → (facts : Facts) → Serves answers ev facts u → JudgesAt (partial_in facts (held_by ev cs) u) result
   judged_so answer result found judged =
-      of_policy (λ x b. (facts : Facts) → Serves answers ev facts x → JudgesAt facts (partial_in facts (held_by ev b) x) result)
-      (λ facts serves. judged facts (partial_in facts (held_by ev bs) t) (found facts serves))
+      of_policy (λ x b. (facts : Facts) → Serves answers ev facts x → JudgesAt (partial_in facts (held_by ev b) x) result)
+      (λ facts serves. judged (partial_in facts (held_by ev bs) t) (found facts serves))
 
   pub limited_so : {X Y : Type 0} (answer : Result X EvaluationError) (result : Result Y EvaluationError) → (IsLimit answer → Deep answers ev (depth_of ev) t) → (IsLimit result → IsLimit answer) → IsLimit result → Deep answers ev (depth_of ev) u
   limited_so answer result deep met limit = subst (Deep answers ev (depth_of ev)) is (deep (met limit))

@@ -25,9 +25,9 @@ use Rattle.cedar_evaluator.proofs.Scoped.{right_decides, both_decided}
 
 -- ---- what the scope tells, and the clauses behind it
 
-pub told_finds : (facts : Facts) (b : Answer) (s : Bool) → b ≡ Evaluated (Plain (Boolean s)) → Finds facts b (found_by (Left s))
-told_finds facts b true h = h
-told_finds facts b false h = h
+pub told_finds : (b : Answer) (s : Bool) → b ≡ Evaluated (Plain (Boolean s)) → Finds b (found_by (Left s))
+told_finds b true h = h
+told_finds b false h = h
 
 module _ (facts : Facts) (holds : LeafAnswers) (s : grammar.Policy) where
   pub scope_decided : (o : Option Bool) (a b : Bool) → o ≡ Some a → a ≡ b → IsDecided facts holds (scope_tree s) o → partial_in facts holds (scope_tree s) ≡ Evaluated (Plain (Boolean b))
@@ -63,9 +63,9 @@ module _ {F : Type 0} (answers : F → FunctionAnswers) (ev : Evaluator F) where
     clauses_deep depth deep = subst (λ (o : Option Tree). Deep answers ev depth (with_body (scope_tree s) o)) (sym body) (deep_right depth (scope_tree s) t deep)
 
     pub clauses_found : (facts : Facts) (slots bs : Bindings) → slots ≡ bs → partial_in facts (held_by ev bs) (scope_tree s) ≡ Evaluated (Plain (Boolean true)) → (result : Result (Either Bool (Expr (Unit {0}))) EvaluationError) →
-        JudgesAt facts (last_answer (And (Lit (Boolean true))) (partial_in facts (held_by ev slots) t)) result → JudgesAt facts (partial_in facts (held_by ev bs) (condition s)) result
+        JudgesAt (last_answer (And (Lit (Boolean true))) (partial_in facts (held_by ev slots) t)) result → JudgesAt (partial_in facts (held_by ev bs) (condition s)) result
     clauses_found facts slots bs same scope result judges =
         let holds = held_by ev bs in
         let is : partial_in facts holds (condition s) ≡ last_answer (And (Lit (Boolean true))) (partial_in facts holds t) = ap (λ (o : Option Tree). partial_in facts holds (with_body (scope_tree s) o)) body ∙ right_decides facts holds (scope_tree s) t scope in
-        subst (λ (b : Answer). JudgesAt facts b result) (sym is)
-        (subst (λ (b : Bindings). JudgesAt facts (last_answer (And (Lit (Boolean true))) (partial_in facts (held_by ev b) t)) result) same judges)
+        subst (λ (b : Answer). JudgesAt b result) (sym is)
+        (subst (λ (b : Bindings). JudgesAt (last_answer (And (Lit (Boolean true))) (partial_in facts (held_by ev b) t)) result) same judges)

@@ -37,7 +37,7 @@ module _
     {F : Type 0} (answers : F → FunctionAnswers)
     (i : Inquiry) (store : Entities) (table : Table) (depth : ℕ) (ev : Evaluator F) (is : IsEvaluatorOf answers i store table depth ev)
     (p : Policy) (answer : Result (Either Bool (Expr (Unit {0}))) EvaluationError)
-    (found : (facts : Facts) → IsServed i store table depth facts (condition_of p) → JudgesAt facts (partial_in facts (request_held i (bindings_of p)) (condition_of p)) answer)
+    (found : (facts : Facts) → IsServed i store table depth facts (condition_of p) → JudgesAt (partial_in facts (request_held i (bindings_of p)) (condition_of p)) answer)
     (limit : IsLimit answer → Deep answers ev (depth_of ev) (condition_of p))
     (keepable : IsKeepable answer) where
   syntax_is : syntax_in (policy_entry p) ≡ policy_syntax p
@@ -68,7 +68,7 @@ module _
   is_kept = record {
     id = refl;
     effect = ap (λ (s : grammar.Policy). s.effect) (sym syntax_is);
-    found = λ facts served. subst (λ b. Finds facts b (found_in answer)) (answer_is facts) (finds facts _ answer (found facts (subst (IsServed i store table depth facts) condition_is served)) keepable);
+    found = λ facts served. subst (λ b. Finds b (found_in answer)) (answer_is facts) (finds _ answer (found facts (subst (IsServed i store table depth facts) condition_is served)) keepable);
     limit = λ met facts served mentions.
         let deep : depth_of ev < height (condition_of p) = limit (limit_met answer met) facts (serves facts served) (known mentions) in
         subst (λ (t : Tree). depth < height t) (sym condition_is) (subst (λ (d : ℕ). d < height (condition_of p)) is.limit deep);
@@ -85,5 +85,5 @@ pub is_kept_told : {F : Type 0} (answers : F → FunctionAnswers) (i : Inquiry) 
     → IsKept i store table depth (policy_seen p) (kept_of p (Ok (Left s)))
 is_kept_told answers i store table depth ev is p b s same told =
     is_kept answers i store table depth ev is p (Ok (Left s))
-    (λ facts served. told_finds facts _ s (told facts served.entities ∙ ap (λ x. Evaluated (Plain (Boolean x))) same))
+    (λ facts served. told_finds _ s (told facts served.entities ∙ ap (λ x. Evaluated (Plain (Boolean x))) same))
     (λ met. absurd met) (told_keepable s)

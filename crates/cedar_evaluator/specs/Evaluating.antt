@@ -35,8 +35,8 @@ found_by (Left false) = Unsatisfied
 found_by (Right rest) = Open (bare rest)
 
 -- the answer b to the condition: a Boolean, what is left of one, or an error, another value being a TypeError; the limit may be met
-abbrev pub JudgesAt : Facts → Answer → Result (Either Bool (Expr (Unit {0}))) EvaluationError → Type 0
-JudgesAt facts b result = GivesBy (λ e. Finds facts b (found_by e)) (λ k. standing_of_answer b ≡ Erring k) ⊤ result
+abbrev pub JudgesAt : Answer → Result (Either Bool (Expr (Unit {0}))) EvaluationError → Type 0
+JudgesAt b result = GivesBy (λ e. Finds b (found_by e)) (λ k. standing_of_answer b ≡ Erring k) ⊤ result
 
 -- ---- where nothing may be left
 

@@ -6,7 +6,6 @@ use Rattle.cedar_language.specs.Value.{Plain}
 use Rattle.cedar_language.specs.Facts.{Facts}
 use Rattle.cedar_language.specs.Height.{height}
 use Rattle.cedar_language.specs.Answering.{Effect, Erring}
-use Rattle.cedar_partial_evaluation.specs.Alike.{Alike}
 use Rattle.cedar_partial_evaluation.specs.Early.{standing_of_answer}
 use Rattle.cedar_partial_evaluation.specs.Mentions.{mentions_only}
 use Rattle.cedar_partial_evaluation.specs.Partial.{Answer, Evaluated, ResidualTree, partial_in}
@@ -30,13 +29,13 @@ pub data Found : Type 0 where
   Open : Tree → Found
 
 -- This was found where partial evaluation answers b; where the limit was met it says nothing of b, and want of memory is never kept.
-abbrev pub Finds : Facts → Answer → Found → Type 0
-Finds facts b Satisfied = b ≡ Evaluated (Plain (Boolean true))
-Finds facts b Unsatisfied = b ≡ Evaluated (Plain (Boolean false))
-Finds facts b (Erred (OfKind k)) = standing_of_answer b ≡ Erring k
-Finds facts b (Erred LimitMet) = ⊤
-Finds facts b (Erred MemoryRanOut) = ⊥
-Finds facts b (Open r) = (t : Tree) × (b ≡ ResidualTree t) × Alike facts r t
+abbrev pub Finds : Answer → Found → Type 0
+Finds b Satisfied = b ≡ Evaluated (Plain (Boolean true))
+Finds b Unsatisfied = b ≡ Evaluated (Plain (Boolean false))
+Finds b (Erred (OfKind k)) = standing_of_answer b ≡ Erring k
+Finds b (Erred LimitMet) = ⊤
+Finds b (Erred MemoryRanOut) = ⊥
+Finds b (Open r) = b ≡ ResidualTree r
 
 -- the entities that the slots of a policy's template are bound to
 abbrev pub bindings_in : Entry → Bindings
@@ -73,7 +72,7 @@ module _ (i : Inquiry) (store : Entities) (table : Table) (depth : ℕ) where
   pub record IsKept (e : Text × Entry) (k : Kept) : Type 0 where
     pub id : k.id ≡ e.0
     pub effect : k.effect ≡ (syntax_in e.1).effect
-    pub found : (facts : Facts) → IsServed facts (condition_in e.1) → Finds facts (policy_answer facts e.1) k.found
+    pub found : (facts : Facts) → IsServed facts (condition_in e.1) → Finds (policy_answer facts e.1) k.found
     pub limit : k.found ≡ Erred LimitMet → IsTooHigh e.1
 
   -- what is kept of each policy, one after another

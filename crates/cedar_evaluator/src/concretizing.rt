@@ -66,7 +66,7 @@ fn entry_told(
     let Some(value) = told else {
         return Ok(entry.clone(alloc)?);
     };
-    let Some(uid) = entity_of(value) else {
+    let Some(uid) = value.as_entity() else {
         return Err(not_of_kind(alloc, name, "entity", value)?);
     };
     match entry {
@@ -139,19 +139,6 @@ fn given_context(
             let existing = PartialValue::from(context.clone(alloc)?);
             Err(already_given(alloc, "context", existing, value)?)
         }
-    }
-}
-
-// The entity that a value is.
-fn entity_of(value: &Value) -> Option<&Rc<EntityUID>>
-    ensures { uid_in value.now ≡ option_map (λ uid. uid.value) (option_copied result) }
-{
-    match value.value_kind() {
-        ValueKind::Lit(literal) => match literal {
-            Literal::EntityUID(uid) => Some(uid),
-            Literal::Bool(_) | Literal::Long(_) | Literal::String(_) => None,
-        },
-        ValueKind::Set(_) | ValueKind::Record(_) | ValueKind::ExtensionValue(_) => None,
     }
 }
 

@@ -1,6 +1,6 @@
 //! One policy evaluated for a request: by `EvaluatePolicy` an `Evaluator` says whether it is satisfied, or what
 //! is left of its condition. All policies of a set together are an `Authorizer`'s to evaluate.
-ghost use Rattle.std.specs.Prelude.{◌≡◌, ◌<◌, ⊤, ℕ};
+ghost use Rattle.std.specs.Prelude.{◌<◌, ⊤, ℕ};
 ghost use Rattle.cedar_language.specs.Facts.{Facts};
 ghost use Rattle.cedar_language.specs.Value.{Outcome};
 ghost use Rattle.cedar_partial_evaluation.specs.Partial.{Answer, partial_in};
@@ -8,18 +8,16 @@ ghost use Rattle.cedar_extensions.specs.Giving.{Gives};
 ghost use Rattle.cedar_policies.specs.Policies.{bindings_of};
 ghost use Rattle.cedar_interpreter.specs.Holding.{held_by, Serves, Deep, depth_of};
 ghost use Rattle.cedar_interpreter.specs.Meeting.{MeetsAt, ValueAt, IsLimit};
-ghost use Rattle.cedar_operators.specs.Operands.{boolean_in, IsOperand};
 ghost use Rattle.cedar_evaluator.specs.Evaluating.{condition_of, JudgesAt, MeansStanding, StandsAt, StandsBy};
 
 use cedar_extensions::evaluation_error::EvaluationError;
 use cedar_extensions::objects::ExtensionFunctionObject;
 use cedar_interpreter::Evaluator;
-use cedar_literals::literals::Literal;
-use cedar_literals::types::Type;
+use cedar_operators::get_as_bool;
 use cedar_policies::policies::Policy;
 use cedar_restricted::partial_values::PartialValue;
 use cedar_trees::expr::Expr;
-use cedar_values::values::{Value, ValueKind};
+use cedar_values::values::Value;
 use either::Either;
 use std::alloc::Global;
 
@@ -48,7 +46,7 @@ impl<'s, 'e, 'f, F: ExtensionFunctionObject> EvaluatePolicy for Evaluator<'s, 'e
         alloc: Global,
         policy: &Policy,
     ) -> Result<Either<bool, Expr>, EvaluationError>
-        ensures found { (facts : Facts) → Serves F.answers self.now facts (condition_of policy.now) → JudgesAt facts (partial_in facts (held_by self.now (bindings_of policy.now)) (condition_of policy.now)) result }
+        ensures found { (facts : Facts) → Serves F.answers self.now facts (condition_of policy.now) → JudgesAt (partial_in facts (held_by self.now (bindings_of policy.now)) (condition_of policy.now)) result }
         ensures limit { IsLimit result → Deep F.answers self.now (depth_of self.now) (condition_of policy.now) }
     {
         let condition = policy.condition(alloc)?;
@@ -72,13 +70,13 @@ pub(crate) fn judged(
     alloc: Global,
     answer: Result<PartialValue, EvaluationError>,
 ) -> Result<Either<bool, Expr>, EvaluationError>
-    ensures found { (facts : Facts) (b : Answer) → MeetsAt facts ⊤ b answer → JudgesAt facts b result }
+    ensures found { (b : Answer) → MeetsAt ⊤ b answer → JudgesAt b result }
     ensures limit { IsLimit result → IsLimit answer }
 {
     match answer {
         Err(error) => Err(error),
         Ok(PartialValue::Residual(rest)) => Ok(Either::Right(rest)),
-        Ok(PartialValue::Value(value)) => match boolean(alloc, &value) {
+        Ok(PartialValue::Value(value)) => match get_as_bool(alloc, &value) {
             Ok(satisfied) => Ok(Either::Left(satisfied)),
             Err(error) => Err(error),
         },
@@ -93,28 +91,6 @@ fn tested(alloc: Global, answer: Result<Value, EvaluationError>) -> Result<bool,
 {
     match answer {
         Err(error) => Err(error),
-        Ok(value) => boolean(alloc, &value),
-    }
-}
-
-// The Boolean that a value has to be.
-fn boolean(alloc: Global, value: &Value) -> Result<bool, EvaluationError>
-    ensures { IsOperand (λ s. s) (boolean_in value.now) result }
-{
-    match as_bool(value) {
-        Some(s) => Ok(s),
-        None => Err(EvaluationError::type_error_single(alloc, Type::Bool, value)?),
-    }
-}
-
-fn as_bool(value: &Value) -> Option<bool>
-    ensures { boolean_in value.now ≡ result }
-{
-    match value.value_kind() {
-        ValueKind::Lit(literal) => match literal {
-            Literal::Bool(b) => Some(*b),
-            Literal::Long(_) | Literal::String(_) | Literal::EntityUID(_) => None,
-        },
-        ValueKind::Set(_) | ValueKind::Record(_) | ValueKind::ExtensionValue(_) => None,
+        Ok(value) => get_as_bool(alloc, &value),
     }
 }

@@ -58,7 +58,7 @@ pub(crate) fn evaluated<F: ExtensionFunctionObject>(
     policy: &Policy,
 ) -> Result<Either<bool, Expr>, EvaluationError>
     ensures found { (i : Inquiry) (store : Store) (table : Table) (depth : ℕ) → IsEvaluatorOf F.answers i store table depth evaluator.now → AreScopesOf i store scopes.now →
-        (facts : Facts) → IsServed i store table depth facts (condition_of policy.now) → JudgesAt facts (partial_in facts (request_held i (bindings_of policy.now)) (condition_of policy.now)) result }
+        (facts : Facts) → IsServed i store table depth facts (condition_of policy.now) → JudgesAt (partial_in facts (request_held i (bindings_of policy.now)) (condition_of policy.now)) result }
     ensures limit { IsLimit result → Deep F.answers evaluator.now (depth_of evaluator.now) (condition_of policy.now) }
 {
     match told(evaluator, scopes, policy) {
@@ -76,7 +76,7 @@ pub(crate) fn evaluated_in_full<F: ExtensionFunctionObject>(
     policy: &Policy,
 ) -> Result<Either<bool, Expr>, EvaluationError>
     ensures found { (i : Inquiry) (store : Store) (table : Table) (depth : ℕ) → IsEvaluatorOf F.answers i store table depth evaluator.now → AreScopesOf i store scopes.now →
-        (facts : Facts) → IsServed i store table depth facts (condition_of policy.now) → JudgesAt facts (partial_in facts (request_held i (bindings_of policy.now)) (condition_of policy.now)) result }
+        (facts : Facts) → IsServed i store table depth facts (condition_of policy.now) → JudgesAt (partial_in facts (request_held i (bindings_of policy.now)) (condition_of policy.now)) result }
     ensures limit { IsLimit result → Deep F.answers evaluator.now (depth_of evaluator.now) (condition_of policy.now) }
 {
     match scopes.hold(policy) {
@@ -91,7 +91,7 @@ fn in_scope<F: ExtensionFunctionObject>(
     evaluator: &Evaluator<'_, '_, '_, F>,
     policy: &Policy,
 ) -> Result<Either<bool, Expr>, EvaluationError>
-    ensures found { (facts : Facts) → Serves F.answers evaluator.now facts (condition_of policy.now) → partial_in facts (held_by evaluator.now (bindings_of policy.now)) (scope_tree (policy_syntax policy.now)) ≡ Evaluated (Plain (Boolean true)) → JudgesAt facts (partial_in facts (held_by evaluator.now (bindings_of policy.now)) (condition_of policy.now)) result }
+    ensures found { (facts : Facts) → Serves F.answers evaluator.now facts (condition_of policy.now) → partial_in facts (held_by evaluator.now (bindings_of policy.now)) (scope_tree (policy_syntax policy.now)) ≡ Evaluated (Plain (Boolean true)) → JudgesAt (partial_in facts (held_by evaluator.now (bindings_of policy.now)) (condition_of policy.now)) result }
     ensures limit { IsLimit result → Deep F.answers evaluator.now (depth_of evaluator.now) (condition_of policy.now) }
 {
     match policy.non_scope_constraints() {

@@ -2,13 +2,10 @@
 use Rattle.std.proofs.Common.{◌≡◌, ◌∙◌, refl, ap, sym, subst, List, map, false, Global}
 use Rattle.std.specs.Prelude.{Result}
 use Rattle.std.specs.declared.rc.RcStr.{RcStr}
-use Rattle.either.specs.declared.Either.{Either}
-use Rattle.either.specs.declared.Either.TheVariants.{Left, Right}
 use Rattle.cedar_language.specs.Tree.{Tree, Apply, Trees}
 use Rattle.cedar_language.specs.Value.{Value, RecordOf}
 use Rattle.cedar_language.specs.Facts.{Facts}
 use Rattle.cedar_language.specs.Order.{all_of}
-use Rattle.cedar_partial_evaluation.specs.Alike.{Same, itself}
 use Rattle.cedar_partial_evaluation.specs.Partial.{LeafAnswers, partial_in}
 use Rattle.cedar_grammar.specs.Build.{keys}
 use Rattle.cedar_literals.specs.Operators.{unary_operator_of, binary_operator_of}
@@ -22,7 +19,7 @@ use Rattle.cedar_trees.specs.declared.expr.Expr.{Expr}
 use Rattle.cedar_restricted.proofs.Rising.{texts, keys_are}
 use Rattle.cedar_restricted.specs.declared.partial_values.PartialValue.{PartialValue}
 use Rattle.cedar_extensions.specs.declared.evaluation_error.EvaluationError.{EvaluationError}
-use Rattle.cedar_interpreter.specs.Meeting.{part_answer, MeetsAt}
+use Rattle.cedar_interpreter.specs.Meeting.{MeetsAt}
 use Rattle.cedar_interpreter.specs.Forms.{is_of_list}
 
 -- an operator of one operand, or of two, is no call, set or record
@@ -50,12 +47,5 @@ keyed_value entries made items ks is = ap (λ ks. RecordOf ks (values_of made)) 
 
 -- ---- leaves
 
-same_answer : (facts : Facts) (p : Either Value Tree) → Same facts (part_answer p) (part_answer p)
-same_answer facts (Left v) = refl
-same_answer facts (Right r) = (r, refl, itself)
-
-pub same_part : (facts : Facts) (p q : Either Value Tree) → p ≡ q → Same facts (part_answer p) (part_answer q)
-same_part facts p q is = subst (λ x. Same facts (part_answer p) (part_answer x)) is (same_answer facts p)
-
-pub leaf_as : (facts : Facts) (holds : LeafAnswers) (t u : Tree) (r : Result PartialValue EvaluationError) → t ≡ u → MeetsAt facts ⊥ (partial_in facts holds u) r → MeetsAt facts ⊥ (partial_in facts holds t) r
-leaf_as facts holds t u r is h = subst (λ x. MeetsAt facts ⊥ (partial_in facts holds x) r) (sym is) h
+pub leaf_as : (facts : Facts) (holds : LeafAnswers) (t u : Tree) (r : Result PartialValue EvaluationError) → t ≡ u → MeetsAt ⊥ (partial_in facts holds u) r → MeetsAt ⊥ (partial_in facts holds t) r
+leaf_as facts holds t u r is h = subst (λ x. MeetsAt ⊥ (partial_in facts holds x) r) (sym is) h

@@ -1,18 +1,17 @@
 -- Records that are left, and the entries that are projected of them.
-use Rattle.std.proofs.Common.{◌≡◌, ◌∙◌, refl, ap, sym, subst, List, [], ◌∷◌, map, Bool, true, false, Global}
+use Rattle.std.proofs.Common.{◌≡◌, ◌∙◌, refl, ap, subst, List, [], ◌∷◌, map, Bool, true, false, Global}
 use Rattle.std.specs.Prelude.{Option, Some, None, cond, ◌&&◌, option_map, is_some}
 use Rattle.std.specs.BTreeMap.{is_at}
 use Rattle.std.specs.Cmp.Lexicographic.{nat_list_eq_equiv, texts_ties}
 use Rattle.std.specs.Map.{lookup}
 use Rattle.std.specs.Rc.{rc_str_bytes}
 use Rattle.std.specs.declared.rc.RcStr.{RcStr}
-use Rattle.cedar_language.specs.Uid.{Text, Name}
-use Rattle.cedar_language.specs.Tree.{Boolean, GetAttr, HasAttr, Call, MakeSet, MakeRecord, Operator, Tree, Lit, Var, Unknown, Apply, Trees, no_trees, a_tree}
+use Rattle.cedar_language.specs.Uid.{Text}
+use Rattle.cedar_language.specs.Tree.{Boolean, GetAttr, HasAttr, MakeSet, MakeRecord, Tree, Lit, Var, Unknown, Apply, Trees, no_trees, a_tree}
 use Rattle.cedar_language.specs.Facts.{Facts}
 use Rattle.cedar_language.specs.Order.{same_text, text_cmp}
 use Rattle.cedar_language.specs.Restricted.{is_projectable, are_projectable}
 use Rattle.cedar_language.specs.Value.{Plain, RecordAttrDoesNotExist}
-use Rattle.cedar_partial_evaluation.specs.Alike.{Alike, itself, differing, if_alike, and_alike, or_alike, apply_alike, AllAlike, none_alike, more_alike}
 use Rattle.cedar_partial_evaluation.specs.Partial.{Evaluated, ResidualTree, Failed, LeafAnswers, projected_in, found_tree, entry_answer, attribute_answer, has_entry_answer, has_answer}
 use Rattle.cedar_partial_evaluation.specs.ReadUnknowns.{calls_unknown, some_calls_unknown}
 use Rattle.cedar_grammar.specs.Build.{trees, keys}
@@ -24,28 +23,6 @@ and_true true b h = (refl, h)
 and_true false b h = cc
 
 -- ---- trees that may be projected
-
--- such a tree is like itself alone
-module _ (facts : Facts) where
-  inside : (op : Operator) (ts : Trees) → is_projectable (Apply op ts) ≡ true → are_projectable ts ≡ true
-  inside MakeSet ts h = h
-  inside (MakeRecord ks) ts h = h
-  inside _ ts h = cc
-
-  mutual
-    pub one_alike : {s t : Tree} → Alike facts s t → is_projectable s ≡ true → s ≡ t
-    one_alike itself p = refl
-    one_alike (differing d) p = absurd d
-    one_alike (if_alike h i j) p = cc
-    one_alike (and_alike h i) p = cc
-    one_alike (or_alike h i) p = cc
-    one_alike (apply_alike {op} {ts} {us} h) p = ap (Apply op) (all_one_alike h (inside op ts p))
-
-    all_one_alike : {ts us : Trees} → AllAlike facts ts us → are_projectable ts ≡ true → ts ≡ us
-    all_one_alike none_alike p = refl
-    all_one_alike (more_alike {t} {u} {ts} {us} h i) p =
-        let both = and_true (is_projectable t) (are_projectable ts) p in
-        rw (one_alike h both.0, all_one_alike i both.1) refl
 
 -- nothing is called in it
 mutual

@@ -1,8 +1,8 @@
 -- What is served and how deep it is, from a construct to its parts.
 use Rattle.std.proofs.Common.{◌≡◌, ◌∙◌, ℕ, ◌<◌, ◌+◌, refl, ap, sym, subst, List, [], ◌∷◌, ◌++◌, append_assoc, length-append, length, suc, map, arith, Bool, true, false, true≢false}
 use Rattle.std.proofs.Common.{inl, inr}
-use Rattle.std.proofs.lemmas.List.{append-nil}
-use Rattle.std.specs.Prelude.{⊤, ◌⊎◌, ◌&&◌, ◌||◌}
+use Rattle.std.proofs.lemmas.List.{append-nil, map-append}
+use Rattle.std.specs.Prelude.{⊤, ◌⊎◌, ◌&&◌, ◌||◌, Result}
 use Rattle.either.specs.declared.Either.{Either}
 use Rattle.either.specs.declared.Either.TheVariants.{Left, Right}
 use Rattle.cedar_language.specs.Tree.{Operator, Tree, Lit, Var, Slot, Unknown, If, And, Or, Apply, Trees, no_trees, a_tree}
@@ -10,7 +10,7 @@ use Rattle.cedar_language.specs.Value.{Value, Kind}
 use Rattle.cedar_language.specs.Facts.{Facts}
 use Rattle.cedar_language.specs.Height.{height, heights}
 use Rattle.cedar_language.specs.Restricted.{is_projectable}
-use Rattle.cedar_partial_evaluation.specs.Alike.{Same, gathered}
+use Rattle.cedar_partial_evaluation.specs.Alike.{gathered}
 use Rattle.cedar_partial_evaluation.specs.Leaves.{is_left, KnownIsNeverLeft}
 use Rattle.cedar_partial_evaluation.specs.Mentions.{mentions_only, all_mention_only}
 use Rattle.cedar_partial_evaluation.specs.Partial.{Answer, Evaluated, ResidualTree, Failed, SomeFailed, and_next, answer_of, LeafAnswers, apply_answer, partial_in, all_partial_in}
@@ -22,16 +22,19 @@ use Rattle.cedar_constraints.specs.Bindings.{Bindings, binding_of}
 use Rattle.cedar_grammar.specs.Build.{trees}
 use Rattle.cedar_shapes.specs.Parts.{listed, parts}
 use Rattle.cedar_restricted.specs.Splitting.{is_residual}
+use Rattle.cedar_restricted.specs.declared.partial_values.PartialValue.{PartialValue}
 use Rattle.cedar_extensions.specs.Answering.{FunctionAnswers}
 use Rattle.cedar_extensions.specs.Failures.{Failure}
 use Rattle.cedar_extensions.specs.Giving.{FailsBy, fails_on}
 use Rattle.cedar_extensions.specs.Table.{as_table}
+use Rattle.cedar_extensions.specs.declared.evaluation_error.EvaluationError.{EvaluationError}
 use Rattle.cedar_interpreter.specs.Forms.{is_of_list}
 use Rattle.cedar_interpreter.specs.Holding.{held_by, variable_held, Serves, ServesEach, is_evaluated, is_held, Deep, DeepEach}
-use Rattle.cedar_interpreter.specs.Meeting.{part_answer, SameEach}
+use Rattle.cedar_interpreter.specs.Meeting.{part_answer, MeetsAt}
 use Rattle.cedar_interpreter.specs.Operating.{NamesNothing, operated}
 use Rattle.cedar_interpreter.specs.declared.evaluator.Evaluator.{Evaluator}
 use Rattle.cedar_interpreter.proofs.Gathering.{fails_behind, gathered_all}
+use Rattle.cedar_interpreter.proofs.Steps.{meets_anyhow}
 use Rattle.cedar_interpreter.proofs.Projecting.{projectable_calls}
 
 and_left : (a b : Bool) → (a && b) ≡ true → a ≡ true
@@ -185,13 +188,13 @@ slot_known : (o : Option Uid) → is_left (answer_of (slot_outcome o)) ≡ false
 slot_known (Some u) = refl
 slot_known None = refl
 
-residual_left : (facts : Facts) (p : Either Value Tree) (b : Answer) → is_residual p ≡ true → Same facts (part_answer p) b → is_left b ≡ true
-residual_left facts (Left v) b h s = cc
-residual_left facts (Right r) b h s = ap is_left s.1
+residual_left : (p : Either Value Tree) → is_residual p ≡ true → is_left (part_answer p) ≡ true
+residual_left (Left v) h = cc
+residual_left (Right r) h = refl
 
-pub never_left : {F : Type 0} → KnownIsNeverLeft → (ev : Evaluator F) (slots : Bindings) (facts : Facts) (t : Tree) (p : Either Value Tree) → mentions_only (is_held ev) true t ≡ true → is_residual p ≡ true → Same facts (part_answer p) (partial_in facts (held_by ev slots) t) → ⊥
+pub never_left : {F : Type 0} → KnownIsNeverLeft → (ev : Evaluator F) (slots : Bindings) (facts : Facts) (t : Tree) (p : Either Value Tree) → mentions_only (is_held ev) true t ≡ true → is_residual p ≡ true → partial_in facts (held_by ev slots) t ≡ part_answer p → ⊥
 never_left known ev slots facts t p m h s =
-    true≢false (sym (residual_left facts p (partial_in facts (held_by ev slots) t) h s)
+    true≢false (sym (ap is_left s ∙ residual_left p h)
     ∙ known facts (is_held ev) true (held_by ev slots) (record { variable = λ v k. held_known (variable_held ev v) k; slot = λ i k. slot_known (binding_of slots i) }) t m)
 
 -- ---- calls, sets and records
@@ -201,7 +204,7 @@ listed_again no_trees = refl
 listed_again (a_tree t ts) = ap (a_tree t) (listed_again ts)
 
 module _ (facts : Facts) (holds : LeafAnswers) where
-  pub list_is : (t : Tree) → is_of_list t ≡ true → operated facts holds t (gathered facts (map (partial_in facts holds) (parts t))) ≡ partial_in facts holds t
+  list_is : (t : Tree) → is_of_list t ≡ true → operated facts holds t (gathered facts (map (partial_in facts holds) (parts t))) ≡ partial_in facts holds t
   list_is (Apply op ts) s = ap (apply_answer facts holds op) (gathered_all facts holds (listed ts) ∙ ap (all_partial_in facts holds) (listed_again ts))
   list_is (Lit l) s = cc
   list_is (Var v) s = cc
@@ -210,6 +213,11 @@ module _ (facts : Facts) (holds : LeafAnswers) where
   list_is (If t y n) s = cc
   list_is (And l r) s = cc
   list_is (Or l r) s = cc
+
+  pub list_meets : (t : Tree) → is_of_list t ≡ true → (ps : List (Either Value Tree)) (r : Result PartialValue EvaluationError) → map (partial_in facts holds) (parts t) ≡ map part_answer ps →
+      MeetsAt ⊥ (operated facts holds t (gathered facts (map part_answer ps))) r → MeetsAt ⊤ (partial_in facts holds t) r
+  list_meets t s ps r found h =
+      meets_anyhow r _ (subst (λ b. MeetsAt ⊥ b r) (ap (λ bs. operated facts holds t (gathered facts bs)) (sym found) ∙ list_is t s) h)
 
   pub list_fails : (t : Tree) (k : Kind) → is_of_list t ≡ true → gathered facts (map (partial_in facts holds) (parts t)) ≡ SomeFailed k → partial_in facts holds t ≡ Failed k
   list_fails (Apply op ts) k s h = sym (list_is (Apply op ts) s) ∙ ap (apply_answer facts holds op) h
@@ -239,21 +247,24 @@ list_deep answers ev depth (Or l q) s d = cc
 -- these parts are answered, and those are to come
 pub record Goes {F : Type 0} (answers : F → FunctionAnswers) (ev : Evaluator F) (slots : Bindings) (depth : ℕ) (rest : List Tree) (done : List (Either Value Tree)) (all : List Tree) : Type 0 where
   pub serves : (facts : Facts) → ServesEach answers ev facts all → ServesEach answers ev facts rest
-  pub same : (facts : Facts) → ServesEach answers ev facts all → (ps : List (Either Value Tree)) → SameEach facts ps (map (partial_in facts (held_by ev slots)) rest) → SameEach facts (done ++ ps) (map (partial_in facts (held_by ev slots)) all)
-  pub fails : (facts : Facts) → ServesEach answers ev facts all → (k : Kind) → gathered facts (map (partial_in facts (held_by ev slots)) rest) ≡ SomeFailed k → gathered facts (map (partial_in facts (held_by ev slots)) all) ≡ SomeFailed k
+  pub found : (facts : Facts) → ServesEach answers ev facts all → map (partial_in facts (held_by ev slots)) all ≡ map part_answer done ++ map (partial_in facts (held_by ev slots)) rest
   pub deep : DeepEach answers ev depth rest → DeepEach answers ev depth all
   pub count : length all ≡ length done + length rest
 
 module _ {F : Type 0} (answers : F → FunctionAnswers) (ev : Evaluator F) (slots : Bindings) (depth : ℕ) where
   pub goes_first : (all : List Tree) → Goes answers ev slots depth all [] all
-  goes_first all = record { serves = λ facts s. s; same = λ facts s ps h. h; fails = λ facts s k h. h; deep = λ d. d; count = omega arith }
+  goes_first all = record { serves = λ facts s. s; found = λ facts s. refl; deep = λ d. d; count = omega arith }
 
   module _ (later all : List Tree) (t : Tree) (done : List (Either Value Tree)) (goes : Goes answers ev slots depth (t ∷ later) done all) where
-    pub goes_next : (p : Either Value Tree) → ((facts : Facts) → Serves answers ev facts t → Same facts (part_answer p) (partial_in facts (held_by ev slots) t)) → Goes answers ev slots depth later (done ++ p ∷ []) all
+    pub goes_next : (p : Either Value Tree) → ((facts : Facts) → Serves answers ev facts t → partial_in facts (held_by ev slots) t ≡ part_answer p) → Goes answers ev slots depth later (done ++ p ∷ []) all
     goes_next p found = record {
       serves = λ facts s. (goes.serves facts s).1;
-      same = λ facts s ps h. subst (λ qs. SameEach facts qs (map (partial_in facts (held_by ev slots)) all)) (sym (append_assoc done (p ∷ []) ps)) (goes.same facts s (p ∷ ps) (found facts (goes.serves facts s).0, h));
-      fails = λ facts s k e. goes.fails facts s k (fails_behind facts p (partial_in facts (held_by ev slots) t) (map (partial_in facts (held_by ev slots)) later) k (found facts (goes.serves facts s).0) e);
+      found = λ facts s.
+          let others = map (partial_in facts (held_by ev slots)) later in
+          goes.found facts s
+          ∙ ap (λ b. map part_answer done ++ b ∷ others) (found facts (goes.serves facts s).0)
+          ∙ sym (append_assoc (map part_answer done) (part_answer p ∷ []) others)
+          ∙ ap (λ bs. bs ++ others) (sym (map-append part_answer done (p ∷ [])));
       deep = λ d. goes.deep (later_deep answers ev depth t later d);
       count = omega (arith, goes.count, length-append done (p ∷ []));
     }
@@ -261,15 +272,17 @@ module _ {F : Type 0} (answers : F → FunctionAnswers) (ev : Evaluator F) (slot
     pub goes_fails : (f : Failure) (facts : Facts) → ServesEach answers ev facts all → (Serves answers ev facts t → FailsBy ⊤ (λ k. partial_in facts (held_by ev slots) t ≡ Failed k) f) → FailsBy ⊤ (λ k. gathered facts (map (partial_in facts (held_by ev slots)) all) ≡ SomeFailed k) f
     goes_fails f facts s h =
         fails_on f
-        (λ k e. goes.fails facts s k (ap (λ a. and_next facts a (gathered facts (map (partial_in facts (held_by ev slots)) later))) e))
+        (λ k e.
+        ap (gathered facts) (goes.found facts s)
+        ∙ fails_behind facts done (map (partial_in facts (held_by ev slots)) (t ∷ later)) k (ap (λ a. and_next facts a (gathered facts (map (partial_in facts (held_by ev slots)) later))) e))
         (λ d. d) (h (goes.serves facts s).0)
 
     pub goes_deep : Deep answers ev depth t → DeepEach answers ev depth all
     goes_deep d = goes.deep (first_deep answers ev depth t later d)
 
   module _ (all : List Tree) (done : List (Either Value Tree)) (goes : Goes answers ev slots depth [] done all) where
-    pub goes_end : (facts : Facts) → ServesEach answers ev facts all → SameEach facts done (map (partial_in facts (held_by ev slots)) all)
-    goes_end facts s = subst (λ ps. SameEach facts ps (map (partial_in facts (held_by ev slots)) all)) (append-nil done) (goes.same facts s [] tt)
+    pub goes_end : (facts : Facts) → ServesEach answers ev facts all → map (partial_in facts (held_by ev slots)) all ≡ map part_answer done
+    goes_end facts s = goes.found facts s ∙ append-nil (map part_answer done)
 
     pub goes_count : length done ≡ length all
     goes_count = omega (arith, goes.count)
@@ -279,7 +292,7 @@ module _ {F : Type 0} (answers : F → FunctionAnswers) (ev : Evaluator F) (slot
     goes_cut : Goes answers ev slots depth (t ∷ later) done all
     goes_cut = subst (λ r. Goes answers ev slots depth r done all) cut goes
 
-    pub goes_on : (p : Either Value Tree) (more : List (Either Value Tree)) → ((facts : Facts) → Serves answers ev facts t → Same facts (part_answer p) (partial_in facts (held_by ev slots) t)) → more ≡ done ++ p ∷ [] → Goes answers ev slots depth later more all
+    pub goes_on : (p : Either Value Tree) (more : List (Either Value Tree)) → ((facts : Facts) → Serves answers ev facts t → partial_in facts (held_by ev slots) t ≡ part_answer p) → more ≡ done ++ p ∷ [] → Goes answers ev slots depth later more all
     goes_on p more found is = subst (λ m. Goes answers ev slots depth later m all) (sym is) (goes_next later all t done goes_cut p found)
 
     pub cut_fails : (f : Failure) (facts : Facts) → ServesEach answers ev facts all → (Serves answers ev facts t → FailsBy ⊤ (λ k. partial_in facts (held_by ev slots) t ≡ Failed k) f) → FailsBy ⊤ (λ k. gathered facts (map (partial_in facts (held_by ev slots)) all) ≡ SomeFailed k) f
@@ -289,7 +302,7 @@ module _ {F : Type 0} (answers : F → FunctionAnswers) (ev : Evaluator F) (slot
     cut_deep = goes_deep later all t done goes_cut
 
   module _ (rest all : List Tree) (done : List (Either Value Tree)) (goes : Goes answers ev slots depth rest done all) (none : rest ≡ []) where
-    pub ends : (facts : Facts) → ServesEach answers ev facts all → SameEach facts done (map (partial_in facts (held_by ev slots)) all)
+    pub ends : (facts : Facts) → ServesEach answers ev facts all → map (partial_in facts (held_by ev slots)) all ≡ map part_answer done
     ends = goes_end all done (subst (λ r. Goes answers ev slots depth r done all) none goes)
 
     pub ends_count : length done ≡ length all

@@ -1,5 +1,5 @@
 -- From the answers of parts to the answer of a construct.
-use Rattle.std.proofs.Common.{◌≡◌, ◌∙◌, refl, ap, sym, subst, Bool, true, false}
+use Rattle.std.proofs.Common.{◌≡◌, ◌∙◌, refl, ap, sym, subst, true, false}
 use Rattle.std.specs.Prelude.{⊤, Result, Ok, Err}
 use Rattle.std.specs.Result.{IsErr, IsErrAnd}
 use Rattle.either.specs.declared.Either.{Either}
@@ -7,10 +7,9 @@ use Rattle.either.specs.declared.Either.TheVariants.{Left, Right}
 use Rattle.cedar_language.specs.Tree.{Boolean, Tree}
 use Rattle.cedar_language.specs.Value.{Value, Plain, Kind}
 use Rattle.cedar_language.specs.Facts.{Facts}
-use Rattle.cedar_partial_evaluation.specs.Alike.{Alike, Same}
 use Rattle.cedar_partial_evaluation.specs.Partial.{Answer, Evaluated, ResidualTree, Failed, best_effort, last_answer, and_answer, or_answer, if_answer}
 use Rattle.cedar_restricted.specs.PartialValues.{PartExpresses}
-use Rattle.cedar_interpreter.proofs.Gathering.{writes_alike}
+use Rattle.cedar_interpreter.proofs.Gathering.{written}
 use Rattle.cedar_restricted.specs.declared.partial_values.PartialValue.{PartialValue}
 use Rattle.cedar_extensions.specs.Failures.{Failure, OfKind, LimitMet, MemoryRanOut, failure_of}
 use Rattle.cedar_extensions.specs.Giving.{FailsBy, GivesBy, fails_on}
@@ -28,17 +27,16 @@ pub limit_passed : {X : Type 0} (b : EvaluationError) (result : Result X Evaluat
 limit_passed b (Ok x) err h = absurd h
 limit_passed b (Err y) err h = ap failure_of (sym err.1) ∙ h
 
-module _ (facts : Facts) where
-  pub meets_as : (result : Result PartialValue EvaluationError) (a b : Answer) → a ≡ b → MeetsAt facts ⊤ b result → MeetsAt facts ⊤ a result
-  meets_as result a b is h = subst (λ c. MeetsAt facts ⊤ c result) (sym is) h
+pub meets_as : (result : Result PartialValue EvaluationError) (a b : Answer) → a ≡ b → MeetsAt ⊤ b result → MeetsAt ⊤ a result
+meets_as result a b is h = subst (λ c. MeetsAt ⊤ c result) (sym is) h
 
-  pub meets_anyhow : (r : Result PartialValue EvaluationError) (b : Answer) → MeetsAt facts ⊥ b r → MeetsAt facts ⊤ b r
-  meets_anyhow (Ok p) b h = h
-  meets_anyhow (Err e) b h = fails_on (failure_of e) (λ k s. s) (λ d. tt) h
+pub meets_anyhow : (r : Result PartialValue EvaluationError) (b : Answer) → MeetsAt ⊥ b r → MeetsAt ⊤ b r
+meets_anyhow (Ok p) b h = h
+meets_anyhow (Err e) b h = fails_on (failure_of e) (λ k s. s) (λ d. tt) h
 
-pub never_limit : (facts : Facts) (b : Answer) (r : Result PartialValue EvaluationError) → MeetsAt facts ⊥ b r → IsLimit r → ⊥
-never_limit facts b (Ok p) h l = l
-never_limit facts b (Err e) h l = subst (λ f. FailsBy ⊥ (λ k. b ≡ Failed k) f) l h
+pub never_limit : (b : Answer) (r : Result PartialValue EvaluationError) → MeetsAt ⊥ b r → IsLimit r → ⊥
+never_limit b (Ok p) h l = l
+never_limit b (Err e) h l = subst (λ f. FailsBy ⊥ (λ k. b ≡ Failed k) f) l h
 
 -- ---- what is tested
 
@@ -83,16 +81,12 @@ last_tests f (Failed k) = refl
 pub last_as : (f : Tree → Tree) (y c : Answer) → tested_answer y ≡ c → last_answer f y ≡ last_answer f c
 last_as f y c h = last_tests f y ∙ ap (last_answer f) h
 
--- a Boolean that is made
-pub boolean_same : (facts : Facts) (a b : Answer) (t : Bool) → a ≡ Evaluated (Plain (Boolean t)) → b ≡ Evaluated (Plain (Boolean t)) → Same facts a b
-boolean_same facts a b t is also = subst (λ x. Same facts x b) (sym is) also
-
 -- ---- what writes a value, and best effort
 
 module _ (facts : Facts) where
-  pub effort_found : (p : Either Value Tree) (y : Answer) (e t : Tree) → Same facts (part_answer p) y → PartExpresses p e → Alike facts e (best_effort facts y t)
-  effort_found (Left v) y e t s w = subst (λ x. Alike facts e (best_effort facts x t)) (sym s) (writes_alike facts v e w)
-  effort_found (Right r) y e t s w = subst (λ x. Alike facts e (best_effort facts x t)) (sym s.1) (subst (λ x. Alike facts x s.0) (sym w) s.2)
+  pub effort_found : (p : Either Value Tree) (e t : Tree) → PartExpresses p e → e ≡ best_effort facts (part_answer p) t
+  effort_found (Left v) e t w = written facts v e w
+  effort_found (Right r) e t w = w
 
   pub effort_kept : (f : Failure) (y : Answer) (t : Tree) → is_passed_up f ≡ false → FailsBy ⊤ (λ k. y ≡ Failed k) f → best_effort facts y t ≡ t
   effort_kept (OfKind k) y t n h = ap (λ x. best_effort facts x t) h
@@ -104,8 +98,3 @@ pub effort_handed : (f : Failure) (y : Answer) → is_passed_up f ≡ true → F
 effort_handed (OfKind k) y n h = cc
 effort_handed LimitMet y n h = tt
 effort_handed MemoryRanOut y n h = tt
-
--- ---- what is made of residuals
-
-pub residual_made : (facts : Facts) (p : Either Value Tree) (e u t : Tree) → p ≡ Right e → e ≡ u → Alike facts u t → Same facts (part_answer p) (ResidualTree t)
-residual_made facts p e u t is made like = subst (λ x. Same facts (part_answer x) (ResidualTree t)) (sym (is ∙ ap Right made)) (t, refl, like)

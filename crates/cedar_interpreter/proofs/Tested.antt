@@ -6,7 +6,8 @@ use Rattle.cedar_language.specs.Value.{Value, Kind, Plain, SetOf, RecordOf, Exte
 use Rattle.cedar_partial_evaluation.specs.Partial.{Answer, Evaluated, Failed}
 use Rattle.cedar_extensions.specs.Failures.{Failure, OfKind}
 use Rattle.cedar_extensions.specs.Giving.{FailsBy}
-use Rattle.cedar_interpreter.specs.Meeting.{tested_answer, boolean_in}
+use Rattle.cedar_values.specs.Readers.{boolean_in}
+use Rattle.cedar_interpreter.specs.Meeting.{tested_answer}
 
 other_value : (v : Value) → boolean_in v ≡ None → tested_answer (Evaluated v) ≡ Failed TypeError
 other_value (Plain (Boolean x)) e = absurd (cc e)

@@ -1,13 +1,12 @@
 -- What the code answers, against an answer of partial evaluation at given facts.
-use Rattle.std.specs.Prelude.{◌≡◌, ◌⊎◌, ⊤, Bool, true, false, Option, Some, None, List, [], ◌∷◌, map, Result, Ok, Err}
+use Rattle.std.specs.Prelude.{◌≡◌, ◌⊎◌, ⊤, Bool, true, false, List, map, Result, Ok, Err}
 use Rattle.std.specs.Global.{Vec}
 use Rattle.std.specs.declared.alloc.Global.{Global}
 use Rattle.std.specs.declared.rc.Rc.{Rc}
-use Rattle.either.specs.declared.Either.{Either}
 use Rattle.cedar_language.specs.Tree.{Boolean, Tree}
 use Rattle.cedar_language.specs.Value.{Value, Plain, NonValue}
 use Rattle.cedar_language.specs.Facts.{Facts}
-use Rattle.cedar_partial_evaluation.specs.Alike.{Alike, Same, gathered}
+use Rattle.cedar_partial_evaluation.specs.Alike.{gathered}
 use Rattle.cedar_partial_evaluation.specs.Leaves.{is_left}
 use Rattle.cedar_partial_evaluation.specs.Partial.{Answer, Evaluated, ResidualTree, Failed, SomeFailed, last_answer}
 use Rattle.cedar_trees.specs.Bare.{bare}
@@ -27,8 +26,8 @@ IsLimit (Ok x) = ⊥
 IsLimit (Err e) = failure_of e ≡ LimitMet
 
 -- the answer b; the limit may be met where the evaluation is deep
-abbrev pub MeetsAt : Facts → Type 0 → Answer → Result PartialValue EvaluationError → Type 0
-MeetsAt facts deep b result = GivesBy (λ p. Same facts (part_answer (partial_of p)) b) (λ k. b ≡ Failed k) deep result
+abbrev pub MeetsAt : Type 0 → Answer → Result PartialValue EvaluationError → Type 0
+MeetsAt deep b result = GivesBy (λ p. b ≡ part_answer (partial_of p)) (λ k. b ≡ Failed k) deep result
 
 -- the value that the answer b is, its error, or `NonValue` where something is left
 abbrev pub ValueAt : Type 0 → Answer → Result Value EvaluationError → Type 0
@@ -37,40 +36,29 @@ ValueAt deep b result =
 
 -- ---- answers one after another
 
--- each is the answer at its place
-abbrev pub SameEach : Facts → List (Either Value Tree) → List Answer → Type 0
-SameEach facts [] [] = ⊤
-SameEach facts (p ∷ ps) (b ∷ bs) = Same facts (part_answer p) b × SameEach facts ps bs
-SameEach facts ps bs = ⊥
-
 -- all of these answers, or the first error among them
 abbrev pub MeetEachAt : Facts → List Answer → Result (Vec PartialValue) EvaluationError → Type 0
-MeetEachAt facts bs result = GivesBy (λ ps. SameEach facts (map partial_of ps.items) bs) (λ k. gathered facts bs ≡ SomeFailed k) ⊤ result
+MeetEachAt facts bs result = GivesBy (λ ps. bs ≡ map part_answer (map partial_of ps.items)) (λ k. gathered facts bs ≡ SomeFailed k) ⊤ result
 
 -- ---- operands that are tested
-
--- the Boolean that a value is
-abbrev pub boolean_in : Value → Option Bool
-boolean_in (Plain (Boolean b)) = Some b
-boolean_in v = None
 
 -- a Boolean, what is left of one, or an error
 abbrev pub tested_answer : Answer → Answer
 tested_answer b = last_answer (λ r. r) b
 
-abbrev pub IsTested : Facts → Answer → Tested → Type 0
-IsTested facts c tested.No = c ≡ Evaluated (Plain (Boolean false))
-IsTested facts c tested.Yes = c ≡ Evaluated (Plain (Boolean true))
-IsTested facts c (tested.Open rest) = (t : Tree) × (c ≡ ResidualTree t) × Alike facts (bare rest) t
+abbrev pub IsTested : Answer → Tested → Type 0
+IsTested c tested.No = c ≡ Evaluated (Plain (Boolean false))
+IsTested c tested.Yes = c ≡ Evaluated (Plain (Boolean true))
+IsTested c (tested.Open rest) = c ≡ ResidualTree (bare rest)
 
-abbrev pub TestsAt : Facts → Answer → Result Tested EvaluationError → Type 0
-TestsAt facts c result = GivesBy (IsTested facts c) (λ k. c ≡ Failed k) ⊤ result
+abbrev pub TestsAt : Answer → Result Tested EvaluationError → Type 0
+TestsAt c result = GivesBy (IsTested c) (λ k. c ≡ Failed k) ⊤ result
 
 -- ---- best effort
 
 -- an operand in best effort never errs, the limit and want of memory aside
-abbrev pub EffortAt : Facts → Tree → Result (Rc (Expr (Unit {0})) Global) EvaluationError → Type 0
-EffortAt facts t result = GivesBy (λ e. Alike facts (bare e.value) t) (λ k. ⊥) ⊤ result
+abbrev pub EffortAt : Tree → Result (Rc (Expr (Unit {0})) Global) EvaluationError → Type 0
+EffortAt t result = GivesBy (λ e. bare e.value ≡ t) (λ k. ⊥) ⊤ result
 
 -- these are no errors of an operand, and are handed on
 abbrev pub is_passed_up : Failure → Bool

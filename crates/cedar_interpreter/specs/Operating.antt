@@ -12,6 +12,7 @@ use Rattle.cedar_literals.specs.declared.operators.BinaryOp.{BinaryOp}
 use Rattle.cedar_literals.specs.declared.operators.BinaryOp.TheVariants.{Eq}
 use Rattle.cedar_partial_evaluation.specs.ReadUnknowns.{calls_unknown}
 use Rattle.cedar_extensions.specs.Table.{Table}
+pub use Rattle.cedar_extensions.specs.Table.{HasFunctions}
 
 -- the construct of a tree at these values, where it is an operator
 abbrev pub applied_in : Facts → Tree → Values → Outcome
@@ -36,10 +37,6 @@ operated facts holds t bs = ResidualTree t
 -- no call of the function by which an unknown is named, where the table has it
 abbrev pub NamesNothing : Table → Tree → Type 0
 NamesNothing table t = (table.has_unknown && calls_unknown t) ≡ false
-
--- the functions are those of the table
-abbrev pub HasFunctions : Table → Facts → Type 0
-HasFunctions table facts = (n : Name) → facts.function n ≡ table.function n
 
 -- the name of a type of entities
 abbrev pub entity_type_in : Option ValueType → Option Name

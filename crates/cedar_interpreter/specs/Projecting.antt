@@ -6,7 +6,6 @@ use Rattle.cedar_language.specs.Tree.{GetAttr, Tree, Apply, no_trees, a_tree}
 use Rattle.cedar_language.specs.Value.{Value}
 use Rattle.cedar_language.specs.Facts.{Facts}
 use Rattle.cedar_language.specs.Restricted.{is_projectable}
-use Rattle.cedar_partial_evaluation.specs.Alike.{Same}
 use Rattle.cedar_partial_evaluation.specs.Partial.{Answer, ResidualTree, Failed, LeafAnswers, projected_in, attribute_answer, partial_in}
 use Rattle.cedar_trees.specs.Bare.{bare}
 use Rattle.cedar_trees.specs.declared.expr.Expr.{Expr}
@@ -20,7 +19,7 @@ use Rattle.cedar_interpreter.specs.declared.attributes.Projected.TheVariants as 
 
 -- an answer, or an entry of a residual that is to be evaluated again; nothing is called in it
 abbrev pub IsProjected : Facts → LeafAnswers → Either Value Tree → Answer → Projected → Type 0
-IsProjected facts holds part c (projected.Done p) = Same facts (part_answer (partial_of p)) c
+IsProjected facts holds part c (projected.Done p) = c ≡ part_answer (partial_of p)
 IsProjected facts holds part c (projected.Entry e) = (c ≡ partial_in facts holds (bare e)) × (is_residual part ≡ true) × (is_projectable (bare e) ≡ true)
 
 abbrev pub ProjectsAt : Facts → LeafAnswers → Either Value Tree → Answer → Result Projected EvaluationError → Type 0

@@ -16,10 +16,10 @@ use Rattle.cedar_entities.specs.Held.{Held, held_of}
 use Rattle.cedar_entities.specs.Store.{held_at}
 use Rattle.cedar_entities.specs.declared.store.Entities.{Entities}
 use Rattle.cedar_operators.specs.Hierarchy.{is_within_entity}
-use Rattle.cedar_operators.specs.Operands.{uid_in}
 use Rattle.cedar_operators.specs.Store.{HasFacts}
 use Rattle.cedar_restricted.specs.PartialValues.{partial_of}
 use Rattle.cedar_restricted.specs.declared.partial_values.PartialValue.{PartialValue}
+use Rattle.cedar_values.specs.Readers.{uid_in}
 use Rattle.cedar_interpreter.specs.declared.evaluator.Seen.{Seen}
 use Rattle.cedar_interpreter.specs.declared.evaluator.Variables.{Variables}
 

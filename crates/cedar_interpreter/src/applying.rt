@@ -39,7 +39,7 @@ use std::rc::{Rc, RcStr};
 
 /// A value as an answer.
 pub(crate) fn known(value: Result<Value, EvaluationError>) -> Result<PartialValue, EvaluationError>
-    ensures { (facts : Facts) (o : Outcome) → Gives (λ v. v) ⊥ value o → MeetsAt facts ⊥ (answer_of o) result }
+    ensures { (o : Outcome) → Gives (λ v. v) ⊥ value o → MeetsAt ⊥ (answer_of o) result }
 {
     Ok(PartialValue::from(value?))
 }
@@ -49,7 +49,7 @@ fn open_or(
     left: Option<PartialValue>,
     found: Result<Value, EvaluationError>,
 ) -> Result<PartialValue, EvaluationError>
-    ensures { (facts : Facts) (o : Outcome) → left ≡ None → Gives (λ v. v) ⊥ found o → MeetsAt facts ⊥ (answer_of o) result }
+    ensures { (o : Outcome) → left ≡ None → Gives (λ v. v) ⊥ found o → MeetsAt ⊥ (answer_of o) result }
 {
     match left {
         Some(rest) => Ok(rest),
@@ -66,7 +66,7 @@ pub(crate) fn apply_to_one(
     loc: Option<&Loc>,
     entities: &Entities,
 ) -> Result<PartialValue, EvaluationError>
-    ensures { (facts : Facts) → HasFacts entities.now facts → MeetsAt facts ⊥ (answer_of (applied facts (unary_operator op.entry) (one value))) result }
+    ensures { (facts : Facts) → HasFacts entities.now facts → MeetsAt ⊥ (answer_of (applied facts (unary_operator op.entry) (one value))) result }
 {
     match op {
         UnaryOperator::Applied(op) => known(unary_app(alloc, op, value, loc)),
@@ -96,7 +96,7 @@ pub(crate) fn apply_to_two<F>(
     entities: &Entities,
     extensions: &Extensions<'_, F>,
 ) -> Result<PartialValue, EvaluationError>
-    ensures { (facts : Facts) → HasFacts entities.now facts → MeetsAt facts ⊥ (answer_of (applied facts (binary_operator_of op) (two left right))) result }
+    ensures { (facts : Facts) → HasFacts entities.now facts → MeetsAt ⊥ (answer_of (applied facts (binary_operator_of op) (two left right))) result }
 {
     match op {
         BinaryOp::Eq => known(binary_relation(alloc, op, &left, &right, extensions)),
@@ -136,7 +136,7 @@ pub(crate) fn apply_to_list<F: ExtensionFunctionObject>(
     requires list { is_of_list (bare expr.now) ≡ true }
     requires count { length values.items ≡ length (parts_of (bare expr.now)) }
     ensures { (facts : Facts) → HasFunctions (as_table F.answers extensions.now) facts → NamesNothing (as_table F.answers extensions.now) (bare expr.now) →
-        MeetsAt facts ⊥ (answer_of (applied_in facts (bare expr.now) (all_of values.items))) result }
+        MeetsAt ⊥ (answer_of (applied_in facts (bare expr.now) (all_of values.items))) result }
 {
     match &expr.expr_kind {
         ExprKind::ExtensionFunctionApp { fn_name, .. } => {

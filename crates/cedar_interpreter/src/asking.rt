@@ -83,7 +83,7 @@ impl<'s, 'e, 'f, F: ExtensionFunctionObject> Evaluator<'s, 'e, 'f, F> {
         expr: &Expr,
         slots: &SlotEnv,
     ) -> Result<PartialValue, EvaluationError>
-        ensures found { (facts : Facts) → Serves F.answers self.now facts (bare expr.now) → MeetsAt facts ⊤ (partial_in facts (held_by self.now slots.now) (bare expr.now)) result }
+        ensures found { (facts : Facts) → Serves F.answers self.now facts (bare expr.now) → MeetsAt ⊤ (partial_in facts (held_by self.now slots.now) (bare expr.now)) result }
         ensures limit { IsLimit result → Deep F.answers self.now (depth_of self.now) (bare expr.now) }
     {
         self.interpret_within(alloc, expr, slots, self.depth)
@@ -112,7 +112,7 @@ fn value_of(
     alloc: Global,
     answer: Result<PartialValue, EvaluationError>,
 ) -> Result<Value, EvaluationError>
-    ensures found { (facts : Facts) (b : Answer) → MeetsAt facts ⊤ b answer → ValueAt ⊤ b result }
+    ensures found { (b : Answer) → MeetsAt ⊤ b answer → ValueAt ⊤ b result }
     ensures limit { IsLimit result → IsLimit answer }
 {
     match answer {

@@ -7,7 +7,6 @@ ghost use Rattle.cedar_language.specs.Tree.{Tree};
 ghost use Rattle.cedar_language.specs.Operators.{applied};
 ghost use Rattle.cedar_language.specs.Value as language;
 ghost use Rattle.cedar_language.specs.Value.{no_values, RecordAttrDoesNotExist};
-ghost use Rattle.cedar_partial_evaluation.specs.Alike.{Same};
 ghost use Rattle.cedar_partial_evaluation.specs.Partial.{Answer, AllEvaluated, LeafAnswers, answer_of, and_next, apply_answer};
 ghost use Rattle.cedar_trees.specs.Bare.{bare};
 ghost use Rattle.cedar_restricted.specs.PartialValues.{partial_of};
@@ -24,7 +23,7 @@ use cedar_entities::store::Entities;
 use cedar_extensions::evaluation_error::EvaluationError;
 use cedar_names::places::Loc;
 use cedar_operators::get_attr;
-use cedar_partial_evaluation::{likeness_is_kept, projecting_is_evaluating};
+use cedar_partial_evaluation::projecting_is_evaluating;
 use cedar_restricted::partial_values::PartialValue;
 use cedar_shapes::readers::ExprReaders;
 use cedar_trees::expr::{Expr, ExprKind};
@@ -50,10 +49,9 @@ pub(crate) fn attribute(
     loc: Option<&Loc>,
     entities: &Entities,
 ) -> Result<Projected, EvaluationError>
-    ensures { (facts : Facts) → HasFacts entities.now facts → (holds : LeafAnswers) (b : Answer) → Same facts (part_answer (partial_of part)) b →
-        ProjectsAt facts holds (partial_of part) (apply_answer facts holds (tree.GetAttr (rc_str_bytes attr.now)) (and_next facts b (AllEvaluated no_values))) result }
+    ensures { (facts : Facts) → HasFacts entities.now facts → (holds : LeafAnswers) →
+        ProjectsAt facts holds (partial_of part) (apply_answer facts holds (tree.GetAttr (rc_str_bytes attr.now)) (and_next facts (part_answer (partial_of part)) (AllEvaluated no_values))) result }
 {
-    likeness_is_kept();
     projecting_is_evaluating();
     match part {
         PartialValue::Value(value) => attribute_of_value(alloc, value, attr, loc, entities),
@@ -80,7 +78,7 @@ fn attribute_of_value(
 }
 
 fn done(answer: Result<PartialValue, EvaluationError>) -> Result<Projected, EvaluationError>
-    ensures { (facts : Facts) (holds : LeafAnswers) (part : Either language.Value Tree) (c : Answer) → MeetsAt facts ⊥ c answer → ProjectsAt facts holds part c result }
+    ensures { (facts : Facts) (holds : LeafAnswers) (part : Either language.Value Tree) (c : Answer) → MeetsAt ⊥ c answer → ProjectsAt facts holds part c result }
 {
     Ok(Projected::Done(answer?))
 }

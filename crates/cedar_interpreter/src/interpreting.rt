@@ -40,7 +40,7 @@ impl<'s, 'e, 'f, F: ExtensionFunctionObject> Evaluator<'s, 'e, 'f, F> {
         slots: &SlotEnv,
         depth: u32,
     ) -> Result<PartialValue, EvaluationError>
-        ensures found { (facts : Facts) → Serves F.answers self.now facts (bare expr.now) → MeetsAt facts ⊤ (partial_in facts (held_by self.now slots.now) (bare expr.now)) result }
+        ensures found { (facts : Facts) → Serves F.answers self.now facts (bare expr.now) → MeetsAt ⊤ (partial_in facts (held_by self.now slots.now) (bare expr.now)) result }
         ensures limit { IsLimit result → Deep F.answers self.now depth (bare expr.now) }
     {
         at_place(alloc, self.interpret_form(alloc, expr, slots, depth), expr)
@@ -55,7 +55,7 @@ impl<'s, 'e, 'f, F: ExtensionFunctionObject> Evaluator<'s, 'e, 'f, F> {
         slots: &SlotEnv,
         depth: u32,
     ) -> Result<PartialValue, EvaluationError>
-        ensures found { (facts : Facts) → Serves F.answers self.now facts (bare expr.now) → MeetsAt facts ⊤ (partial_in facts (held_by self.now slots.now) (bare expr.now)) result }
+        ensures found { (facts : Facts) → Serves F.answers self.now facts (bare expr.now) → MeetsAt ⊤ (partial_in facts (held_by self.now slots.now) (bare expr.now)) result }
         ensures limit { IsLimit result → Deep F.answers self.now depth (bare expr.now) }
     {
         let Some(below) = depth.checked_sub(1) else {
@@ -89,7 +89,7 @@ impl<'s, 'e, 'f, F: ExtensionFunctionObject> Evaluator<'s, 'e, 'f, F> {
         slots: &SlotEnv,
         depth: u32,
     ) -> Result<PartialValue, EvaluationError>
-        ensures found { (facts : Facts) → Serves F.answers self.now facts (tree.If (bare test.now) (bare yes.now.value) (bare no.now.value)) → MeetsAt facts ⊤ (partial_in facts (held_by self.now slots.now) (tree.If (bare test.now) (bare yes.now.value) (bare no.now.value))) result }
+        ensures found { (facts : Facts) → Serves F.answers self.now facts (tree.If (bare test.now) (bare yes.now.value) (bare no.now.value)) → MeetsAt ⊤ (partial_in facts (held_by self.now slots.now) (tree.If (bare test.now) (bare yes.now.value) (bare no.now.value))) result }
         ensures limit { IsLimit result → Deep F.answers self.now (suc depth) (tree.If (bare test.now) (bare yes.now.value) (bare no.now.value)) }
     {
         match test_answer(alloc, self.interpret_within(alloc, test, slots, depth))? {
@@ -113,7 +113,7 @@ impl<'s, 'e, 'f, F: ExtensionFunctionObject> Evaluator<'s, 'e, 'f, F> {
         slots: &SlotEnv,
         depth: u32,
     ) -> Result<PartialValue, EvaluationError>
-        ensures found { (facts : Facts) → Serves F.answers self.now facts (tree.And (bare left.now) (bare right.now.value)) → MeetsAt facts ⊤ (partial_in facts (held_by self.now slots.now) (tree.And (bare left.now) (bare right.now.value))) result }
+        ensures found { (facts : Facts) → Serves F.answers self.now facts (tree.And (bare left.now) (bare right.now.value)) → MeetsAt ⊤ (partial_in facts (held_by self.now slots.now) (tree.And (bare left.now) (bare right.now.value))) result }
         ensures limit { IsLimit result → Deep F.answers self.now (suc depth) (tree.And (bare left.now) (bare right.now.value)) }
     {
         match test_answer(alloc, self.interpret_within(alloc, left, slots, depth))? {
@@ -136,7 +136,7 @@ impl<'s, 'e, 'f, F: ExtensionFunctionObject> Evaluator<'s, 'e, 'f, F> {
         slots: &SlotEnv,
         depth: u32,
     ) -> Result<PartialValue, EvaluationError>
-        ensures found { (facts : Facts) → Serves F.answers self.now facts (tree.Or (bare left.now) (bare right.now.value)) → MeetsAt facts ⊤ (partial_in facts (held_by self.now slots.now) (tree.Or (bare left.now) (bare right.now.value))) result }
+        ensures found { (facts : Facts) → Serves F.answers self.now facts (tree.Or (bare left.now) (bare right.now.value)) → MeetsAt ⊤ (partial_in facts (held_by self.now slots.now) (tree.Or (bare left.now) (bare right.now.value))) result }
         ensures limit { IsLimit result → Deep F.answers self.now (suc depth) (tree.Or (bare left.now) (bare right.now.value)) }
     {
         match test_answer(alloc, self.interpret_within(alloc, left, slots, depth))? {
@@ -160,7 +160,7 @@ impl<'s, 'e, 'f, F: ExtensionFunctionObject> Evaluator<'s, 'e, 'f, F> {
         slots: &SlotEnv,
         depth: u32,
     ) -> Result<PartialValue, EvaluationError>
-        ensures found { (facts : Facts) → Serves F.answers self.now facts (unary (tree.GetAttr (rc_str_bytes attr.now)) (bare of.now)) → MeetsAt facts ⊤ (partial_in facts (held_by self.now slots.now) (unary (tree.GetAttr (rc_str_bytes attr.now)) (bare of.now))) result }
+        ensures found { (facts : Facts) → Serves F.answers self.now facts (unary (tree.GetAttr (rc_str_bytes attr.now)) (bare of.now)) → MeetsAt ⊤ (partial_in facts (held_by self.now slots.now) (unary (tree.GetAttr (rc_str_bytes attr.now)) (bare of.now))) result }
         ensures limit { IsLimit result → Deep F.answers self.now (suc depth) (unary (tree.GetAttr (rc_str_bytes attr.now)) (bare of.now)) }
     {
         known_is_never_left();
@@ -181,7 +181,7 @@ impl<'s, 'e, 'f, F: ExtensionFunctionObject> Evaluator<'s, 'e, 'f, F> {
         depth: u32,
     ) -> Result<PartialValue, EvaluationError>
         requires { IsOperands (bare expr.now) operands }
-        ensures found { (facts : Facts) → Serves F.answers self.now facts (bare expr.now) → MeetsAt facts ⊤ (partial_in facts (held_by self.now slots.now) (bare expr.now)) result }
+        ensures found { (facts : Facts) → Serves F.answers self.now facts (bare expr.now) → MeetsAt ⊤ (partial_in facts (held_by self.now slots.now) (bare expr.now)) result }
         ensures limit { IsLimit result → Deep F.answers self.now (suc depth) (bare expr.now) }
     {
         match operands {

@@ -2,12 +2,11 @@
 ghost use Rattle.std.specs.Prelude.{◌≡◌, ⊤, true, false, ◌⊎◌};
 ghost use Rattle.cedar_language.specs.Facts.{Facts};
 ghost use Rattle.cedar_language.specs.Tree as tree;
-ghost use Rattle.cedar_language.specs.Tree.{Tree, Lit, Boolean};
+ghost use Rattle.cedar_language.specs.Tree.{Lit, Boolean};
 ghost use Rattle.cedar_partial_evaluation.specs.Partial.{Answer, ResidualTree, last_answer, best_effort as effort};
 ghost use Rattle.cedar_extensions.specs.Failures.{failure_of};
 ghost use Rattle.cedar_trees.specs.Bare.{bare};
-ghost use Rattle.cedar_partial_evaluation.specs.Alike.{Alike};
-ghost use Rattle.cedar_interpreter.specs.Meeting.{MeetsAt, TestsAt, EffortAt, IsLimit, tested_answer, boolean_in, is_passed_up};
+ghost use Rattle.cedar_interpreter.specs.Meeting.{MeetsAt, TestsAt, EffortAt, IsLimit, tested_answer, is_passed_up};
 
 use crate::nodes::{both_true, one_true, truth};
 use cedar_extensions::evaluation_error::EvaluationError;
@@ -17,7 +16,6 @@ use cedar_literals::types::Type;
 use cedar_names::conversions::FromIn;
 use cedar_restricted::partial_values::PartialValue;
 use cedar_trees::expr::Expr;
-use cedar_values::values::{Value, ValueKind};
 use std::alloc::Global;
 use std::rc::Rc;
 
@@ -32,31 +30,18 @@ pub(crate) enum Tested {
     Open(Expr),
 }
 
-/// The Boolean that a value is.
-pub(crate) fn as_bool(value: &Value) -> Option<bool>
-    ensures { boolean_in value.now ≡ result }
-{
-    match value.value_kind() {
-        ValueKind::Lit(literal) => match literal {
-            Literal::Bool(b) => Some(*b),
-            Literal::Long(_) | Literal::String(_) | Literal::EntityUID(_) => None,
-        },
-        ValueKind::Set(_) | ValueKind::Record(_) | ValueKind::ExtensionValue(_) => None,
-    }
-}
-
 /// Tests an answer, which must be Boolean.
 pub(crate) fn test_answer(
     alloc: Global,
     answer: Result<PartialValue, EvaluationError>,
 ) -> Result<Tested, EvaluationError>
-    ensures found { (facts : Facts) (b : Answer) → MeetsAt facts ⊤ b answer → TestsAt facts (tested_answer b) result }
+    ensures found { (b : Answer) → MeetsAt ⊤ b answer → TestsAt (tested_answer b) result }
     ensures limit { IsLimit result → IsLimit answer }
 {
     match answer {
         Err(error) => Err(error),
         Ok(PartialValue::Residual(rest)) => Ok(Tested::Open(rest)),
-        Ok(PartialValue::Value(value)) => match as_bool(&value) {
+        Ok(PartialValue::Value(value)) => match value.as_bool() {
             Some(true) => Ok(Tested::Yes),
             Some(false) => Ok(Tested::No),
             None => Err(EvaluationError::type_error_single(alloc, Type::Bool, &value)?),
@@ -69,7 +54,7 @@ pub fn last_of_and(
     alloc: Global,
     answer: Result<PartialValue, EvaluationError>,
 ) -> Result<PartialValue, EvaluationError>
-    ensures found { (facts : Facts) (y : Answer) → MeetsAt facts ⊤ y answer → MeetsAt facts ⊤ (last_answer (tree.And (Lit (Boolean true))) y) result }
+    ensures found { (y : Answer) → MeetsAt ⊤ y answer → MeetsAt ⊤ (last_answer (tree.And (Lit (Boolean true))) y) result }
     ensures limit { IsLimit result → IsLimit answer }
 {
     match test_answer(alloc, answer)? {
@@ -88,7 +73,7 @@ pub(crate) fn last_of_or(
     alloc: Global,
     answer: Result<PartialValue, EvaluationError>,
 ) -> Result<PartialValue, EvaluationError>
-    ensures found { (facts : Facts) (y : Answer) → MeetsAt facts ⊤ y answer → MeetsAt facts ⊤ (last_answer (tree.Or (Lit (Boolean false))) y) result }
+    ensures found { (y : Answer) → MeetsAt ⊤ y answer → MeetsAt ⊤ (last_answer (tree.Or (Lit (Boolean false))) y) result }
     ensures limit { IsLimit result → IsLimit answer }
 {
     match test_answer(alloc, answer)? {
@@ -131,7 +116,7 @@ fn best_effort(
     answer: Result<PartialValue, EvaluationError>,
     original: &Rc<Expr>,
 ) -> Result<Rc<Expr>, EvaluationError>
-    ensures found { (facts : Facts) (y : Answer) → MeetsAt facts ⊤ y answer → EffortAt facts (effort facts y (bare original.now.value)) result }
+    ensures found { (facts : Facts) (y : Answer) → MeetsAt ⊤ y answer → EffortAt (effort facts y (bare original.now.value)) result }
     ensures limit { IsLimit result → IsLimit answer }
 {
     match answer {
@@ -153,8 +138,8 @@ pub(crate) fn open_and(
     answer: Result<PartialValue, EvaluationError>,
     original: &Rc<Expr>,
 ) -> Result<PartialValue, EvaluationError>
-    ensures found { (facts : Facts) (t : Tree) (y : Answer) → Alike facts (bare rest) t → MeetsAt facts ⊤ y answer →
-        MeetsAt facts ⊤ (ResidualTree (tree.And t (effort facts y (bare original.now.value)))) result }
+    ensures found { (facts : Facts) (y : Answer) → MeetsAt ⊤ y answer →
+        MeetsAt ⊤ (ResidualTree (tree.And (bare rest) (effort facts y (bare original.now.value)))) result }
     ensures limit { IsLimit result → IsLimit answer }
 {
     let right = best_effort(alloc, answer, original)?;
@@ -169,8 +154,8 @@ pub(crate) fn open_or(
     answer: Result<PartialValue, EvaluationError>,
     original: &Rc<Expr>,
 ) -> Result<PartialValue, EvaluationError>
-    ensures found { (facts : Facts) (t : Tree) (y : Answer) → Alike facts (bare rest) t → MeetsAt facts ⊤ y answer →
-        MeetsAt facts ⊤ (ResidualTree (tree.Or t (effort facts y (bare original.now.value)))) result }
+    ensures found { (facts : Facts) (y : Answer) → MeetsAt ⊤ y answer →
+        MeetsAt ⊤ (ResidualTree (tree.Or (bare rest) (effort facts y (bare original.now.value)))) result }
     ensures limit { IsLimit result → IsLimit answer }
 {
     let right = best_effort(alloc, answer, original)?;
@@ -187,8 +172,8 @@ pub(crate) fn open_if(
     no: Result<PartialValue, EvaluationError>,
     no_original: &Rc<Expr>,
 ) -> Result<PartialValue, EvaluationError>
-    ensures found { (facts : Facts) (t : Tree) (y z : Answer) → Alike facts (bare rest) t → MeetsAt facts ⊤ y yes → MeetsAt facts ⊤ z no →
-        MeetsAt facts ⊤ (ResidualTree (tree.If t (effort facts y (bare yes_original.now.value)) (effort facts z (bare no_original.now.value)))) result }
+    ensures found { (facts : Facts) (y z : Answer) → MeetsAt ⊤ y yes → MeetsAt ⊤ z no →
+        MeetsAt ⊤ (ResidualTree (tree.If (bare rest) (effort facts y (bare yes_original.now.value)) (effort facts z (bare no_original.now.value)))) result }
     ensures limit { IsLimit result → IsLimit yes ⊎ IsLimit no }
 {
     let then_expr = best_effort(alloc, yes, yes_original)?;

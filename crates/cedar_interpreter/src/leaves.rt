@@ -39,7 +39,7 @@ impl<'s, 'e, 'f, F> Evaluator<'s, 'e, 'f, F> {
         slots: &SlotEnv,
     ) -> Result<PartialValue, EvaluationError>
         requires { is_leaf (bare expr.now) ≡ true }
-        ensures { (facts : Facts) → MeetsAt facts ⊥ (partial_in facts (held_by self.now slots.now) (bare expr.now)) result }
+        ensures { (facts : Facts) → MeetsAt ⊥ (partial_in facts (held_by self.now slots.now) (bare expr.now)) result }
     {
         match &expr.expr_kind {
             ExprKind::Lit(literal) => Ok(PartialValue::from(Value::from(literal.clone()?))),
@@ -91,7 +91,7 @@ fn unknown(
     told: Option<&HashMap<RcStr, Value>>,
     unknown: &Unknown,
 ) -> Result<PartialValue, EvaluationError>
-    ensures { (facts : Facts) → MeetsAt facts ⊥ (name_held (value_told told.entry (unknown_name unknown.now)) (unknown_name unknown.now) (unknown_type unknown.now)) result }
+    ensures { MeetsAt ⊥ (name_held (value_told told.entry (unknown_name unknown.now)) (unknown_name unknown.now) (unknown_type unknown.now)) result }
 {
     match value_for(told, unknown) {
         Some(value) => typed(alloc, value, unknown),
@@ -111,7 +111,7 @@ fn value_for<'s>(told: Option<&'s HashMap<RcStr, Value>>, unknown: &Unknown) -> 
 
 // A value for an unknown. It errs with `TypeError` where the unknown states another type.
 fn typed(alloc: Global, value: &Value, unknown: &Unknown) -> Result<PartialValue, EvaluationError>
-    ensures { (facts : Facts) → MeetsAt facts ⊥ (value_held (fits (unknown_type unknown.now) value.now) value.now) result }
+    ensures { MeetsAt ⊥ (value_held (fits (unknown_type unknown.now) value.now) value.now) result }
 {
     match &unknown.type_annotation {
         Some(expected) => {
@@ -127,7 +127,7 @@ fn typed(alloc: Global, value: &Value, unknown: &Unknown) -> Result<PartialValue
 
 // The entity that a slot is bound to. It errs with `UnlinkedSlot` where it isn't bound.
 fn bound(alloc: Global, slots: &SlotEnv, slot: &SlotId) -> Result<PartialValue, EvaluationError>
-    ensures { (facts : Facts) → MeetsAt facts ⊥ (answer_of (slot_outcome (binding_of slots.now slot.now))) result }
+    ensures { MeetsAt ⊥ (answer_of (slot_outcome (binding_of slots.now slot.now))) result }
 {
     match slots.get(slot) {
         Some(uid) => {

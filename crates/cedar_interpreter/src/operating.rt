@@ -1,10 +1,10 @@
 // Constructs at the answers of their parts: what they give for the parts' values where all are values, and
 // else what is left of them.
-ghost use Rattle.std.specs.Prelude.{◌≡◌, true, List, map, length};
+ghost use Rattle.std.specs.Prelude.{◌≡◌, true, map, length};
 ghost use Rattle.cedar_language.specs.Facts.{Facts};
 ghost use Rattle.cedar_language.specs.Value.{no_values};
-ghost use Rattle.cedar_partial_evaluation.specs.Alike.{Same, gathered};
-ghost use Rattle.cedar_partial_evaluation.specs.Partial.{Answer, AllEvaluated, LeafAnswers, and_next, apply_answer};
+ghost use Rattle.cedar_partial_evaluation.specs.Alike.{gathered};
+ghost use Rattle.cedar_partial_evaluation.specs.Partial.{AllEvaluated, LeafAnswers, and_next, apply_answer};
 ghost use Rattle.cedar_literals.specs.Operators.{binary_operator_of};
 ghost use Rattle.cedar_shapes.specs.Parts.{parts as parts_of};
 ghost use Rattle.cedar_trees.specs.Bare.{bare};
@@ -12,7 +12,7 @@ ghost use Rattle.cedar_restricted.specs.PartialValues.{partial_of};
 ghost use Rattle.cedar_extensions.specs.Table.{as_table};
 ghost use Rattle.cedar_operators.specs.Store.{HasFacts};
 ghost use Rattle.cedar_interpreter.specs.Forms.{unary_operator, is_of_list};
-ghost use Rattle.cedar_interpreter.specs.Meeting.{MeetsAt, SameEach, part_answer};
+ghost use Rattle.cedar_interpreter.specs.Meeting.{MeetsAt, part_answer};
 ghost use Rattle.cedar_interpreter.specs.Operating.{operated, NamesNothing, HasFunctions};
 
 use crate::applying::{apply_to_list, apply_to_one, apply_to_two};
@@ -25,7 +25,7 @@ use cedar_extensions::objects::ExtensionFunctionObject;
 use cedar_literals::operators::BinaryOp;
 use cedar_names::conversions::FromIn;
 use cedar_names::places::Loc;
-use cedar_partial_evaluation::{gathered_splits, likeness_is_kept};
+use cedar_partial_evaluation::gathered_splits;
 use cedar_restricted::partial_values::PartialValue;
 use cedar_restricted::split::split;
 use cedar_trees::expr::Expr;
@@ -40,10 +40,9 @@ pub(crate) fn operate_on_one(
     loc: Option<&Loc>,
     entities: &Entities,
 ) -> Result<PartialValue, EvaluationError>
-    ensures { (facts : Facts) → HasFacts entities.now facts → (holds : LeafAnswers) (b : Answer) → Same facts (part_answer (partial_of part)) b →
-        MeetsAt facts ⊥ (apply_answer facts holds (unary_operator op.entry) (and_next facts b (AllEvaluated no_values))) result }
+    ensures { (facts : Facts) → HasFacts entities.now facts → (holds : LeafAnswers) →
+        MeetsAt ⊥ (apply_answer facts holds (unary_operator op.entry) (and_next facts (part_answer (partial_of part)) (AllEvaluated no_values))) result }
 {
-    likeness_is_kept();
     match part {
         PartialValue::Value(value) => apply_to_one(alloc, op, value, loc, entities),
         PartialValue::Residual(rest) => Ok(wait_for_one(alloc, op, rest)?),
@@ -60,11 +59,10 @@ pub(crate) fn operate_on_two<F>(
     entities: &Entities,
     extensions: &Extensions<'_, F>,
 ) -> Result<PartialValue, EvaluationError>
-    ensures { (facts : Facts) → HasFacts entities.now facts → (holds : LeafAnswers) (b c : Answer) → Same facts (part_answer (partial_of left)) b → Same facts (part_answer (partial_of right)) c →
-        MeetsAt facts ⊥ (apply_answer facts holds (binary_operator_of op) (and_next facts b (and_next facts c (AllEvaluated no_values)))) result }
+    ensures { (facts : Facts) → HasFacts entities.now facts → (holds : LeafAnswers) →
+        MeetsAt ⊥ (apply_answer facts holds (binary_operator_of op) (and_next facts (part_answer (partial_of left)) (and_next facts (part_answer (partial_of right)) (AllEvaluated no_values)))) result }
 {
     gathered_splits();
-    likeness_is_kept();
     match left {
         PartialValue::Residual(left) => {
             let right = Expr::from_in(alloc, right)?;
@@ -92,11 +90,10 @@ pub(crate) fn operate_on_list<F: ExtensionFunctionObject>(
     requires list { is_of_list (bare expr.now) ≡ true }
     requires count { length parts.items ≡ length (parts_of (bare expr.now)) }
     ensures { (facts : Facts) → HasFunctions (as_table F.answers extensions.now) facts → NamesNothing (as_table F.answers extensions.now) (bare expr.now) →
-        (holds : LeafAnswers) (bs : List Answer) → SameEach facts (map partial_of parts.items) bs →
-        MeetsAt facts ⊥ (operated facts holds (bare expr.now) (gathered facts bs)) result }
+        (holds : LeafAnswers) →
+        MeetsAt ⊥ (operated facts holds (bare expr.now) (gathered facts (map part_answer (map partial_of parts.items)))) result }
 {
     gathered_splits();
-    likeness_is_kept();
     match split(alloc, parts)? {
         Either::Left(values) => apply_to_list(alloc, expr, values, extensions),
         Either::Right(exprs) => Ok(wait_for_list(alloc, expr, exprs)?),

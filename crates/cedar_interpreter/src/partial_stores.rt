@@ -1,9 +1,7 @@
 // What a store doesn't know: entities that a partial store doesn't hold, and attributes and tags of which a
 // residual is left. What looks for these stays a residual. A store that has facts knows all.
 ghost use Rattle.std.specs.Prelude.{◌≡◌, None, false, IfOk, IfSome};
-ghost use Rattle.std.specs.Option.{option_map, option_copied};
 ghost use Rattle.cedar_language.specs.Facts.{Facts};
-ghost use Rattle.cedar_operators.specs.Operands.{uid_in};
 ghost use Rattle.cedar_operators.specs.Store.{HasFacts};
 ghost use Rattle.cedar_restricted.specs.PartialValues.{partial_of};
 ghost use Rattle.cedar_restricted.specs.Splitting.{is_residual};
@@ -11,16 +9,14 @@ ghost use Rattle.cedar_restricted.specs.Splitting.{is_residual};
 use crate::attributes::Projected;
 use cedar_entities::store::{Dereference, Entities};
 use cedar_extensions::evaluation_error::EvaluationError;
-use cedar_literals::literals::Literal;
 use cedar_literals::operators::BinaryOp;
-use cedar_literals::uids::EntityUID;
 use cedar_names::conversions::FromIn;
 use cedar_restricted::partial_values::PartialValue;
 use cedar_trees::expr::Expr;
 use cedar_trees::unknowns::NonEmpty;
 use cedar_values::values::{Value, ValueKind};
 use std::alloc::{AllocError, Global};
-use std::rc::{Rc, RcStr};
+use std::rc::RcStr;
 
 // Whether an operator says that what it looks up isn't known.
 fn is_unknown(found: &Result<Value, EvaluationError>) -> bool {
@@ -30,35 +26,11 @@ fn is_unknown(found: &Result<Value, EvaluationError>) -> bool {
     }
 }
 
-/// The entity that a value is.
-pub(crate) fn uid(value: &Value) -> Option<&Rc<EntityUID>>
-    ensures { uid_in value.now ≡ option_map (λ uid. uid.value) (option_copied result) }
-{
-    match value.value_kind() {
-        ValueKind::Lit(literal) => match literal {
-            Literal::EntityUID(uid) => Some(uid),
-            Literal::Bool(_) | Literal::Long(_) | Literal::String(_) => None,
-        },
-        ValueKind::Set(_) | ValueKind::Record(_) | ValueKind::ExtensionValue(_) => None,
-    }
-}
-
-// The text that a value is.
-fn text(value: &Value) -> Option<&RcStr> {
-    match value.value_kind() {
-        ValueKind::Lit(literal) => match literal {
-            Literal::String(text) => Some(text),
-            Literal::Bool(_) | Literal::Long(_) | Literal::EntityUID(_) => None,
-        },
-        ValueKind::Set(_) | ValueKind::Record(_) | ValueKind::ExtensionValue(_) => None,
-    }
-}
-
 // The unknown that stands for an entity which a partial store doesn't hold; refused for memory alone.
 fn unheld(alloc: Global, entities: &Entities, value: &Value) -> Result<Option<Expr>, AllocError>
     ensures { (facts : Facts) → HasFacts entities.now facts → IfOk result (λ unknown. unknown ≡ None) }
 {
-    match uid(value) {
+    match value.as_entity() {
         Some(uid) => match entities.entity(alloc, uid)? {
             Dereference::Residual(unknown) => Ok(Some(unknown)),
             Dereference::NoSuchEntity => Ok(None),
@@ -72,7 +44,7 @@ fn unheld(alloc: Global, entities: &Entities, value: &Value) -> Result<Option<Ex
 fn attribute_of<'a>(entities: &'a Entities, of: &Value, attr: &str) -> Option<&'a PartialValue>
     ensures { (facts : Facts) → HasFacts entities.now facts → IfSome result (λ part. is_residual (partial_of part.now) ≡ false) }
 {
-    let uid = uid(of)?;
+    let uid = of.as_entity()?;
     let entity = entities.get(uid)?;
     entity.get(attr)
 }
@@ -81,9 +53,9 @@ fn attribute_of<'a>(entities: &'a Entities, of: &Value, attr: &str) -> Option<&'
 fn tag_of<'a>(entities: &'a Entities, of: &Value, tag: &Value) -> Option<&'a PartialValue>
     ensures { (facts : Facts) → HasFacts entities.now facts → IfSome result (λ part. is_residual (partial_of part.now) ≡ false) }
 {
-    let uid = uid(of)?;
+    let uid = of.as_entity()?;
     let entity = entities.get(uid)?;
-    let tag = text(tag)?;
+    let tag = tag.as_string()?;
     entity.get_tag(tag.as_str())
 }
 

@@ -1,6 +1,5 @@
 // Places of answers.
 ghost use Rattle.std.specs.Prelude.{⊤};
-ghost use Rattle.cedar_language.specs.Facts.{Facts};
 ghost use Rattle.cedar_partial_evaluation.specs.Partial.{Answer};
 ghost use Rattle.cedar_interpreter.specs.Meeting.{MeetsAt, IsLimit};
 
@@ -24,7 +23,7 @@ pub(crate) fn at_place(
     answer: Result<PartialValue, EvaluationError>,
     expr: &Expr,
 ) -> Result<PartialValue, EvaluationError>
-    ensures found { (facts : Facts) (b : Answer) → MeetsAt facts ⊤ b answer → MeetsAt facts ⊤ b result }
+    ensures found { (b : Answer) → MeetsAt ⊤ b answer → MeetsAt ⊤ b result }
     ensures limit { IsLimit result → IsLimit answer }
 {
     match answer {

@@ -15,7 +15,6 @@ ghost use Rattle.cedar_interpreter.specs.Seen.{IsSeen, IsSeenFor, AreSeen, uid_s
 
 use crate::evaluator::{Evaluator, Seen, Variables};
 use crate::lent_lookups::held;
-use crate::partial_stores::uid;
 use cedar_entities::entity::Entity;
 use cedar_entities::store::Entities;
 use cedar_extensions::objects::ExtensionFunctionObject;
@@ -29,7 +28,7 @@ fn standing(part: &PartialValue) -> Option<&Rc<EntityUID>>
     ensures { uid_standing (partial_of part.now) ≡ option_map (λ uid. uid.value) (option_copied result) }
 {
     match part {
-        PartialValue::Value(value) => uid(value),
+        PartialValue::Value(value) => value.as_entity(),
         PartialValue::Residual(_) => None,
     }
 }

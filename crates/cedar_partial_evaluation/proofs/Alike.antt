@@ -9,7 +9,7 @@ use Rattle.cedar_language.specs.Order.{same_text}
 use Rattle.cedar_language.specs.Operators.{applied}
 use Rattle.cedar_partial_evaluation.specs.MadeAgain.{tree_of, trees_of}
 use Rattle.cedar_partial_evaluation.specs.Partial.{Answer, Evaluated, ResidualTree, Failed, Answers, AllEvaluated, SomeResiduals, SomeFailed, answer_of, best_effort, last_answer, and_answer, or_answer, if_answer, and_next, LeafAnswers, is_projectable, are_projectable, built_answer, projected_in, all_projected_in, found_tree, entry_answer, attribute_answer, has_entry_answer, has_answer, is_answer, stated_type, types_differ, equal_answer, residual_answer, apply_answer, partial_in, all_partial_in}
-use Rattle.cedar_partial_evaluation.specs.Alike.{AlikeBut, itself, differing, if_alike, and_alike, or_alike, apply_alike, AllAlikeBut, none_alike, more_alike, SameBut, AllSameBut, NoneDiffer, Alike, AllAlike, LikenessIsAlwaysKept, ProjectingIsEvaluating, gathered, is_some_left, WriteEach, GatheredAlwaysSplits}
+use Rattle.cedar_partial_evaluation.specs.Alike.{AlikeBut, itself, differing, if_alike, and_alike, or_alike, apply_alike, AllAlikeBut, none_alike, more_alike, SameBut, AllSameBut, ProjectingIsEvaluating, gathered, is_some_left, WriteEach, GatheredAlwaysSplits}
 use Rattle.cedar_partial_evaluation.proofs.Sound.{and_true}
 
 -- a tree that partial evaluation doesn't look into
@@ -238,11 +238,6 @@ module _ (facts : Facts) (Differ : Tree → Tree → Type 0) (opaque : (s t : Tr
 
   -- ---- lazy operators
 
-  effort_alike : (x y : Answer) (t u : Tree) → SameBut Differ x y → AlikeBut Differ t u → AlikeBut Differ (best_effort facts x t) (best_effort facts y u)
-  effort_alike (Evaluated v) y t u h l = rw h itself
-  effort_alike (ResidualTree r) y t u h l = rw h.1 h.2
-  effort_alike (Failed k) y t u h l = rw h l
-
   last_same : (f : Tree → Tree) → ((r s : Tree) → AlikeBut Differ r s → AlikeBut Differ (f r) (f s)) → (x y : Answer) → SameBut Differ x y →
       SameBut Differ (last_answer f x) (last_answer f y)
   last_same f kept (Evaluated (Plain (Boolean b))) y h = rw h refl
@@ -280,16 +275,6 @@ module _ (facts : Facts) (Differ : Tree → Tree → Type 0) (opaque : (s t : Tr
   if_by (Evaluated _) b x y z w t u n m h i j waits = rw h refl
   if_by (Failed k) b x y z w t u n m h i j waits = rw h refl
 
-  and_same : (a b x y : Answer) (t u : Tree) → SameBut Differ a b → SameBut Differ x y → AlikeBut Differ t u → SameBut Differ (and_answer facts a x t) (and_answer facts b y u)
-  and_same a b x y t u h i l = and_by a b x y t u h i (λ r s k. and_alike k (effort_alike x y t u i l)) (λ r s k. and_alike itself k)
-
-  or_same : (a b x y : Answer) (t u : Tree) → SameBut Differ a b → SameBut Differ x y → AlikeBut Differ t u → SameBut Differ (or_answer facts a x t) (or_answer facts b y u)
-  or_same a b x y t u h i l = or_by a b x y t u h i (λ r s k. or_alike k (effort_alike x y t u i l)) (λ r s k. or_alike itself k)
-
-  if_same : (a b x y z w : Answer) (t u n m : Tree) → SameBut Differ a b → SameBut Differ x y → SameBut Differ z w → AlikeBut Differ t u → AlikeBut Differ n m →
-      SameBut Differ (if_answer facts a x z t n) (if_answer facts b y w u m)
-  if_same a b x y z w t u n m h i j k l = if_by a b x y z w t u n m h i j (λ r s o. if_alike o (effort_alike x y t u i k) (effort_alike z w n m j l))
-
 -- ---- what is projected is evaluated again
 
 module _ (facts : Facts) where
@@ -317,40 +302,28 @@ module _ (facts : Facts) where
 -- ---- operands
 
 module _ (facts : Facts) where
-  none_opaque : (s t : Tree) → NoneDiffer s t → (is_opaque s ≡ true) × (is_opaque t ≡ true)
-  none_opaque s t h = absurd h
-
   -- what the operands after the first have been split into
   abbrev Splits : Bool → Trees → Answers → Type 0
-  Splits true us ps = (ts : Trees) × (ps ≡ SomeResiduals ts) × AllAlike facts us ts
-  Splits false us ps = (vs : Values) × (ps ≡ AllEvaluated vs) × AllAlike facts us (trees_of facts vs)
+  Splits true us ps = ps ≡ SomeResiduals us
+  Splits false us ps = (vs : Values) × (ps ≡ AllEvaluated vs) × (us ≡ trees_of facts vs)
 
-  value_splits : (b : Bool) (u : Tree) (us : Trees) (v : Value) (ps : Answers) → Alike facts u (tree_of facts v) → Splits b us ps →
+  value_splits : (b : Bool) (u : Tree) (us : Trees) (v : Value) (ps : Answers) → u ≡ tree_of facts v → Splits b us ps →
       Splits b (a_tree u us) (and_next facts (Evaluated v) ps)
-  value_splits true u us v ps l h = rw h.1 (a_tree (tree_of facts v) h.0, refl, more_alike l h.2)
-  value_splits false u us v ps l h = rw h.1 (a_value v h.0, refl, more_alike l h.2)
+  value_splits true u us v ps l h = rw (h, l) refl
+  value_splits false u us v ps l h = rw (h.1, l, h.2) (a_value v h.0, refl, refl)
 
-  residual_splits : (b : Bool) (u r : Tree) (us : Trees) (ps : Answers) → Alike facts u r → Splits b us ps →
+  residual_splits : (b : Bool) (u r : Tree) (us : Trees) (ps : Answers) → u ≡ r → Splits b us ps →
       Splits true (a_tree u us) (and_next facts (ResidualTree r) ps)
-  residual_splits true u r us ps l h = rw h.1 (a_tree r h.0, refl, more_alike l h.2)
-  residual_splits false u r us ps l h = rw h.1 (a_tree r (trees_of facts h.0), refl, more_alike l h.2)
+  residual_splits true u r us ps l h = rw (h, l) refl
+  residual_splits false u r us ps l h = rw (h.1, l, h.2) refl
 
   splits : (us : Trees) (ps : List Answer) → WriteEach facts us ps → Splits (is_some_left ps) us (gathered facts ps)
-  splits no_trees [] h = (no_values, refl, none_alike)
+  splits no_trees [] h = (no_values, refl, refl)
   splits (a_tree u us) (Evaluated v ∷ ps) h = value_splits (is_some_left ps) u us v (gathered facts ps) h.0 (splits us ps h.1)
   splits (a_tree u us) (ResidualTree r ∷ ps) h = residual_splits (is_some_left ps) u r us (gathered facts ps) h.0 (splits us ps h.1)
   splits (a_tree u us) (Failed k ∷ ps) h = absurd h.0
   splits no_trees (p ∷ ps) h = absurd h
   splits (a_tree u us) [] h = absurd h
-
-pub likeness_is_kept : LikenessIsAlwaysKept
-likeness_is_kept facts = record {
-  next = next_same facts NoneDiffer (none_opaque facts);
-  applied = apply_same facts NoneDiffer (none_opaque facts);
-  and_kept = and_same facts NoneDiffer (none_opaque facts);
-  or_kept = or_same facts NoneDiffer (none_opaque facts);
-  if_kept = if_same facts NoneDiffer (none_opaque facts);
-}
 
 pub projecting_is_evaluating : ProjectingIsEvaluating
 projecting_is_evaluating facts holds t h = projected_is facts holds t h
@@ -360,21 +333,3 @@ gathered_splits facts = record {
   trees = λ us ps h some. subst (λ b. Splits facts b us (gathered facts ps)) some (splits facts us ps h);
   values = λ us ps h none. subst (λ b. Splits facts b us (gathered facts ps)) none (splits facts us ps h);
 }
-
--- ---- trees that differ in no part
-
-mutual
-  one : {s t : Tree} → AlikeBut NoneDiffer s t → s ≡ t
-  one itself = refl
-  one (differing d) = absurd d
-  one (if_alike h k l) = rw (one h, one k, one l) refl
-  one (and_alike h k) = rw (one h, one k) refl
-  one (or_alike h k) = rw (one h, one k) refl
-  one (apply_alike {op} h) = ap (Apply op) (all_one h)
-
-  all_one : {ts us : Trees} → AllAlikeBut NoneDiffer ts us → ts ≡ us
-  all_one none_alike = refl
-  all_one (more_alike h k) = rw (one h, all_one k) refl
-
-pub alike_is : (facts : Facts) (s t : Tree) → Alike facts s t → s ≡ t
-alike_is facts s t h = one h

@@ -4,7 +4,7 @@ use Rattle.cedar_language.specs.Tree.{Operator, Tree, If, And, Or, Apply, Trees,
 use Rattle.cedar_language.specs.Value.{Values, no_values}
 use Rattle.cedar_language.specs.Facts.{Facts}
 use Rattle.cedar_partial_evaluation.specs.MadeAgain.{tree_of, trees_of}
-use Rattle.cedar_partial_evaluation.specs.Partial.{Answer, Evaluated, ResidualTree, Failed, Answers, AllEvaluated, SomeResiduals, SomeFailed, and_answer, or_answer, if_answer, and_next, LeafAnswers, is_projectable, projected_in, apply_answer, partial_in}
+use Rattle.cedar_partial_evaluation.specs.Partial.{Answer, Evaluated, ResidualTree, Failed, Answers, AllEvaluated, SomeResiduals, SomeFailed, and_next, LeafAnswers, is_projectable, projected_in, partial_in}
 
 -- `Differ s t`: the one may stand where the other does
 module _ (Differ : Tree → Tree → Type 0) where
@@ -32,38 +32,6 @@ module _ (Differ : Tree → Tree → Type 0) where
   AllSameBut (SomeResiduals rs) bs = (ts : Trees) × (bs ≡ SomeResiduals ts) × AllAlikeBut rs ts
   AllSameBut (SomeFailed k) bs = bs ≡ SomeFailed k
 
--- ---- what code leaves, against what is left here: it differs in no part
-
-abbrev pub NoneDiffer : Tree → Tree → Type 0
-NoneDiffer s t = ⊥
-
-abbrev pub Alike : Facts → Tree → Tree → Type 0
-Alike facts = AlikeBut NoneDiffer
-
-abbrev pub AllAlike : Facts → Trees → Trees → Type 0
-AllAlike facts = AllAlikeBut NoneDiffer
-
-abbrev pub Same : Facts → Answer → Answer → Type 0
-Same facts = SameBut NoneDiffer
-
-abbrev pub AllSame : Facts → Answers → Answers → Type 0
-AllSame facts = AllSameBut NoneDiffer
-
--- every construct makes the same answer of the same answers
-pub record LikenessIsKept (facts : Facts) : Type 0 where
-  pub next : (a b : Answer) (as_ bs : Answers) → Same facts a b → AllSame facts as_ bs → AllSame facts (and_next facts a as_) (and_next facts b bs)
-  pub applied : (holds : LeafAnswers) (op : Operator) (as_ bs : Answers) → AllSame facts as_ bs →
-      Same facts (apply_answer facts holds op as_) (apply_answer facts holds op bs)
-  pub and_kept : (a b x y : Answer) (t u : Tree) → Same facts a b → Same facts x y → Alike facts t u →
-      Same facts (and_answer facts a x t) (and_answer facts b y u)
-  pub or_kept : (a b x y : Answer) (t u : Tree) → Same facts a b → Same facts x y → Alike facts t u →
-      Same facts (or_answer facts a x t) (or_answer facts b y u)
-  pub if_kept : (a b x y z w : Answer) (t u n m : Tree) → Same facts a b → Same facts x y → Same facts z w → Alike facts t u → Alike facts n m →
-      Same facts (if_answer facts a x z t n) (if_answer facts b y w u m)
-
-abbrev pub LikenessIsAlwaysKept : Type 0
-LikenessIsAlwaysKept = (facts : Facts) → LikenessIsKept facts
-
 -- projecting a tree is evaluating it again
 abbrev pub ProjectingIsEvaluating : Type 0
 ProjectingIsEvaluating = (facts : Facts) (holds : LeafAnswers) (t : Tree) → is_projectable t ≡ true → projected_in facts holds t ≡ partial_in facts holds t
@@ -83,8 +51,8 @@ is_some_left (p ∷ ps) = is_some_left ps
 
 -- a tree that writes a value, or what is left
 abbrev pub Writes : Facts → Tree → Answer → Type 0
-Writes facts u (Evaluated v) = Alike facts u (tree_of facts v)
-Writes facts u (ResidualTree r) = Alike facts u r
+Writes facts u (Evaluated v) = u ≡ tree_of facts v
+Writes facts u (ResidualTree r) = u ≡ r
 Writes facts u (Failed k) = ⊥
 
 abbrev pub WriteEach : Facts → Trees → List Answer → Type 0
@@ -95,9 +63,9 @@ WriteEach facts (a_tree u us) [] = ⊥
 
 -- what is split off operands of which none failed is what is gathered of them: trees, where something is left, and else values
 pub record GatheredSplits (facts : Facts) : Type 0 where
-  pub trees : (us : Trees) (ps : List Answer) → WriteEach facts us ps → is_some_left ps ≡ true → AllSame facts (SomeResiduals us) (gathered facts ps)
+  pub trees : (us : Trees) (ps : List Answer) → WriteEach facts us ps → is_some_left ps ≡ true → gathered facts ps ≡ SomeResiduals us
   pub values : (us : Trees) (ps : List Answer) → WriteEach facts us ps → is_some_left ps ≡ false →
-      (vs : Values) × (gathered facts ps ≡ AllEvaluated vs) × AllAlike facts us (trees_of facts vs)
+      (vs : Values) × (gathered facts ps ≡ AllEvaluated vs) × (us ≡ trees_of facts vs)
 
 abbrev pub GatheredAlwaysSplits : Type 0
 GatheredAlwaysSplits = (facts : Facts) → GatheredSplits facts

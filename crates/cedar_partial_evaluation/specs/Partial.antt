@@ -1,7 +1,7 @@
 -- Partial evaluation: a value, a residual that is left because something is unknown, or an error.
-use Rattle.std.specs.Prelude.{◌≡◌, Bool, true, false, not, cond, ◌&&◌, Option, Some, None, List, [], ◌∷◌}
+use Rattle.std.specs.Prelude.{◌≡◌, Bool, true, false, not, cond, Option, Some, None, List, [], ◌∷◌}
 use Rattle.cedar_language.specs.Uid.{Text, Name}
-use Rattle.cedar_language.specs.Tree.{Boolean, Entity, Variable, SlotId, Operator, Equal, Is, GetAttr, HasAttr, MakeSet, MakeRecord, Tree, Lit, Var, Slot, Unknown, If, And, Or, Apply, Trees, no_trees, a_tree, ValueType, EntityType}
+use Rattle.cedar_language.specs.Tree.{Boolean, Entity, Variable, SlotId, Operator, Equal, Is, GetAttr, HasAttr, MakeRecord, Tree, Lit, Var, Slot, Unknown, If, And, Or, Apply, Trees, no_trees, a_tree, ValueType, EntityType}
 use Rattle.cedar_language.specs.Value.{Value, Plain, Values, no_values, a_value, Kind, TypeError, RecordAttrDoesNotExist, Outcome, Gives, Fails}
 use Rattle.cedar_language.specs.Order.{same_text, same_name}
 pub use Rattle.cedar_language.specs.Restricted.{is_projectable, are_projectable}

@@ -4,7 +4,7 @@
 ghost use Rattle.cedar_partial_evaluation.specs.Mentions.{KnownTreesSettle, NamesDontMatter, WithoutUnknowns};
 ghost use Rattle.cedar_partial_evaluation.specs.Leaves.{KnownIsNeverLeft, LeavesDontMatter, MentionedIsMeant};
 ghost use Rattle.cedar_partial_evaluation.specs.Errors.{SettlingIsOne};
-ghost use Rattle.cedar_partial_evaluation.specs.Alike.{LikenessIsAlwaysKept, ProjectingIsEvaluating, GatheredAlwaysSplits};
+ghost use Rattle.cedar_partial_evaluation.specs.Alike.{ProjectingIsEvaluating, GatheredAlwaysSplits};
 ghost use Rattle.cedar_partial_evaluation.specs.ReadUnknowns.{UnknownsAreRead};
 ghost use Rattle.cedar_partial_evaluation.specs.DataErrors.{DataErrsInParts};
 ghost use Rattle.cedar_partial_evaluation.specs.EarlyRows.{EarlyRows};
@@ -195,11 +195,6 @@ pub fn mentioned_is_meant()
 /// A tree settles to an error exactly where it settles to some kind of it.
 pub fn settling_is_one()
     ensures { SettlingIsOne }
-{}
-
-/// Answers that are the same but for how extension values are written stay so under every construct.
-pub fn likeness_is_kept()
-    ensures { LikenessIsAlwaysKept }
 {}
 
 /// An entry that is projected is what its tree is evaluated to again.

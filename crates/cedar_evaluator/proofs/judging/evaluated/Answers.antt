@@ -9,4 +9,4 @@ use Rattle.cedar_evaluator.proofs.judging.evaluated.Goals as goal
 pub returns-in-Some-clause-found : goal.returns-in-Some-clause-found
 returns-in-Some-clause-found g c = λ i store table depth is scopes facts served.
     let p = c.args.policy.now in
-    told_finds facts (partial_in facts (request_held i (bindings_of p)) (condition_of p)) c.in-Some.satisfied (c.in-Some.ensures i store table depth is scopes facts served.entities)
+    told_finds (partial_in facts (request_held i (bindings_of p)) (condition_of p)) c.in-Some.satisfied (c.in-Some.ensures i store table depth is scopes facts served.entities)

@@ -20,10 +20,10 @@ returns-in-Some-true-clause-found g c = λ i store table depth is scopes facts s
     let serves = is.serves facts (condition_of p) served.entities served.functions served.names_nothing in
     let decided = scope_decided facts (request_held i bs) (policy_syntax p) c.hold.result _ _ c.in-Some-true.is c.in-Some-true.field-0-test (c.hold.ensures i store facts scopes served.entities) in
     let holds : partial_in facts (held_by ev bs) scope ≡ Evaluated (Plain (Boolean true)) = ap (λ (h : LeafAnswers). partial_in facts h scope) (is.holds bs) ∙ decided in
-    subst (λ (h : LeafAnswers). JudgesAt facts (partial_in facts h (condition_of p)) c.in_scope.result) (is.holds bs) (c.in_scope.ensures.found facts serves holds)
+    subst (λ (h : LeafAnswers). JudgesAt (partial_in facts h (condition_of p)) c.in_scope.result) (is.holds bs) (c.in_scope.ensures.found facts serves holds)
 
 pub returns-in_default-clause-found : goal.returns-in_default-clause-found
 returns-in_default-clause-found g c = λ i store table depth is scopes facts served.
     let p = c.args.policy.now in
     let serves = is.serves facts (condition_of p) served.entities served.functions served.names_nothing in
-    subst (λ (h : LeafAnswers). JudgesAt facts (partial_in facts h (condition_of p)) c.partial_evaluate.result) (is.holds (bindings_of p)) (c.partial_evaluate.ensures.found facts serves)
+    subst (λ (h : LeafAnswers). JudgesAt (partial_in facts h (condition_of p)) c.partial_evaluate.result) (is.holds (bindings_of p)) (c.partial_evaluate.ensures.found facts serves)

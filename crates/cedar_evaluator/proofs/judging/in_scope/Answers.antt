@@ -17,7 +17,7 @@ returns-in-Some-clause-found g c = λ facts serves scope.
     let body : s.body ≡ Some t = sym c.non_scope_constraints.ensures ∙ ap (λ o. option_map bare (option_copied o)) c.in-Some.is in
     let b = partial_in facts (held_by ev c.env.result.now) t in
     clauses_found g.F.ExtensionFunctionObject.answers ev s t body facts c.env.result.now (bindings_of c.args.policy.now) c.env.ensures.bindings scope c.judged.result
-    (c.judged.ensures.found facts (last_answer (And (Lit (Boolean true))) b) (c.last_of_and.ensures.found facts b (c.partial_interpret-answer.ensures.found facts (clauses_served g.F.ExtensionFunctionObject.answers ev s t body facts serves))))
+    (c.judged.ensures.found (last_answer (And (Lit (Boolean true))) b) (c.last_of_and.ensures.found b (c.partial_interpret-answer.ensures.found facts (clauses_served g.F.ExtensionFunctionObject.answers ev s t body facts serves))))
 
 pub returns-in-Some-clause-limit : goal.returns-in-Some-clause-limit
 returns-in-Some-clause-limit g c = λ met.

@@ -19,4 +19,4 @@ returns-in-ExtensionFunctionApp g c = λ facts functions names.
     functions names (subst (λ vs. Calls table name (all_of vs) c.call.result) c.deref.ensures.value c.call.ensures)
 
 pub returns-in_default : goal.returns-in_default
-returns-in_default g c = λ facts functions names. c.known.ensures facts (applied_in facts (bare c.args.expr.now) (all_of c.args.values.items)) (c.collected.ensures facts)
+returns-in_default g c = λ facts functions names. c.known.ensures (applied_in facts (bare c.args.expr.now) (all_of c.args.values.items)) (c.collected.ensures facts)

@@ -5,37 +5,37 @@ use Rattle.cedar_operators.specs.Operands.{two}
 use Rattle.cedar_interpreter.proofs.applying.apply_to_two.Goals as goal
 
 pub returns-in-Eq : goal.returns-in-Eq
-returns-in-Eq g c = λ facts has. c.known.ensures facts (applied facts (binary_operator_of c.args.op) (two c.args.left c.args.right)) (c.binary_relation.ensures facts)
+returns-in-Eq g c = λ facts has. c.known.ensures (applied facts (binary_operator_of c.args.op) (two c.args.left c.args.right)) (c.binary_relation.ensures facts)
 
 pub returns-in-Less : goal.returns-in-Less
-returns-in-Less g c = λ facts has. c.known-in-Less.ensures facts (applied facts (binary_operator_of c.args.op) (two c.args.left c.args.right)) (c.binary_relation-in-Less.ensures facts)
+returns-in-Less g c = λ facts has. c.known-in-Less.ensures (applied facts (binary_operator_of c.args.op) (two c.args.left c.args.right)) (c.binary_relation-in-Less.ensures facts)
 
 pub returns-in-LessEq : goal.returns-in-LessEq
-returns-in-LessEq g c = λ facts has. c.known-in-LessEq.ensures facts (applied facts (binary_operator_of c.args.op) (two c.args.left c.args.right)) (c.binary_relation-in-LessEq.ensures facts)
+returns-in-LessEq g c = λ facts has. c.known-in-LessEq.ensures (applied facts (binary_operator_of c.args.op) (two c.args.left c.args.right)) (c.binary_relation-in-LessEq.ensures facts)
 
 pub returns-in-Add : goal.returns-in-Add
-returns-in-Add g c = λ facts has. c.known-in-Add.ensures facts (applied facts (binary_operator_of c.args.op) (two c.args.left c.args.right)) (c.binary_arith.ensures facts)
+returns-in-Add g c = λ facts has. c.known-in-Add.ensures (applied facts (binary_operator_of c.args.op) (two c.args.left c.args.right)) (c.binary_arith.ensures facts)
 
 pub returns-in-Sub : goal.returns-in-Sub
-returns-in-Sub g c = λ facts has. c.known-in-Sub.ensures facts (applied facts (binary_operator_of c.args.op) (two c.args.left c.args.right)) (c.binary_arith-in-Sub.ensures facts)
+returns-in-Sub g c = λ facts has. c.known-in-Sub.ensures (applied facts (binary_operator_of c.args.op) (two c.args.left c.args.right)) (c.binary_arith-in-Sub.ensures facts)
 
 pub returns-in-Mul : goal.returns-in-Mul
-returns-in-Mul g c = λ facts has. c.known-in-Mul.ensures facts (applied facts (binary_operator_of c.args.op) (two c.args.left c.args.right)) (c.binary_arith-in-Mul.ensures facts)
+returns-in-Mul g c = λ facts has. c.known-in-Mul.ensures (applied facts (binary_operator_of c.args.op) (two c.args.left c.args.right)) (c.binary_arith-in-Mul.ensures facts)
 
 pub returns-in-Contains : goal.returns-in-Contains
-returns-in-Contains g c = λ facts has. c.known-in-Contains.ensures facts (applied facts (binary_operator_of c.args.op) (two c.args.left c.args.right)) (rw c.in-Contains.is (c.contains.ensures facts))
+returns-in-Contains g c = λ facts has. c.known-in-Contains.ensures (applied facts (binary_operator_of c.args.op) (two c.args.left c.args.right)) (rw c.in-Contains.is (c.contains.ensures facts))
 
 pub returns-in-ContainsAll : goal.returns-in-ContainsAll
-returns-in-ContainsAll g c = λ facts has. c.known-in-ContainsAll.ensures facts (applied facts (binary_operator_of c.args.op) (two c.args.left c.args.right)) (rw c.in-ContainsAll.is (c.contains_all.ensures facts))
+returns-in-ContainsAll g c = λ facts has. c.known-in-ContainsAll.ensures (applied facts (binary_operator_of c.args.op) (two c.args.left c.args.right)) (rw c.in-ContainsAll.is (c.contains_all.ensures facts))
 
 pub returns-in-ContainsAny : goal.returns-in-ContainsAny
-returns-in-ContainsAny g c = λ facts has. c.known-in-ContainsAny.ensures facts (applied facts (binary_operator_of c.args.op) (two c.args.left c.args.right)) (rw c.in-ContainsAny.is (c.contains_any.ensures facts))
+returns-in-ContainsAny g c = λ facts has. c.known-in-ContainsAny.ensures (applied facts (binary_operator_of c.args.op) (two c.args.left c.args.right)) (rw c.in-ContainsAny.is (c.contains_any.ensures facts))
 
 pub returns-in_ok-rest-in-In : goal.returns-in_ok-rest-in-In
-returns-in_ok-rest-in-In g c = λ facts has. c.open_or.ensures facts (applied facts (binary_operator_of c.args.op) (two c.args.left c.args.right)) (c.in_ok-rest-in-In.ensures facts has) (rw c.in-In.is (c.is_in-found.ensures facts has))
+returns-in_ok-rest-in-In g c = λ facts has. c.open_or.ensures (applied facts (binary_operator_of c.args.op) (two c.args.left c.args.right)) (c.in_ok-rest-in-In.ensures facts has) (rw c.in-In.is (c.is_in-found.ensures facts has))
 
 pub returns-in_ok-rest-in-GetTag : goal.returns-in_ok-rest-in-GetTag
-returns-in_ok-rest-in-GetTag g c = λ facts has. c.open_or-in-GetTag.ensures facts (applied facts (binary_operator_of c.args.op) (two c.args.left c.args.right)) (c.in_ok-rest-in-GetTag.ensures facts has) (rw c.in-GetTag.is (c.get_tag-found.ensures facts has))
+returns-in_ok-rest-in-GetTag g c = λ facts has. c.open_or-in-GetTag.ensures (applied facts (binary_operator_of c.args.op) (two c.args.left c.args.right)) (c.in_ok-rest-in-GetTag.ensures facts has) (rw c.in-GetTag.is (c.get_tag-found.ensures facts has))
 
 pub returns-in_ok-rest-in-HasTag : goal.returns-in_ok-rest-in-HasTag
-returns-in_ok-rest-in-HasTag g c = λ facts has. c.open_or-in-HasTag.ensures facts (applied facts (binary_operator_of c.args.op) (two c.args.left c.args.right)) (c.in_ok-rest-in-HasTag.ensures facts has) (rw c.in-HasTag.is (c.has_tag-found.ensures facts has))
+returns-in_ok-rest-in-HasTag g c = λ facts has. c.open_or-in-HasTag.ensures (applied facts (binary_operator_of c.args.op) (two c.args.left c.args.right)) (c.in_ok-rest-in-HasTag.ensures facts has) (rw c.in-HasTag.is (c.has_tag-found.ensures facts has))

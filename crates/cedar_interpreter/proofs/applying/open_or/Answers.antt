@@ -2,7 +2,7 @@
 use Rattle.cedar_interpreter.proofs.applying.open_or.Goals as goal
 
 pub returns-in-Some : goal.returns-in-Some
-returns-in-Some c = λ facts o none given. cc
+returns-in-Some c = λ o none given. cc
 
 pub returns-in-None : goal.returns-in-None
-returns-in-None c = λ facts o none given. c.known.ensures facts o given
+returns-in-None c = λ o none given. c.known.ensures o given

@@ -7,4 +7,4 @@ use Rattle.cedar_interpreter.specs.Meeting.{MeetsAt}
 use Rattle.cedar_interpreter.proofs.asking.value_of.Goals as goal
 
 pub returns-in-Err-clause-found : goal.returns-in-Err-clause-found
-returns-in-Err-clause-found c = λ facts b h. fails_on (failure_of c.in-Err.error) (λ k e. inl e) (λ d. d) (subst (MeetsAt facts ⊤ b) c.in-Err.is h)
+returns-in-Err-clause-found c = λ b h. fails_on (failure_of c.in-Err.error) (λ k e. inl e) (λ d. d) (subst (MeetsAt ⊤ b) c.in-Err.is h)

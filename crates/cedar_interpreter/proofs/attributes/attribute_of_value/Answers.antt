@@ -13,4 +13,4 @@ pub returns : goal.returns
 returns c =
     λ facts has holds part.
     let meant = applied facts (GetAttr (rc_str_bytes c.args.attr.now)) (one c.args.value) in
-    c.done.ensures facts holds part (answer_of meant) (c.known.ensures facts meant (c.get_attr-found.ensures facts has))
+    c.done.ensures facts holds part (answer_of meant) (c.known.ensures meant (c.get_attr-found.ensures facts has))

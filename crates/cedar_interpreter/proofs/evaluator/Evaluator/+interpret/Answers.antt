@@ -8,11 +8,10 @@ use Rattle.std.specs.Rc.{rc_str_bytes}
 use Rattle.cedar_language.specs.Tree as tree
 use Rattle.cedar_language.specs.Tree.{Boolean, no_trees, a_tree}
 use Rattle.cedar_language.specs.Value.{Plain, no_values}
-use Rattle.cedar_partial_evaluation.specs.Alike.{Same, gathered}
+use Rattle.cedar_partial_evaluation.specs.Alike.{gathered}
 use Rattle.cedar_partial_evaluation.specs.Partial.{Evaluated, ResidualTree, Failed, SomeFailed, AllEvaluated, and_next, apply_answer, partial_in}
 use Rattle.cedar_grammar.specs.Build.{unary, binary}
 use Rattle.cedar_literals.specs.Operators.{binary_operator_of}
-use Rattle.cedar_shapes.specs.Parts.{parts}
 use Rattle.cedar_trees.specs.Bare.{bare}
 use Rattle.cedar_trees.specs.declared.expr.Expr.{Expr}
 use Rattle.cedar_extensions.specs.Failures.{failure_of}
@@ -21,11 +20,11 @@ use Rattle.cedar_restricted.specs.PartialValues.{partial_of}
 use Rattle.cedar_restricted.specs.declared.partial_values.PartialValue.{PartialValue}
 use Rattle.cedar_interpreter.specs.Forms.{unary_operator, is_of_list, IsOperands}
 use Rattle.cedar_interpreter.specs.Holding.{held_by, Serves, ServesEach, Deep, DeepEach}
-use Rattle.cedar_interpreter.specs.Meeting.{part_answer, tested_answer, MeetsAt, SameEach, IsTested}
+use Rattle.cedar_interpreter.specs.Meeting.{part_answer, tested_answer, IsTested}
 use Rattle.cedar_interpreter.specs.Projecting.{IsProjected}
-use Rattle.cedar_interpreter.proofs.Serving.{serves_and_left, serves_and_right, serves_or_left, serves_or_right, serves_test, serves_yes, serves_no, serves_operands, serves_entry, serves_parts, deep_and_left, deep_and_right, deep_or_left, deep_or_right, deep_if_test, deep_if_yes, deep_if_no, deep_operand, either_deep, known_first, positive, lowered, never_left, list_is, list_fails, list_deep, Goes, goes_first, goes_on, cut_fails, cut_deep, ends, ends_count}
-use Rattle.cedar_interpreter.proofs.Pairs.{one_serves, one_fails, one_deep, left_serves, right_serves, left_fails, right_fails, left_deep, right_deep}
-use Rattle.cedar_interpreter.proofs.Steps.{passed, limit_passed, meets_as, meets_anyhow, never_limit, and_as, or_as, if_as, boolean_same}
+use Rattle.cedar_interpreter.proofs.Serving.{serves_and_left, serves_and_right, serves_or_left, serves_or_right, serves_test, serves_yes, serves_no, serves_operands, serves_entry, serves_parts, deep_and_left, deep_and_right, deep_or_left, deep_or_right, deep_if_test, deep_if_yes, deep_if_no, deep_operand, either_deep, known_first, positive, lowered, never_left, list_meets, list_fails, list_deep, Goes, goes_first, goes_on, cut_fails, cut_deep, ends, ends_count}
+use Rattle.cedar_interpreter.proofs.Pairs.{one_serves, one_fails, one_meets, one_deep, left_serves, right_serves, left_fails, right_fails, two_meet, left_deep, right_deep}
+use Rattle.cedar_interpreter.proofs.Steps.{passed, limit_passed, meets_as, meets_anyhow, never_limit, and_as, or_as, if_as}
 use Rattle.cedar_interpreter.proofs.evaluator.Evaluator.+interpret.Goals as goal
 
 pub interpret_within-interpret_form-requires : goal.interpret_within-interpret_form-requires
@@ -102,7 +101,7 @@ interpret_attribute-interpret_within-requires-in-Entry g t c κs outlives =
 
 pub interpret_within-returns-clause-found : goal.interpret_within-returns-clause-found
 interpret_within-returns-clause-found g t c =
-    λ facts has. c.at_place.ensures.found facts _ (c.interpret_form.ensures.found facts has)
+    λ facts has. c.at_place.ensures.found _ (c.interpret_form.ensures.found facts has)
 
 pub interpret_within-returns-clause-limit : goal.interpret_within-returns-clause-limit
 interpret_within-returns-clause-limit g t c =
@@ -110,7 +109,7 @@ interpret_within-returns-clause-limit g t c =
 
 pub interpret_form-returns-in-And-clause-found : goal.interpret_form-returns-in-And-clause-found
 interpret_form-returns-in-And-clause-found g t c =
-    λ facts has. meets_as facts c.interpret_and.result _ _ (ap (partial_in facts (held_by c.args.self.now c.args.slots.now)) c.in-And.ensures) (c.interpret_and.ensures.found facts (subst (Serves g.F.ExtensionFunctionObject.answers c.args.self.now facts) c.in-And.ensures has))
+    λ facts has. meets_as c.interpret_and.result _ _ (ap (partial_in facts (held_by c.args.self.now c.args.slots.now)) c.in-And.ensures) (c.interpret_and.ensures.found facts (subst (Serves g.F.ExtensionFunctionObject.answers c.args.self.now facts) c.in-And.ensures has))
 
 pub interpret_form-returns-in-And-clause-limit : goal.interpret_form-returns-in-And-clause-limit
 interpret_form-returns-in-And-clause-limit g t c =
@@ -119,7 +118,7 @@ interpret_form-returns-in-And-clause-limit g t c =
 
 pub interpret_form-returns-in-Or-clause-found : goal.interpret_form-returns-in-Or-clause-found
 interpret_form-returns-in-Or-clause-found g t c =
-    λ facts has. meets_as facts c.interpret_or.result _ _ (ap (partial_in facts (held_by c.args.self.now c.args.slots.now)) c.in-Or.ensures) (c.interpret_or.ensures.found facts (subst (Serves g.F.ExtensionFunctionObject.answers c.args.self.now facts) c.in-Or.ensures has))
+    λ facts has. meets_as c.interpret_or.result _ _ (ap (partial_in facts (held_by c.args.self.now c.args.slots.now)) c.in-Or.ensures) (c.interpret_or.ensures.found facts (subst (Serves g.F.ExtensionFunctionObject.answers c.args.self.now facts) c.in-Or.ensures has))
 
 pub interpret_form-returns-in-Or-clause-limit : goal.interpret_form-returns-in-Or-clause-limit
 interpret_form-returns-in-Or-clause-limit g t c =
@@ -128,7 +127,7 @@ interpret_form-returns-in-Or-clause-limit g t c =
 
 pub interpret_form-returns-in-If-clause-found : goal.interpret_form-returns-in-If-clause-found
 interpret_form-returns-in-If-clause-found g t c =
-    λ facts has. meets_as facts c.interpret_if.result _ _ (ap (partial_in facts (held_by c.args.self.now c.args.slots.now)) c.in-If.ensures) (c.interpret_if.ensures.found facts (subst (Serves g.F.ExtensionFunctionObject.answers c.args.self.now facts) c.in-If.ensures has))
+    λ facts has. meets_as c.interpret_if.result _ _ (ap (partial_in facts (held_by c.args.self.now c.args.slots.now)) c.in-If.ensures) (c.interpret_if.ensures.found facts (subst (Serves g.F.ExtensionFunctionObject.answers c.args.self.now facts) c.in-If.ensures has))
 
 pub interpret_form-returns-in-If-clause-limit : goal.interpret_form-returns-in-If-clause-limit
 interpret_form-returns-in-If-clause-limit g t c =
@@ -137,7 +136,7 @@ interpret_form-returns-in-If-clause-limit g t c =
 
 pub interpret_form-returns-in-GetAttr-clause-found : goal.interpret_form-returns-in-GetAttr-clause-found
 interpret_form-returns-in-GetAttr-clause-found g t c =
-    λ facts has. meets_as facts c.interpret_attribute.result _ _ (ap (partial_in facts (held_by c.args.self.now c.args.slots.now)) c.in-GetAttr.ensures) (c.interpret_attribute.ensures.found facts (subst (Serves g.F.ExtensionFunctionObject.answers c.args.self.now facts) c.in-GetAttr.ensures has))
+    λ facts has. meets_as c.interpret_attribute.result _ _ (ap (partial_in facts (held_by c.args.self.now c.args.slots.now)) c.in-GetAttr.ensures) (c.interpret_attribute.ensures.found facts (subst (Serves g.F.ExtensionFunctionObject.answers c.args.self.now facts) c.in-GetAttr.ensures has))
 
 pub interpret_form-returns-in-GetAttr-clause-limit : goal.interpret_form-returns-in-GetAttr-clause-limit
 interpret_form-returns-in-GetAttr-clause-limit g t c =
@@ -163,11 +162,11 @@ interpret_form-leaf-requires g t c =
 
 pub interpret_form-returns-in-Leaf-clause-found : goal.interpret_form-returns-in-Leaf-clause-found
 interpret_form-returns-in-Leaf-clause-found g t c =
-    λ facts has. meets_anyhow facts c.leaf.result _ (c.leaf.ensures facts)
+    λ facts has. meets_anyhow c.leaf.result _ (c.leaf.ensures facts)
 
 pub interpret_form-returns-in-Leaf-clause-limit : goal.interpret_form-returns-in-Leaf-clause-limit
 interpret_form-returns-in-Leaf-clause-limit g t c =
-    λ l facts has m. absurd (never_limit facts _ c.leaf.result (c.leaf.ensures facts) l)
+    λ l facts has m. absurd (never_limit _ c.leaf.result (c.leaf.ensures facts) l)
 
 pub interpret_form-returns-in_default-clause-limit : goal.interpret_form-returns-in_default-clause-limit
 interpret_form-returns-in_default-clause-limit g t c =
@@ -181,8 +180,8 @@ interpret_form-returns-in_default-clause-found g t c =
 
 pub interpret_and-returns-in_err-test_answer-clause-found : goal.interpret_and-returns-in_err-test_answer-clause-found
 interpret_and-returns-in_err-test_answer-clause-found g t c =
-    λ facts has. passed (λ (p : PartialValue). Same facts (part_answer (partial_of p)) (partial_in facts (held_by c.args.self.now c.args.slots.now) (tree.And (bare c.args.left.now) (bare c.args.right.now.value)))) (λ k. partial_in facts (held_by c.args.self.now c.args.slots.now) (tree.And (bare c.args.left.now) (bare c.args.right.now.value)) ≡ Failed k) ⊤ c.in_err-test_answer.field-0.0 c.from_residual.result c.from_residual.ensures
-    (fails_on (failure_of c.in_err-test_answer.field-0.0) (λ k h. and_as facts (partial_in facts (held_by c.args.self.now c.args.slots.now) (bare c.args.left.now)) (partial_in facts (held_by c.args.self.now c.args.slots.now) (bare c.args.right.now.value)) (bare c.args.right.now.value) (Failed k) h) (λ d. d) (c.in_err-test_answer.ensures.found facts (partial_in facts (held_by c.args.self.now c.args.slots.now) (bare c.args.left.now)) (c.interpret_within.ensures.found facts (serves_and_left g.F.ExtensionFunctionObject.answers c.args.self.now facts (bare c.args.left.now) (bare c.args.right.now.value) has))))
+    λ facts has. passed (λ (p : PartialValue). partial_in facts (held_by c.args.self.now c.args.slots.now) (tree.And (bare c.args.left.now) (bare c.args.right.now.value)) ≡ part_answer (partial_of p)) (λ k. partial_in facts (held_by c.args.self.now c.args.slots.now) (tree.And (bare c.args.left.now) (bare c.args.right.now.value)) ≡ Failed k) ⊤ c.in_err-test_answer.field-0.0 c.from_residual.result c.from_residual.ensures
+    (fails_on (failure_of c.in_err-test_answer.field-0.0) (λ k h. and_as facts (partial_in facts (held_by c.args.self.now c.args.slots.now) (bare c.args.left.now)) (partial_in facts (held_by c.args.self.now c.args.slots.now) (bare c.args.right.now.value)) (bare c.args.right.now.value) (Failed k) h) (λ d. d) (c.in_err-test_answer.ensures.found (partial_in facts (held_by c.args.self.now c.args.slots.now) (bare c.args.left.now)) (c.interpret_within.ensures.found facts (serves_and_left g.F.ExtensionFunctionObject.answers c.args.self.now facts (bare c.args.left.now) (bare c.args.right.now.value) has))))
 
 pub interpret_and-returns-in_err-test_answer-clause-limit : goal.interpret_and-returns-in_err-test_answer-clause-limit
 interpret_and-returns-in_err-test_answer-clause-limit g t c =
@@ -191,8 +190,8 @@ interpret_and-returns-in_err-test_answer-clause-limit g t c =
 pub interpret_and-returns-in-No-clause-found : goal.interpret_and-returns-in-No-clause-found
 interpret_and-returns-in-No-clause-found g t c =
     λ facts has.
-    let found = subst (IsTested facts (tested_answer (partial_in facts (held_by c.args.self.now c.args.slots.now) (bare c.args.left.now)))) c.in-No.is (c.in_ok-test_answer.ensures.found facts (partial_in facts (held_by c.args.self.now c.args.slots.now) (bare c.args.left.now)) (c.interpret_within.ensures.found facts (serves_and_left g.F.ExtensionFunctionObject.answers c.args.self.now facts (bare c.args.left.now) (bare c.args.right.now.value) has))) in
-    boolean_same facts (part_answer (partial_of c.truth.result)) (partial_in facts (held_by c.args.self.now c.args.slots.now) (tree.And (bare c.args.left.now) (bare c.args.right.now.value))) false c.truth.ensures (and_as facts (partial_in facts (held_by c.args.self.now c.args.slots.now) (bare c.args.left.now)) (partial_in facts (held_by c.args.self.now c.args.slots.now) (bare c.args.right.now.value)) (bare c.args.right.now.value) (Evaluated (Plain (Boolean false))) found)
+    let found = subst (IsTested (tested_answer (partial_in facts (held_by c.args.self.now c.args.slots.now) (bare c.args.left.now)))) c.in-No.is (c.in_ok-test_answer.ensures.found (partial_in facts (held_by c.args.self.now c.args.slots.now) (bare c.args.left.now)) (c.interpret_within.ensures.found facts (serves_and_left g.F.ExtensionFunctionObject.answers c.args.self.now facts (bare c.args.left.now) (bare c.args.right.now.value) has))) in
+    and_as facts (partial_in facts (held_by c.args.self.now c.args.slots.now) (bare c.args.left.now)) (partial_in facts (held_by c.args.self.now c.args.slots.now) (bare c.args.right.now.value)) (bare c.args.right.now.value) (Evaluated (Plain (Boolean false))) found ∙ sym c.truth.ensures
 
 pub interpret_and-returns-in-No-clause-limit : goal.interpret_and-returns-in-No-clause-limit
 interpret_and-returns-in-No-clause-limit g t c =
@@ -201,9 +200,9 @@ interpret_and-returns-in-No-clause-limit g t c =
 pub interpret_and-returns-in-Yes-clause-found : goal.interpret_and-returns-in-Yes-clause-found
 interpret_and-returns-in-Yes-clause-found g t c =
     λ facts has.
-    let found = subst (IsTested facts (tested_answer (partial_in facts (held_by c.args.self.now c.args.slots.now) (bare c.args.left.now)))) c.in-Yes.is (c.in_ok-test_answer.ensures.found facts (partial_in facts (held_by c.args.self.now c.args.slots.now) (bare c.args.left.now)) (c.interpret_within.ensures.found facts (serves_and_left g.F.ExtensionFunctionObject.answers c.args.self.now facts (bare c.args.left.now) (bare c.args.right.now.value) has))) in
-    let right = meets_as facts c.interpret_within-in-Yes.result (partial_in facts (held_by c.args.self.now c.args.slots.now) (bare c.args.right.now.value)) _ (ap (λ (e : Expr (Unit {0})). partial_in facts (held_by c.args.self.now c.args.slots.now) (bare e)) (sym c.deref.ensures)) (c.interpret_within-in-Yes.ensures.found facts (subst (λ (e : Expr (Unit {0})). Serves g.F.ExtensionFunctionObject.answers c.args.self.now facts (bare e)) (sym c.deref.ensures) (serves_and_right g.F.ExtensionFunctionObject.answers c.args.self.now facts (bare c.args.left.now) (bare c.args.right.now.value) has))) in
-    meets_as facts c.last_of_and.result _ _ (and_as facts (partial_in facts (held_by c.args.self.now c.args.slots.now) (bare c.args.left.now)) (partial_in facts (held_by c.args.self.now c.args.slots.now) (bare c.args.right.now.value)) (bare c.args.right.now.value) (Evaluated (Plain (Boolean true))) found) (c.last_of_and.ensures.found facts (partial_in facts (held_by c.args.self.now c.args.slots.now) (bare c.args.right.now.value)) right)
+    let found = subst (IsTested (tested_answer (partial_in facts (held_by c.args.self.now c.args.slots.now) (bare c.args.left.now)))) c.in-Yes.is (c.in_ok-test_answer.ensures.found (partial_in facts (held_by c.args.self.now c.args.slots.now) (bare c.args.left.now)) (c.interpret_within.ensures.found facts (serves_and_left g.F.ExtensionFunctionObject.answers c.args.self.now facts (bare c.args.left.now) (bare c.args.right.now.value) has))) in
+    let right = meets_as c.interpret_within-in-Yes.result (partial_in facts (held_by c.args.self.now c.args.slots.now) (bare c.args.right.now.value)) _ (ap (λ (e : Expr (Unit {0})). partial_in facts (held_by c.args.self.now c.args.slots.now) (bare e)) (sym c.deref.ensures)) (c.interpret_within-in-Yes.ensures.found facts (subst (λ (e : Expr (Unit {0})). Serves g.F.ExtensionFunctionObject.answers c.args.self.now facts (bare e)) (sym c.deref.ensures) (serves_and_right g.F.ExtensionFunctionObject.answers c.args.self.now facts (bare c.args.left.now) (bare c.args.right.now.value) has))) in
+    meets_as c.last_of_and.result _ _ (and_as facts (partial_in facts (held_by c.args.self.now c.args.slots.now) (bare c.args.left.now)) (partial_in facts (held_by c.args.self.now c.args.slots.now) (bare c.args.right.now.value)) (bare c.args.right.now.value) (Evaluated (Plain (Boolean true))) found) (c.last_of_and.ensures.found (partial_in facts (held_by c.args.self.now c.args.slots.now) (bare c.args.right.now.value)) right)
 
 pub interpret_and-returns-in-Yes-clause-limit : goal.interpret_and-returns-in-Yes-clause-limit
 interpret_and-returns-in-Yes-clause-limit g t c =
@@ -212,9 +211,9 @@ interpret_and-returns-in-Yes-clause-limit g t c =
 pub interpret_and-returns-in-Open-clause-found : goal.interpret_and-returns-in-Open-clause-found
 interpret_and-returns-in-Open-clause-found g t c =
     λ facts has.
-    let found = subst (IsTested facts (tested_answer (partial_in facts (held_by c.args.self.now c.args.slots.now) (bare c.args.left.now)))) c.in-Open.is (c.in_ok-test_answer.ensures.found facts (partial_in facts (held_by c.args.self.now c.args.slots.now) (bare c.args.left.now)) (c.interpret_within.ensures.found facts (serves_and_left g.F.ExtensionFunctionObject.answers c.args.self.now facts (bare c.args.left.now) (bare c.args.right.now.value) has))) in
-    let right = meets_as facts c.interpret_within-answer.result (partial_in facts (held_by c.args.self.now c.args.slots.now) (bare c.args.right.now.value)) _ (ap (λ (e : Expr (Unit {0})). partial_in facts (held_by c.args.self.now c.args.slots.now) (bare e)) (sym c.deref-in-Open.ensures)) (c.interpret_within-answer.ensures.found facts (subst (λ (e : Expr (Unit {0})). Serves g.F.ExtensionFunctionObject.answers c.args.self.now facts (bare e)) (sym c.deref-in-Open.ensures) (serves_and_right g.F.ExtensionFunctionObject.answers c.args.self.now facts (bare c.args.left.now) (bare c.args.right.now.value) has))) in
-    meets_as facts c.open_and.result _ _ (and_as facts (partial_in facts (held_by c.args.self.now c.args.slots.now) (bare c.args.left.now)) (partial_in facts (held_by c.args.self.now c.args.slots.now) (bare c.args.right.now.value)) (bare c.args.right.now.value) (ResidualTree found.0) found.1) (c.open_and.ensures.found facts found.0 (partial_in facts (held_by c.args.self.now c.args.slots.now) (bare c.args.right.now.value)) found.2 right)
+    let found = subst (IsTested (tested_answer (partial_in facts (held_by c.args.self.now c.args.slots.now) (bare c.args.left.now)))) c.in-Open.is (c.in_ok-test_answer.ensures.found (partial_in facts (held_by c.args.self.now c.args.slots.now) (bare c.args.left.now)) (c.interpret_within.ensures.found facts (serves_and_left g.F.ExtensionFunctionObject.answers c.args.self.now facts (bare c.args.left.now) (bare c.args.right.now.value) has))) in
+    let right = meets_as c.interpret_within-answer.result (partial_in facts (held_by c.args.self.now c.args.slots.now) (bare c.args.right.now.value)) _ (ap (λ (e : Expr (Unit {0})). partial_in facts (held_by c.args.self.now c.args.slots.now) (bare e)) (sym c.deref-in-Open.ensures)) (c.interpret_within-answer.ensures.found facts (subst (λ (e : Expr (Unit {0})). Serves g.F.ExtensionFunctionObject.answers c.args.self.now facts (bare e)) (sym c.deref-in-Open.ensures) (serves_and_right g.F.ExtensionFunctionObject.answers c.args.self.now facts (bare c.args.left.now) (bare c.args.right.now.value) has))) in
+    meets_as c.open_and.result _ _ (and_as facts (partial_in facts (held_by c.args.self.now c.args.slots.now) (bare c.args.left.now)) (partial_in facts (held_by c.args.self.now c.args.slots.now) (bare c.args.right.now.value)) (bare c.args.right.now.value) (ResidualTree (bare c.in-Open.rest)) found) (c.open_and.ensures.found facts (partial_in facts (held_by c.args.self.now c.args.slots.now) (bare c.args.right.now.value)) right)
 
 pub interpret_and-returns-in-Open-clause-limit : goal.interpret_and-returns-in-Open-clause-limit
 interpret_and-returns-in-Open-clause-limit g t c =
@@ -222,8 +221,8 @@ interpret_and-returns-in-Open-clause-limit g t c =
 
 pub interpret_or-returns-in_err-test_answer-clause-found : goal.interpret_or-returns-in_err-test_answer-clause-found
 interpret_or-returns-in_err-test_answer-clause-found g t c =
-    λ facts has. passed (λ (p : PartialValue). Same facts (part_answer (partial_of p)) (partial_in facts (held_by c.args.self.now c.args.slots.now) (tree.Or (bare c.args.left.now) (bare c.args.right.now.value)))) (λ k. partial_in facts (held_by c.args.self.now c.args.slots.now) (tree.Or (bare c.args.left.now) (bare c.args.right.now.value)) ≡ Failed k) ⊤ c.in_err-test_answer.field-0.0 c.from_residual.result c.from_residual.ensures
-    (fails_on (failure_of c.in_err-test_answer.field-0.0) (λ k h. or_as facts (partial_in facts (held_by c.args.self.now c.args.slots.now) (bare c.args.left.now)) (partial_in facts (held_by c.args.self.now c.args.slots.now) (bare c.args.right.now.value)) (bare c.args.right.now.value) (Failed k) h) (λ d. d) (c.in_err-test_answer.ensures.found facts (partial_in facts (held_by c.args.self.now c.args.slots.now) (bare c.args.left.now)) (c.interpret_within.ensures.found facts (serves_or_left g.F.ExtensionFunctionObject.answers c.args.self.now facts (bare c.args.left.now) (bare c.args.right.now.value) has))))
+    λ facts has. passed (λ (p : PartialValue). partial_in facts (held_by c.args.self.now c.args.slots.now) (tree.Or (bare c.args.left.now) (bare c.args.right.now.value)) ≡ part_answer (partial_of p)) (λ k. partial_in facts (held_by c.args.self.now c.args.slots.now) (tree.Or (bare c.args.left.now) (bare c.args.right.now.value)) ≡ Failed k) ⊤ c.in_err-test_answer.field-0.0 c.from_residual.result c.from_residual.ensures
+    (fails_on (failure_of c.in_err-test_answer.field-0.0) (λ k h. or_as facts (partial_in facts (held_by c.args.self.now c.args.slots.now) (bare c.args.left.now)) (partial_in facts (held_by c.args.self.now c.args.slots.now) (bare c.args.right.now.value)) (bare c.args.right.now.value) (Failed k) h) (λ d. d) (c.in_err-test_answer.ensures.found (partial_in facts (held_by c.args.self.now c.args.slots.now) (bare c.args.left.now)) (c.interpret_within.ensures.found facts (serves_or_left g.F.ExtensionFunctionObject.answers c.args.self.now facts (bare c.args.left.now) (bare c.args.right.now.value) has))))
 
 pub interpret_or-returns-in_err-test_answer-clause-limit : goal.interpret_or-returns-in_err-test_answer-clause-limit
 interpret_or-returns-in_err-test_answer-clause-limit g t c =
@@ -232,8 +231,8 @@ interpret_or-returns-in_err-test_answer-clause-limit g t c =
 pub interpret_or-returns-in-Yes-clause-found : goal.interpret_or-returns-in-Yes-clause-found
 interpret_or-returns-in-Yes-clause-found g t c =
     λ facts has.
-    let found = subst (IsTested facts (tested_answer (partial_in facts (held_by c.args.self.now c.args.slots.now) (bare c.args.left.now)))) c.in-Yes.is (c.in_ok-test_answer.ensures.found facts (partial_in facts (held_by c.args.self.now c.args.slots.now) (bare c.args.left.now)) (c.interpret_within.ensures.found facts (serves_or_left g.F.ExtensionFunctionObject.answers c.args.self.now facts (bare c.args.left.now) (bare c.args.right.now.value) has))) in
-    boolean_same facts (part_answer (partial_of c.truth.result)) (partial_in facts (held_by c.args.self.now c.args.slots.now) (tree.Or (bare c.args.left.now) (bare c.args.right.now.value))) true c.truth.ensures (or_as facts (partial_in facts (held_by c.args.self.now c.args.slots.now) (bare c.args.left.now)) (partial_in facts (held_by c.args.self.now c.args.slots.now) (bare c.args.right.now.value)) (bare c.args.right.now.value) (Evaluated (Plain (Boolean true))) found)
+    let found = subst (IsTested (tested_answer (partial_in facts (held_by c.args.self.now c.args.slots.now) (bare c.args.left.now)))) c.in-Yes.is (c.in_ok-test_answer.ensures.found (partial_in facts (held_by c.args.self.now c.args.slots.now) (bare c.args.left.now)) (c.interpret_within.ensures.found facts (serves_or_left g.F.ExtensionFunctionObject.answers c.args.self.now facts (bare c.args.left.now) (bare c.args.right.now.value) has))) in
+    or_as facts (partial_in facts (held_by c.args.self.now c.args.slots.now) (bare c.args.left.now)) (partial_in facts (held_by c.args.self.now c.args.slots.now) (bare c.args.right.now.value)) (bare c.args.right.now.value) (Evaluated (Plain (Boolean true))) found ∙ sym c.truth.ensures
 
 pub interpret_or-returns-in-Yes-clause-limit : goal.interpret_or-returns-in-Yes-clause-limit
 interpret_or-returns-in-Yes-clause-limit g t c =
@@ -242,9 +241,9 @@ interpret_or-returns-in-Yes-clause-limit g t c =
 pub interpret_or-returns-in-No-clause-found : goal.interpret_or-returns-in-No-clause-found
 interpret_or-returns-in-No-clause-found g t c =
     λ facts has.
-    let found = subst (IsTested facts (tested_answer (partial_in facts (held_by c.args.self.now c.args.slots.now) (bare c.args.left.now)))) c.in-No.is (c.in_ok-test_answer.ensures.found facts (partial_in facts (held_by c.args.self.now c.args.slots.now) (bare c.args.left.now)) (c.interpret_within.ensures.found facts (serves_or_left g.F.ExtensionFunctionObject.answers c.args.self.now facts (bare c.args.left.now) (bare c.args.right.now.value) has))) in
-    let right = meets_as facts c.interpret_within-in-No.result (partial_in facts (held_by c.args.self.now c.args.slots.now) (bare c.args.right.now.value)) _ (ap (λ (e : Expr (Unit {0})). partial_in facts (held_by c.args.self.now c.args.slots.now) (bare e)) (sym c.deref.ensures)) (c.interpret_within-in-No.ensures.found facts (subst (λ (e : Expr (Unit {0})). Serves g.F.ExtensionFunctionObject.answers c.args.self.now facts (bare e)) (sym c.deref.ensures) (serves_or_right g.F.ExtensionFunctionObject.answers c.args.self.now facts (bare c.args.left.now) (bare c.args.right.now.value) has))) in
-    meets_as facts c.last_of_or.result _ _ (or_as facts (partial_in facts (held_by c.args.self.now c.args.slots.now) (bare c.args.left.now)) (partial_in facts (held_by c.args.self.now c.args.slots.now) (bare c.args.right.now.value)) (bare c.args.right.now.value) (Evaluated (Plain (Boolean false))) found) (c.last_of_or.ensures.found facts (partial_in facts (held_by c.args.self.now c.args.slots.now) (bare c.args.right.now.value)) right)
+    let found = subst (IsTested (tested_answer (partial_in facts (held_by c.args.self.now c.args.slots.now) (bare c.args.left.now)))) c.in-No.is (c.in_ok-test_answer.ensures.found (partial_in facts (held_by c.args.self.now c.args.slots.now) (bare c.args.left.now)) (c.interpret_within.ensures.found facts (serves_or_left g.F.ExtensionFunctionObject.answers c.args.self.now facts (bare c.args.left.now) (bare c.args.right.now.value) has))) in
+    let right = meets_as c.interpret_within-in-No.result (partial_in facts (held_by c.args.self.now c.args.slots.now) (bare c.args.right.now.value)) _ (ap (λ (e : Expr (Unit {0})). partial_in facts (held_by c.args.self.now c.args.slots.now) (bare e)) (sym c.deref.ensures)) (c.interpret_within-in-No.ensures.found facts (subst (λ (e : Expr (Unit {0})). Serves g.F.ExtensionFunctionObject.answers c.args.self.now facts (bare e)) (sym c.deref.ensures) (serves_or_right g.F.ExtensionFunctionObject.answers c.args.self.now facts (bare c.args.left.now) (bare c.args.right.now.value) has))) in
+    meets_as c.last_of_or.result _ _ (or_as facts (partial_in facts (held_by c.args.self.now c.args.slots.now) (bare c.args.left.now)) (partial_in facts (held_by c.args.self.now c.args.slots.now) (bare c.args.right.now.value)) (bare c.args.right.now.value) (Evaluated (Plain (Boolean false))) found) (c.last_of_or.ensures.found (partial_in facts (held_by c.args.self.now c.args.slots.now) (bare c.args.right.now.value)) right)
 
 pub interpret_or-returns-in-No-clause-limit : goal.interpret_or-returns-in-No-clause-limit
 interpret_or-returns-in-No-clause-limit g t c =
@@ -253,9 +252,9 @@ interpret_or-returns-in-No-clause-limit g t c =
 pub interpret_or-returns-in-Open-clause-found : goal.interpret_or-returns-in-Open-clause-found
 interpret_or-returns-in-Open-clause-found g t c =
     λ facts has.
-    let found = subst (IsTested facts (tested_answer (partial_in facts (held_by c.args.self.now c.args.slots.now) (bare c.args.left.now)))) c.in-Open.is (c.in_ok-test_answer.ensures.found facts (partial_in facts (held_by c.args.self.now c.args.slots.now) (bare c.args.left.now)) (c.interpret_within.ensures.found facts (serves_or_left g.F.ExtensionFunctionObject.answers c.args.self.now facts (bare c.args.left.now) (bare c.args.right.now.value) has))) in
-    let right = meets_as facts c.interpret_within-answer.result (partial_in facts (held_by c.args.self.now c.args.slots.now) (bare c.args.right.now.value)) _ (ap (λ (e : Expr (Unit {0})). partial_in facts (held_by c.args.self.now c.args.slots.now) (bare e)) (sym c.deref-in-Open.ensures)) (c.interpret_within-answer.ensures.found facts (subst (λ (e : Expr (Unit {0})). Serves g.F.ExtensionFunctionObject.answers c.args.self.now facts (bare e)) (sym c.deref-in-Open.ensures) (serves_or_right g.F.ExtensionFunctionObject.answers c.args.self.now facts (bare c.args.left.now) (bare c.args.right.now.value) has))) in
-    meets_as facts c.open_or.result _ _ (or_as facts (partial_in facts (held_by c.args.self.now c.args.slots.now) (bare c.args.left.now)) (partial_in facts (held_by c.args.self.now c.args.slots.now) (bare c.args.right.now.value)) (bare c.args.right.now.value) (ResidualTree found.0) found.1) (c.open_or.ensures.found facts found.0 (partial_in facts (held_by c.args.self.now c.args.slots.now) (bare c.args.right.now.value)) found.2 right)
+    let found = subst (IsTested (tested_answer (partial_in facts (held_by c.args.self.now c.args.slots.now) (bare c.args.left.now)))) c.in-Open.is (c.in_ok-test_answer.ensures.found (partial_in facts (held_by c.args.self.now c.args.slots.now) (bare c.args.left.now)) (c.interpret_within.ensures.found facts (serves_or_left g.F.ExtensionFunctionObject.answers c.args.self.now facts (bare c.args.left.now) (bare c.args.right.now.value) has))) in
+    let right = meets_as c.interpret_within-answer.result (partial_in facts (held_by c.args.self.now c.args.slots.now) (bare c.args.right.now.value)) _ (ap (λ (e : Expr (Unit {0})). partial_in facts (held_by c.args.self.now c.args.slots.now) (bare e)) (sym c.deref-in-Open.ensures)) (c.interpret_within-answer.ensures.found facts (subst (λ (e : Expr (Unit {0})). Serves g.F.ExtensionFunctionObject.answers c.args.self.now facts (bare e)) (sym c.deref-in-Open.ensures) (serves_or_right g.F.ExtensionFunctionObject.answers c.args.self.now facts (bare c.args.left.now) (bare c.args.right.now.value) has))) in
+    meets_as c.open_or.result _ _ (or_as facts (partial_in facts (held_by c.args.self.now c.args.slots.now) (bare c.args.left.now)) (partial_in facts (held_by c.args.self.now c.args.slots.now) (bare c.args.right.now.value)) (bare c.args.right.now.value) (ResidualTree (bare c.in-Open.rest)) found) (c.open_or.ensures.found facts (partial_in facts (held_by c.args.self.now c.args.slots.now) (bare c.args.right.now.value)) right)
 
 pub interpret_or-returns-in-Open-clause-limit : goal.interpret_or-returns-in-Open-clause-limit
 interpret_or-returns-in-Open-clause-limit g t c =
@@ -263,8 +262,8 @@ interpret_or-returns-in-Open-clause-limit g t c =
 
 pub interpret_if-returns-in_err-test_answer-clause-found : goal.interpret_if-returns-in_err-test_answer-clause-found
 interpret_if-returns-in_err-test_answer-clause-found g t c =
-    λ facts has. passed (λ (p : PartialValue). Same facts (part_answer (partial_of p)) (partial_in facts (held_by c.args.self.now c.args.slots.now) (tree.If (bare c.args.test.now) (bare c.args.yes.now.value) (bare c.args.no.now.value)))) (λ k. partial_in facts (held_by c.args.self.now c.args.slots.now) (tree.If (bare c.args.test.now) (bare c.args.yes.now.value) (bare c.args.no.now.value)) ≡ Failed k) ⊤ c.in_err-test_answer.field-0.0 c.from_residual.result c.from_residual.ensures
-    (fails_on (failure_of c.in_err-test_answer.field-0.0) (λ k h. if_as facts (partial_in facts (held_by c.args.self.now c.args.slots.now) (bare c.args.test.now)) (partial_in facts (held_by c.args.self.now c.args.slots.now) (bare c.args.yes.now.value)) (partial_in facts (held_by c.args.self.now c.args.slots.now) (bare c.args.no.now.value)) (bare c.args.yes.now.value) (bare c.args.no.now.value) (Failed k) h) (λ d. d) (c.in_err-test_answer.ensures.found facts (partial_in facts (held_by c.args.self.now c.args.slots.now) (bare c.args.test.now)) (c.interpret_within.ensures.found facts (serves_test g.F.ExtensionFunctionObject.answers c.args.self.now facts (bare c.args.test.now) (bare c.args.yes.now.value) (bare c.args.no.now.value) has))))
+    λ facts has. passed (λ (p : PartialValue). partial_in facts (held_by c.args.self.now c.args.slots.now) (tree.If (bare c.args.test.now) (bare c.args.yes.now.value) (bare c.args.no.now.value)) ≡ part_answer (partial_of p)) (λ k. partial_in facts (held_by c.args.self.now c.args.slots.now) (tree.If (bare c.args.test.now) (bare c.args.yes.now.value) (bare c.args.no.now.value)) ≡ Failed k) ⊤ c.in_err-test_answer.field-0.0 c.from_residual.result c.from_residual.ensures
+    (fails_on (failure_of c.in_err-test_answer.field-0.0) (λ k h. if_as facts (partial_in facts (held_by c.args.self.now c.args.slots.now) (bare c.args.test.now)) (partial_in facts (held_by c.args.self.now c.args.slots.now) (bare c.args.yes.now.value)) (partial_in facts (held_by c.args.self.now c.args.slots.now) (bare c.args.no.now.value)) (bare c.args.yes.now.value) (bare c.args.no.now.value) (Failed k) h) (λ d. d) (c.in_err-test_answer.ensures.found (partial_in facts (held_by c.args.self.now c.args.slots.now) (bare c.args.test.now)) (c.interpret_within.ensures.found facts (serves_test g.F.ExtensionFunctionObject.answers c.args.self.now facts (bare c.args.test.now) (bare c.args.yes.now.value) (bare c.args.no.now.value) has))))
 
 pub interpret_if-returns-in_err-test_answer-clause-limit : goal.interpret_if-returns-in_err-test_answer-clause-limit
 interpret_if-returns-in_err-test_answer-clause-limit g t c =
@@ -273,9 +272,9 @@ interpret_if-returns-in_err-test_answer-clause-limit g t c =
 pub interpret_if-returns-in-Yes-clause-found : goal.interpret_if-returns-in-Yes-clause-found
 interpret_if-returns-in-Yes-clause-found g t c =
     λ facts has.
-    let found = subst (IsTested facts (tested_answer (partial_in facts (held_by c.args.self.now c.args.slots.now) (bare c.args.test.now)))) c.in-Yes.is (c.in_ok-test_answer.ensures.found facts (partial_in facts (held_by c.args.self.now c.args.slots.now) (bare c.args.test.now)) (c.interpret_within.ensures.found facts (serves_test g.F.ExtensionFunctionObject.answers c.args.self.now facts (bare c.args.test.now) (bare c.args.yes.now.value) (bare c.args.no.now.value) has))) in
-    let taken = meets_as facts c.interpret_within-in-Yes.result (partial_in facts (held_by c.args.self.now c.args.slots.now) (bare c.args.yes.now.value)) _ (ap (λ (e : Expr (Unit {0})). partial_in facts (held_by c.args.self.now c.args.slots.now) (bare e)) (sym c.deref.ensures)) (c.interpret_within-in-Yes.ensures.found facts (subst (λ (e : Expr (Unit {0})). Serves g.F.ExtensionFunctionObject.answers c.args.self.now facts (bare e)) (sym c.deref.ensures) (serves_yes g.F.ExtensionFunctionObject.answers c.args.self.now facts (bare c.args.test.now) (bare c.args.yes.now.value) (bare c.args.no.now.value) has))) in
-    meets_as facts c.interpret_within-in-Yes.result _ _ (if_as facts (partial_in facts (held_by c.args.self.now c.args.slots.now) (bare c.args.test.now)) (partial_in facts (held_by c.args.self.now c.args.slots.now) (bare c.args.yes.now.value)) (partial_in facts (held_by c.args.self.now c.args.slots.now) (bare c.args.no.now.value)) (bare c.args.yes.now.value) (bare c.args.no.now.value) (Evaluated (Plain (Boolean true))) found) taken
+    let found = subst (IsTested (tested_answer (partial_in facts (held_by c.args.self.now c.args.slots.now) (bare c.args.test.now)))) c.in-Yes.is (c.in_ok-test_answer.ensures.found (partial_in facts (held_by c.args.self.now c.args.slots.now) (bare c.args.test.now)) (c.interpret_within.ensures.found facts (serves_test g.F.ExtensionFunctionObject.answers c.args.self.now facts (bare c.args.test.now) (bare c.args.yes.now.value) (bare c.args.no.now.value) has))) in
+    let taken = meets_as c.interpret_within-in-Yes.result (partial_in facts (held_by c.args.self.now c.args.slots.now) (bare c.args.yes.now.value)) _ (ap (λ (e : Expr (Unit {0})). partial_in facts (held_by c.args.self.now c.args.slots.now) (bare e)) (sym c.deref.ensures)) (c.interpret_within-in-Yes.ensures.found facts (subst (λ (e : Expr (Unit {0})). Serves g.F.ExtensionFunctionObject.answers c.args.self.now facts (bare e)) (sym c.deref.ensures) (serves_yes g.F.ExtensionFunctionObject.answers c.args.self.now facts (bare c.args.test.now) (bare c.args.yes.now.value) (bare c.args.no.now.value) has))) in
+    meets_as c.interpret_within-in-Yes.result _ _ (if_as facts (partial_in facts (held_by c.args.self.now c.args.slots.now) (bare c.args.test.now)) (partial_in facts (held_by c.args.self.now c.args.slots.now) (bare c.args.yes.now.value)) (partial_in facts (held_by c.args.self.now c.args.slots.now) (bare c.args.no.now.value)) (bare c.args.yes.now.value) (bare c.args.no.now.value) (Evaluated (Plain (Boolean true))) found) taken
 
 pub interpret_if-returns-in-Yes-clause-limit : goal.interpret_if-returns-in-Yes-clause-limit
 interpret_if-returns-in-Yes-clause-limit g t c =
@@ -284,9 +283,9 @@ interpret_if-returns-in-Yes-clause-limit g t c =
 pub interpret_if-returns-in-No-clause-found : goal.interpret_if-returns-in-No-clause-found
 interpret_if-returns-in-No-clause-found g t c =
     λ facts has.
-    let found = subst (IsTested facts (tested_answer (partial_in facts (held_by c.args.self.now c.args.slots.now) (bare c.args.test.now)))) c.in-No.is (c.in_ok-test_answer.ensures.found facts (partial_in facts (held_by c.args.self.now c.args.slots.now) (bare c.args.test.now)) (c.interpret_within.ensures.found facts (serves_test g.F.ExtensionFunctionObject.answers c.args.self.now facts (bare c.args.test.now) (bare c.args.yes.now.value) (bare c.args.no.now.value) has))) in
-    let taken = meets_as facts c.interpret_within-in-No.result (partial_in facts (held_by c.args.self.now c.args.slots.now) (bare c.args.no.now.value)) _ (ap (λ (e : Expr (Unit {0})). partial_in facts (held_by c.args.self.now c.args.slots.now) (bare e)) (sym c.deref-in-No.ensures)) (c.interpret_within-in-No.ensures.found facts (subst (λ (e : Expr (Unit {0})). Serves g.F.ExtensionFunctionObject.answers c.args.self.now facts (bare e)) (sym c.deref-in-No.ensures) (serves_no g.F.ExtensionFunctionObject.answers c.args.self.now facts (bare c.args.test.now) (bare c.args.yes.now.value) (bare c.args.no.now.value) has))) in
-    meets_as facts c.interpret_within-in-No.result _ _ (if_as facts (partial_in facts (held_by c.args.self.now c.args.slots.now) (bare c.args.test.now)) (partial_in facts (held_by c.args.self.now c.args.slots.now) (bare c.args.yes.now.value)) (partial_in facts (held_by c.args.self.now c.args.slots.now) (bare c.args.no.now.value)) (bare c.args.yes.now.value) (bare c.args.no.now.value) (Evaluated (Plain (Boolean false))) found) taken
+    let found = subst (IsTested (tested_answer (partial_in facts (held_by c.args.self.now c.args.slots.now) (bare c.args.test.now)))) c.in-No.is (c.in_ok-test_answer.ensures.found (partial_in facts (held_by c.args.self.now c.args.slots.now) (bare c.args.test.now)) (c.interpret_within.ensures.found facts (serves_test g.F.ExtensionFunctionObject.answers c.args.self.now facts (bare c.args.test.now) (bare c.args.yes.now.value) (bare c.args.no.now.value) has))) in
+    let taken = meets_as c.interpret_within-in-No.result (partial_in facts (held_by c.args.self.now c.args.slots.now) (bare c.args.no.now.value)) _ (ap (λ (e : Expr (Unit {0})). partial_in facts (held_by c.args.self.now c.args.slots.now) (bare e)) (sym c.deref-in-No.ensures)) (c.interpret_within-in-No.ensures.found facts (subst (λ (e : Expr (Unit {0})). Serves g.F.ExtensionFunctionObject.answers c.args.self.now facts (bare e)) (sym c.deref-in-No.ensures) (serves_no g.F.ExtensionFunctionObject.answers c.args.self.now facts (bare c.args.test.now) (bare c.args.yes.now.value) (bare c.args.no.now.value) has))) in
+    meets_as c.interpret_within-in-No.result _ _ (if_as facts (partial_in facts (held_by c.args.self.now c.args.slots.now) (bare c.args.test.now)) (partial_in facts (held_by c.args.self.now c.args.slots.now) (bare c.args.yes.now.value)) (partial_in facts (held_by c.args.self.now c.args.slots.now) (bare c.args.no.now.value)) (bare c.args.yes.now.value) (bare c.args.no.now.value) (Evaluated (Plain (Boolean false))) found) taken
 
 pub interpret_if-returns-in-No-clause-limit : goal.interpret_if-returns-in-No-clause-limit
 interpret_if-returns-in-No-clause-limit g t c =
@@ -295,10 +294,10 @@ interpret_if-returns-in-No-clause-limit g t c =
 pub interpret_if-returns-in-Open-clause-found : goal.interpret_if-returns-in-Open-clause-found
 interpret_if-returns-in-Open-clause-found g t c =
     λ facts has.
-    let found = subst (IsTested facts (tested_answer (partial_in facts (held_by c.args.self.now c.args.slots.now) (bare c.args.test.now)))) c.in-Open.is (c.in_ok-test_answer.ensures.found facts (partial_in facts (held_by c.args.self.now c.args.slots.now) (bare c.args.test.now)) (c.interpret_within.ensures.found facts (serves_test g.F.ExtensionFunctionObject.answers c.args.self.now facts (bare c.args.test.now) (bare c.args.yes.now.value) (bare c.args.no.now.value) has))) in
-    let yes = meets_as facts c.interpret_within-yes_answer.result (partial_in facts (held_by c.args.self.now c.args.slots.now) (bare c.args.yes.now.value)) _ (ap (λ (e : Expr (Unit {0})). partial_in facts (held_by c.args.self.now c.args.slots.now) (bare e)) (sym c.deref-in-Open.ensures)) (c.interpret_within-yes_answer.ensures.found facts (subst (λ (e : Expr (Unit {0})). Serves g.F.ExtensionFunctionObject.answers c.args.self.now facts (bare e)) (sym c.deref-in-Open.ensures) (serves_yes g.F.ExtensionFunctionObject.answers c.args.self.now facts (bare c.args.test.now) (bare c.args.yes.now.value) (bare c.args.no.now.value) has))) in
-    let no = meets_as facts c.interpret_within-no_answer.result (partial_in facts (held_by c.args.self.now c.args.slots.now) (bare c.args.no.now.value)) _ (ap (λ (e : Expr (Unit {0})). partial_in facts (held_by c.args.self.now c.args.slots.now) (bare e)) (sym c.deref-in-Open-2.ensures)) (c.interpret_within-no_answer.ensures.found facts (subst (λ (e : Expr (Unit {0})). Serves g.F.ExtensionFunctionObject.answers c.args.self.now facts (bare e)) (sym c.deref-in-Open-2.ensures) (serves_no g.F.ExtensionFunctionObject.answers c.args.self.now facts (bare c.args.test.now) (bare c.args.yes.now.value) (bare c.args.no.now.value) has))) in
-    meets_as facts c.open_if.result _ _ (if_as facts (partial_in facts (held_by c.args.self.now c.args.slots.now) (bare c.args.test.now)) (partial_in facts (held_by c.args.self.now c.args.slots.now) (bare c.args.yes.now.value)) (partial_in facts (held_by c.args.self.now c.args.slots.now) (bare c.args.no.now.value)) (bare c.args.yes.now.value) (bare c.args.no.now.value) (ResidualTree found.0) found.1) (c.open_if.ensures.found facts found.0 (partial_in facts (held_by c.args.self.now c.args.slots.now) (bare c.args.yes.now.value)) (partial_in facts (held_by c.args.self.now c.args.slots.now) (bare c.args.no.now.value)) found.2 yes no)
+    let found = subst (IsTested (tested_answer (partial_in facts (held_by c.args.self.now c.args.slots.now) (bare c.args.test.now)))) c.in-Open.is (c.in_ok-test_answer.ensures.found (partial_in facts (held_by c.args.self.now c.args.slots.now) (bare c.args.test.now)) (c.interpret_within.ensures.found facts (serves_test g.F.ExtensionFunctionObject.answers c.args.self.now facts (bare c.args.test.now) (bare c.args.yes.now.value) (bare c.args.no.now.value) has))) in
+    let yes = meets_as c.interpret_within-yes_answer.result (partial_in facts (held_by c.args.self.now c.args.slots.now) (bare c.args.yes.now.value)) _ (ap (λ (e : Expr (Unit {0})). partial_in facts (held_by c.args.self.now c.args.slots.now) (bare e)) (sym c.deref-in-Open.ensures)) (c.interpret_within-yes_answer.ensures.found facts (subst (λ (e : Expr (Unit {0})). Serves g.F.ExtensionFunctionObject.answers c.args.self.now facts (bare e)) (sym c.deref-in-Open.ensures) (serves_yes g.F.ExtensionFunctionObject.answers c.args.self.now facts (bare c.args.test.now) (bare c.args.yes.now.value) (bare c.args.no.now.value) has))) in
+    let no = meets_as c.interpret_within-no_answer.result (partial_in facts (held_by c.args.self.now c.args.slots.now) (bare c.args.no.now.value)) _ (ap (λ (e : Expr (Unit {0})). partial_in facts (held_by c.args.self.now c.args.slots.now) (bare e)) (sym c.deref-in-Open-2.ensures)) (c.interpret_within-no_answer.ensures.found facts (subst (λ (e : Expr (Unit {0})). Serves g.F.ExtensionFunctionObject.answers c.args.self.now facts (bare e)) (sym c.deref-in-Open-2.ensures) (serves_no g.F.ExtensionFunctionObject.answers c.args.self.now facts (bare c.args.test.now) (bare c.args.yes.now.value) (bare c.args.no.now.value) has))) in
+    meets_as c.open_if.result _ _ (if_as facts (partial_in facts (held_by c.args.self.now c.args.slots.now) (bare c.args.test.now)) (partial_in facts (held_by c.args.self.now c.args.slots.now) (bare c.args.yes.now.value)) (partial_in facts (held_by c.args.self.now c.args.slots.now) (bare c.args.no.now.value)) (bare c.args.yes.now.value) (bare c.args.no.now.value) (ResidualTree (bare c.in-Open.rest)) found) (c.open_if.ensures.found facts (partial_in facts (held_by c.args.self.now c.args.slots.now) (bare c.args.yes.now.value)) (partial_in facts (held_by c.args.self.now c.args.slots.now) (bare c.args.no.now.value)) yes no)
 
 pub interpret_if-returns-in-Open-clause-limit : goal.interpret_if-returns-in-Open-clause-limit
 interpret_if-returns-in-Open-clause-limit g t c =
@@ -308,7 +307,7 @@ interpret_if-returns-in-Open-clause-limit g t c =
 
 pub interpret_attribute-returns-in_err-part-clause-found : goal.interpret_attribute-returns-in_err-part-clause-found
 interpret_attribute-returns-in_err-part-clause-found g t c =
-    λ facts has. passed (λ (p : PartialValue). Same facts (part_answer (partial_of p)) (partial_in facts (held_by c.args.self.now c.args.slots.now) (unary (tree.GetAttr (rc_str_bytes c.args.attr.now)) (bare c.args.of.now)))) (λ k. partial_in facts (held_by c.args.self.now c.args.slots.now) (unary (tree.GetAttr (rc_str_bytes c.args.attr.now)) (bare c.args.of.now)) ≡ Failed k) ⊤ c.in_err-part.field-0.0 c.from_residual.result c.from_residual.ensures
+    λ facts has. passed (λ (p : PartialValue). partial_in facts (held_by c.args.self.now c.args.slots.now) (unary (tree.GetAttr (rc_str_bytes c.args.attr.now)) (bare c.args.of.now)) ≡ part_answer (partial_of p)) (λ k. partial_in facts (held_by c.args.self.now c.args.slots.now) (unary (tree.GetAttr (rc_str_bytes c.args.attr.now)) (bare c.args.of.now)) ≡ Failed k) ⊤ c.in_err-part.field-0.0 c.from_residual.result c.from_residual.ensures
     (fails_on (failure_of c.in_err-part.field-0.0) (λ k h. ap (λ b. apply_answer facts (held_by c.args.self.now c.args.slots.now) (tree.GetAttr (rc_str_bytes c.args.attr.now)) (and_next facts b (AllEvaluated no_values))) h) (λ d. d) (c.in_err-part.ensures.found facts (serves_operands g.F.ExtensionFunctionObject.answers c.args.self.now facts (tree.GetAttr (rc_str_bytes c.args.attr.now)) (a_tree (bare c.args.of.now) no_trees) has).0))
 
 pub interpret_attribute-returns-in_err-part-clause-limit : goal.interpret_attribute-returns-in_err-part-clause-limit
@@ -317,16 +316,20 @@ interpret_attribute-returns-in_err-part-clause-limit g t c =
 
 pub interpret_attribute-returns-in_err-answer-clause-found : goal.interpret_attribute-returns-in_err-answer-clause-found
 interpret_attribute-returns-in_err-answer-clause-found g t c =
-    λ facts has. passed (λ (p : PartialValue). Same facts (part_answer (partial_of p)) (partial_in facts (held_by c.args.self.now c.args.slots.now) (unary (tree.GetAttr (rc_str_bytes c.args.attr.now)) (bare c.args.of.now)))) (λ k. partial_in facts (held_by c.args.self.now c.args.slots.now) (unary (tree.GetAttr (rc_str_bytes c.args.attr.now)) (bare c.args.of.now)) ≡ Failed k) ⊤ c.in_err-answer.field-0.0 c.from_residual-in_err-answer.result c.from_residual-in_err-answer.ensures
-    (fails_on (failure_of c.in_err-answer.field-0.0) (λ k h. h) (λ d. tt) (c.in_err-answer.ensures facts has.entities (held_by c.args.self.now c.args.slots.now) (partial_in facts (held_by c.args.self.now c.args.slots.now) (bare c.args.of.now)) (c.in_ok-part.ensures.found facts (serves_operands g.F.ExtensionFunctionObject.answers c.args.self.now facts (tree.GetAttr (rc_str_bytes c.args.attr.now)) (a_tree (bare c.args.of.now) no_trees) has).0)))
+    λ facts has.
+    let as_found = ap (λ b. apply_answer facts (held_by c.args.self.now c.args.slots.now) (tree.GetAttr (rc_str_bytes c.args.attr.now)) (and_next facts b (AllEvaluated no_values))) (c.in_ok-part.ensures.found facts (serves_operands g.F.ExtensionFunctionObject.answers c.args.self.now facts (tree.GetAttr (rc_str_bytes c.args.attr.now)) (a_tree (bare c.args.of.now) no_trees) has).0) in
+    passed (λ (p : PartialValue). partial_in facts (held_by c.args.self.now c.args.slots.now) (unary (tree.GetAttr (rc_str_bytes c.args.attr.now)) (bare c.args.of.now)) ≡ part_answer (partial_of p)) (λ k. partial_in facts (held_by c.args.self.now c.args.slots.now) (unary (tree.GetAttr (rc_str_bytes c.args.attr.now)) (bare c.args.of.now)) ≡ Failed k) ⊤ c.in_err-answer.field-0.0 c.from_residual-in_err-answer.result c.from_residual-in_err-answer.ensures
+    (fails_on (failure_of c.in_err-answer.field-0.0) (λ k h. as_found ∙ h) (λ d. tt) (c.in_err-answer.ensures facts has.entities (held_by c.args.self.now c.args.slots.now)))
 
 pub interpret_attribute-returns-in_err-answer-clause-limit : goal.interpret_attribute-returns-in_err-answer-clause-limit
 interpret_attribute-returns-in_err-answer-clause-limit g t c =
-    λ l facts has m. absurd (subst (λ f. FailsBy ⊥ (λ k. partial_in facts (held_by c.args.self.now c.args.slots.now) (unary (tree.GetAttr (rc_str_bytes c.args.attr.now)) (bare c.args.of.now)) ≡ Failed k) f) (limit_passed c.in_err-answer.field-0.0 c.from_residual-in_err-answer.result c.from_residual-in_err-answer.ensures l) (c.in_err-answer.ensures facts has.entities (held_by c.args.self.now c.args.slots.now) (partial_in facts (held_by c.args.self.now c.args.slots.now) (bare c.args.of.now)) (c.in_ok-part.ensures.found facts (serves_operands g.F.ExtensionFunctionObject.answers c.args.self.now facts (tree.GetAttr (rc_str_bytes c.args.attr.now)) (a_tree (bare c.args.of.now) no_trees) has).0)))
+    λ l facts has m. absurd (subst (λ f. FailsBy ⊥ (λ k. apply_answer facts (held_by c.args.self.now c.args.slots.now) (tree.GetAttr (rc_str_bytes c.args.attr.now)) (and_next facts (part_answer (partial_of c.in_ok-part.part)) (AllEvaluated no_values)) ≡ Failed k) f) (limit_passed c.in_err-answer.field-0.0 c.from_residual-in_err-answer.result c.from_residual-in_err-answer.ensures l) (c.in_err-answer.ensures facts has.entities (held_by c.args.self.now c.args.slots.now)))
 
 pub interpret_attribute-returns-in-Done-clause-found : goal.interpret_attribute-returns-in-Done-clause-found
 interpret_attribute-returns-in-Done-clause-found g t c =
-    λ facts has. subst (IsProjected facts (held_by c.args.self.now c.args.slots.now) (partial_of c.in_ok-part.part) (apply_answer facts (held_by c.args.self.now c.args.slots.now) (tree.GetAttr (rc_str_bytes c.args.attr.now)) (and_next facts (partial_in facts (held_by c.args.self.now c.args.slots.now) (bare c.args.of.now)) (AllEvaluated no_values)))) c.in-Done.is (c.in_ok-answer.ensures facts has.entities (held_by c.args.self.now c.args.slots.now) (partial_in facts (held_by c.args.self.now c.args.slots.now) (bare c.args.of.now)) (c.in_ok-part.ensures.found facts (serves_operands g.F.ExtensionFunctionObject.answers c.args.self.now facts (tree.GetAttr (rc_str_bytes c.args.attr.now)) (a_tree (bare c.args.of.now) no_trees) has).0))
+    λ facts has.
+    let as_found = ap (λ b. apply_answer facts (held_by c.args.self.now c.args.slots.now) (tree.GetAttr (rc_str_bytes c.args.attr.now)) (and_next facts b (AllEvaluated no_values))) (c.in_ok-part.ensures.found facts (serves_operands g.F.ExtensionFunctionObject.answers c.args.self.now facts (tree.GetAttr (rc_str_bytes c.args.attr.now)) (a_tree (bare c.args.of.now) no_trees) has).0) in
+    as_found ∙ subst (IsProjected facts (held_by c.args.self.now c.args.slots.now) (partial_of c.in_ok-part.part) (apply_answer facts (held_by c.args.self.now c.args.slots.now) (tree.GetAttr (rc_str_bytes c.args.attr.now)) (and_next facts (part_answer (partial_of c.in_ok-part.part)) (AllEvaluated no_values)))) c.in-Done.is (c.in_ok-answer.ensures facts has.entities (held_by c.args.self.now c.args.slots.now))
 
 pub interpret_attribute-returns-in-Done-clause-limit : goal.interpret_attribute-returns-in-Done-clause-limit
 interpret_attribute-returns-in-Done-clause-limit g t c =
@@ -335,13 +338,14 @@ interpret_attribute-returns-in-Done-clause-limit g t c =
 pub interpret_attribute-returns-in-Entry-clause-found : goal.interpret_attribute-returns-in-Entry-clause-found
 interpret_attribute-returns-in-Entry-clause-found g t c =
     λ facts has.
-    let found = subst (IsProjected facts (held_by c.args.self.now c.args.slots.now) (partial_of c.in_ok-part.part) (apply_answer facts (held_by c.args.self.now c.args.slots.now) (tree.GetAttr (rc_str_bytes c.args.attr.now)) (and_next facts (partial_in facts (held_by c.args.self.now c.args.slots.now) (bare c.args.of.now)) (AllEvaluated no_values)))) c.in-Entry.is (c.in_ok-answer.ensures facts has.entities (held_by c.args.self.now c.args.slots.now) (partial_in facts (held_by c.args.self.now c.args.slots.now) (bare c.args.of.now)) (c.in_ok-part.ensures.found facts (serves_operands g.F.ExtensionFunctionObject.answers c.args.self.now facts (tree.GetAttr (rc_str_bytes c.args.attr.now)) (a_tree (bare c.args.of.now) no_trees) has).0)) in
-    meets_as facts c.interpret_within-in-Entry.result _ _ found.0 (c.interpret_within-in-Entry.ensures.found facts (serves_entry g.F.ExtensionFunctionObject.answers c.args.self.now facts (unary (tree.GetAttr (rc_str_bytes c.args.attr.now)) (bare c.args.of.now)) (bare c.in-Entry.entry) has found.2))
+    let as_found = ap (λ b. apply_answer facts (held_by c.args.self.now c.args.slots.now) (tree.GetAttr (rc_str_bytes c.args.attr.now)) (and_next facts b (AllEvaluated no_values))) (c.in_ok-part.ensures.found facts (serves_operands g.F.ExtensionFunctionObject.answers c.args.self.now facts (tree.GetAttr (rc_str_bytes c.args.attr.now)) (a_tree (bare c.args.of.now) no_trees) has).0) in
+    let found = subst (IsProjected facts (held_by c.args.self.now c.args.slots.now) (partial_of c.in_ok-part.part) (apply_answer facts (held_by c.args.self.now c.args.slots.now) (tree.GetAttr (rc_str_bytes c.args.attr.now)) (and_next facts (part_answer (partial_of c.in_ok-part.part)) (AllEvaluated no_values)))) c.in-Entry.is (c.in_ok-answer.ensures facts has.entities (held_by c.args.self.now c.args.slots.now)) in
+    meets_as c.interpret_within-in-Entry.result _ _ (as_found ∙ found.0) (c.interpret_within-in-Entry.ensures.found facts (serves_entry g.F.ExtensionFunctionObject.answers c.args.self.now facts (unary (tree.GetAttr (rc_str_bytes c.args.attr.now)) (bare c.args.of.now)) (bare c.in-Entry.entry) has found.2))
 
 pub interpret_attribute-returns-in-Entry-clause-limit : goal.interpret_attribute-returns-in-Entry-clause-limit
 interpret_attribute-returns-in-Entry-clause-limit g t c =
     λ l facts has m.
-    let found = subst (IsProjected facts (held_by c.args.self.now c.args.slots.now) (partial_of c.in_ok-part.part) (apply_answer facts (held_by c.args.self.now c.args.slots.now) (tree.GetAttr (rc_str_bytes c.args.attr.now)) (and_next facts (partial_in facts (held_by c.args.self.now c.args.slots.now) (bare c.args.of.now)) (AllEvaluated no_values)))) c.in-Entry.is (c.in_ok-answer.ensures facts has.entities (held_by c.args.self.now c.args.slots.now) (partial_in facts (held_by c.args.self.now c.args.slots.now) (bare c.args.of.now)) (c.in_ok-part.ensures.found facts (serves_operands g.F.ExtensionFunctionObject.answers c.args.self.now facts (tree.GetAttr (rc_str_bytes c.args.attr.now)) (a_tree (bare c.args.of.now) no_trees) has).0)) in
+    let found = subst (IsProjected facts (held_by c.args.self.now c.args.slots.now) (partial_of c.in_ok-part.part) (apply_answer facts (held_by c.args.self.now c.args.slots.now) (tree.GetAttr (rc_str_bytes c.args.attr.now)) (and_next facts (part_answer (partial_of c.in_ok-part.part)) (AllEvaluated no_values)))) c.in-Entry.is (c.in_ok-answer.ensures facts has.entities (held_by c.args.self.now c.args.slots.now)) in
     absurd (never_left c.known_is_never_left.ensures c.args.self.now c.args.slots.now facts (bare c.args.of.now) (partial_of c.in_ok-part.part) (known_first _ _ m) found.1 (c.in_ok-part.ensures.found facts (serves_operands g.F.ExtensionFunctionObject.answers c.args.self.now facts (tree.GetAttr (rc_str_bytes c.args.attr.now)) (a_tree (bare c.args.of.now) no_trees) has).0))
 
 -- ---- operands
@@ -362,7 +366,7 @@ pub interpret_strict-returns-in_err-part-in-One-clause-found : goal.interpret_st
 interpret_strict-returns-in_err-part-in-One-clause-found g t c =
     λ facts has.
     let is : bare c.args.expr.now ≡ unary (unary_operator c.in-One.op) (bare c.in-One.of.now) = subst (IsOperands (bare c.args.expr.now)) c.in-One.is c.requires in
-    passed (λ (p : PartialValue). Same facts (part_answer (partial_of p)) (partial_in facts (held_by c.args.self.now c.args.slots.now) (bare c.args.expr.now))) (λ k. partial_in facts (held_by c.args.self.now c.args.slots.now) (bare c.args.expr.now) ≡ Failed k) ⊤ c.in_err-part-in-One.field-0.0 c.from_residual.result c.from_residual.ensures
+    passed (λ (p : PartialValue). partial_in facts (held_by c.args.self.now c.args.slots.now) (bare c.args.expr.now) ≡ part_answer (partial_of p)) (λ k. partial_in facts (held_by c.args.self.now c.args.slots.now) (bare c.args.expr.now) ≡ Failed k) ⊤ c.in_err-part-in-One.field-0.0 c.from_residual.result c.from_residual.ensures
     (fails_on (failure_of c.in_err-part-in-One.field-0.0) (λ k h. one_fails (bare c.args.expr.now) (unary_operator c.in-One.op) (bare c.in-One.of.now) is facts (held_by c.args.self.now c.args.slots.now) k h) (λ d. d) (c.in_err-part-in-One.ensures.found facts (one_serves (bare c.args.expr.now) (unary_operator c.in-One.op) (bare c.in-One.of.now) is g.F.ExtensionFunctionObject.answers c.args.self.now facts has)))
 
 pub interpret_strict-returns-in_err-part-in-One-clause-limit : goal.interpret_strict-returns-in_err-part-in-One-clause-limit
@@ -374,20 +378,19 @@ pub interpret_strict-returns-in_ok-part-in-One-clause-found : goal.interpret_str
 interpret_strict-returns-in_ok-part-in-One-clause-found g t c =
     λ facts has.
     let is : bare c.args.expr.now ≡ unary (unary_operator c.in-One.op) (bare c.in-One.of.now) = subst (IsOperands (bare c.args.expr.now)) c.in-One.is c.requires in
-    meets_as facts c.operate_on_one.result _ _ (ap (partial_in facts (held_by c.args.self.now c.args.slots.now)) is) (meets_anyhow facts c.operate_on_one.result _
-    (c.operate_on_one.ensures facts has.entities (held_by c.args.self.now c.args.slots.now) (partial_in facts (held_by c.args.self.now c.args.slots.now) (bare c.in-One.of.now)) (c.in_ok-part-in-One.ensures.found facts (one_serves (bare c.args.expr.now) (unary_operator c.in-One.op) (bare c.in-One.of.now) is g.F.ExtensionFunctionObject.answers c.args.self.now facts has))))
+    one_meets (bare c.args.expr.now) (unary_operator c.in-One.op) (bare c.in-One.of.now) is facts (held_by c.args.self.now c.args.slots.now) (partial_of c.in_ok-part-in-One.part) c.operate_on_one.result
+    (c.in_ok-part-in-One.ensures.found facts (one_serves (bare c.args.expr.now) (unary_operator c.in-One.op) (bare c.in-One.of.now) is g.F.ExtensionFunctionObject.answers c.args.self.now facts has))
+    (c.operate_on_one.ensures facts has.entities (held_by c.args.self.now c.args.slots.now))
 
 pub interpret_strict-returns-in_ok-part-in-One-clause-limit : goal.interpret_strict-returns-in_ok-part-in-One-clause-limit
 interpret_strict-returns-in_ok-part-in-One-clause-limit g t c =
-    let is : bare c.args.expr.now ≡ unary (unary_operator c.in-One.op) (bare c.in-One.of.now) = subst (IsOperands (bare c.args.expr.now)) c.in-One.is c.requires in
-    λ l facts has m. absurd (never_limit facts _ c.operate_on_one.result
-    (c.operate_on_one.ensures facts has.entities (held_by c.args.self.now c.args.slots.now) (partial_in facts (held_by c.args.self.now c.args.slots.now) (bare c.in-One.of.now)) (c.in_ok-part-in-One.ensures.found facts (one_serves (bare c.args.expr.now) (unary_operator c.in-One.op) (bare c.in-One.of.now) is g.F.ExtensionFunctionObject.answers c.args.self.now facts has))) l)
+    λ l facts has m. absurd (never_limit _ c.operate_on_one.result (c.operate_on_one.ensures facts has.entities (held_by c.args.self.now c.args.slots.now)) l)
 
 pub interpret_strict-returns-in_err-left-in-Two-clause-found : goal.interpret_strict-returns-in_err-left-in-Two-clause-found
 interpret_strict-returns-in_err-left-in-Two-clause-found g t c =
     λ facts has.
     let is : bare c.args.expr.now ≡ binary (binary_operator_of c.in-Two.op) (bare c.in-Two.left.now) (bare c.in-Two.right.now) = subst (IsOperands (bare c.args.expr.now)) c.in-Two.is c.requires in
-    passed (λ (p : PartialValue). Same facts (part_answer (partial_of p)) (partial_in facts (held_by c.args.self.now c.args.slots.now) (bare c.args.expr.now))) (λ k. partial_in facts (held_by c.args.self.now c.args.slots.now) (bare c.args.expr.now) ≡ Failed k) ⊤ c.in_err-left-in-Two.field-0.0 c.from_residual-in_err-left-in-Two.result c.from_residual-in_err-left-in-Two.ensures
+    passed (λ (p : PartialValue). partial_in facts (held_by c.args.self.now c.args.slots.now) (bare c.args.expr.now) ≡ part_answer (partial_of p)) (λ k. partial_in facts (held_by c.args.self.now c.args.slots.now) (bare c.args.expr.now) ≡ Failed k) ⊤ c.in_err-left-in-Two.field-0.0 c.from_residual-in_err-left-in-Two.result c.from_residual-in_err-left-in-Two.ensures
     (fails_on (failure_of c.in_err-left-in-Two.field-0.0) (λ k h. left_fails (bare c.args.expr.now) (binary_operator_of c.in-Two.op) (bare c.in-Two.left.now) (bare c.in-Two.right.now) is facts (held_by c.args.self.now c.args.slots.now) k h) (λ d. d) (c.in_err-left-in-Two.ensures.found facts (left_serves (bare c.args.expr.now) (binary_operator_of c.in-Two.op) (bare c.in-Two.left.now) (bare c.in-Two.right.now) is g.F.ExtensionFunctionObject.answers c.args.self.now facts has)))
 
 pub interpret_strict-returns-in_err-left-in-Two-clause-limit : goal.interpret_strict-returns-in_err-left-in-Two-clause-limit
@@ -400,7 +403,7 @@ interpret_strict-returns-in_err-right-in-Two-clause-found g t c =
     λ facts has.
     let is : bare c.args.expr.now ≡ binary (binary_operator_of c.in-Two.op) (bare c.in-Two.left.now) (bare c.in-Two.right.now) = subst (IsOperands (bare c.args.expr.now)) c.in-Two.is c.requires in
     let left = c.in_ok-left-in-Two.ensures.found facts (left_serves (bare c.args.expr.now) (binary_operator_of c.in-Two.op) (bare c.in-Two.left.now) (bare c.in-Two.right.now) is g.F.ExtensionFunctionObject.answers c.args.self.now facts has) in
-    passed (λ (p : PartialValue). Same facts (part_answer (partial_of p)) (partial_in facts (held_by c.args.self.now c.args.slots.now) (bare c.args.expr.now))) (λ k. partial_in facts (held_by c.args.self.now c.args.slots.now) (bare c.args.expr.now) ≡ Failed k) ⊤ c.in_err-right-in-Two.field-0.0 c.from_residual-in_err-right-in-Two.result c.from_residual-in_err-right-in-Two.ensures
+    passed (λ (p : PartialValue). partial_in facts (held_by c.args.self.now c.args.slots.now) (bare c.args.expr.now) ≡ part_answer (partial_of p)) (λ k. partial_in facts (held_by c.args.self.now c.args.slots.now) (bare c.args.expr.now) ≡ Failed k) ⊤ c.in_err-right-in-Two.field-0.0 c.from_residual-in_err-right-in-Two.result c.from_residual-in_err-right-in-Two.ensures
     (fails_on (failure_of c.in_err-right-in-Two.field-0.0) (λ k h. right_fails (bare c.args.expr.now) (binary_operator_of c.in-Two.op) (bare c.in-Two.left.now) (bare c.in-Two.right.now) is facts (held_by c.args.self.now c.args.slots.now) (partial_of c.in_ok-left-in-Two.left) k left h) (λ d. d) (c.in_err-right-in-Two.ensures.found facts (right_serves (bare c.args.expr.now) (binary_operator_of c.in-Two.op) (bare c.in-Two.left.now) (bare c.in-Two.right.now) is g.F.ExtensionFunctionObject.answers c.args.self.now facts has)))
 
 pub interpret_strict-returns-in_err-right-in-Two-clause-limit : goal.interpret_strict-returns-in_err-right-in-Two-clause-limit
@@ -414,17 +417,12 @@ interpret_strict-returns-in_ok-right-in-Two-clause-found g t c =
     let is : bare c.args.expr.now ≡ binary (binary_operator_of c.in-Two.op) (bare c.in-Two.left.now) (bare c.in-Two.right.now) = subst (IsOperands (bare c.args.expr.now)) c.in-Two.is c.requires in
     let left = c.in_ok-left-in-Two.ensures.found facts (left_serves (bare c.args.expr.now) (binary_operator_of c.in-Two.op) (bare c.in-Two.left.now) (bare c.in-Two.right.now) is g.F.ExtensionFunctionObject.answers c.args.self.now facts has) in
     let right = c.in_ok-right-in-Two.ensures.found facts (right_serves (bare c.args.expr.now) (binary_operator_of c.in-Two.op) (bare c.in-Two.left.now) (bare c.in-Two.right.now) is g.F.ExtensionFunctionObject.answers c.args.self.now facts has) in
-    meets_as facts c.operate_on_two.result _ _ (ap (partial_in facts (held_by c.args.self.now c.args.slots.now)) is) (meets_anyhow facts c.operate_on_two.result _
-    (c.operate_on_two.ensures facts has.entities (held_by c.args.self.now c.args.slots.now) (partial_in facts (held_by c.args.self.now c.args.slots.now) (bare c.in-Two.left.now)) (partial_in facts (held_by c.args.self.now c.args.slots.now) (bare c.in-Two.right.now)) left right))
+    two_meet (bare c.args.expr.now) (binary_operator_of c.in-Two.op) (bare c.in-Two.left.now) (bare c.in-Two.right.now) is facts (held_by c.args.self.now c.args.slots.now) (partial_of c.in_ok-left-in-Two.left) (partial_of c.in_ok-right-in-Two.right) c.operate_on_two.result left right
+    (c.operate_on_two.ensures facts has.entities (held_by c.args.self.now c.args.slots.now))
 
 pub interpret_strict-returns-in_ok-right-in-Two-clause-limit : goal.interpret_strict-returns-in_ok-right-in-Two-clause-limit
 interpret_strict-returns-in_ok-right-in-Two-clause-limit g t c =
-    let is : bare c.args.expr.now ≡ binary (binary_operator_of c.in-Two.op) (bare c.in-Two.left.now) (bare c.in-Two.right.now) = subst (IsOperands (bare c.args.expr.now)) c.in-Two.is c.requires in
-    λ l facts has m.
-    let left = c.in_ok-left-in-Two.ensures.found facts (left_serves (bare c.args.expr.now) (binary_operator_of c.in-Two.op) (bare c.in-Two.left.now) (bare c.in-Two.right.now) is g.F.ExtensionFunctionObject.answers c.args.self.now facts has) in
-    let right = c.in_ok-right-in-Two.ensures.found facts (right_serves (bare c.args.expr.now) (binary_operator_of c.in-Two.op) (bare c.in-Two.left.now) (bare c.in-Two.right.now) is g.F.ExtensionFunctionObject.answers c.args.self.now facts has) in
-    absurd (never_limit facts _ c.operate_on_two.result
-    (c.operate_on_two.ensures facts has.entities (held_by c.args.self.now c.args.slots.now) (partial_in facts (held_by c.args.self.now c.args.slots.now) (bare c.in-Two.left.now)) (partial_in facts (held_by c.args.self.now c.args.slots.now) (bare c.in-Two.right.now)) left right) l)
+    λ l facts has m. absurd (never_limit _ c.operate_on_two.result (c.operate_on_two.ensures facts has.entities (held_by c.args.self.now c.args.slots.now)) l)
 
 pub interpret_strict-interpret_parts-requires : goal.interpret_strict-interpret_parts-requires
 interpret_strict-interpret_parts-requires g t c κs outlives =
@@ -434,7 +432,7 @@ pub interpret_strict-returns-in_err-parts-in-List-clause-found : goal.interpret_
 interpret_strict-returns-in_err-parts-in-List-clause-found g t c =
     let list : is_of_list (bare c.args.expr.now) ≡ true = subst (IsOperands (bare c.args.expr.now)) c.in-List.is c.requires in
     let same = (ap (map (λ (e : Bor (Expr (Unit {0}))). bare e.now)) c.deref.ensures.value ∙ c.in_ok-listed-in-List.ensures) in
-    λ facts has. passed (λ (p : PartialValue). Same facts (part_answer (partial_of p)) (partial_in facts (held_by c.args.self.now c.args.slots.now) (bare c.args.expr.now))) (λ k. partial_in facts (held_by c.args.self.now c.args.slots.now) (bare c.args.expr.now) ≡ Failed k) ⊤ c.in_err-parts-in-List.field-0.0 c.from_residual-in_err-parts-in-List.result c.from_residual-in_err-parts-in-List.ensures
+    λ facts has. passed (λ (p : PartialValue). partial_in facts (held_by c.args.self.now c.args.slots.now) (bare c.args.expr.now) ≡ part_answer (partial_of p)) (λ k. partial_in facts (held_by c.args.self.now c.args.slots.now) (bare c.args.expr.now) ≡ Failed k) ⊤ c.in_err-parts-in-List.field-0.0 c.from_residual-in_err-parts-in-List.result c.from_residual-in_err-parts-in-List.ensures
     (fails_on (failure_of c.in_err-parts-in-List.field-0.0) (λ k h. list_fails facts (held_by c.args.self.now c.args.slots.now) (bare c.args.expr.now) k list (subst (λ ts. gathered facts (map (partial_in facts (held_by c.args.self.now c.args.slots.now)) ts) ≡ SomeFailed k) same h)) (λ d. d)
     (c.in_err-parts-in-List.ensures.found facts (subst (ServesEach g.F.ExtensionFunctionObject.answers c.args.self.now facts) (sym same) (serves_parts g.F.ExtensionFunctionObject.answers c.args.self.now facts (bare c.args.expr.now) list has))))
 
@@ -453,17 +451,14 @@ pub interpret_strict-returns-in_ok-parts-in-List-clause-found : goal.interpret_s
 interpret_strict-returns-in_ok-parts-in-List-clause-found g t c =
     let list : is_of_list (bare c.args.expr.now) ≡ true = subst (IsOperands (bare c.args.expr.now)) c.in-List.is c.requires in
     let same = (ap (map (λ (e : Bor (Expr (Unit {0}))). bare e.now)) c.deref.ensures.value ∙ c.in_ok-listed-in-List.ensures) in
-    λ facts has. meets_anyhow facts c.operate_on_list.result _ (subst (λ b. MeetsAt facts ⊥ b c.operate_on_list.result) (list_is facts (held_by c.args.self.now c.args.slots.now) (bare c.args.expr.now) list)
-    (c.operate_on_list.ensures facts has.functions has.names_nothing (held_by c.args.self.now c.args.slots.now) (map (partial_in facts (held_by c.args.self.now c.args.slots.now)) (parts (bare c.args.expr.now))) (subst (λ ts. SameEach facts (map partial_of c.in_ok-parts-in-List.parts.items) (map (partial_in facts (held_by c.args.self.now c.args.slots.now)) ts)) same
-    (c.in_ok-parts-in-List.ensures.found facts (subst (ServesEach g.F.ExtensionFunctionObject.answers c.args.self.now facts) (sym same) (serves_parts g.F.ExtensionFunctionObject.answers c.args.self.now facts (bare c.args.expr.now) list has))))))
+    λ facts has. list_meets facts (held_by c.args.self.now c.args.slots.now) (bare c.args.expr.now) list (map partial_of c.in_ok-parts-in-List.parts.items) c.operate_on_list.result
+    (ap (map (partial_in facts (held_by c.args.self.now c.args.slots.now))) (sym same)
+    ∙ c.in_ok-parts-in-List.ensures.found facts (subst (ServesEach g.F.ExtensionFunctionObject.answers c.args.self.now facts) (sym same) (serves_parts g.F.ExtensionFunctionObject.answers c.args.self.now facts (bare c.args.expr.now) list has)))
+    (c.operate_on_list.ensures facts has.functions has.names_nothing (held_by c.args.self.now c.args.slots.now))
 
 pub interpret_strict-returns-in_ok-parts-in-List-clause-limit : goal.interpret_strict-returns-in_ok-parts-in-List-clause-limit
 interpret_strict-returns-in_ok-parts-in-List-clause-limit g t c =
-    let list : is_of_list (bare c.args.expr.now) ≡ true = subst (IsOperands (bare c.args.expr.now)) c.in-List.is c.requires in
-    let same = (ap (map (λ (e : Bor (Expr (Unit {0}))). bare e.now)) c.deref.ensures.value ∙ c.in_ok-listed-in-List.ensures) in
-    λ l facts has m. absurd (never_limit facts _ c.operate_on_list.result
-    (c.operate_on_list.ensures facts has.functions has.names_nothing (held_by c.args.self.now c.args.slots.now) (map (partial_in facts (held_by c.args.self.now c.args.slots.now)) (parts (bare c.args.expr.now))) (subst (λ ts. SameEach facts (map partial_of c.in_ok-parts-in-List.parts.items) (map (partial_in facts (held_by c.args.self.now c.args.slots.now)) ts)) same
-    (c.in_ok-parts-in-List.ensures.found facts (subst (ServesEach g.F.ExtensionFunctionObject.answers c.args.self.now facts) (sym same) (serves_parts g.F.ExtensionFunctionObject.answers c.args.self.now facts (bare c.args.expr.now) list has))))) l)
+    λ l facts has m. absurd (never_limit _ c.operate_on_list.result (c.operate_on_list.ensures facts has.functions has.names_nothing (held_by c.args.self.now c.args.slots.now)) l)
 
 -- ---- parts one by one
 
@@ -499,7 +494,7 @@ interpret_parts-returns-clause-count g t c =
 pub interpret_parts-returns-in_err-answer-clause-found : goal.interpret_parts-returns-in_err-answer-clause-found
 interpret_parts-returns-in_err-answer-clause-found g t c =
     let cut = cut_items (λ (e : Bor (Expr (Unit {0}))). bare e.now) c.args.parts.now c.loop-part.part-index c.part-item.result c.loop-part-test.true c.part-item.is in
-    λ facts has. passed (λ (ps : Vec PartialValue Global). SameEach facts (map partial_of ps.items) (map (partial_in facts (held_by c.args.self.now c.args.slots.now)) (map (λ (e : Bor (Expr (Unit {0}))). bare e.now) c.args.parts.now))) (λ k. gathered facts (map (partial_in facts (held_by c.args.self.now c.args.slots.now)) (map (λ (e : Bor (Expr (Unit {0}))). bare e.now) c.args.parts.now)) ≡ SomeFailed k) ⊤ c.in_err-answer.field-0.0 c.from_residual.result c.from_residual.ensures
+    λ facts has. passed (λ (ps : Vec PartialValue Global). map (partial_in facts (held_by c.args.self.now c.args.slots.now)) (map (λ (e : Bor (Expr (Unit {0}))). bare e.now) c.args.parts.now) ≡ map part_answer (map partial_of ps.items)) (λ k. gathered facts (map (partial_in facts (held_by c.args.self.now c.args.slots.now)) (map (λ (e : Bor (Expr (Unit {0}))). bare e.now) c.args.parts.now)) ≡ SomeFailed k) ⊤ c.in_err-answer.field-0.0 c.from_residual.result c.from_residual.ensures
     (cut_fails g.F.ExtensionFunctionObject.answers c.args.self.now c.args.slots.now c.args.depth _ _ (map (λ (e : Bor (Expr (Unit {0}))). bare e.now) c.args.parts.now) _ (map partial_of c.loop-part.answers.items) c.loop-part.invariant cut (failure_of c.in_err-answer.field-0.0) facts has (c.in_err-answer.ensures.found facts))
 
 pub interpret_parts-returns-in_err-answer-clause-limit : goal.interpret_parts-returns-in_err-answer-clause-limit
