@@ -37,11 +37,11 @@ module _ (table : Table) where
 
   context_held_so : (facts : Facts) → HasFunctions table facts → (c : Entries) (o : Option (Either Value Tree)) → HasContext table c o → context_asked o ≡ context_held facts map.empty c
   context_held_so facts has c o neither_given = none_asked facts
-  context_held_so facts has c o (both_given {ks} {ts} {p} e) = sym (context_is table ks ts e.restricted e.uncalled p e.answers facts has)
+  context_held_so facts has c o (both_given {ks} {ts} {p} e) = sym (context_is table ks ts e.restricted e.uncalled e.written p e.answers facts has)
 
   context_taken : (facts : Facts) → HasFunctions table facts → (c : Entries) (o : Option (Either Value Tree)) → HasContext table c o → IsAccepted facts map.empty c
   context_taken facts has c o neither_given = accepts facts NoContext tt (λ k e. no_failure (Unknown (codes "context") None) k (none_asked facts ∙ e))
-  context_taken facts has c o (both_given {ks} {ts} {p} e) = context_accepted table ks ts e.restricted e.uncalled p e.answers facts has
+  context_taken facts has c o (both_given {ks} {ts} {p} e) = context_accepted table ks ts e.restricted e.uncalled e.written p e.answers facts has
 
   variable_is : (q : Question) (r : RequestParts) → r.principal ≡ q.principal → r.action ≡ q.action → r.resource ≡ q.resource → HasContext table q.context r.context
       → (facts : Facts) → HasFunctions table facts → (v : Variable) → variable_asked r v ≡ variable_held facts q map.empty v

@@ -25,10 +25,10 @@ use Rattle.cedar_extensions.specs.declared.evaluation_error.EvaluationError.{Eva
 use Rattle.cedar_extensions.specs.Table.{Table}
 use Rattle.cedar_bodies.specs.Fields.{Serves, part_answer, IsEvaluated}
 use Rattle.cedar_bodies.specs.Questions.{question_of, StandsAt, LendsContext}
-use Rattle.cedar_bodies.specs.Reading.{TreesAreRead, IsRead}
+use Rattle.cedar_bodies.specs.Reading.{HasUnknown, TreesAreRead, IsRead}
 use Rattle.cedar_bodies.specs.Refusals.{refusal_by}
 use Rattle.cedar_bodies.specs.declared.questions.AskBody.{AskBody}
-use Rattle.cedar_bodies.proofs.Entries.{GivesNoText, part_read, failure_is}
+use Rattle.cedar_bodies.proofs.Entries.{part_read, failure_is}
 use Rattle.cedar_replies.specs.declared.refusal.Refusal.{Refusal}
 use Rattle.cedar_replies.specs.declared.refusal.Refusal.TheVariants.{Depth, Evaluation, BadUnknown, Memory}
 use Rattle.cedar_requests.specs.Contexts.{context_part, is_record}
@@ -147,7 +147,7 @@ means_read : (by : Setting) (ks : List Text) (us : Trees) (p : Either Value Tree
 means_read by ks us (Left v) h uncalled = λ none. (v, h.0)
 means_read by ks us (Right r) h uncalled = λ none. absurd (true≢false (sym h.0 ∙ (λ i. none i || uncalled i)))
 
-module _ (read : TreesAreRead) (by : Setting) (table : Table) (texts : GivesNoText table) (depth : ℕ) where
+module _ (read : TreesAreRead) (by : Setting) (table : Table) (unknown_is : HasUnknown table) (depth : ℕ) where
   module _ (ks : List Text) (ts : Trees) where
     abbrev written_record : Tree
     written_record = Apply (MakeRecord ks) ts
@@ -155,10 +155,10 @@ module _ (read : TreesAreRead) (by : Setting) (table : Table) (texts : GivesNoTe
     record_taken : is_restricted written_record ≡ true → Serves table by (holds_call written_record) → (c : Context) → AnswersContext table depth written_record (Ok c) → badly_named written_record ≡ false
         → IsTakenAs by (entries_in written_record) table (Some c)
     record_taken given serves c answers well =
-        let is_read = part_read read table texts depth written_record given by serves (context_part c) (answers (functions_alone by.functions) serves.functions) in
+        let is_read = part_read read table unknown_is depth written_record given by serves (context_part c) (answers (functions_alone by.functions) serves.functions) in
         let named_well : holds_bad_unknown (WithEntries ks (all_named ts)) ≡ false = sym (all_bad_as_named ts given) ∙ well in
         record {
-          evaluated = both_given (record { restricted = given; uncalled = serves.held; answers = answers });
+          evaluated = both_given (record { restricted = given; uncalled = serves.held; written = or_right _ _ named_well; answers = answers });
           means = means_read by ks (all_named ts) (context_part c) is_read (or_right _ _ named_well);
           fine = errs_as_alone by (named written_record) ∙ fine_read by (named written_record) (context_part c) is_read;
           named = named_well;
@@ -167,7 +167,7 @@ module _ (read : TreesAreRead) (by : Setting) (table : Table) (texts : GivesNoTe
     record_unnamed : is_restricted written_record ≡ true → Serves table by (holds_call written_record) → (c : Context) → AnswersContext table depth written_record (Ok c) → badly_named written_record ≡ true
         → (context_errs by (entries_in written_record) map.empty ≡ false) × (holds_bad_unknown (entries_in written_record) ≡ true)
     record_unnamed given serves c answers badly =
-        let is_read = part_read read table texts depth written_record given by serves (context_part c) (answers (functions_alone by.functions) serves.functions) in
+        let is_read = part_read read table unknown_is depth written_record given by serves (context_part c) (answers (functions_alone by.functions) serves.functions) in
         (errs_as_alone by (named written_record) ∙ fine_read by (named written_record) (context_part c) is_read, sym (all_bad_as_named ts given) ∙ badly)
 
   module _ (t : Tree) (record_is : IsDataRecord t) (serves : Serves table by (holds_call t)) where
@@ -201,7 +201,7 @@ module _ (read : TreesAreRead) (by : Setting) (table : Table) (texts : GivesNoTe
 
     evaluated_not : (error : EvaluationError) (r : Refusal) → r ≡ refusal_by (failure_of error) → AnswersContext table depth (bare e.now) (Err error) → EvaluatesContext by table depth (Some e) (Err r)
     evaluated_not error r is answers =
-        refused r (subst (λ (x : Refusal). IsEvaluated table depth (bare e.now) (Err x)) (sym is) (failure_is read table texts depth (bare e.now) record_is.restricted (failure_of error) answers))
+        refused r (subst (λ (x : Refusal). IsEvaluated table depth (bare e.now) (Err x)) (sym is) (failure_is read table unknown_is depth (bare e.now) record_is.restricted (failure_of error) answers))
 
     context_refused : (error : ContextCreationError) (r : Refusal) → IsWhyNone error r → Creates table depth (bare e.now) (Err error) → EvaluatesContext by table depth (Some e) (Err r)
     context_refused (creation.Evaluation error) r is made = evaluated_not error r is made.answer

@@ -20,10 +20,12 @@ abbrev pub MeansRecord : Setting → Entries → Type 0
 MeansRecord by NoContext = Unit {0}
 MeansRecord by (WithEntries ks ts) = some_name_of (λ n. true) ts ≡ false → (w : Value) × (value_of by.functions map.empty (Apply (MakeRecord ks) ts) ≡ Gives w)
 
--- this is what a record of data, as a body writes it, is evaluated to; `unknown` isn't called where the table lacks it
+-- This is what a record of data, as a body writes it, is evaluated to. Each name is written, and `unknown` isn't called where
+-- the table lacks it.
 pub record IsEvaluatedTo (table : Table) (ks : List Text) (ts : Trees) (p : Either Value Tree) : Type 0 where
   pub restricted : are_restricted ts ≡ true
   pub uncalled : table.has_unknown ≡ false → hold_call ts ≡ false
+  pub written : hold_call (all_named ts) ≡ false
   pub answers : (facts : Facts) → HasFunctions table facts → IsAnswer facts (answer_in table facts (Apply (MakeRecord ks) ts)) p
 
 -- the question's context is the one written, and the request's what it was evaluated to; or neither has one

@@ -20,14 +20,13 @@ use Rattle.cedar_language.specs.Constructing.{is_the_constructor, and_byte, byte
 use Rattle.cedar_language.specs.Tree.{Boolean, Long, Entity, String, MakeSet, MakeRecord, Call, Tree, Lit, Unknown, Apply, Trees, no_trees, a_tree, ValueType}
 use Rattle.cedar_language.specs.Uid.{Text, Name}
 use Rattle.cedar_language.specs.Value.{Value, Plain, ExtensionOf, Values, no_values, a_value, WrongNumArguments, FailedExtensionFunctionExecution, Outcome, Gives, Fails}
-use Rattle.cedar_partial_evaluation.specs.Partial.{Answer, Evaluated, ResidualTree, Failed, Answers, AllEvaluated, SomeResiduals, SomeFailed, answer_of, and_next, apply_answer, partial_in, all_partial_in}
+use Rattle.cedar_partial_evaluation.specs.Partial.{Answer, Evaluated, ResidualTree, Failed, Answers, AllEvaluated, SomeResiduals, SomeFailed, answer_of, and_next, apply_answer, partial_in}
 use Rattle.cedar_partial_evaluation.specs.Question.{name_held}
-use Rattle.cedar_world.specs.Bodies.{named, all_named, named_call, unknown_or}
-use Rattle.cedar_world.specs.Functions.{is_the_unknown, one_string}
+use Rattle.cedar_world.specs.Functions.{one_string}
 use Rattle.cedar_extensions.specs.Answering.{FunctionAnswers}
 use Rattle.cedar_extensions.specs.Functions.{meaning_in, meaning_of}
 use Rattle.cedar_extensions.specs.Holding.{found_in}
-use Rattle.cedar_extensions.specs.Table.{Table, as_table}
+use Rattle.cedar_extensions.specs.Table.{Table, as_table, HasFunctions, functions_of}
 use Rattle.cedar_extensions.specs.Tables.{functions_in}
 use Rattle.cedar_extensions.specs.declared.extensions.Extensions.{Extensions}
 use Rattle.cedar_extensions.specs.declared.functions.ExtensionFunction.{ExtensionFunction}
@@ -36,7 +35,7 @@ use Rattle.cedar_extensions.specs.declared.functions.Function.TheVariants as fun
 use Rattle.cedar_restricted.specs.PartialValues.{partial_of}
 use Rattle.cedar_restricted.specs.declared.partial_values.PartialValue.{PartialValue}
 use Rattle.cedar_restricted_evaluation.specs.Evaluations as evaluation
-use Rattle.cedar_restricted_evaluation.specs.Evaluations.{HasFunctions, nothing_told, named_by, answer_in, IsAnswer}
+use Rattle.cedar_restricted_evaluation.specs.Evaluations.{nothing_told, name_called, named_or, answer_in, answers_in, IsAnswer}
 use Rattle.cedar_bodies.specs.Built.{IsBuilt, AreBuilt, IsBuiltPart, AreBuiltEntries, GivesBuilt}
 
 -- ---- sets
@@ -158,9 +157,6 @@ and_right : (a b : Bool) → (a && b) ≡ true → b ≡ true
 and_right true b h = h
 and_right false b h = cc
 
-both : (a b : Bool) → a ≡ true → b ≡ true → (a && b) ≡ true
-both a b h k = rw (h, k) refl
-
 module _ (table : Table) (gives : GivesBuilt table) (facts : Facts) (has : HasFunctions table facts) where
   unknown_built : (n : Text) (ty : Option ValueType) → IsBuiltAnswer (partial_in facts nothing_told (Unknown n ty))
   unknown_built n ty = subst (λ o. IsBuiltAnswer (name_held o n ty)) (sym (get-empty text_cmp n)) tt
@@ -190,56 +186,25 @@ module _ (table : Table) (gives : GivesBuilt table) (facts : Facts) (has : HasFu
   function_built f (SomeResiduals rs) = tt
   function_built f (SomeFailed k) = tt
 
+  named_built : (o : Option Text) (a : Answer) → IsBuiltAnswer a → IsBuiltAnswer (named_or o a)
+  named_built (Some n) a h = tt
+  named_built None a h = h
+
   mutual
-    tree_built : (t : Tree) → is_restricted t ≡ true → IsBuiltAnswer (partial_in facts nothing_told t)
+    tree_built : (t : Tree) → is_restricted t ≡ true → IsBuiltAnswer (answer_in table facts t)
     tree_built (Lit l) h = tt
     tree_built (Unknown n ty) h = unknown_built n ty
-    tree_built (Apply MakeSet ts) h = set_built (all_partial_in facts nothing_told ts) (trees_built ts h)
-    tree_built (Apply (MakeRecord ks) ts) h = record_built ks (all_partial_in facts nothing_told ts) (trees_built ts h)
-    tree_built (Apply (Call f) ts) h = function_built f (all_partial_in facts nothing_told ts)
+    tree_built (Apply MakeSet ts) h = set_built (answers_in table facts ts) (trees_built ts h)
+    tree_built (Apply (MakeRecord ks) ts) h = record_built ks (answers_in table facts ts) (trees_built ts h)
+    tree_built (Apply (Call f) ts) h =
+        named_built (name_called table (Call f) (answers_in table facts ts)) (apply_answer facts nothing_told (Call f) (answers_in table facts ts)) (function_built f (answers_in table facts ts))
     tree_built t h = cc
 
-    trees_built : (ts : Trees) → are_restricted ts ≡ true → AreBuiltAnswers (all_partial_in facts nothing_told ts)
+    trees_built : (ts : Trees) → are_restricted ts ≡ true → AreBuiltAnswers (answers_in table facts ts)
     trees_built no_trees h = tt
-    trees_built (a_tree t ts) h = next_built (partial_in facts nothing_told t) (all_partial_in facts nothing_told ts) (tree_built t (and_left _ _ h)) (trees_built ts (and_right _ _ h))
-
--- ---- trees whose calls of `unknown` are unknowns
-
-unknown_restricted : (b : Bool) (f : Name) (t : Tree) (ts : Trees) → are_restricted (a_tree t ts) ≡ true → is_restricted (unknown_or b f t ts) ≡ true
-unknown_restricted true f (Lit (String n)) no_trees h = refl
-unknown_restricted false f t ts h = h
-unknown_restricted true f t ts h = h
-
-call_restricted : (f : Name) (ts : Trees) → are_restricted ts ≡ true → is_restricted (named_call (Call f) ts) ≡ true
-call_restricted f no_trees h = refl
-call_restricted f (a_tree t ts) h = unknown_restricted (is_the_unknown f) f t ts h
-
-mutual
-  named_restricted : (t : Tree) → is_restricted t ≡ true → is_restricted (named t) ≡ true
-  named_restricted (Lit l) h = refl
-  named_restricted (Unknown n ty) h = refl
-  named_restricted (Apply MakeSet ts) h = all_named_restricted ts h
-  named_restricted (Apply (MakeRecord ks) ts) h = all_named_restricted ts h
-  named_restricted (Apply (Call f) ts) h = call_restricted f (all_named ts) (all_named_restricted ts h)
-  named_restricted t h = cc
-
-  all_named_restricted : (ts : Trees) → are_restricted ts ≡ true → are_restricted (all_named ts) ≡ true
-  all_named_restricted no_trees h = refl
-  all_named_restricted (a_tree t ts) h = both _ _ (named_restricted t (and_left _ _ h)) (all_named_restricted ts (and_right _ _ h))
-
-named_by_restricted : (b : Bool) (t : Tree) → is_restricted t ≡ true → is_restricted (named_by b t) ≡ true
-named_by_restricted true t h = named_restricted t h
-named_by_restricted false t h = h
+    trees_built (a_tree t ts) h = next_built (answer_in table facts t) (answers_in table facts ts) (tree_built t (and_left _ _ h)) (trees_built ts (and_right _ _ h))
 
 -- ---- what an evaluation gives
-
--- the functions of a table alone
-abbrev pub functions_of : Table → Facts
-functions_of table = record {
-  entity = λ uid. None;
-  reaches = λ a b. false;
-  function = table.function;
-}
 
 part_built : (facts : Facts) (a : Answer) → IsBuiltAnswer a → (p : Either Value Tree) → IsAnswer facts a p → IsBuiltPart p
 part_built facts a h (Left v) is = subst IsBuiltAnswer is h
@@ -248,7 +213,7 @@ part_built facts a h (Right r) is = tt
 pub value_built : (table : Table) → GivesBuilt table → (depth : ℕ) (t : Tree) → is_restricted t ≡ true → (p : PartialValue) → evaluation.Answers table depth t (Ok p) → IsBuiltPart (partial_of p)
 value_built table gives depth t restricted p h =
     part_built (functions_of table) (answer_in table (functions_of table) t)
-    (tree_built table gives (functions_of table) (λ n. refl) (named_by table.has_unknown t) (named_by_restricted table.has_unknown t restricted)) (partial_of p) (h (functions_of table) (λ n. refl))
+    (tree_built table gives (functions_of table) (λ n. refl) t restricted) (partial_of p) (h (functions_of table) (λ n. refl))
 
 -- ---- values at their names
 

@@ -10,15 +10,12 @@ use Rattle.either.specs.declared.Either.{Either}
 use Rattle.either.specs.declared.Either.TheVariants.{Left, Right}
 use Rattle.cedar_language.specs.Uid.{Text, Name}
 use Rattle.cedar_language.specs.Height.{height}
-use Rattle.cedar_language.specs.Constructing.{is_the_constructor, constructed, constructor_function}
 use Rattle.cedar_language.specs.Facts.{Facts}
-use Rattle.cedar_language.specs.Restricted.{is_restricted, are_restricted}
-use Rattle.cedar_language.specs.Tree.{String, Call, MakeSet, MakeRecord, Tree, Lit, Unknown, Apply, Trees, no_trees, a_tree}
-use Rattle.cedar_language.specs.Value.{Value, Plain, Values, FailedExtensionFunctionExecution, WrongNumArguments, Gives, Fails}
-use Rattle.cedar_language.specs.Operators.{called, count, or_fails, takes}
-use Rattle.cedar_partial_evaluation.specs.Partial.{Answer, Evaluated, ResidualTree, Failed, partial_in}
-use Rattle.cedar_world.specs.Bodies.{named, all_named, named_call, unknown_or, holds_call, hold_call}
-use Rattle.cedar_world.specs.Functions.{is_the_unknown}
+use Rattle.cedar_language.specs.Restricted.{is_restricted}
+use Rattle.cedar_language.specs.Tree.{Tree}
+use Rattle.cedar_language.specs.Value.{Value}
+use Rattle.cedar_partial_evaluation.specs.Partial.{Answer, Evaluated, ResidualTree, Failed}
+use Rattle.cedar_world.specs.Bodies.{named, holds_call}
 use Rattle.cedar_world.specs.Setting.{Setting, functions_alone}
 use Rattle.cedar_world.specs.Fillings.{given_value}
 use Rattle.cedar_world.specs.Values.{some_field, holds_unknown, errs_alone, values}
@@ -28,16 +25,10 @@ use Rattle.cedar_extensions.specs.Failures.{Failure, OfKind, LimitMet, MemoryRan
 use Rattle.cedar_extensions.specs.Giving.{FailsBy}
 use Rattle.cedar_extensions.specs.declared.evaluation_error.EvaluationError.{EvaluationError}
 use Rattle.cedar_extensions.specs.Answering.{FunctionAnswers}
-use Rattle.cedar_extensions.specs.Functions.{function_name, meaning_in, meaning_of, names_unknown, is_unknown}
-use Rattle.cedar_extensions.specs.Holding.{found_in, is_named, are_named}
-use Rattle.cedar_extensions.specs.Table.{Table, as_table}
+use Rattle.cedar_extensions.specs.Holding.{are_named}
+use Rattle.cedar_extensions.specs.Table.{Table, as_table, HasFunctions, functions_of}
 use Rattle.cedar_extensions.specs.Tables.{functions_in}
 use Rattle.cedar_extensions.specs.declared.extensions.Extensions.{Extensions}
-use Rattle.cedar_extensions.specs.declared.functions.Function.{Function}
-use Rattle.cedar_extensions.specs.declared.functions.Function.TheVariants as function
-use Rattle.cedar_extensions.specs.declared.functions.ExtensionFunction.{ExtensionFunction}
-use Rattle.cedar_names.proofs.Sameness.{names_same}
-use Rattle.cedar_language.specs.Order.{same_name}
 use Rattle.cedar_restricted.proofs.Rising.{key_cmp, texts, put_next, texts_next}
 use Rattle.cedar_restricted.specs.PartialValues.{partial_of}
 use Rattle.cedar_restricted.specs.Splitting.{is_residual}
@@ -45,97 +36,26 @@ use Rattle.cedar_restricted.specs.declared.partial_values.PartialValue.{PartialV
 use Rattle.cedar_replies.specs.declared.refusal.Refusal.{Refusal}
 use Rattle.cedar_replies.specs.declared.refusal.Refusal.TheVariants as refusal
 use Rattle.cedar_restricted_evaluation.specs.Evaluations as evaluation
-use Rattle.cedar_restricted_evaluation.specs.Evaluations.{HasFunctions, named_by, answer_in, IsAnswer}
+use Rattle.cedar_restricted_evaluation.specs.Evaluations.{answer_in, IsAnswer}
+use Rattle.cedar_restricted_evaluation.proofs.Naming.{unknown_is_found}
 use Rattle.cedar_entities.specs.Attributes.{Entries, seen_entries}
-use Rattle.cedar_bodies.proofs.Constructor.{no_literal}
 use Rattle.cedar_bodies.specs.Built.{IsBuiltPart}
 use Rattle.cedar_bodies.specs.Entities.{named_all}
-use Rattle.cedar_bodies.specs.Reading.{GiveNoText, TreesAreRead, nothing_told, IsRead}
+use Rattle.cedar_bodies.specs.Reading.{HasUnknown, TreesAreRead, IsRead}
 use Rattle.cedar_bodies.specs.Refusals.{refusal_by}
 use Rattle.cedar_bodies.specs.Fields.{deeper, Serves, part_answer, IsEvaluated, as_entries, HoldValues, err, hold_unknowns, AreValues, AreOpen, AreFound, AreEvaluated}
-use Rattle.cedar_bodies.proofs.Built.{built_append, functions_of}
+use Rattle.cedar_bodies.proofs.Built.{built_append}
 use Rattle.cedar_bodies.proofs.Carrying.{or_left, or_right, or_true, false_back, Carries, at_first, next_value, next_open, all_fine, all_unknowns, all_given}
-
--- ---- the functions of a table
-
-and_left : (a b : Bool) → (a && b) ≡ true → a ≡ true
-and_left true b h = refl
-and_left false b h = h
-
-and_right : (a b : Bool) → (a && b) ≡ true → b ≡ true
-and_right true b h = h
-and_right false b h = cc
-
-named_so : {F : Type 0} (f : ExtensionFunction F) → is_unknown f ≡ true → is_named f ≡ true → is_the_unknown (function_name f) ≡ true
-named_so f u h = sym (ap (λ b. cond b (is_the_unknown (function_name f)) (not (is_the_unknown (function_name f)))) u) ∙ h
-
-module _ {F : Type 0} (n : Name) (f : ExtensionFunction F) (u : is_unknown f ≡ true) where
-  named_here : (g : ExtensionFunction F) (gs : List (ExtensionFunction F)) → is_named g ≡ true → (found_in gs n ≡ Some f → is_the_unknown n ≡ true) → (b : Bool) → same_name (function_name g) n ≡ b → cond b (Some g) (found_in gs n) ≡ Some f → is_the_unknown n ≡ true
-  named_here g gs h below true i e =
-      let same : g ≡ f = cc in
-      ap is_the_unknown (sym ((names_same (function_name g) n).0 i)) ∙ named_so g (ap is_unknown same ∙ u) h
-  named_here g gs h below false i e = below e
-
-  found_is_named : (fs : List (ExtensionFunction F)) → are_named fs ≡ true → found_in fs n ≡ Some f → is_the_unknown n ≡ true
-  found_is_named [] h e = cc
-  found_is_named (g ∷ gs) h e = named_here g gs (and_left _ _ h) (found_is_named gs (and_right _ _ h)) (same_name (function_name g) n) refl e
-
-given_by : (b : Bool) (o : Option Value) (v : Value) → cond b (or_fails FailedExtensionFunctionExecution o) (Fails WrongNumArguments) ≡ Gives v → o ≡ Some v
-given_by true (Some w) v e = cc
-given_by true None v e = cc
-given_by false o v e = cc
-
-module _ {F : Type 0} (answers : F → FunctionAnswers) where
-  -- a function that gives a text is the built-in one
-  gives_text : (g : Function F) (vs : Values) (s : Text) → called (Some (meaning_in answers g)) vs ≡ Gives (Plain (String s)) → names_unknown g ≡ true
-  gives_text function.Unknown vs s gives = refl
-  gives_text (function.Callers f) vs s gives = absurd ((answers f.object).no_text vs s (given_by (takes f.takes (count vs)) ((answers f.object).given vs) (Plain (String s)) gives))
-
-  called_is_named : (fs : List (ExtensionFunction F)) → are_named fs ≡ true → (n : Name) (vs : Values) (s : Text) (o : Option (ExtensionFunction F)) → found_in fs n ≡ o → called (option_map (meaning_of answers) o) vs ≡ Gives (Plain (String s)) → is_the_unknown n ≡ true
-  called_is_named fs h n vs s None is gives = cc
-  called_is_named fs h n vs s (Some f) is gives = found_is_named n f (gives_text f.function vs s gives) fs h is
-
--- a table has `unknown` alone of the functions that give a text
-abbrev pub GivesNoText : Table → Type 0
-GivesNoText table = (by : Setting) → HasFunctions table (functions_alone by.functions) → GiveNoText by.functions
-
-pub no_text : {F : Type 0} (answers : F → FunctionAnswers) (extensions : Extensions F) → are_named (functions_in extensions) ≡ true → GivesNoText (as_table answers extensions)
-no_text answers extensions h by has n vs s gives = by_name (is_the_constructor n) (sym (ap (λ o. called o vs) (has n)) ∙ gives)
-  where
-    by_name : (b : Bool) → called (cond b (Some constructor_function) (option_map (meaning_of answers) (found_in (functions_in extensions) n))) vs ≡ Gives (Plain (String s)) → is_the_unknown n ≡ true
-    by_name true e = absurd (no_literal vs (String s) (given_by true (constructed vs) (Plain (String s)) e))
-    by_name false e = called_is_named answers (functions_in extensions) h n vs s (found_in (functions_in extensions) n) refl e
-
--- ---- trees without calls of `unknown`
-
-stays_call : (f : Name) (ts : Trees) → is_the_unknown f ≡ false → named_call (Call f) ts ≡ Apply (Call f) ts
-stays_call f no_trees h = refl
-stays_call f (a_tree t ts) h = ap (λ b. unknown_or b f t ts) h
-
-mutual
-  unnamed : (t : Tree) → is_restricted t ≡ true → holds_call t ≡ false → named t ≡ t
-  unnamed (Lit l) g h = refl
-  unnamed (Unknown n ty) g h = refl
-  unnamed (Apply MakeSet ts) g h = ap (Apply MakeSet) (all_unnamed ts g h)
-  unnamed (Apply (MakeRecord ks) ts) g h = ap (Apply (MakeRecord ks)) (all_unnamed ts g h)
-  unnamed (Apply (Call f) ts) g h = ap (named_call (Call f)) (all_unnamed ts g (or_right _ _ h)) ∙ stays_call f ts (or_left _ _ h)
-  unnamed t g h = cc
-
-  all_unnamed : (ts : Trees) → are_restricted ts ≡ true → hold_call ts ≡ false → all_named ts ≡ ts
-  all_unnamed no_trees g h = refl
-  all_unnamed (a_tree t ts) g h = (λ i. a_tree (unnamed t (and_left _ _ g) (or_left _ _ h) i) (all_unnamed ts (and_right _ _ g) (or_right _ _ h) i))
-
-names_as : (b : Bool) (t : Tree) → is_restricted t ≡ true → (b ≡ false → holds_call t ≡ false) → named_by b t ≡ named t
-names_as true t r h = refl
-names_as false t r h = sym (unnamed t r (h refl))
 
 -- ---- one tree
 
-module _ (read : TreesAreRead) (table : Table) (texts : GivesNoText table) (depth : ℕ) (t : Tree) (restricted : is_restricted t ≡ true) where
+-- the table of extensions has the built-in function alone under its name
+pub has_unknown : {F : Type 0} (answers : F → FunctionAnswers) (extensions : Extensions F) → are_named (functions_in extensions) ≡ true → HasUnknown (as_table answers extensions)
+has_unknown answers extensions named held n is = unknown_is_found answers n is (functions_in extensions) named held
+
+module _ (read : TreesAreRead) (table : Table) (unknown_is : HasUnknown table) (depth : ℕ) (t : Tree) (restricted : is_restricted t ≡ true) where
   answered : (by : Setting) → Serves table by (holds_call t) → (a : Answer) → answer_in table (functions_alone by.functions) t ≡ a → IsRead by (named t) a
-  answered by serves a is =
-      subst (IsRead by (named t)) (ap (partial_in (functions_alone by.functions) nothing_told) (sym (names_as table.has_unknown t restricted serves.held)) ∙ is)
-      (read by (texts by serves.functions) t restricted)
+  answered by serves a is = subst (IsRead by (named t)) is (read by table unknown_is t serves restricted)
 
   pub part_read : (by : Setting) → Serves table by (holds_call t) → (p : Either Value Tree) → IsAnswer (functions_alone by.functions) (answer_in table (functions_alone by.functions) t) p → IsRead by (named t) (part_answer p)
   part_read by serves (Left v) h = answered by serves (Evaluated v) h

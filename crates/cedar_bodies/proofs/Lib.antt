@@ -3,7 +3,6 @@ pub mod ItemByItem
 pub mod Naming
 pub mod Wholes
 pub mod Carrying
-pub mod Constructor
 pub mod Built
 pub mod Entries
 pub mod Listed

@@ -12,18 +12,17 @@ use Rattle.cedar_language.specs.Tree.{Tree}
 use Rattle.cedar_language.specs.Value.{Value}
 use Rattle.cedar_partial_evaluation.specs.Partial.{Answer, Evaluated, ResidualTree}
 use Rattle.cedar_world.specs.Bodies.{Fields, named, holds_call}
-use Rattle.cedar_world.specs.Setting.{Setting, functions_alone}
+use Rattle.cedar_world.specs.Setting.{Setting}
 use Rattle.cedar_world.specs.Values.{some_field, holds_unknown, errs_alone, values}
 use Rattle.cedar_extensions.specs.Table.{Table}
 use Rattle.cedar_restricted.specs.PartialValues.{partial_of}
 use Rattle.cedar_restricted.specs.declared.partial_values.PartialValue.{PartialValue}
 use Rattle.cedar_replies.specs.declared.refusal.Refusal.{Refusal}
 use Rattle.cedar_replies.specs.declared.refusal.Refusal.TheVariants.{Depth, Evaluation, Memory}
-use Rattle.cedar_restricted_evaluation.specs.Evaluations.{HasFunctions}
 use Rattle.cedar_entities.specs.Attributes.{Attribute, seen_entries}
 use Rattle.cedar_bodies.specs.Built.{AreBuiltEntries}
 use Rattle.cedar_bodies.specs.Entities.{named_all}
-use Rattle.cedar_bodies.specs.Reading.{IsRead}
+pub use Rattle.cedar_bodies.specs.Reading.{Serves, IsRead}
 
 -- ---- tests of trees
 
@@ -34,11 +33,6 @@ abbrev pub deeper : ℕ → Tree → Bool
 deeper depth t = nat_lt depth (height t)
 
 -- ---- one tree
-
--- The functions are those of the table, and `unknown` isn't called where the table lacks it.
-pub record Serves (table : Table) (by : Setting) (calls_unknown : Bool) : Type 0 where
-  pub functions : HasFunctions table (functions_alone by.functions)
-  pub held : table.has_unknown ≡ false → calls_unknown ≡ false
 
 abbrev pub part_answer : Either Value Tree → Answer
 part_answer (Left v) = Evaluated v

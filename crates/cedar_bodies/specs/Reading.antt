@@ -1,25 +1,26 @@
--- What partial evaluation answers of the trees of a body, against what is refused of them.
-use Rattle.std.specs.Prelude.{◌≡◌, true, false}
+-- What is answered of the trees of a body, against what is refused of them.
+use Rattle.std.specs.Prelude.{◌≡◌, Bool, true, false, Some}
 use Rattle.std.specs.FinMap as map
-use Rattle.cedar_language.specs.Uid.{Text, Name}
-use Rattle.cedar_language.specs.Tree.{String, Tree}
-use Rattle.cedar_language.specs.Value.{Plain, Values, Gives}
-use Rattle.cedar_language.specs.Operators.{called}
+use Rattle.cedar_language.specs.Uid.{Name}
+use Rattle.cedar_language.specs.Tree.{Tree}
+use Rattle.cedar_language.specs.Value.{Gives}
 use Rattle.cedar_language.specs.Restricted.{is_restricted}
-use Rattle.cedar_partial_evaluation.specs.Partial.{Answer, Evaluated, ResidualTree, Failed, LeafAnswers, partial_in}
-use Rattle.cedar_partial_evaluation.specs.Question.{held_names}
-use Rattle.cedar_world.specs.Bodies.{named}
-use Rattle.cedar_world.specs.Functions.{Functions, is_the_unknown, evaluated_function}
+use Rattle.cedar_partial_evaluation.specs.Partial.{Answer, Evaluated, ResidualTree, Failed}
+use Rattle.cedar_world.specs.Bodies.{named, holds_call}
+use Rattle.cedar_world.specs.Functions.{is_the_unknown, unknown_function}
 use Rattle.cedar_world.specs.Setting.{Setting, functions_alone, value_of}
 use Rattle.cedar_world.specs.Values.{holds_unknown, errs_alone}
+use Rattle.cedar_extensions.specs.Table.{Table, HasFunctions}
+use Rattle.cedar_restricted_evaluation.specs.Evaluations.{answer_in}
 
--- no function but `unknown` gives a text
-abbrev pub GiveNoText : Functions → Type 0
-GiveNoText functions = (n : Name) (vs : Values) (s : Text) → called (evaluated_function functions n) vs ≡ Gives (Plain (String s)) → is_the_unknown n ≡ true
+-- The functions are those of the table, and `unknown` isn't called where the table lacks it.
+pub record Serves (table : Table) (by : Setting) (calls_unknown : Bool) : Type 0 where
+  pub functions : HasFunctions table (functions_alone by.functions)
+  pub held : table.has_unknown ≡ false → calls_unknown ≡ false
 
--- no unknown has a value
-abbrev pub nothing_told : LeafAnswers
-nothing_told = held_names map.empty
+-- where the table has `unknown`, that is the built-in function
+abbrev pub HasUnknown : Table → Type 0
+HasUnknown table = table.has_unknown ≡ true → (n : Name) → is_the_unknown n ≡ true → table.function n ≡ Some unknown_function
 
 -- a value is the tree's; a residual holds an unknown; and an error is that of some part without one
 abbrev pub IsRead : Setting → Tree → Answer → Type 0
@@ -28,5 +29,6 @@ IsRead by t (ResidualTree r) = (holds_unknown t ≡ true) × (errs_alone by t �
 IsRead by t (Failed k) = errs_alone by t ≡ true
 
 abbrev pub TreesAreRead : Type 0
-TreesAreRead = (by : Setting) → GiveNoText by.functions → (t : Tree) → is_restricted t ≡ true →
-    IsRead by (named t) (partial_in (functions_alone by.functions) nothing_told (named t))
+TreesAreRead =
+    (by : Setting) (table : Table) → HasUnknown table → (t : Tree) → Serves table by (holds_call t) → is_restricted t ≡ true →
+    IsRead by (named t) (answer_in table (functions_alone by.functions) t)

@@ -1,8 +1,6 @@
 -- What functions of a caller's answer. (Cedar language reference, "Extension functions".)
 use Rattle.std.specs.Prelude.{◌≡◌, ◌<◌, ⊤, Option, Some, None, Result, Ok, Err}
 use Rattle.std.specs.List.{AllByRecursion}
-use Rattle.cedar_language.specs.Uid.{Text}
-use Rattle.cedar_language.specs.Tree.{String}
 use Rattle.cedar_language.specs.Order.{IsRising}
 use Rattle.cedar_language.specs.Value.{Value, Plain, SetOf, RecordOf, ExtensionOf, Values, no_values, a_value}
 use Rattle.cedar_extensions.specs.declared.objects.CallError.{CallError}
@@ -20,21 +18,16 @@ abbrev mutual
   AreBuilt no_values = Unit {0}
   AreBuilt (a_value v vs) = IsBuilt v × AreBuilt vs
 
--- what a function gives, where it gives a value: so far no text, which the built-in function would take for the name of an
--- unknown
+-- what a function gives, where it gives a value: what any `Value` of code is
 pub record FunctionAnswers : Type 0 where
   pub given : Values → Option Value
   pub built : (vs : Values) (v : Value) → given vs ≡ Some v → IsBuilt v
-  pub no_text : (vs : Values) (s : Text) → given vs ≡ Some (Plain (String s)) → ⊥
 
 pub none_built : (v : Value) → None ≡ Some v → IsBuilt v
 none_built v is = cc
 
-pub none_texts : (s : Text) → None ≡ Some (Plain (String s)) → ⊥
-none_texts s is = cc
-
 abbrev pub no_answers : FunctionAnswers
-no_answers = record { given = λ vs. None; built = λ vs v is. none_built v is; no_text = λ vs s is. none_texts s is }
+no_answers = record { given = λ vs. None; built = λ vs v is. none_built v is }
 
 -- a call gave that, or was refused because there is nothing to give, or for memory
 abbrev pub Answered : Option Value → Result Value CallError → Type 0

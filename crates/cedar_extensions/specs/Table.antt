@@ -1,7 +1,7 @@
 -- What a table of extensions gives to an evaluation. (Cedar language reference, "Extension functions".)
-use Rattle.std.specs.Prelude.{Bool, Option}
+use Rattle.std.specs.Prelude.{◌≡◌, Bool, false, Option, None}
 use Rattle.cedar_language.specs.Uid.{Name}
-use Rattle.cedar_language.specs.Facts.{Function}
+use Rattle.cedar_language.specs.Facts.{Function, Facts}
 use Rattle.cedar_language.specs.Constructing.{or_constructor}
 use Rattle.cedar_extensions.specs.Answering.{FunctionAnswers}
 use Rattle.cedar_extensions.specs.Tables.{function_called, holds_unknown}
@@ -15,3 +15,15 @@ pub record Table : Type 0 where
 
 abbrev pub as_table : {F : Type 0} → (F → FunctionAnswers) → Extensions F → Table
 as_table answers extensions = record { function = or_constructor (function_called answers extensions); has_unknown = holds_unknown extensions }
+
+-- the functions are those of the table
+abbrev pub HasFunctions : Table → Facts → Type 0
+HasFunctions table facts = (n : Name) → facts.function n ≡ table.function n
+
+-- these functions, and no entity
+abbrev pub functions_of : Table → Facts
+functions_of table = record {
+  entity = λ uid. None;
+  reaches = λ a b. false;
+  function = table.function;
+}

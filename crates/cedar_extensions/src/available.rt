@@ -1,12 +1,10 @@
 // The extensions of the library's own.
-ghost use Rattle.std.specs.Prelude.{◌≡◌, ◌∷◌, [], IfOk};
-ghost use Rattle.cedar_names.specs.Identifiers.{IsUnreservedId};
+ghost use Rattle.std.specs.Prelude.{◌≡◌, [], IfOk};
 ghost use Rattle.cedar_extensions.specs.Holding.{extension_functions, ordered_types};
 ghost use Rattle.cedar_extensions.specs.Lookups.{IsUnknownAlone};
 
 use crate::extension::Extension;
 use crate::functions::{CallStyle, ExtensionFunction, SchemaType};
-use cedar_names::errors::ParseNameError;
 use cedar_names::names::Name;
 use std::alloc::{AllocError, Global};
 
@@ -17,25 +15,13 @@ pub(crate) fn partial_evaluation(alloc: Global) -> Result<Extension, AllocError>
 {
     let unknown = ExtensionFunction::partial_eval_unknown(
         alloc,
-        unqualified(alloc, "unknown")?,
+        Name::of_identifier(alloc, "unknown")?,
         CallStyle::FunctionStyle,
         SchemaType::String,
     )?;
     Ok(Extension::new(
-        unqualified(alloc, "partial_evaluation")?,
+        Name::of_identifier(alloc, "partial_evaluation")?,
         vec![in alloc; unknown]?,
         Vec::new(alloc),
     ))
-}
-
-fn unqualified(alloc: Global, identifier: &str) -> Result<Name, AllocError>
-    requires { IsUnreservedId identifier.now }
-    ensures { IfOk result (λ name. name ≡ identifier.now ∷ []) }
-{
-    match Name::parse_unqualified_name(alloc, identifier) {
-        Ok(name) => Ok(name),
-        Err(ParseNameError::Memory(error)) => Err(error),
-        Err(ParseNameError::NotNormalized) => unreachable!(),
-        Err(ParseNameError::Reserved(_)) => unreachable!(),
-    }
 }

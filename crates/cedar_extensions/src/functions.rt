@@ -14,11 +14,10 @@ ghost use Rattle.cedar_extensions.specs.Functions.{function_name, function_style
 
 use crate::evaluation_error::EvaluationError;
 use crate::objects::{CallError, ExtensionFunctionObject, NoFunction};
-use cedar_literals::literals::Literal;
 use cedar_literals::types::Type;
 use cedar_names::names::Name;
 use cedar_trees::unknowns::Unknown;
-use cedar_values::values::{Value, ValueKind};
+use cedar_values::values::Value;
 use std::alloc::{AllocError, Global};
 use std::rc::RcStr;
 
@@ -429,11 +428,5 @@ impl<F: ExtensionFunctionObject> CallersFunction<F> {
 fn text_of(value: &Value) -> Option<&RcStr>
     ensures { one_string (a_value value.now no_values) ≡ option_map string_value (option_copied result) }
 {
-    match value.value_kind() {
-        ValueKind::Lit(literal) => match literal {
-            Literal::String(text) => Some(text),
-            Literal::Bool(_) | Literal::Long(_) | Literal::EntityUID(_) => None,
-        },
-        ValueKind::Set(_) | ValueKind::Record(_) | ValueKind::ExtensionValue(_) => None,
-    }
+    value.as_string()
 }

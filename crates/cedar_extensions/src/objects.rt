@@ -26,8 +26,8 @@ impl From<AllocError> for CallError {
 }
 
 /// A function of a caller's, as `ExtensionFunction::unary` and its kin take it. It may always be called,
-/// and answers equally on equal arguments; so far it gives no text. (Cedar language reference,
-/// "Extension functions".)
+/// and answers equally on equal arguments, with any value. (Cedar language reference, "Extension
+/// functions".)
 pub trait ExtensionFunctionObject: Drop {
     ghost use Rattle.cedar_language.specs.Order.{all_of};
     ghost use Rattle.cedar_extensions.specs.Answering.{FunctionAnswers, Answered};

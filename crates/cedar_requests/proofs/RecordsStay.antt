@@ -1,25 +1,17 @@
 -- What a record is evaluated to is a record, or what is left of one.
 use Rattle.std.proofs.Common.{◌≡◌, refl, subst, List}
-use Rattle.std.specs.Prelude.{Bool, true, false, None}
+use Rattle.std.specs.Prelude.{true}
 use Rattle.either.specs.declared.Either.{Either}
 use Rattle.either.specs.declared.Either.TheVariants.{Left, Right}
 use Rattle.cedar_language.specs.Uid.{Text}
-use Rattle.cedar_language.specs.Tree.{MakeRecord, Tree, Apply, Trees}
+use Rattle.cedar_language.specs.Tree.{MakeRecord, Tree, Apply}
 use Rattle.cedar_language.specs.Value.{Value}
 use Rattle.cedar_language.specs.Facts.{Facts}
-use Rattle.cedar_partial_evaluation.specs.Partial.{Answer, Evaluated, ResidualTree, Failed, Answers, AllEvaluated, SomeResiduals, SomeFailed, LeafAnswers, apply_answer, partial_in, all_partial_in}
-use Rattle.cedar_extensions.specs.Table.{Table}
-use Rattle.cedar_restricted_evaluation.specs.Evaluations.{IsAnswer, nothing_told, named_by, all_named_by, answer_in}
+use Rattle.cedar_partial_evaluation.specs.Partial.{Answer, Evaluated, ResidualTree, Failed, Answers, AllEvaluated, SomeResiduals, SomeFailed, LeafAnswers, apply_answer}
+use Rattle.cedar_extensions.specs.Table.{Table, functions_of}
+use Rattle.cedar_restricted_evaluation.specs.Evaluations.{IsAnswer, nothing_told, answer_in, answers_in}
 use Rattle.cedar_requests.specs.Contexts.{is_record}
 use Rattle.cedar_requests.specs.Creating.{is_record_part, is_record_value}
-
--- the table's functions, and nothing else
-abbrev pub functions_of : Table → Facts
-functions_of table = record {
-  entity = λ u. None;
-  reaches = λ a b. false;
-  function = table.function;
-}
 
 abbrev IsRecordAnswer : Answer → Type 0
 IsRecordAnswer (Evaluated v) = is_record_value v ≡ true
@@ -31,12 +23,8 @@ applied_record facts holds ks (AllEvaluated vs) = refl
 applied_record facts holds ks (SomeResiduals rs) = refl
 applied_record facts holds ks (SomeFailed k) = tt
 
-named_record : (facts : Facts) (b : Bool) (ks : List Text) (ts : Trees) → IsRecordAnswer (partial_in facts nothing_told (named_by b (Apply (MakeRecord ks) ts)))
-named_record facts true ks ts = applied_record facts nothing_told ks (all_partial_in facts nothing_told (all_named_by true ts))
-named_record facts false ks ts = applied_record facts nothing_told ks (all_partial_in facts nothing_told ts)
-
 record_answer : (facts : Facts) (table : Table) (t : Tree) → is_record t ≡ true → IsRecordAnswer (answer_in table facts t)
-record_answer facts table (Apply (MakeRecord ks) ts) h = named_record facts table.has_unknown ks ts
+record_answer facts table (Apply (MakeRecord ks) ts) h = applied_record facts nothing_told ks (answers_in table facts ts)
 record_answer facts table t h = cc
 
 part_of_record : (facts : Facts) (a : Answer) (p : Either Value Tree) → IsRecordAnswer a → IsAnswer facts a p → is_record_part p ≡ true

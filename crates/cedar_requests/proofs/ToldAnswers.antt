@@ -26,7 +26,8 @@ use Rattle.cedar_extensions.specs.Table.{Table}
 use Rattle.cedar_extensions.specs.declared.evaluation_error.EvaluationError.{EvaluationError}
 use Rattle.cedar_restricted.specs.Expressing.{Expresses, ExpressAll}
 use Rattle.cedar_restricted.specs.Laws.{WrittenValuesAreGround, GroundTreesAreRestricted}
-use Rattle.cedar_restricted_evaluation.specs.Evaluations.{HasFunctions, nothing_told, named_by, all_named_by, answer_in, IsAnswer}
+use Rattle.cedar_restricted_evaluation.specs.Evaluations.{HasFunctions, nothing_told, answer_in, answers_in, IsAnswer}
+use Rattle.cedar_restricted_evaluation.proofs.WrittenNames.{call_answered}
 use Rattle.cedar_substitution.specs.Told.{told_for}
 use Rattle.cedar_substitution.specs.Typed.{StandsFor, Tells, SubstitutesValues}
 use Rattle.cedar_requests.specs.Answers.{part_answer}
@@ -36,37 +37,6 @@ use Rattle.cedar_requests.specs.ToldContexts.{HoldTold, StatesNoType, ToldContex
 use Rattle.cedar_requests.specs.declared.contexts.Context.{Context}
 use Rattle.cedar_requests.proofs.PutIn.{put_in, all_put_in, substituted_is}
 use Rattle.cedar_requests.proofs.Untyped.{untyped_fits}
-
--- ---- names
-
-named_lit : (b : Bool) (l : Literal) → named_by b (Lit l) ≡ Lit l
-named_lit true l = refl
-named_lit false l = refl
-
-named_unknown : (b : Bool) (n : Text) (ty : Option ValueType) → named_by b (Unknown n ty) ≡ Unknown n ty
-named_unknown true n ty = refl
-named_unknown false n ty = refl
-
-named_set : (b : Bool) (ts : Trees) → named_by b (Apply MakeSet ts) ≡ Apply MakeSet (all_named_by b ts)
-named_set true ts = refl
-named_set false ts = refl
-
-named_record : (ks : List Text) (b : Bool) (ts : Trees) → named_by b (Apply (MakeRecord ks) ts) ≡ Apply (MakeRecord ks) (all_named_by b ts)
-named_record ks true ts = refl
-named_record ks false ts = refl
-
-named_other : (f : Name) (b : Bool) (ts : Trees) → (b ≡ true → is_unknown_call (Call f) ≡ false) → named_by b (Apply (Call f) ts) ≡ Apply (Call f) (all_named_by b ts)
-named_other f true no_trees h = refl
-named_other f true (a_tree t ts) h = rw (h refl) refl
-named_other f false ts h = refl
-
-named_none : (b : Bool) → all_named_by b no_trees ≡ no_trees
-named_none true = refl
-named_none false = refl
-
-named_more : (b : Bool) (t : Tree) (ts : Trees) → all_named_by b (a_tree t ts) ≡ a_tree (named_by b t) (all_named_by b ts)
-named_more true t ts = refl
-named_more false t ts = refl
 
 and_left : (a b : Bool) → (a && b) ≡ true → a ≡ true
 and_left true b h = refl
@@ -102,103 +72,70 @@ module _ (facts : Facts) (one other : LeafAnswers) where
   call_alike f (SomeResiduals rs) = refl
   call_alike f (SomeFailed k) = refl
 
--- ---- answers where nothing is told
-
-module _ (facts : Facts) (b : Bool) where
-  abbrev answer_by : Tree → Answer
-  answer_by t = partial_in facts nothing_told (named_by b t)
-
-  abbrev answers_by : Trees → Answers
-  answers_by ts = all_partial_in facts nothing_told (all_named_by b ts)
-
-  next_by : (t : Tree) (ts : Trees) → answers_by (a_tree t ts) ≡ and_next facts (answer_by t) (answers_by ts)
-  next_by t ts = ap (all_partial_in facts nothing_told) (named_more b t ts)
-
 -- ---- an extension value that is constructed again
 
-named_longs : (b : Bool) (bs : List ℕ) → all_named_by b (longs_of bs) ≡ longs_of bs
-named_longs b [] = named_none b
-named_longs b (n ∷ bs) = named_more b (Lit (Long (pos n))) (longs_of bs) ∙ ap (λ t. a_tree t (all_named_by b (longs_of bs))) (named_lit b (Long (pos n))) ∙ ap (a_tree (Lit (Long (pos n)))) (named_longs b bs)
-
-named_parts : (b : Bool) (k l : Literal) (bs : List ℕ) → all_named_by b (a_tree (Lit k) (a_tree (Lit l) (longs_of bs))) ≡ a_tree (Lit k) (a_tree (Lit l) (longs_of bs))
-named_parts b k l bs =
-    named_more b (Lit k) (a_tree (Lit l) (longs_of bs))
-    ∙ ap (λ t. a_tree t (all_named_by b (a_tree (Lit l) (longs_of bs)))) (named_lit b k)
-    ∙ ap (a_tree (Lit k)) (named_more b (Lit l) (longs_of bs) ∙ ap (λ t. a_tree t (all_named_by b (longs_of bs))) (named_lit b l) ∙ ap (a_tree (Lit l)) (named_longs b bs))
-
-module _ (facts : Facts) (b : Bool) where
-  longs_answer : (bs : List ℕ) → all_partial_in facts nothing_told (longs_of bs) ≡ AllEvaluated (long_values bs)
+module _ (table : Table) (facts : Facts) where
+  longs_answer : (bs : List ℕ) → answers_in table facts (longs_of bs) ≡ AllEvaluated (long_values bs)
   longs_answer [] = refl
   longs_answer (n ∷ bs) = ap (and_next facts (Evaluated (Plain (Long (pos n))))) (longs_answer bs)
 
-  constructed_answer : (e : Extension) → IsMadeAgain facts (ExtensionOf e) → answer_by facts b (construction e) ≡ Evaluated (ExtensionOf e)
+  constructed_answer : (e : Extension) → IsMadeAgain facts (ExtensionOf e) → answer_in table facts (construction e) ≡ Evaluated (ExtensionOf e)
   constructed_answer e made =
-      ap (partial_in facts nothing_told) (named_other the_constructor b (parts_written e) (λ is. refl))
-      ∙ ap (λ ts. partial_in facts nothing_told (Apply (Call the_constructor) ts)) (named_parts b (Entity (record { type_name = e.type_name; id = [] })) (Boolean e.ordered) e.key)
+      call_answered table facts the_constructor (λ is. refl) (parts_written e)
       ∙ ap (λ vs. apply_answer facts nothing_told (Call the_constructor) (and_next facts (Evaluated (Plain (Entity (record { type_name = e.type_name; id = [] })))) (and_next facts (Evaluated (Plain (Boolean e.ordered))) vs))) (longs_answer e.key)
       ∙ ap answer_of made
     where
       parts_written : Extension → Trees
       parts_written x = a_tree (Lit (Entity (record { type_name = x.type_name; id = [] }))) (a_tree (Lit (Boolean x.ordered)) (longs_of x.key))
 
-module _ (finite_sets : SetsAreFinite) (facts : Facts) (b : Bool) where
+module _ (finite_sets : SetsAreFinite) (table : Table) (facts : Facts) where
   -- ---- a value that is written
 
   mutual
-    written_answer : (v : Value) (t : Tree) → IsMadeAgain facts v → Expresses v t → answer_by facts b t ≡ Evaluated v
-    written_answer (Plain l) t m h = ap (answer_by facts b) h ∙ ap (partial_in facts nothing_told) (named_lit b l)
+    written_answer : (v : Value) (t : Tree) → IsMadeAgain facts v → Expresses v t → answer_in table facts t ≡ Evaluated v
+    written_answer (Plain l) t m h = ap (answer_in table facts) h
     written_answer (SetOf vs) t m (ts, is, each) =
-        ap (answer_by facts b) is
-        ∙ ap (partial_in facts nothing_told) (named_set b ts)
-        ∙ ap (apply_answer facts nothing_told MakeSet) (written_answers vs ts m.1 each)
-        ∙ ap (λ us. Evaluated (SetOf us)) (finite_sets.kept vs m.0)
+        ap (answer_in table facts) is ∙ ap (apply_answer facts nothing_told MakeSet) (written_answers vs ts m.1 each) ∙ ap (λ us. Evaluated (SetOf us)) (finite_sets.kept vs m.0)
     written_answer (RecordOf ks vs) t m (ts, is, each) =
-        ap (answer_by facts b) is
-        ∙ ap (partial_in facts nothing_told) (named_record ks b ts)
-        ∙ ap (apply_answer facts nothing_told (MakeRecord ks)) (written_answers vs ts m each)
-    written_answer (ExtensionOf e) t m h = ap (answer_by facts b) h ∙ constructed_answer facts b e m
+        ap (answer_in table facts) is ∙ ap (apply_answer facts nothing_told (MakeRecord ks)) (written_answers vs ts m each)
+    written_answer (ExtensionOf e) t m h = ap (answer_in table facts) h ∙ constructed_answer table facts e m
 
-    written_answers : (vs : Values) (ts : Trees) → AreMadeAgain facts vs → ExpressAll vs ts → answers_by facts b ts ≡ AllEvaluated vs
-    written_answers no_values no_trees m h = ap (all_partial_in facts nothing_told) (named_none b)
+    written_answers : (vs : Values) (ts : Trees) → AreMadeAgain facts vs → ExpressAll vs ts → answers_in table facts ts ≡ AllEvaluated vs
+    written_answers no_values no_trees m h = refl
     written_answers no_values (a_tree t ts) m h = absurd h
     written_answers (a_value v vs) no_trees m h = absurd h
     written_answers (a_value v vs) (a_tree t ts) m h =
-        next_by facts b t ts
-        ∙ ap (λ a. and_next facts a (answers_by facts b ts)) (written_answer v t m.0 h.0)
-        ∙ ap (and_next facts (Evaluated v)) (written_answers vs ts m.1 h.1)
+        ap (λ a. and_next facts a (answers_in table facts ts)) (written_answer v t m.0 h.0) ∙ ap (and_next facts (Evaluated v)) (written_answers vs ts m.1 h.1)
 
-  stands_answer : (o : Option Value) (n : Text) (ty : Option ValueType) (t : Tree) → ty ≡ None → StandsFor o n ty t → ((v : Value) → o ≡ Some v → IsMadeAgain facts v) → answer_by facts b t ≡ name_held o n ty
-  stands_answer None n ty t e h m = ap (answer_by facts b) h ∙ ap (partial_in facts nothing_told) (named_unknown b n ty) ∙ ap (λ o. name_held o n ty) (get-empty text_cmp n)
+  stands_answer : (o : Option Value) (n : Text) (ty : Option ValueType) (t : Tree) → ty ≡ None → StandsFor o n ty t → ((v : Value) → o ≡ Some v → IsMadeAgain facts v) → answer_in table facts t ≡ name_held o n ty
+  stands_answer None n ty t e h m = ap (answer_in table facts) h ∙ ap (λ o. name_held o n ty) (get-empty text_cmp n)
   stands_answer (Some v) n ty t e h m = written_answer v t (m v refl) h ∙ sym (ap (λ x. value_held (fits x v) v) e)
 
   -- ---- data
 
   module _ (entries : List (RcStr Global × Value)) (told : Told) (same : HoldTold entries told) (made : AreMadeTold facts told) (f : Text → Option ValueType → Tree) (tells : Tells entries f) where
     mutual
-      put_answer : (t : Tree) → is_restricted t ≡ true → StatesNoType t → (b ≡ true → calls_unknown t ≡ false) → answer_by facts b (put_in f t) ≡ partial_in facts (held_names told) t
-      put_answer (Lit l) d s c = ap (partial_in facts nothing_told) (named_lit b l)
+      put_answer : (t : Tree) → is_restricted t ≡ true → StatesNoType t → (table.has_unknown ≡ true → calls_unknown t ≡ false) → answer_in table facts (put_in f t) ≡ partial_in facts (held_names told) t
+      put_answer (Lit l) d s c = refl
       put_answer (Unknown n ty) d s c =
           stands_answer (told_for entries n) n ty (f n ty) s (tells n ty) (λ v is. made n v (same n ∙ is))
           ∙ ap (λ o. name_held o n ty) (sym (same n))
       put_answer (Apply MakeSet ts) d s c =
-          ap (partial_in facts nothing_told) (named_set b (all_put_in f ts))
-          ∙ set_alike facts nothing_told (held_names told) (answers_by facts b (all_put_in f ts))
+          set_alike facts nothing_told (held_names told) (answers_in table facts (all_put_in f ts))
           ∙ ap (apply_answer facts (held_names told) MakeSet) (put_answers ts d s c)
       put_answer (Apply (MakeRecord ks) ts) d s c =
-          ap (partial_in facts nothing_told) (named_record ks b (all_put_in f ts))
-          ∙ record_alike facts nothing_told (held_names told) ks (answers_by facts b (all_put_in f ts))
+          record_alike facts nothing_told (held_names told) ks (answers_in table facts (all_put_in f ts))
           ∙ ap (apply_answer facts (held_names told) (MakeRecord ks)) (put_answers ts d s c)
       put_answer (Apply (Call g) ts) d s c =
-          ap (partial_in facts nothing_told) (named_other g b (all_put_in f ts) (λ is. or_left (is_unknown_call (Call g)) (some_calls_unknown ts) (c is)))
-          ∙ call_alike facts nothing_told (held_names told) g (answers_by facts b (all_put_in f ts))
+          call_answered table facts g (λ is. or_left (is_unknown_call (Call g)) (some_calls_unknown ts) (c is)) (all_put_in f ts)
+          ∙ call_alike facts nothing_told (held_names told) g (answers_in table facts (all_put_in f ts))
           ∙ ap (apply_answer facts (held_names told) (Call g)) (put_answers ts d s (λ is. or_right (is_unknown_call (Call g)) (some_calls_unknown ts) (c is)))
       put_answer t d s c = cc
 
-      put_answers : (ts : Trees) → are_restricted ts ≡ true → EachUnknownOf (λ n ty. ty ≡ None) ts → (b ≡ true → some_calls_unknown ts ≡ false) → answers_by facts b (all_put_in f ts) ≡ all_partial_in facts (held_names told) ts
-      put_answers no_trees d s c = ap (all_partial_in facts nothing_told) (named_none b)
+      put_answers : (ts : Trees) → are_restricted ts ≡ true → EachUnknownOf (λ n ty. ty ≡ None) ts → (table.has_unknown ≡ true → some_calls_unknown ts ≡ false) → answers_in table facts (all_put_in f ts) ≡ all_partial_in facts (held_names told) ts
+      put_answers no_trees d s c = refl
       put_answers (a_tree t ts) d s c =
-          next_by facts b (put_in f t) (all_put_in f ts)
-          ∙ ap (λ a. and_next facts a (answers_by facts b (all_put_in f ts))) (put_answer t (and_left (is_restricted t) (are_restricted ts) d) s.0 (λ is. or_left (calls_unknown t) (some_calls_unknown ts) (c is)))
+          ap (λ a. and_next facts a (answers_in table facts (all_put_in f ts))) (put_answer t (and_left (is_restricted t) (are_restricted ts) d) s.0 (λ is. or_left (calls_unknown t) (some_calls_unknown ts) (c is)))
           ∙ ap (and_next facts (partial_in facts (held_names told) t)) (put_answers ts (and_right (is_restricted t) (are_restricted ts) d) s.1 (λ is. or_right (calls_unknown t) (some_calls_unknown ts) (c is)))
 
 -- ---- contexts
@@ -212,7 +149,7 @@ module _ (finite_sets : SetsAreFinite) (written : WrittenValuesAreGround) (groun
   substituted_answer : (u : Tree) → SubstitutesValues entries t u → answer_in table facts u ≡ partial_in facts (held_names told) t
   substituted_answer u (f, tells, is) =
       ap (answer_in table facts) (substituted_is written ground entries f tells t u d is.rising is.made)
-      ∙ put_answer finite_sets facts table.has_unknown entries told same made f tells t d s c
+      ∙ put_answer finite_sets table facts entries told same made f tells t d s c
 
   told_result : (result : Result Context EvaluationError) → TellsRecord table depth entries t None result
       → GivesBy (λ x. part_answer (context_part x) ≡ partial_in facts (held_names told) t) (λ k. partial_in facts (held_names told) t ≡ Failed k) (OfSubstituted entries t (λ u. depth < height u)) result

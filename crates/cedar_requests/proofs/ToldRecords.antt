@@ -13,13 +13,12 @@ use Rattle.cedar_extensions.specs.Failures.{Failure, OfKind, LimitMet, MemoryRan
 use Rattle.cedar_extensions.specs.Giving.{FailsBy}
 use Rattle.cedar_extensions.specs.declared.evaluation_error.EvaluationError.{EvaluationError}
 use Rattle.cedar_extensions.specs.declared.evaluation_error.EvaluationError.TheVariants as evaluation
-use Rattle.cedar_extensions.specs.Table.{Table}
+use Rattle.cedar_extensions.specs.Table.{Table, functions_of}
 use Rattle.cedar_restricted_evaluation.specs.Evaluations.{HasFunctions, IsKnown, answer_in}
 use Rattle.cedar_substitution.specs.Typed.{SubstitutesValues}
 use Rattle.cedar_requests.specs.Creating.{MeansContext, AnswersContext}
 use Rattle.cedar_requests.specs.Telling.{IsMistyping, IsMistypingOf, ErrsAs, OfSubstituted, TellsRecord}
 use Rattle.cedar_requests.specs.declared.contexts.Context.{Context}
-use Rattle.cedar_requests.proofs.RecordsStay.{functions_of}
 
 module _ (table : Table) (depth : ℕ) (told : List (RcStr Global × Value)) (t : Tree) where
   pub mistyping_refused : (types : Option (ValueType × ValueType)) (e : EvaluationError) → IsMistypingOf types (Some e) → TellsRecord table depth told t types (Err e)

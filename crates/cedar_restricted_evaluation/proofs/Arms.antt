@@ -3,30 +3,29 @@ use Rattle.std.proofs.Common.{◌≡◌, ◌∙◌, ℕ, ◌<◌, refl, ap, sym,
 use Rattle.std.proofs.lemmas.Bool.{ne_eqb}
 use Rattle.std.specs.FinMap.{get-empty}
 use Rattle.std.specs.List.{list_any}
-use Rattle.std.specs.Prelude.{Bool, true, false, cond, nat_eq, Option, Some, None, Result, Ok, Err}
+use Rattle.std.specs.Prelude.{Bool, true, false, cond, ◌&&◌, nat_eq, Option, Some, None, Result, Ok, Err}
 use Rattle.std.specs.declared.rc.Rc.{Rc}
 use Rattle.std.specs.declared.rc.RcStr.{RcStr}
 use Rattle.either.specs.declared.Either.{Either}
 use Rattle.either.specs.declared.Either.TheVariants.{Left, Right}
 use Rattle.cedar_language.specs.Uid.{Text, Name}
-use Rattle.cedar_language.specs.Tree.{Literal, String, ValueType, Operator, MakeSet, MakeRecord, Call, Tree, Lit, Unknown, Apply, Trees, no_trees, a_tree}
+use Rattle.cedar_language.specs.Tree.{Literal, String, ValueType, Operator, MakeSet, MakeRecord, Call, Tree, Lit, Unknown, Apply, Trees}
 use Rattle.cedar_language.specs.Value.{Value, Plain, RecordOf, Values, no_values, a_value, Kind, WrongNumArguments, FailedExtensionFunctionExecution, Outcome, Gives, Fails}
 use Rattle.cedar_language.specs.Facts.{Facts}
 use Rattle.cedar_language.specs.Height.{height}
 use Rattle.cedar_language.specs.Operators.{applied, called, count, or_fails}
 use Rattle.cedar_language.specs.Order.{text_cmp, all_of, set_of}
 use Rattle.cedar_language.specs.Restricted.{is_restricted, are_restricted}
-use Rattle.cedar_partial_evaluation.specs.Partial.{Answer, Evaluated, ResidualTree, Failed, Answers, AllEvaluated, SomeResiduals, SomeFailed, answer_of, residual_answer, apply_answer, partial_in, all_partial_in}
+use Rattle.cedar_partial_evaluation.specs.Partial.{ResidualTree, Answers, AllEvaluated, SomeResiduals, SomeFailed, answer_of, residual_answer, apply_answer, partial_in}
 use Rattle.cedar_partial_evaluation.specs.Question.{name_held}
 use Rattle.cedar_grammar.specs.Build.{trees, keys}
-use Rattle.cedar_world.specs.Bodies.{named, all_named}
 use Rattle.cedar_world.specs.Functions.{is_the_unknown, one_string, unknown_function}
 use Rattle.cedar_trees.specs.Bare.{bare, bare_kind, bare_entries, record_tree}
 use Rattle.cedar_trees.specs.declared.expr.Expr.{Expr}
 use Rattle.cedar_trees.specs.declared.expr.ExprKind.TheVariants as kind
 use Rattle.cedar_trees.specs.Unknowns.{unknown_name, unknown_type}
 use Rattle.cedar_trees.specs.declared.unknowns.Unknown as code
-use Rattle.cedar_trees.proofs.Bares.{bare_is, bare-Unknown, bare-Set, bare-Record}
+use Rattle.cedar_trees.proofs.Bares.{bare_is, bare-Unknown, bare-Set, bare-Record, bare-ExtensionFunctionApp}
 use Rattle.cedar_extensions.specs.Failures.{failure_of}
 use Rattle.cedar_extensions.specs.Giving.{fails_on}
 use Rattle.cedar_extensions.specs.declared.evaluation_error.EvaluationError.{EvaluationError}
@@ -38,90 +37,78 @@ use Rattle.cedar_restricted.specs.Expressing.{is_ground, are_ground}
 use Rattle.cedar_restricted.specs.PartialValues.{partial_of}
 use Rattle.cedar_restricted.specs.Splitting.{ExpressEach, is_residual}
 use Rattle.cedar_restricted.specs.declared.partial_values.PartialValue.{PartialValue}
-use Rattle.cedar_restricted_evaluation.specs.Evaluations.{HasFunctions, nothing_told, named_by, all_named_by, answer_in}
-use Rattle.cedar_restricted_evaluation.specs.Findings.{IsCalled, Calls, IsFound, Errs, Evaluates, answers_in, AreFound, SomeErrs}
-use Rattle.cedar_restricted_evaluation.proofs.Naming.{by_naming, names_unknown_so}
-use Rattle.cedar_restricted_evaluation.proofs.Gathering.{all_values, one_text, some_residuals, all_restricted, some_waits}
+use Rattle.cedar_restricted_evaluation.specs.Evaluations.{HasFunctions, nothing_told, one_text, name_called, named_or, answer_in, answers_in}
+use Rattle.cedar_restricted_evaluation.specs.Findings.{IsCalled, Calls, IsFound, Errs, Evaluates, AreFound, SomeErrs}
+use Rattle.cedar_restricted_evaluation.proofs.Gathering.{all_values, some_residuals, all_restricted, some_waits}
 
 -- ---- leaves
 
-named_lit : (b : Bool) (l : Literal) → named_by b (Lit l) ≡ Lit l
-named_lit true l = refl
-named_lit false l = refl
-
-named_unknown : (b : Bool) (n : Text) (ty : Option ValueType) → named_by b (Unknown n ty) ≡ Unknown n ty
-named_unknown true n ty = refl
-named_unknown false n ty = refl
-
-still_unknown : (facts : Facts) (n : Text) (ty : Option ValueType) → partial_in facts nothing_told (Unknown n ty) ≡ ResidualTree (Unknown n ty)
+pub still_unknown : (facts : Facts) (n : Text) (ty : Option ValueType) → partial_in facts nothing_told (Unknown n ty) ≡ ResidualTree (Unknown n ty)
 still_unknown facts n ty = ap (λ o. name_held o n ty) (get-empty text_cmp n)
 
 module _ (table : Table) where
   pub literal_found : (l : Literal) → IsFound table (Lit l) (Left (Plain l))
-  literal_found l = record {
-    answer = λ facts has. ap (partial_in facts nothing_told) (named_lit table.has_unknown l);
-    text = λ s e. cc;
-  }
+  literal_found l = λ facts has. refl
 
   pub unknown_found : (n : Text) (ty : Option ValueType) → IsFound table (Unknown n ty) (Right (Unknown n ty))
-  unknown_found n ty = record {
-    answer = λ facts has. ap (partial_in facts nothing_told) (named_unknown table.has_unknown n ty) ∙ still_unknown facts n ty;
-    restricted = refl;
-    waits = refl;
-  }
+  unknown_found n ty = record { answer = λ facts has. still_unknown facts n ty; restricted = refl; waits = refl }
 
 -- ---- sets and records
 
 -- what is asked of an operator that builds a value of all that it is given
 pub record Builds (op : Operator) : Type 0 where
-  pub named : (b : Bool) (us : Trees) → named_by b (Apply op us) ≡ Apply op (all_named_by b us)
+  pub names_nothing : (table : Table) (as_ : Answers) → name_called table op as_ ≡ None
   pub waits : (facts : Facts) (rs : Trees) → residual_answer facts nothing_told op rs ≡ ResidualTree (Apply op rs)
   pub restricted : (rs : Trees) → is_restricted (Apply op rs) ≡ are_restricted rs
   pub ground : (rs : Trees) → is_ground (Apply op rs) ≡ are_ground rs
 
-set_named : (b : Bool) (us : Trees) → named_by b (Apply MakeSet us) ≡ Apply MakeSet (all_named_by b us)
-set_named true us = refl
-set_named false us = refl
-
 pub set_builds : Builds MakeSet
-set_builds = record { named = set_named; waits = λ facts rs. refl; restricted = λ rs. refl; ground = λ rs. refl }
-
-record_named : (ks : List Text) (b : Bool) (us : Trees) → named_by b (Apply (MakeRecord ks) us) ≡ Apply (MakeRecord ks) (all_named_by b us)
-record_named ks true us = refl
-record_named ks false us = refl
+set_builds = record { names_nothing = λ table as_. refl; waits = λ facts rs. refl; restricted = λ rs. refl; ground = λ rs. refl }
 
 pub record_builds : (ks : List Text) → Builds (MakeRecord ks)
-record_builds ks = record { named = record_named ks; waits = λ facts rs. refl; restricted = λ rs. refl; ground = λ rs. refl }
+record_builds ks = record { names_nothing = λ table as_. refl; waits = λ facts rs. refl; restricted = λ rs. refl; ground = λ rs. refl }
 
-module _ (table : Table) (op : Operator) (builds : Builds op) (ts : List Tree) where
-  applied_answer : (facts : Facts) → answer_in table facts (Apply op (trees ts)) ≡ apply_answer facts nothing_told op (answers_in table facts (trees ts))
-  applied_answer facts = ap (partial_in facts nothing_told) (builds.named table.has_unknown (trees ts))
+-- ---- what is answered of parts
 
-  pub build_errs : (k : Kind) → SomeErrs table ts k → Errs table (Apply op (trees ts)) k
-  build_errs k e = λ facts has. applied_answer facts ∙ ap (apply_answer facts nothing_told op) (e facts has)
+module _ (table : Table) (facts : Facts) (op : Operator) where
+  -- parts that are answered so, which name nothing
+  pub parts_answered : (us : Trees) (as_ : Answers) → answers_in table facts us ≡ as_ → name_called table op as_ ≡ None → answer_in table facts (Apply op us) ≡ apply_answer facts nothing_told op as_
+  parts_answered us as_ is none =
+      ap (λ ps. named_or (name_called table op ps) (apply_answer facts nothing_told op ps)) is ∙ ap (λ o. named_or o (apply_answer facts nothing_told op as_)) none
 
-  module _ (ps : List (Either Value Tree)) (found : AreFound table ts ps) where
-    pub build_waits : (us : List Tree) → (list_any is_residual ps ≡ true) × ExpressEach ps us → IsFound table (Apply op (trees ts)) (Right (Apply op (trees us)))
-    build_waits us split = record {
-      answer = λ facts has. applied_answer facts ∙ ap (apply_answer facts nothing_told op) (some_residuals table ts ps us found split facts has) ∙ builds.waits facts (trees us);
+-- only values name something
+failed_name_nothing : (table : Table) (op : Operator) (k : Kind) → name_called table op (SomeFailed k) ≡ None
+failed_name_nothing table (Call f) k = refl
+failed_name_nothing table op k = refl
+
+residuals_name_nothing : (table : Table) (op : Operator) (rs : Trees) → name_called table op (SomeResiduals rs) ≡ None
+residuals_name_nothing table (Call f) rs = refl
+residuals_name_nothing table op rs = refl
+
+module _ (table : Table) (op : Operator) (ts : List Tree) where
+  pub parts_err : (k : Kind) → SomeErrs table ts k → Errs table (Apply op (trees ts)) k
+  parts_err k e = λ facts has. parts_answered table facts op (trees ts) (SomeFailed k) (e facts has) (failed_name_nothing table op k)
+
+  module _ (ps : List (Either Value Tree)) (found : AreFound table ts ps) (us : List Tree) (split : (list_any is_residual ps ≡ true) × ExpressEach ps us) where
+    parts_wait : (facts : Facts) → HasFunctions table facts → answer_in table facts (Apply op (trees ts)) ≡ residual_answer facts nothing_told op (trees us)
+    parts_wait facts has = parts_answered table facts op (trees ts) (SomeResiduals (trees us)) (some_residuals table ts ps us found split facts has) (residuals_name_nothing table op (trees us))
+
+    pub build_waits : Builds op → IsFound table (Apply op (trees ts)) (Right (Apply op (trees us)))
+    build_waits builds = record {
+      answer = λ facts has. parts_wait facts has ∙ builds.waits facts (trees us);
       restricted = builds.restricted (trees us) ∙ all_restricted table ts ps us found split;
       waits = builds.ground (trees us) ∙ some_waits table ts ps us found split;
     }
 
-    built_answer : (vs : List Value) → ps ≡ map Left vs → (facts : Facts) → HasFunctions table facts → answer_in table facts (Apply op (trees ts)) ≡ answer_of (applied facts op (all_of vs))
-    built_answer vs is facts has = applied_answer facts ∙ ap (apply_answer facts nothing_told op) (all_values table ts ps vs found is facts has)
+  module _ (ps : List (Either Value Tree)) (found : AreFound table ts ps) (vs : List Value) (is : ps ≡ map Left vs) where
+    values_answered : name_called table op (AllEvaluated (all_of vs)) ≡ None → (facts : Facts) → HasFunctions table facts → answer_in table facts (Apply op (trees ts)) ≡ answer_of (applied facts op (all_of vs))
+    values_answered none facts has = parts_answered table facts op (trees ts) (AllEvaluated (all_of vs)) (all_values table ts ps vs found is facts has) none
 
 pub set_found : (table : Table) (ts : List Tree) (ps : List (Either Value Tree)) → AreFound table ts ps → (vs : List Value) → ps ≡ map Left vs → IsFound table (Apply MakeSet (trees ts)) (Left (set_of (all_of vs)))
-set_found table ts ps found vs is = record {
-  answer = built_answer table MakeSet set_builds ts ps found vs is;
-  text = λ s e. cc;
-}
+set_found table ts ps found vs is = values_answered table MakeSet ts ps found vs is refl
 
 pub record_found : (table : Table) (ks : List Text) (ts : List Tree) (ps : List (Either Value Tree)) → AreFound table ts ps → (vs : List Value) → ps ≡ map Left vs → IsFound table (Apply (MakeRecord ks) (trees ts)) (Left (RecordOf ks (all_of vs)))
-record_found table ks ts ps found vs is = record {
-  answer = built_answer table (MakeRecord ks) (record_builds ks) ts ps found vs is;
-  text = λ s e. cc;
-}
+record_found table ks ts ps found vs is = values_answered table (MakeRecord ks) ts ps found vs is refl
 
 -- ---- calls
 
@@ -132,66 +119,60 @@ others_refused false o s e h = cc
 two_arguments : (v w : Value) (ws : Values) (s : Text) → called (Some unknown_function) (a_value v (a_value w ws)) ≡ Gives (Plain (String s)) → ⊥
 two_arguments v w ws s h = others_refused (nat_eq 1 (suc (suc (count ws)))) (or_fails FailedExtensionFunctionExecution (one_string (a_value v (a_value w ws)))) s (ne_eqb 1 (suc (suc (count ws))) (λ e. absurd (omega (arith, e)))) h
 
-called_text : (vs : Values) (s : Text) → called (Some unknown_function) vs ≡ Gives (Plain (String s)) → vs ≡ a_value (Plain (String s)) no_values
+-- `unknown` gives the one text that it is called with
+called_text : (vs : Values) (s : Text) → called (Some unknown_function) vs ≡ Gives (Plain (String s)) → one_text vs ≡ Some s
 called_text no_values s h = cc
-called_text (a_value (Plain (String t)) no_values) s h = cc
+called_text (a_value (Plain (String t)) no_values) s h = let same : t ≡ s = cc in ap Some same
 called_text (a_value v no_values) s h = cc
 called_text (a_value v (a_value w ws)) s h = absurd (two_arguments v w ws s h)
 
-one_literal : (facts : Facts) (us : Trees) (n : Text) → us ≡ a_tree (Lit (String n)) no_trees → all_partial_in facts nothing_told us ≡ AllEvaluated (a_value (Plain (String n)) no_values)
-one_literal facts us n e = ap (all_partial_in facts nothing_told) e
+text_called : (vs : Values) (n : Text) (k : Kind) → one_text vs ≡ Some n → called (Some unknown_function) vs ≡ Fails k → ⊥
+text_called (a_value (Plain (String s)) no_values) n k e h = cc
+text_called vs n k e h = cc
 
-module _ (table : Table) (f : Name) where
-  -- a call whose arguments have these answers, and name nothing where the function has no such answer
-  call_answer : (facts : Facts) (us : Trees) (b : Bool) (as_ : Answers) (a : Answer) → all_partial_in facts nothing_told (all_named_by b us) ≡ as_ → apply_answer facts nothing_told (Call f) as_ ≡ a
-      → ((n : Text) → b ≡ true → is_the_unknown f ≡ true → as_ ≡ AllEvaluated (a_value (Plain (String n)) no_values) → ⊥)
-      → partial_in facts nothing_told (named_by b (Apply (Call f) us)) ≡ a
-  call_answer facts us false as_ a is gives apart = ap (apply_answer facts nothing_told (Call f)) is ∙ gives
-  call_answer facts us true as_ a is gives apart =
-      by_naming (λ t. partial_in facts nothing_told t ≡ a) f (all_named us)
-      (λ n e named. absurd (apart n refl named (sym is ∙ one_literal facts (all_named us) n e)))
-      (ap (apply_answer facts nothing_told (Call f)) is ∙ gives)
+none_named : (b : Bool) (o : Option Text) → ((n : Text) → b ≡ true → o ≡ Some n → ⊥) → cond b o None ≡ None
+none_named false o h = refl
+none_named true None h = refl
+none_named true (Some n) h = absurd (h n refl refl)
 
-  pub call_errs : (ts : List Tree) (k : Kind) → SomeErrs table ts k → Errs table (Apply (Call f) (trees ts)) k
-  call_errs ts k e = λ facts has. call_answer facts (trees ts) table.has_unknown (SomeFailed k) (Failed k) (e facts has) refl (λ n b i is. cc)
+both_true : (a b : Bool) → (a && b) ≡ true → (a ≡ true) × (b ≡ true)
+both_true true b h = (refl, h)
+both_true false b h = cc
 
-  module _ (ts : List Tree) (ps : List (Either Value Tree)) (found : AreFound table ts ps) where
-    pub call_waits : (us : List Tree) → (list_any is_residual ps ≡ true) × ExpressEach ps us → IsFound table (Apply (Call f) (trees ts)) (Right (Apply (Call f) (trees us)))
-    call_waits us split = record {
-      answer = λ facts has. call_answer facts (trees ts) table.has_unknown (SomeResiduals (trees us)) (ResidualTree (Apply (Call f) (trees us))) (some_residuals table ts ps us found split facts has) refl (λ n b i is. cc);
-      restricted = all_restricted table ts ps us found split;
-      waits = some_waits table ts ps us found split;
-    }
+module _ (table : Table) (f : Name) (ts : List Tree) (ps : List (Either Value Tree)) (found : AreFound table ts ps) where
+  pub call_waits : (us : List Tree) → (list_any is_residual ps ≡ true) × ExpressEach ps us → IsFound table (Apply (Call f) (trees ts)) (Right (Apply (Call f) (trees us)))
+  call_waits us split = record {
+    answer = parts_wait table (Call f) ts ps found us split;
+    restricted = all_restricted table ts ps us found split;
+    waits = some_waits table ts ps us found split;
+  }
 
-    module _ (vs : List Value) (is : ps ≡ map Left vs) (held : is_the_unknown f ≡ true → table.has_unknown ≡ true → table.function f ≡ Some unknown_function) where
-      function_answer : (facts : Facts) → HasFunctions table facts → apply_answer facts nothing_told (Call f) (AllEvaluated (all_of vs)) ≡ answer_of (called (table.function f) (all_of vs))
-      function_answer facts has = ap (λ o. answer_of (called o (all_of vs))) (has f)
+  module _ (vs : List Value) (is : ps ≡ map Left vs) (held : is_the_unknown f ≡ true → table.has_unknown ≡ true → table.function f ≡ Some unknown_function) where
+    function_answered : (o : Outcome) → called (table.function f) (all_of vs) ≡ o → name_called table (Call f) (AllEvaluated (all_of vs)) ≡ None → (facts : Facts) → HasFunctions table facts → answer_in table facts (Apply (Call f) (trees ts)) ≡ answer_of o
+    function_answered o e none facts has = values_answered table (Call f) ts ps found vs is none facts has ∙ ap (λ g. answer_of (called g (all_of vs))) (has f) ∙ ap answer_of e
 
-      evaluated_inside : (us ws : Values) → AllEvaluated us ≡ AllEvaluated ws → us ≡ ws
-      evaluated_inside us ws e = cc
+    pub call_fails : (k : Kind) → called (table.function f) (all_of vs) ≡ Fails k → Errs table (Apply (Call f) (trees ts)) k
+    call_fails k e = function_answered (Fails k) e
+        (none_named (table.has_unknown && is_the_unknown f) (one_text (all_of vs)) (λ n b text.
+        let both = both_true table.has_unknown (is_the_unknown f) b in
+        text_called (all_of vs) n k text (ap (λ o. called o (all_of vs)) (sym (held both.1 both.0)) ∙ e)))
 
-      names_nothing : (k : Kind) → called (table.function f) (all_of vs) ≡ Fails k → (n : Text) → table.has_unknown ≡ true → is_the_unknown f ≡ true → AllEvaluated (all_of vs) ≡ AllEvaluated (a_value (Plain (String n)) no_values) → ⊥
-      names_nothing k e n b i same =
-          let gives : called (table.function f) (all_of vs) ≡ Gives (Plain (String n)) = ap (λ o. called o (all_of vs)) (held i b) ∙ ap (called (Some unknown_function)) (evaluated_inside (all_of vs) (a_value (Plain (String n)) no_values) same) in
-          cc
-
-      pub call_fails : (k : Kind) → called (table.function f) (all_of vs) ≡ Fails k → Errs table (Apply (Call f) (trees ts)) k
-      call_fails k e = λ facts has. call_answer facts (trees ts) table.has_unknown (AllEvaluated (all_of vs)) (Failed k) (all_values table ts ps vs found is facts has) (function_answer facts has ∙ ap answer_of e) (names_nothing k e)
-
-      pub call_found : (p : Either Value Tree) → IsCalled table f (all_of vs) p → IsFound table (Apply (Call f) (trees ts)) p
-      call_found (Left v) h = record {
-        answer = λ facts has. call_answer facts (trees ts) table.has_unknown (AllEvaluated (all_of vs)) (Evaluated v) (all_values table ts ps vs found is facts has) (function_answer facts has ∙ ap answer_of h.gives) (λ n b i same. true≢false (sym i ∙ h.other));
-        text = λ s e. absurd (h.no_text s e);
-      }
-      call_found (Right r) h =
-          let gives : called (Some unknown_function) (all_of vs) ≡ Gives (Plain (String h.name)) = ap (λ o. called o (all_of vs)) (sym (held h.built_in h.held)) ∙ h.gives in
-          let written : trees ts ≡ a_tree (Lit (String h.name)) no_trees = one_text table ts ps vs found is h.name (called_text (all_of vs) h.name gives) in
-          let named_so : named_by table.has_unknown (Apply (Call f) (trees ts)) ≡ Unknown h.name None = ap (λ b. named_by b (Apply (Call f) (trees ts))) h.held ∙ names_unknown_so f h.name (all_named (trees ts)) h.built_in (ap all_named written) in
-          record {
-            answer = λ facts has. ap (partial_in facts nothing_told) named_so ∙ still_unknown facts h.name None ∙ ap ResidualTree (sym h.unknown);
-            restricted = ap is_restricted h.unknown;
-            waits = ap is_ground h.unknown;
-          }
+    pub call_found : (p : Either Value Tree) → IsCalled table f (all_of vs) p → IsFound table (Apply (Call f) (trees ts)) p
+    call_found (Left v) h = function_answered (Gives v) h.gives
+        (none_named (table.has_unknown && is_the_unknown f) (one_text (all_of vs)) (λ n b text.
+        true≢false (sym (both_true table.has_unknown (is_the_unknown f) b).1 ∙ h.other)))
+    call_found (Right r) h =
+        let gives : called (Some unknown_function) (all_of vs) ≡ Gives (Plain (String h.name)) = ap (λ o. called o (all_of vs)) (sym (held h.built_in h.held)) ∙ h.gives in
+        let names : name_called table (Call f) (AllEvaluated (all_of vs)) ≡ Some h.name =
+        ap (λ b. cond (b && is_the_unknown f) (one_text (all_of vs)) None) h.held ∙ ap (λ b. cond b (one_text (all_of vs)) None) h.built_in ∙ called_text (all_of vs) h.name gives in
+        record {
+          answer = λ facts has.
+              ap (λ as_. named_or (name_called table (Call f) as_) (apply_answer facts nothing_told (Call f) as_)) (all_values table ts ps vs found is facts has)
+              ∙ ap (λ o. named_or o (apply_answer facts nothing_told (Call f) (AllEvaluated (all_of vs)))) names
+              ∙ ap ResidualTree (sym h.unknown);
+          restricted = ap is_restricted h.unknown;
+          waits = ap is_ground h.unknown;
+        }
 
 -- ---- records by their maps
 
@@ -240,6 +221,9 @@ module _ (e : Expr (Unit {0})) where
 
   pub tree-Record : (m : Rc (BTreeMap (RcStr Global) (Expr (Unit {0}))) Global) (entries : List (RcStr Global × Expr (Unit {0}))) → e.expr_kind ≡ kind.Record m → entries ≡ m.value.entries → bare e ≡ record_tree (bare_entries entries)
   tree-Record m entries is same = bare_is (Unit {0}) e ∙ ap bare_kind is ∙ bare-Record (Unit {0}) m ∙ ap (λ es. record_tree (bare_entries es)) (sym same)
+
+  pub tree-Call : (n : Name) (v : Rc (Vec (Expr (Unit {0})) Global) Global) (items : List (Expr (Unit {0}))) → e.expr_kind ≡ kind.ExtensionFunctionApp n v → items ≡ v.value.items → bare e ≡ Apply (Call n) (trees (map bare items))
+  tree-Call n v items is same = bare_is (Unit {0}) e ∙ ap bare_kind is ∙ bare-ExtensionFunctionApp (Unit {0}) n v ∙ ap (λ es. Apply (Call n) (trees (map bare es))) (sym same)
 
 module _ (table : Table) (t u : Tree) (deep : Type 0) (depth : ℕ) (is : t ≡ u) (below : deep → depth < height u) where
   pub lifted : (r : Result PartialValue EvaluationError) → Evaluates table u deep r → Evaluates table t (depth < height t) r

@@ -6,15 +6,14 @@ use Rattle.std.specs.Prelude.{Bool, true, false, ◌&&◌, ◌<◌, Result, Ok, 
 use Rattle.std.specs.Result.{IsErr, IsErrAnd}
 use Rattle.either.specs.declared.Either.{Either}
 use Rattle.either.specs.declared.Either.TheVariants.{Left, Right}
-use Rattle.cedar_language.specs.Uid.{Text}
-use Rattle.cedar_language.specs.Tree.{String, MakeSet, MakeRecord, Tree, Lit, Apply, Trees, no_trees, a_tree}
+use Rattle.cedar_language.specs.Tree.{MakeSet, MakeRecord, Tree, Apply, Trees, no_trees, a_tree}
 use Rattle.cedar_language.specs.Value.{Value, Plain, SetOf, RecordOf, ExtensionOf, Values, no_values, a_value, Kind}
 use Rattle.cedar_language.specs.Facts.{Facts}
 use Rattle.cedar_language.specs.Height.{height, heights}
 use Rattle.cedar_language.specs.Order.{all_of}
 use Rattle.cedar_language.specs.Restricted.{is_restricted, are_restricted}
 use Rattle.cedar_partial_evaluation.specs.MadeAgain.{tree_of, trees_of}
-use Rattle.cedar_partial_evaluation.specs.Partial.{Answer, Evaluated, ResidualTree, Answers, AllEvaluated, SomeResiduals, SomeFailed, and_next, all_partial_in}
+use Rattle.cedar_partial_evaluation.specs.Partial.{Answer, Evaluated, ResidualTree, Answers, AllEvaluated, SomeResiduals, SomeFailed, and_next}
 use Rattle.cedar_grammar.specs.Build.{trees}
 use Rattle.cedar_extensions.specs.Failures.{Failure, failure_of}
 use Rattle.cedar_extensions.specs.Giving.{FailsBy, GivesBy, fails_on}
@@ -23,8 +22,8 @@ use Rattle.cedar_extensions.specs.Table.{Table}
 use Rattle.cedar_restricted.specs.Expressing.{is_ground, are_ground, Expresses, ExpressAll}
 use Rattle.cedar_restricted.specs.Splitting.{ExpressEach, is_residual}
 use Rattle.cedar_restricted.proofs.ReadBack.{ground, restricted}
-use Rattle.cedar_restricted_evaluation.specs.Evaluations.{HasFunctions, nothing_told, named_by, all_named_by, answer_in}
-use Rattle.cedar_restricted_evaluation.specs.Findings.{IsFound, Errs, answers_in, AreFound, SomeErrs}
+use Rattle.cedar_restricted_evaluation.specs.Evaluations.{HasFunctions, answer_in, answers_in}
+use Rattle.cedar_restricted_evaluation.specs.Findings.{IsFound, Errs, AreFound, SomeErrs}
 
 -- ---- what writes a value is the tree for it
 
@@ -52,17 +51,9 @@ abbrev gather : Facts → List (Either Value Tree) → Answers
 gather facts [] = AllEvaluated no_values
 gather facts (p ∷ ps) = and_next facts (part_answer p) (gather facts ps)
 
-pub named_cons : (b : Bool) (t : Tree) (ts : Trees) → all_named_by b (a_tree t ts) ≡ a_tree (named_by b t) (all_named_by b ts)
-named_cons true t ts = refl
-named_cons false t ts = refl
-
-pub named_none : (b : Bool) → all_named_by b no_trees ≡ no_trees
-named_none true = refl
-named_none false = refl
-
 module _ (table : Table) where
   part_is : (t : Tree) (p : Either Value Tree) → IsFound table t p → (facts : Facts) → HasFunctions table facts → answer_in table facts t ≡ part_answer p
-  part_is t (Left v) h facts has = h.answer facts has
+  part_is t (Left v) h facts has = h facts has
   part_is t (Right r) h facts has = h.answer facts has
 
   -- ---- parts, the rest of which is to be found
@@ -74,19 +65,12 @@ module _ (table : Table) where
     pub deep : heights (trees rest) ≤ heights (trees all)
 
   module _ (facts : Facts) where
-    answers_none : answers_in table facts no_trees ≡ AllEvaluated no_values
-    answers_none = ap (all_partial_in facts nothing_told) (named_none table.has_unknown)
-
-    answers_cons : (t : Tree) (ts : Trees) → answers_in table facts (a_tree t ts) ≡ and_next facts (answer_in table facts t) (answers_in table facts ts)
-    answers_cons t ts = ap (all_partial_in facts nothing_told) (named_cons table.has_unknown t ts)
-
     answers_are : HasFunctions table facts → (ts : List Tree) (ps : List (Either Value Tree)) → AreFound table ts ps → answers_in table facts (trees ts) ≡ gather facts ps
-    answers_are has [] [] h = answers_none
+    answers_are has [] [] h = refl
     answers_are has [] (p ∷ ps) h = absurd h
     answers_are has (t ∷ ts) [] h = absurd h
     answers_are has (t ∷ ts) (p ∷ ps) h =
-        answers_cons t (trees ts)
-        ∙ ap (λ a. and_next facts a (answers_in table facts (trees ts))) (part_is t p h.0 facts has)
+        ap (λ a. and_next facts a (answers_in table facts (trees ts))) (part_is t p h.0 facts has)
         ∙ ap (and_next facts (part_answer p)) (answers_are has ts ps h.1)
 
     -- an error behind what is found stays the error
@@ -100,23 +84,12 @@ module _ (table : Table) where
   values_gather facts [] = refl
   values_gather facts (v ∷ vs) = ap (and_next facts (Evaluated v)) (values_gather facts vs)
 
-  -- the one text among them is written
-  text_written : (s : Text) (ts : List Tree) (vs : List Value) → AreFound table ts (map Left vs) → all_of vs ≡ a_value (Plain (String s)) no_values → trees ts ≡ a_tree (Lit (String s)) no_trees
-  text_written s ts [] h e = cc
-  text_written s [] (v ∷ vs) h e = absurd h
-  text_written s (t ∷ []) (v ∷ []) h e = ap (λ u. a_tree u no_trees) (h.0.text s cc)
-  text_written s (t ∷ u ∷ ts) (v ∷ []) h e = absurd h.1
-  text_written s (t ∷ ts) (v ∷ w ∷ vs) h e = cc
-
   module _ (ts : List Tree) (ps : List (Either Value Tree)) (vs : List Value) (found : AreFound table ts ps) (is : ps ≡ map Left vs) where
     found_values : AreFound table ts (map Left vs)
     found_values = subst (AreFound table ts) is found
 
     pub all_values : (facts : Facts) → HasFunctions table facts → answers_in table facts (trees ts) ≡ AllEvaluated (all_of vs)
     all_values facts has = answers_are facts has ts (map Left vs) found_values ∙ values_gather facts vs
-
-    pub one_text : (s : Text) → all_of vs ≡ a_value (Plain (String s)) no_values → trees ts ≡ a_tree (Lit (String s)) no_trees
-    one_text s e = text_written s ts vs found_values e
 
   -- ---- as many as there are
 
@@ -211,13 +184,13 @@ module _ (table : Table) where
     next_fails depth f h =
         let deep : heights (trees (t ∷ later)) ≤ heights (trees all) = subst (λ r. heights (trees r) ≤ heights (trees all)) cut goes.deep in
         fails_on f
-        (λ k e. goes.errs k (subst (λ r. SomeErrs table r k) (sym cut) (λ facts has. answers_cons facts t (trees later) ∙ ap (λ a. and_next facts a (answers_in table facts (trees later))) (e facts has))))
+        (λ k e. goes.errs k (subst (λ r. SomeErrs table r k) (sym cut) (λ facts has. ap (λ a. and_next facts a (answers_in table facts (trees later))) (e facts has))))
         (λ d. omega (arith, d, deep)) h
 
     pub remains_next : (p : Either Value Tree) (more : List (Either Value Tree)) → IsFound table t p → more ≡ done ++ p ∷ [] → Remains later more all
     remains_next p more found is = record {
       found = λ ps k. rw (is, append_assoc done (p ∷ []) ps) (goes.found (p ∷ ps) (rw cut (found, k)));
-      errs = λ k e. goes.errs k (subst (λ r. SomeErrs table r k) (sym cut) (λ facts has. answers_cons facts t (trees later) ∙ ap (λ a. and_next facts a (answers_in table facts (trees later))) (part_is t p found facts has) ∙ ap (and_next facts (part_answer p)) (e facts has) ∙ later_errs facts p k));
+      errs = λ k e. goes.errs k (subst (λ r. SomeErrs table r k) (sym cut) (λ facts has. ap (λ a. and_next facts a (answers_in table facts (trees later))) (part_is t p found facts has) ∙ ap (and_next facts (part_answer p)) (e facts has) ∙ later_errs facts p k));
       restricted = restricted_later _ _ (sym (ap (λ r. are_restricted (trees r)) cut) ∙ goes.restricted);
       deep =
           let deep : heights (trees (t ∷ later)) ≤ heights (trees all) = subst (λ r. heights (trees r) ≤ heights (trees all)) cut goes.deep in

@@ -1,6 +1,6 @@
 -- From what is found of an expression to what its evaluation gives.
 use Rattle.std.proofs.Common.{◌≡◌, ◌∙◌, ℕ, ◌<◌, refl, ap, sym, List, Bool, true, false}
-use Rattle.std.specs.Prelude.{◌&&◌, ◌||◌, Result, Ok, Err, IfOk}
+use Rattle.std.specs.Prelude.{◌&&◌, Result, Ok, Err, IfOk}
 use Rattle.either.specs.declared.Either.{Either}
 use Rattle.either.specs.declared.Either.TheVariants.{Left, Right}
 use Rattle.cedar_language.specs.Uid.{Text, Name}
@@ -10,18 +10,19 @@ use Rattle.cedar_language.specs.Facts.{Facts}
 use Rattle.cedar_language.specs.Height.{height}
 use Rattle.cedar_language.specs.Meaning.{Request, meaning}
 use Rattle.cedar_partial_evaluation.specs.Partial.{Evaluated, ResidualTree, Failed, Answers, AllEvaluated, SomeResiduals, SomeFailed, LeafAnswers, KnownIsMeaning, answer_of, leaf_answers_of, and_next, apply_answer, partial_in, all_partial_in}
-use Rattle.cedar_world.specs.Bodies.{named, all_named, named_call, unknown_or, holds_call, hold_call}
-use Rattle.cedar_world.specs.Functions.{is_the_unknown}
+use Rattle.cedar_world.specs.Bodies.{named, holds_call}
 use Rattle.cedar_extensions.specs.Failures.{failure_of}
 use Rattle.cedar_extensions.specs.Giving.{fails_on}
 use Rattle.cedar_extensions.specs.declared.evaluation_error.EvaluationError.{EvaluationError}
 use Rattle.cedar_extensions.specs.Table.{Table}
 use Rattle.cedar_restricted.specs.Expressing.{is_ground, are_ground}
+use Rattle.cedar_restricted.proofs.ReadBack.{restricted}
 use Rattle.cedar_restricted.specs.PartialValues.{partial_of}
 use Rattle.cedar_restricted.specs.declared.partial_values.PartialValue.{PartialValue}
 use Rattle.cedar_restricted_evaluation.specs.Evaluations as evaluation
 use Rattle.cedar_restricted_evaluation.specs.Evaluations.{HasFunctions, IsKnown, IsMeant, MeansKnown, nothing_told, named_by, answer_in, IsAnswer, IsLeft}
 use Rattle.cedar_restricted_evaluation.specs.Findings.{IsFound, Errs, Evaluates}
+use Rattle.cedar_restricted_evaluation.proofs.WrittenNames.{unnamed, written_names_are_read}
 
 and_left : (a b : Bool) → (a && b) ≡ true → a ≡ true
 and_left true b h = refl
@@ -31,37 +32,15 @@ and_right : (a b : Bool) → (a && b) ≡ true → b ≡ true
 and_right true b h = h
 and_right false b h = cc
 
-or_left : (a b : Bool) → (a || b) ≡ false → a ≡ false
-or_left false b h = refl
-or_left true b h = h
-
-or_right : (a b : Bool) → (a || b) ≡ false → b ≡ false
-or_right false b h = h
-or_right true b h = cc
-
 -- ---- nothing is named where `unknown` isn't called
 
-stays_call : (f : Name) (ts : Trees) → is_the_unknown f ≡ false → named_call (Call f) ts ≡ Apply (Call f) ts
-stays_call f no_trees h = refl
-stays_call f (a_tree t ts) h = ap (λ b. unknown_or b f t ts) h
-
-mutual
-  unnamed : (t : Tree) → is_ground t ≡ true → holds_call t ≡ false → named t ≡ t
-  unnamed (Lit l) g h = refl
-  unnamed (Apply MakeSet ts) g h = ap (Apply MakeSet) (all_unnamed ts g h)
-  unnamed (Apply (MakeRecord ks) ts) g h = ap (Apply (MakeRecord ks)) (all_unnamed ts g h)
-  unnamed (Apply (Call f) ts) g h = ap (named_call (Call f)) (all_unnamed ts g (or_right _ _ h)) ∙ stays_call f ts (or_left _ _ h)
-  unnamed t g h = cc
-
-  all_unnamed : (ts : Trees) → are_ground ts ≡ true → hold_call ts ≡ false → all_named ts ≡ ts
-  all_unnamed no_trees g h = refl
-  all_unnamed (a_tree t ts) g h =
-      ap (λ u. a_tree u (all_named ts)) (unnamed t (and_left _ _ g) (or_left _ _ h))
-      ∙ ap (a_tree t) (all_unnamed ts (and_right _ _ g) (or_right _ _ h))
-
 names_nothing : (b : Bool) (t : Tree) → is_ground t ≡ true → (b && holds_call t) ≡ false → named_by b t ≡ t
-names_nothing true t g h = unnamed t g h
+names_nothing true t g h = unnamed t (restricted t g) h
 names_nothing false t g h = refl
+
+names_written : (b : Bool) (t : Tree) → is_ground t ≡ true → (b && holds_call t) ≡ false → (b && holds_call (named t)) ≡ false
+names_written true t g h = ap holds_call (unnamed t (restricted t g) h) ∙ h
+names_written false t g h = refl
 
 -- ---- the leaves don't matter where none is unknown
 
@@ -112,20 +91,21 @@ fails_so (Fails l) k e = cc
 module _ (table : Table) (t : Tree) where
   known_answer : KnownIsMeaning → IsKnown table t → (facts : Facts) (request : Request) → answer_in table facts t ≡ answer_of (meaning facts request t)
   known_answer law known facts request =
-      ap (partial_in facts nothing_told) (names_nothing table.has_unknown t known.0 known.1)
+      written_names_are_read table facts t (restricted t known.0) (names_written table.has_unknown t known.0 known.1)
+      ∙ ap (partial_in facts nothing_told) (names_nothing table.has_unknown t known.0 known.1)
       ∙ alike facts nothing_told (leaf_answers_of request) t known.0
       ∙ law facts request t
 
   module _ (law : KnownIsMeaning) (known : IsKnown table t) (facts : Facts) (has : HasFunctions table facts) (request : Request) where
     meant : (p : Either Value Tree) → IsFound table t p → IsMeant (meaning facts request t) p
-    meant (Left v) h = gives_so (meaning facts request t) v (sym (known_answer law known facts request) ∙ h.answer facts has)
+    meant (Left v) h = gives_so (meaning facts request t) v (sym (known_answer law known facts request) ∙ h facts has)
     meant (Right r) h = leaves_nothing (meaning facts request t) r (sym (known_answer law known facts request) ∙ h.answer facts has)
 
     meant_error : (k : Kind) → Errs table t k → meaning facts request t ≡ Fails k
     meant_error k e = fails_so (meaning facts request t) k (sym (known_answer law known facts request) ∙ e facts has)
 
   answered : (facts : Facts) → HasFunctions table facts → (p : Either Value Tree) → IsFound table t p → IsAnswer facts (answer_in table facts t) p
-  answered facts has (Left v) h = h.answer facts has
+  answered facts has (Left v) h = h facts has
   answered facts has (Right r) h = h.answer facts has
 
   what_is_left : (p : Either Value Tree) → IsFound table t p → IsLeft p

@@ -1,4 +1,5 @@
-mod Naming
+pub mod Naming
+pub mod WrittenNames
 mod Gathering
 mod Arms
 mod Known

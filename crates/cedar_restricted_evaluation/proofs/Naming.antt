@@ -1,19 +1,17 @@
 -- What names call in a table, and what calls of `unknown` name.
-use Rattle.std.proofs.Common.{◌≡◌, ◌∙◌, ℕ, refl, ap, sym, subst, List, [], ◌∷◌}
+use Rattle.std.proofs.Common.{◌≡◌, ◌∙◌, refl, ap, sym, subst, List, [], ◌∷◌}
 use Rattle.std.specs.Prelude.{Bool, true, false, not, cond, ◌&&◌, ◌||◌, Option, Some, None, option_map}
 use Rattle.std.specs.List.{list_any}
-use Rattle.cedar_language.specs.Uid.{Text, Name}
+use Rattle.cedar_language.specs.Uid.{Name}
 use Rattle.cedar_language.specs.Order.{same_name}
-use Rattle.cedar_language.specs.Tree.{Literal, Boolean, String, Entity, Call, Tree, Lit, Unknown, Apply, Trees, no_trees, a_tree}
-use Rattle.cedar_language.specs.Constructing.{the_constructor, is_the_constructor, bytes_of, constructed, constructor_function, or_constructor}
-use Rattle.cedar_language.specs.Value as language
-use Rattle.cedar_language.specs.Value.{Value, Plain, Values, no_values, a_value, FailedExtensionFunctionExecution, WrongNumArguments, Gives, Fails}
+use Rattle.cedar_language.specs.Tree.{Tree, Unknown}
+use Rattle.cedar_language.specs.Constructing.{the_constructor, is_the_constructor, constructed, constructor_function, or_constructor}
+use Rattle.cedar_language.specs.Value.{Value, Values, FailedExtensionFunctionExecution, Gives}
 use Rattle.cedar_language.specs.Facts as facts
-use Rattle.cedar_language.specs.Operators.{called, count, or_fails, takes}
+use Rattle.cedar_language.specs.Operators.{called, or_fails}
 use Rattle.either.specs.declared.Either.{Either}
 use Rattle.either.specs.declared.Either.TheVariants.{Left, Right}
 use Rattle.cedar_names.proofs.Sameness.{names_same}
-use Rattle.cedar_world.specs.Bodies.{unknown_or, named_call}
 use Rattle.cedar_world.specs.Functions.{the_unknown, is_the_unknown, unknown_function}
 use Rattle.cedar_extensions.specs.Answering.{FunctionAnswers}
 use Rattle.cedar_extensions.specs.Functions.{function_name, meaning_in, meaning_of, names_unknown, is_unknown, output_value, IsOutput}
@@ -23,7 +21,7 @@ use Rattle.cedar_extensions.specs.declared.functions.ExtensionOutputValue.{Exten
 use Rattle.cedar_extensions.specs.declared.functions.ExtensionOutputValue.TheVariants as output
 use Rattle.cedar_trees.specs.Unknowns.{unknown_name, unknown_type}
 use Rattle.cedar_trees.specs.declared.unknowns.Unknown as code
-use Rattle.cedar_restricted_evaluation.specs.Findings.{IsCalledBy, CallsBy}
+use Rattle.cedar_restricted_evaluation.specs.Findings.{IsCalledBy}
 use Rattle.cedar_extensions.specs.Holding.{found_in, is_named, are_named}
 use Rattle.cedar_extensions.specs.declared.functions.Function.{Function}
 use Rattle.cedar_extensions.specs.declared.functions.Function.TheVariants as function
@@ -94,18 +92,7 @@ module _ {F : Type 0} (answers : F → FunctionAnswers) (n : Name) (is : is_the_
 
 -- ---- what a call gives
 
-given_by : (b : Bool) (o : Option Value) (v : Value) → cond b (or_fails FailedExtensionFunctionExecution o) (Fails WrongNumArguments) ≡ Gives v → o ≡ Some v
-given_by true (Some w) v e = cc
-given_by true None v e = cc
-given_by false o v e = cc
-
 module _ {F : Type 0} (answers : F → FunctionAnswers) where
-  callers_gives : (g : Function F) (vs : Values) (v : Value) → names_unknown g ≡ false → called (Some (meaning_in answers g)) vs ≡ Gives v → (s : Text) → v ≡ Plain (String s) → ⊥
-  callers_gives function.Unknown vs v u e = cc
-  callers_gives (function.Callers f) vs v u e =
-      let gives : (answers f.object).given vs ≡ Some v = given_by (takes f.takes (count vs)) ((answers f.object).given vs) v e in
-      λ s is. (answers f.object).no_text vs s (gives ∙ ap Some is)
-
   shape_unknown : (b : Bool) (u : code.Unknown) → IsOutput b (output.Unknown u) → b ≡ true
   shape_unknown true u h = refl
   shape_unknown false u h = absurd h
@@ -141,7 +128,6 @@ module _ {F : Type 0} (answers : F → FunctionAnswers) where
       subst (λ q. IsCalledBy (function_called answers extensions n) (holds_unknown extensions) n vs q) (sym is) (record {
         gives = ap (λ g. called (option_map (meaning_of answers) g) vs) found ∙ given;
         other = found_is_named n f false other (functions_in extensions) named found;
-        no_text = callers_gives f.function vs v other given;
       })
 
 -- ---- the language's own constructor
@@ -150,22 +136,12 @@ module _ {F : Type 0} (answers : F → FunctionAnswers) where
 pub constructs_no_unknown : (n : Name) → is_the_constructor n ≡ true → is_the_unknown n ≡ false
 constructs_no_unknown n is = ap is_the_unknown ((names_same n the_constructor).0 is)
 
--- it gives extension values alone
-of_key : (key : Option (List ℕ)) (t : Name) (b : Bool) (l : Literal) → option_map (λ k. language.ExtensionOf (record { type_name = t; ordered = b; key = k })) key ≡ Some (Plain l) → ⊥
-of_key None t b l e = cc
-of_key (Some k) t b l e = cc
-
-pub no_literal : (vs : Values) (l : Literal) → constructed vs ≡ Some (Plain l) → ⊥
-no_literal (a_value (Plain (Entity u)) (a_value (Plain (Boolean b)) vs)) l e = of_key (bytes_of vs) u.type_name b l e
-no_literal vs l e = cc
-
 module _ (n : Name) (is : is_the_constructor n ≡ true) (function : Option facts.Function) (has_unknown : Bool) (found : function ≡ Some constructor_function) (vs : Values) where
   -- the value that it gives
   pub constructed_called : (v : Value) (p : Either Value Tree) → Some v ≡ constructed vs → p ≡ Left v → IsCalledBy function has_unknown n vs p
   constructed_called v p e same = subst (λ q. IsCalledBy function has_unknown n vs q) (sym same) (record {
     gives = ap (λ f. called f vs) found ∙ ap (or_fails FailedExtensionFunctionExecution) (sym e);
     other = constructs_no_unknown n is;
-    no_text = λ s of_text. no_literal vs (String s) (sym e ∙ ap Some of_text);
   })
 
 -- a name calls the constructor, or a function of the table
@@ -183,19 +159,3 @@ pub unknown_is_found : {F : Type 0} (answers : F → FunctionAnswers) (n : Name)
     → or_constructor (λ m. option_map (meaning_of answers) (found_in fs m)) n ≡ Some unknown_function
 unknown_is_found answers n is fs named held =
     calls_declared n (λ m. option_map (meaning_of answers) (found_in fs m)) (unknown_constructs_nothing n is) ∙ held_is_found answers n is fs named held
-
--- ---- calls that name unknowns
-
-module _ (P : Tree → Type 0) (f : Name) where
-  by_test : (t : Tree) (ts : Trees) (b : Bool) → ((n : Text) → a_tree t ts ≡ a_tree (Lit (String n)) no_trees → b ≡ true → P (Unknown n None)) → P (Apply (Call f) (a_tree t ts)) → P (unknown_or b f t ts)
-  by_test (Lit (String n)) no_trees true k h = k n refl refl
-  by_test t ts false k h = h
-  by_test t ts true k h = h
-
-  -- a call names an unknown, or stays a call
-  pub by_naming : (us : Trees) → ((n : Text) → us ≡ a_tree (Lit (String n)) no_trees → is_the_unknown f ≡ true → P (Unknown n None)) → P (Apply (Call f) us) → P (named_call (Call f) us)
-  by_naming no_trees k h = h
-  by_naming (a_tree t ts) k h = by_test t ts (is_the_unknown f) k h
-
-pub names_unknown_so : (f : Name) (n : Text) (us : Trees) → is_the_unknown f ≡ true → us ≡ a_tree (Lit (String n)) no_trees → named_call (Call f) us ≡ Unknown n None
-names_unknown_so f n us is e = ap (named_call (Call f)) e ∙ ap (λ b. unknown_or b f (Lit (String n)) no_trees) is

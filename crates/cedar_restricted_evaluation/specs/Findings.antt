@@ -4,12 +4,12 @@ use Rattle.std.specs.Global.{Vec}
 use Rattle.either.specs.declared.Either.{Either}
 use Rattle.either.specs.declared.Either.TheVariants.{Left, Right}
 use Rattle.cedar_language.specs.Uid.{Text, Name}
-use Rattle.cedar_language.specs.Tree.{String, Tree, Lit, Unknown, Trees}
+use Rattle.cedar_language.specs.Tree.{String, Tree, Unknown}
 use Rattle.cedar_language.specs.Value.{Value, Plain, Values, Gives, Fails, Kind}
 use Rattle.cedar_language.specs.Facts.{Function, Facts}
 use Rattle.cedar_language.specs.Operators.{called}
 use Rattle.cedar_language.specs.Restricted.{is_restricted}
-use Rattle.cedar_partial_evaluation.specs.Partial.{Answers, Evaluated, ResidualTree, Failed, SomeFailed, all_partial_in}
+use Rattle.cedar_partial_evaluation.specs.Partial.{Evaluated, ResidualTree, Failed, SomeFailed}
 use Rattle.cedar_grammar.specs.Build.{trees}
 use Rattle.cedar_world.specs.Functions.{is_the_unknown}
 use Rattle.cedar_extensions.specs.Giving.{GivesBy}
@@ -18,7 +18,7 @@ use Rattle.cedar_extensions.specs.Table.{Table}
 use Rattle.cedar_restricted.specs.Expressing.{is_ground}
 use Rattle.cedar_restricted.specs.PartialValues.{partial_of}
 use Rattle.cedar_restricted.specs.declared.partial_values.PartialValue.{PartialValue}
-use Rattle.cedar_restricted_evaluation.specs.Evaluations.{HasFunctions, nothing_told, all_named_by, answer_in}
+use Rattle.cedar_restricted_evaluation.specs.Evaluations.{HasFunctions, answer_in, answers_in}
 
 -- ---- calls
 
@@ -27,7 +27,6 @@ abbrev pub IsCalledBy : Option Function → Bool → Name → Values → Either 
 IsCalledBy function has_unknown n vs (Left v) = record {
   gives : called function vs ≡ Gives v;
   other : is_the_unknown n ≡ false;
-  no_text : (s : Text) → v ≡ Plain (String s) → ⊥;
 }
 IsCalledBy function has_unknown n vs (Right r) = record {
   name : Text;
@@ -49,12 +48,8 @@ Calls table n vs result = CallsBy (table.function n) table.has_unknown n vs resu
 
 -- ---- trees
 
--- a text is found of its literal alone, so that the name of an unknown is one that is written
 abbrev pub IsFound : Table → Tree → Either Value Tree → Type 0
-IsFound table t (Left v) = record {
-  answer : (facts : Facts) → HasFunctions table facts → answer_in table facts t ≡ Evaluated v;
-  text : (s : Text) → v ≡ Plain (String s) → t ≡ Lit (String s);
-}
+IsFound table t (Left v) = (facts : Facts) → HasFunctions table facts → answer_in table facts t ≡ Evaluated v
 IsFound table t (Right r) = record {
   answer : (facts : Facts) → HasFunctions table facts → answer_in table facts t ≡ ResidualTree r;
   restricted : is_restricted r ≡ true;
@@ -68,9 +63,6 @@ abbrev pub Evaluates : Table → Tree → Type 0 → Result PartialValue Evaluat
 Evaluates table t deep result = GivesBy (λ p. IsFound table t (partial_of p)) (Errs table t) deep result
 
 -- ---- trees one after another
-
-abbrev pub answers_in : Table → Facts → Trees → Answers
-answers_in table facts ts = all_partial_in facts nothing_told (all_named_by table.has_unknown ts)
 
 -- each is found, at its place
 abbrev pub AreFound : Table → List Tree → List (Either Value Tree) → Type 0

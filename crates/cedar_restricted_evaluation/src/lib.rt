@@ -4,8 +4,10 @@
 
 mod calls;
 mod interpreting;
+mod laws;
 mod records;
 
 pub use calls::call;
 pub use interpreting::interpret_restricted;
+pub use laws::written_names_are_read;
 pub use records::keyed;

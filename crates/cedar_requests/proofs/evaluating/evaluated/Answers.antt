@@ -1,13 +1,13 @@
 -- The answer of a record is a record (RecordsStay), and a context shows what was found.
 use Rattle.std.proofs.Common.{sym, refl, subst}
 use Rattle.std.specs.Prelude.{Err}
-use Rattle.cedar_extensions.specs.Table.{as_table}
+use Rattle.cedar_extensions.specs.Table.{as_table, functions_of}
 use Rattle.cedar_restricted.specs.PartialValues.{partial_of}
 use Rattle.cedar_restricted.specs.Views.{borrowed_tree}
 use Rattle.cedar_language.specs.Meaning.{meaning}
 use Rattle.cedar_restricted_evaluation.specs.Evaluations.{IsMeant}
 use Rattle.cedar_requests.specs.Creating.{MeansContext, AnswersContext}
-use Rattle.cedar_requests.proofs.RecordsStay.{functions_of, record_stays}
+use Rattle.cedar_requests.proofs.RecordsStay.{record_stays}
 use Rattle.cedar_requests.proofs.Refusing.{at_err}
 use Rattle.cedar_requests.proofs.evaluating.evaluated.Goals as goal
 

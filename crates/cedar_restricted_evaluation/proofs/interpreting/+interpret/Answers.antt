@@ -23,7 +23,7 @@ use Rattle.cedar_restricted.specs.declared.partial_values.PartialValue.{PartialV
 use Rattle.cedar_restricted.proofs.Writing.{cut_items}
 use Rattle.cedar_restricted_evaluation.specs.Findings.{Calls, IsFound, Errs, AreFound, SomeErrs}
 use Rattle.cedar_restricted_evaluation.proofs.Gathering.{values_length, exprs_length, next_restricted, next_fails, remains_next, remains_end, within_next, within_end, answered, always, passed}
-use Rattle.cedar_restricted_evaluation.proofs.Arms.{set_builds, record_builds, build_errs, build_waits, set_found, record_found, call_errs, call_waits, call_made, entries_length, expr_record, value_record, kept_tree, unknown_kept, found_as, tree-Set, tree-Record, lifted}
+use Rattle.cedar_restricted_evaluation.proofs.Arms.{set_builds, record_builds, parts_err, build_waits, set_found, record_found, call_waits, call_made, entries_length, expr_record, value_record, kept_tree, unknown_kept, found_as, tree-Set, tree-Record, tree-Call, lifted}
 use Rattle.cedar_extensions.specs.Table.{as_table}
 use Rattle.cedar_extensions.specs.Tables.{functions_in}
 use Rattle.cedar_restricted_evaluation.proofs.Naming.{unknown_is_found}
@@ -132,20 +132,20 @@ pub interpret_set-returns-in_err-items-clause-found : goal.interpret_set-returns
 interpret_set-returns-in_err-items-clause-found g t c =
     let set = Apply MakeSet (trees (map bare c.args.items.now)) in
     passed (λ (p : PartialValue). IsFound (as_table g.F.ExtensionFunctionObject.answers c.args.extensions.now) set (partial_of p)) (Errs (as_table g.F.ExtensionFunctionObject.answers c.args.extensions.now) set) (c.args.depth < heights (trees (map bare c.args.items.now))) c.in_err-items.field-0.0 c.from_residual.result c.from_residual.ensures
-    (fails_on (failure_of c.in_err-items.field-0.0) (build_errs (as_table g.F.ExtensionFunctionObject.answers c.args.extensions.now) MakeSet set_builds (map bare c.args.items.now)) (λ d. d) c.in_err-items.ensures.found)
+    (fails_on (failure_of c.in_err-items.field-0.0) (parts_err (as_table g.F.ExtensionFunctionObject.answers c.args.extensions.now) MakeSet (map bare c.args.items.now)) (λ d. d) c.in_err-items.ensures.found)
 
 pub interpret_set-returns-in_ok-set-in-Left-clause-found : goal.interpret_set-returns-in_ok-set-in-Left-clause-found
 interpret_set-returns-in_ok-set-in-Left-clause-found g t c =
     let parts = map partial_of c.in_ok-items.items.items in
     let values : parts ≡ map Left c.in-Left.values.items = subst (IsSplitOf parts) c.in-Left.is c.in_ok-values.ensures in
-    found_as (as_table g.F.ExtensionFunctionObject.answers c.args.extensions.now) _ (partial_of c.from.result) _ (c.from.ensures ∙ ap Left c.in_ok-set-in-Left.ensures) (set_found (as_table g.F.ExtensionFunctionObject.answers c.args.extensions.now) (map bare c.args.items.now) parts c.in_ok-items.ensures.found c.in-Left.values.items values)
+    found_as (as_table g.F.ExtensionFunctionObject.answers c.args.extensions.now) (Apply MakeSet (trees (map bare c.args.items.now))) (partial_of c.from.result) _ (c.from.ensures ∙ ap Left c.in_ok-set-in-Left.ensures) (set_found (as_table g.F.ExtensionFunctionObject.answers c.args.extensions.now) (map bare c.args.items.now) parts c.in_ok-items.ensures.found c.in-Left.values.items values)
 
 pub interpret_set-returns-in_ok-set-in-Right-clause-found : goal.interpret_set-returns-in_ok-set-in-Right-clause-found
 interpret_set-returns-in_ok-set-in-Right-clause-found g t c =
     let parts = map partial_of c.in_ok-items.items.items in
     let exprs : (list_any is_residual parts ≡ true) × ExpressEach parts (map bare c.in-Right.exprs.items) = subst (IsSplitOf parts) c.in-Right.is c.in_ok-values.ensures in
     let made : bare c.with_maybe_source_loc.result ≡ Apply MakeSet (trees (map bare c.in-Right.exprs.items)) = kept_tree c.in_ok-set-in-Right.set c.with_maybe_source_loc.result _ c.with_maybe_source_loc.ensures ∙ c.in_ok-set-in-Right.ensures in
-    found_as (as_table g.F.ExtensionFunctionObject.answers c.args.extensions.now) _ (partial_of c.from-in-Right.result) _ (c.from-in-Right.ensures ∙ ap Right made) (build_waits (as_table g.F.ExtensionFunctionObject.answers c.args.extensions.now) MakeSet set_builds (map bare c.args.items.now) parts c.in_ok-items.ensures.found (map bare c.in-Right.exprs.items) exprs)
+    found_as (as_table g.F.ExtensionFunctionObject.answers c.args.extensions.now) (Apply MakeSet (trees (map bare c.args.items.now))) (partial_of c.from-in-Right.result) _ (c.from-in-Right.ensures ∙ ap Right made) (build_waits (as_table g.F.ExtensionFunctionObject.answers c.args.extensions.now) MakeSet (map bare c.args.items.now) parts c.in_ok-items.ensures.found (map bare c.in-Right.exprs.items) exprs set_builds)
 
 -- ---- records
 
@@ -154,7 +154,7 @@ interpret_record-returns-in_err-items-clause-found g t c =
     let ts = map (λ e. e.1) (bare_entries c.args.entries.now.entries) in
     let ks = keys (bare_entries c.args.entries.now.entries) in
     passed (λ (p : PartialValue). IsFound (as_table g.F.ExtensionFunctionObject.answers c.args.extensions.now) (Apply (MakeRecord ks) (trees ts)) (partial_of p)) (Errs (as_table g.F.ExtensionFunctionObject.answers c.args.extensions.now) (Apply (MakeRecord ks) (trees ts))) (c.args.depth < heights (trees ts)) c.in_err-items.field-0.0 c.from_residual.result c.from_residual.ensures
-    (fails_on (failure_of c.in_err-items.field-0.0) (build_errs (as_table g.F.ExtensionFunctionObject.answers c.args.extensions.now) (MakeRecord ks) (record_builds ks) ts) (λ d. d) c.in_err-items.ensures.found)
+    (fails_on (failure_of c.in_err-items.field-0.0) (parts_err (as_table g.F.ExtensionFunctionObject.answers c.args.extensions.now) (MakeRecord ks) ts) (λ d. d) c.in_err-items.ensures.found)
 
 pub interpret_record-keyed-requires : goal.interpret_record-keyed-requires
 interpret_record-keyed-requires g t c =
@@ -174,7 +174,7 @@ interpret_record-returns-in_ok-fields-in-Left-clause-found g t c =
     let values : parts ≡ map Left c.in-Left.values.items = subst (IsSplitOf parts) c.in-Left.is c.in_ok-values.ensures in
     let same = ap (λ (m : BTreeMap (RcStr Global) Value). RecordOf (keys_of m.entries) (values_of m.entries)) c.in_ok-fields-in-Left.ensures.ok in
     let made = value_record c.args.entries.now.entries c.in_ok-keyed-in-Left.field-0.entries c.in-Left.values.items c.in_ok-keyed-in-Left.ensures.keys c.in_ok-keyed-in-Left.ensures.items in
-    found_as (as_table g.F.ExtensionFunctionObject.answers c.args.extensions.now) _ (partial_of c.from.result) _ (c.from.ensures ∙ ap Left (c.record_arc.ensures ∙ same ∙ made)) (record_found (as_table g.F.ExtensionFunctionObject.answers c.args.extensions.now) (keys (bare_entries c.args.entries.now.entries)) (map (λ e. e.1) (bare_entries c.args.entries.now.entries)) parts c.in_ok-items.ensures.found c.in-Left.values.items values)
+    found_as (as_table g.F.ExtensionFunctionObject.answers c.args.extensions.now) (Apply (MakeRecord (keys (bare_entries c.args.entries.now.entries))) (trees (map (λ e. e.1) (bare_entries c.args.entries.now.entries)))) (partial_of c.from.result) _ (c.from.ensures ∙ ap Left (c.record_arc.ensures ∙ same ∙ made)) (record_found (as_table g.F.ExtensionFunctionObject.answers c.args.extensions.now) (keys (bare_entries c.args.entries.now.entries)) (map (λ e. e.1) (bare_entries c.args.entries.now.entries)) parts c.in_ok-items.ensures.found c.in-Left.values.items values)
 
 pub interpret_record-returns-in_ok-new-in-Right-clause-found : goal.interpret_record-returns-in_ok-new-in-Right-clause-found
 interpret_record-returns-in_ok-new-in-Right-clause-found g t c =
@@ -183,15 +183,22 @@ interpret_record-returns-in_ok-new-in-Right-clause-found g t c =
     let same = ap (λ (m : BTreeMap (RcStr Global) (Expr (Unit {0}))). record_tree (bare_entries m.entries)) c.in_ok-new-in-Right.ensures.ok in
     let whole = expr_record c.args.entries.now.entries c.in_ok-keyed-in-Right.field-0.entries c.in-Right.exprs.items c.in_ok-keyed-in-Right.ensures.keys c.in_ok-keyed-in-Right.ensures.items in
     let made = kept_tree c.record_arc-record.result c.with_maybe_source_loc.result _ c.with_maybe_source_loc.ensures ∙ c.record_arc-record.ensures ∙ same ∙ whole in
-    found_as (as_table g.F.ExtensionFunctionObject.answers c.args.extensions.now) _ (partial_of c.from-in-Right.result) _ (c.from-in-Right.ensures ∙ ap Right made) (build_waits (as_table g.F.ExtensionFunctionObject.answers c.args.extensions.now) (MakeRecord (keys (bare_entries c.args.entries.now.entries))) (record_builds (keys (bare_entries c.args.entries.now.entries))) (map (λ e. e.1) (bare_entries c.args.entries.now.entries)) parts c.in_ok-items.ensures.found (map bare c.in-Right.exprs.items) exprs)
+    found_as (as_table g.F.ExtensionFunctionObject.answers c.args.extensions.now) (Apply (MakeRecord (keys (bare_entries c.args.entries.now.entries))) (trees (map (λ e. e.1) (bare_entries c.args.entries.now.entries)))) (partial_of c.from-in-Right.result) _ (c.from-in-Right.ensures ∙ ap Right made) (build_waits (as_table g.F.ExtensionFunctionObject.answers c.args.extensions.now) (MakeRecord (keys (bare_entries c.args.entries.now.entries))) (map (λ e. e.1) (bare_entries c.args.entries.now.entries)) parts c.in_ok-items.ensures.found (map bare c.in-Right.exprs.items) exprs (record_builds (keys (bare_entries c.args.entries.now.entries))))
 
 -- ---- calls
+
+pub interpret-returns-in-ExtensionFunctionApp-clause-found : goal.interpret-returns-in-ExtensionFunctionApp-clause-found
+interpret-returns-in-ExtensionFunctionApp-clause-found g t c =
+    let step : c.args.depth ≡ c.in-Some.below + 1 = search rules in
+    let args = c.deref-in-ExtensionFunctionApp-2.result.now in
+    let tree = tree-Call c.args.expr.now c.in-ExtensionFunctionApp.fn_name c.in-ExtensionFunctionApp.args args c.in-ExtensionFunctionApp.is (c.deref-in-ExtensionFunctionApp-2.ensures.value ∙ ap (λ (v : Vec (Expr (Unit {0})) Global). v.items) c.deref-in-ExtensionFunctionApp.ensures) in
+    lifted (as_table g.F.ExtensionFunctionObject.answers c.args.extensions.now) (bare c.args.expr.now) (Apply (Call c.in-ExtensionFunctionApp.fn_name) (trees (map bare args))) (c.in-Some.below < heights (trees (map bare args))) c.args.depth tree (λ d. omega (arith, d, step)) c.interpret_call.result c.interpret_call.ensures.found
 
 pub interpret_call-returns-in_err-args-clause-found : goal.interpret_call-returns-in_err-args-clause-found
 interpret_call-returns-in_err-args-clause-found g t c =
     let whole = Apply (Call c.args.name.now) (trees (map bare c.args.args.now)) in
     passed (λ (p : PartialValue). IsFound (as_table g.F.ExtensionFunctionObject.answers c.args.extensions.now) whole (partial_of p)) (Errs (as_table g.F.ExtensionFunctionObject.answers c.args.extensions.now) whole) (c.args.depth < heights (trees (map bare c.args.args.now))) c.in_err-args.field-0.0 c.from_residual.result c.from_residual.ensures
-    (fails_on (failure_of c.in_err-args.field-0.0) (call_errs (as_table g.F.ExtensionFunctionObject.answers c.args.extensions.now) c.args.name.now (map bare c.args.args.now)) (λ d. d) c.in_err-args.ensures.found)
+    (fails_on (failure_of c.in_err-args.field-0.0) (parts_err (as_table g.F.ExtensionFunctionObject.answers c.args.extensions.now) (Call c.args.name.now) (map bare c.args.args.now)) (λ d. d) c.in_err-args.ensures.found)
 
 pub interpret_call-returns-in-Left-clause-found : goal.interpret_call-returns-in-Left-clause-found
 interpret_call-returns-in-Left-clause-found g t c =
@@ -208,4 +215,4 @@ interpret_call-returns-in_ok-call-in-Right-clause-found g t c =
     let parts = map partial_of c.in_ok-args.args.items in
     let exprs : (list_any is_residual parts ≡ true) × ExpressEach parts (map bare c.in-Right.exprs.items) = subst (IsSplitOf parts) c.in-Right.is c.in_ok-values.ensures in
     let made = kept_tree c.in_ok-call-in-Right.call c.with_maybe_source_loc.result _ c.with_maybe_source_loc.ensures ∙ c.in_ok-call-in-Right.ensures ∙ ap (λ f. Apply (Call f) (trees (map bare c.in-Right.exprs.items))) c.in_ok-clone-in-Right.ensures in
-    found_as (as_table g.F.ExtensionFunctionObject.answers c.args.extensions.now) _ (partial_of c.from.result) _ (c.from.ensures ∙ ap Right made) (call_waits (as_table g.F.ExtensionFunctionObject.answers c.args.extensions.now) c.args.name.now (map bare c.args.args.now) parts c.in_ok-args.ensures.found (map bare c.in-Right.exprs.items) exprs)
+    found_as (as_table g.F.ExtensionFunctionObject.answers c.args.extensions.now) (Apply (Call c.args.name.now) (trees (map bare c.args.args.now))) (partial_of c.from.result) _ (c.from.ensures ∙ ap Right made) (call_waits (as_table g.F.ExtensionFunctionObject.answers c.args.extensions.now) c.args.name.now (map bare c.args.args.now) parts c.in_ok-args.ensures.found (map bare c.in-Right.exprs.items) exprs)
