@@ -1,14 +1,9 @@
 -- What `between` answers.
 use Rattle.std.specs.Prelude.{◌≡◌, ℤ, int_le, Bool, ◌&&◌, Option, Some, None, option_map}
-use Rattle.cedar_language.specs.Uid.{Text}
-use Rattle.cedar_language.specs.Tree.{Boolean, Long, String}
+use Rattle.cedar_language.specs.Tree.{Boolean}
 use Rattle.cedar_language.specs.Value.{Value, Plain, Values, no_values, a_value}
 use Rattle.cedar_expressions.specs.FunctionAnswering.{FunctionAnswers, IsBuilt}
-
--- the long that a value is
-abbrev pub long_in : Value → Option ℤ
-long_in (Plain (Long n)) = Some n
-long_in v = None
+use Rattle.cedar_expressions.specs.ValueReaders.{long_in}
 
 abbrev pub between_longs : Option ℤ → Option ℤ → Option ℤ → Option Bool
 between_longs (Some low) (Some x) (Some high) = Some (int_le low x && int_le x high)
@@ -28,13 +23,8 @@ pub booleans_built : (o : Option Bool) (v : Value) → option_map boolean_value 
 booleans_built (Some b) (Plain l) is = tt
 booleans_built o v is = cc
 
-pub booleans_no_texts : (o : Option Bool) (s : Text) → option_map boolean_value o ≡ Some (Plain (String s)) → ⊥
-booleans_no_texts (Some b) s is = cc
-booleans_no_texts None s is = cc
-
 abbrev pub boolean_answers : (Values → Option Bool) → FunctionAnswers
 boolean_answers f = record {
   given = λ vs. option_map boolean_value (f vs);
   built = λ vs. booleans_built (f vs);
-  no_text = λ vs. booleans_no_texts (f vs);
 }

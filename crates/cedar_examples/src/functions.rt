@@ -4,14 +4,12 @@
 ghost use Rattle.std.specs.Prelude.{◌≡◌, IfOk, true};
 ghost use Rattle.cedar_language.specs.Order.{all_of};
 ghost use Rattle.cedar_expressions.specs.Holding.{is_named};
-ghost use Rattle.cedar_examples.specs.Between.{long_in, between};
+ghost use Rattle.cedar_examples.specs.Between.{between};
 
 use crate::DEPTH;
 use crate::frames::print_answer;
 use anyhow::Result;
-use cedar_expressions::ast::{
-    CallStyle, Extension, ExtensionFunction, Literal, Name, Value, ValueKind,
-};
+use cedar_expressions::ast::{CallStyle, Extension, ExtensionFunction, Literal, Name, Value};
 use cedar_expressions::entities::SchemaType;
 use cedar_expressions::extensions::{CallError, ExtensionFunctionObject};
 use cedar_session::{Extensions, Session};
@@ -39,8 +37,8 @@ const AT_NOON: &str = r#"
 #[derive(Drop)]
 struct Between;
 
-// `answers` is what it gives, as `specs/Between.antt` defines it, with proofs that this is no text, and a
-// value whose sets rise and whose keys are bytes. That `call` gives it is proved.
+// `answers` is what it gives, as `specs/Between.antt` defines it, with a proof that this is a value whose
+// sets rise and whose keys are bytes. That `call` gives it is proved.
 impl ExtensionFunctionObject for Between {
     ghost use Rattle.cedar_examples.specs.Between.{between, boolean_answers};
 
@@ -62,20 +60,10 @@ fn is_between(args: &[Value]) -> Option<bool>
     let [low, x, high] = args else {
         return None;
     };
-    let low = long_of(low)?;
-    let x = long_of(x)?;
-    let high = long_of(high)?;
+    let low = low.as_long()?;
+    let x = x.as_long()?;
+    let high = high.as_long()?;
     Some(low <= x && x <= high)
-}
-
-/// The long that a value is.
-fn long_of(value: &Value) -> Option<i64>
-    ensures { result ≡ long_in value.now }
-{
-    match value.value_kind() {
-        ValueKind::Lit(Literal::Long(n)) => Some(*n),
-        _ => None,
-    }
 }
 
 /// Makes the table, and asks a session that knows it.

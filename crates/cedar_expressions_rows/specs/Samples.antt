@@ -1,17 +1,13 @@
 -- What the samples of callers' functions answer.
 use Rattle.std.specs.Prelude.{◌≡◌, ℤ, pos, ◌+ℤ◌, int_lt, int_le, Bool, ◌&&◌, cond, Option, Some, None}
 use Rattle.std.specs.Option.{option_and_then}
-use Rattle.cedar_language.specs.Uid.{Text}
-use Rattle.cedar_language.specs.Tree.{Boolean, Long, String}
+use Rattle.cedar_language.specs.Tree.{Boolean, Long}
 use Rattle.cedar_language.specs.Value.{Value, Plain, SetOf, RecordOf, ExtensionOf, Values, no_values, a_value}
 use Rattle.cedar_language.specs.Operators.{is_long, count}
+use Rattle.cedar_expressions.specs.ValueReaders.{long_in}
 use Rattle.cedar_extensions.specs.Answering.{FunctionAnswers, IsBuilt}
 use Rattle.cedar_expressions_rows.specs.declared.callers.Sample.{Sample}
 use Rattle.cedar_expressions_rows.specs.declared.callers.Sample.TheVariants.{Five, Double, Greater, Between, Count}
-
-abbrev pub long_in : Value → Option ℤ
-long_in (Plain (Long n)) = Some n
-long_in v = None
 
 -- a value that is a long, or a Boolean
 abbrev pub of_long : Option ℤ → Option Value
@@ -46,17 +42,13 @@ is_between vs = None
 abbrev pub counted : Values → Option ℤ
 counted vs = Some (pos (count vs))
 
--- longs and Booleans are built, and no texts
+-- longs and Booleans are built
 pub long_built : (o : Option ℤ) (v : Value) → of_long o ≡ Some v → IsBuilt v
 long_built None v is = cc
 long_built (Some n) (Plain l) is = tt
 long_built (Some n) (SetOf vs) is = cc
 long_built (Some n) (RecordOf ks vs) is = cc
 long_built (Some n) (ExtensionOf e) is = cc
-
-pub long_no_text : (o : Option ℤ) (s : Text) → of_long o ≡ Some (Plain (String s)) → ⊥
-long_no_text None s is = cc
-long_no_text (Some n) s is = cc
 
 pub truth_built : (o : Option Bool) (v : Value) → of_truth o ≡ Some v → IsBuilt v
 truth_built None v is = cc
@@ -65,16 +57,12 @@ truth_built (Some b) (SetOf vs) is = cc
 truth_built (Some b) (RecordOf ks vs) is = cc
 truth_built (Some b) (ExtensionOf e) is = cc
 
-pub truth_no_text : (o : Option Bool) (s : Text) → of_truth o ≡ Some (Plain (String s)) → ⊥
-truth_no_text None s is = cc
-truth_no_text (Some b) s is = cc
-
 -- the answers of a function that gives longs, or Booleans
 abbrev pub longs : (Values → Option ℤ) → FunctionAnswers
-longs f = record { given = λ vs. of_long (f vs); built = λ vs v is. long_built (f vs) v is; no_text = λ vs s is. long_no_text (f vs) s is }
+longs f = record { given = λ vs. of_long (f vs); built = λ vs v is. long_built (f vs) v is }
 
 abbrev pub truths : (Values → Option Bool) → FunctionAnswers
-truths f = record { given = λ vs. of_truth (f vs); built = λ vs v is. truth_built (f vs) v is; no_text = λ vs s is. truth_no_text (f vs) s is }
+truths f = record { given = λ vs. of_truth (f vs); built = λ vs v is. truth_built (f vs) v is }
 
 abbrev pub answers_of : Sample → FunctionAnswers
 answers_of Five = longs five

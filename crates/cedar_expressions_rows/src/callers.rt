@@ -1,9 +1,9 @@
 // Functions of a caller's, and what they answer.
 ghost use Rattle.std.specs.Prelude.{◌≡◌};
 ghost use Rattle.cedar_language.specs.Order.{all_of};
-ghost use Rattle.cedar_expressions_rows.specs.Samples.{five, doubled, is_greater, is_between, counted, of_long, of_truth, long_in};
+ghost use Rattle.cedar_expressions_rows.specs.Samples.{five, doubled, is_greater, is_between, counted, of_long, of_truth};
 
-use cedar_expressions::ast::{Integer, Literal, Value, ValueKind};
+use cedar_expressions::ast::{Integer, Literal, Value};
 use cedar_expressions::extensions::{CallError, ExtensionFunctionObject};
 use std::alloc::Global;
 
@@ -74,19 +74,6 @@ fn of_truth(found: Option<bool>) -> Option<Value>
     Some(Value::from(Literal::Bool(found?)))
 }
 
-/// The long that a value is.
-fn long(value: &Value) -> Option<Integer>
-    ensures { long_in value.now ≡ result }
-{
-    match value.value_kind() {
-        ValueKind::Lit(literal) => match literal {
-            Literal::Long(n) => Some(*n),
-            Literal::Bool(_) | Literal::String(_) | Literal::EntityUID(_) => None,
-        },
-        ValueKind::Set(_) | ValueKind::Record(_) | ValueKind::ExtensionValue(_) => None,
-    }
-}
-
 #[tactic(auto, using(crate::proofs::Counts::five_none))]
 fn five(args: &[Value]) -> Option<Integer>
     ensures { five (all_of args.now) ≡ result }
@@ -103,7 +90,7 @@ fn doubled(args: &[Value]) -> Option<Integer>
 {
     match args {
         [x] => {
-            let x = long(x)?;
+            let x = x.as_long()?;
             x.checked_add(x)
         }
         _ => None,
@@ -115,7 +102,7 @@ fn is_greater(args: &[Value]) -> Option<bool>
     ensures { is_greater (all_of args.now) ≡ result }
 {
     match args {
-        [x, y] => Some(long(x)? > long(y)?),
+        [x, y] => Some(x.as_long()? > y.as_long()?),
         _ => None,
     }
 }
@@ -126,7 +113,7 @@ fn is_between(args: &[Value]) -> Option<bool>
 {
     match args {
         [low, x, high] => {
-            let (low, x, high) = (long(low)?, long(x)?, long(high)?);
+            let (low, x, high) = (low.as_long()?, x.as_long()?, high.as_long()?);
             Some(low <= x && x <= high)
         }
         _ => None,

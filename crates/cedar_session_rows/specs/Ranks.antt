@@ -8,11 +8,12 @@ use Rattle.cedar_language.specs.Uid.{Text, Name}
 use Rattle.cedar_language.specs.Tree.{String}
 use Rattle.cedar_language.specs.Value.{Extension, Value, Plain, ExtensionOf, Values, no_values, a_value}
 use Rattle.cedar_language.specs.Order.{same_text, same_name}
+use Rattle.cedar_values.specs.Readers.{text_in}
 use Rattle.cedar_extensions.specs.Answering.{FunctionAnswers, IsBuilt}
 use Rattle.cedar_session_rows.specs.declared.ranks.Level.{Level}
 use Rattle.cedar_session_rows.specs.declared.ranks.Level.TheVariants.{Low, Mid, High}
 use Rattle.cedar_session_rows.specs.declared.ranks.Ranks.{Ranks}
-use Rattle.cedar_session_rows.specs.declared.ranks.Ranks.TheVariants.{Rank, Up}
+use Rattle.cedar_session_rows.specs.declared.ranks.Ranks.TheVariants.{Rank, Up, Label}
 
 -- ---- ranks
 
@@ -55,15 +56,11 @@ level_in v = None
 abbrev pub level_named : Text → Option Level
 level_named s = cond (same_text s (codes "low")) (Some Low) (cond (same_text s (codes "mid")) (Some Mid) (cond (same_text s (codes "high")) (Some High) None))
 
-abbrev pub level_of_text : Value → Option Level
-level_of_text (Plain (String s)) = level_named s
-level_of_text v = None
-
 -- ---- the functions
 
 -- the level of this name
 abbrev pub rank_answer : Values → Option Level
-rank_answer (a_value v no_values) = level_of_text v
+rank_answer (a_value v no_values) = option_and_then level_named (text_in v)
 rank_answer vs = None
 
 -- the level above that of a rank
@@ -71,11 +68,20 @@ abbrev pub up_answer : Values → Option Level
 up_answer (a_value v no_values) = option_and_then next_level (level_in v)
 up_answer vs = None
 
-abbrev pub level_given : Ranks → Values → Option Level
-level_given Rank = rank_answer
-level_given Up = up_answer
+-- the level of a rank
+abbrev pub label_answer : Values → Option Level
+label_answer (a_value v no_values) = level_in v
+label_answer vs = None
 
--- ranks are built, and no texts
+abbrev pub label_of : Level → Value
+label_of level = Plain (String (name_of level))
+
+abbrev pub value_given : Ranks → Values → Option Value
+value_given Rank vs = option_map rank_of (rank_answer vs)
+value_given Up vs = option_map rank_of (up_answer vs)
+value_given Label vs = option_map label_of (label_answer vs)
+
+-- ranks and texts are built
 rank_built : (l : Level) → IsBuilt (rank_of l)
 rank_built Low = (ltb-true 0 256 refl, tt)
 rank_built Mid = (ltb-true 1 256 refl, tt)
@@ -84,17 +90,18 @@ rank_built High = (ltb-true 2 256 refl, tt)
 same_value : (v w : Value) → Some v ≡ Some w → v ≡ w
 same_value v w is = cc
 
-pub ranks_built : (o : Option Level) (v : Value) → option_map rank_of o ≡ Some v → IsBuilt v
+ranks_built : (o : Option Level) (v : Value) → option_map rank_of o ≡ Some v → IsBuilt v
 ranks_built None v is = cc
 ranks_built (Some l) v is = subst IsBuilt (same_value (rank_of l) v is) (rank_built l)
 
-pub ranks_no_texts : (o : Option Level) (s : Text) → option_map rank_of o ≡ Some (Plain (String s)) → ⊥
-ranks_no_texts None s is = cc
-ranks_no_texts (Some l) s is = cc
+labels_built : (o : Option Level) (v : Value) → option_map label_of o ≡ Some v → IsBuilt v
+labels_built None v is = cc
+labels_built (Some l) v is = subst IsBuilt (same_value (label_of l) v is) tt
+
+pub values_built : (f : Ranks) (vs : Values) (v : Value) → value_given f vs ≡ Some v → IsBuilt v
+values_built Rank vs v is = ranks_built (rank_answer vs) v is
+values_built Up vs v is = ranks_built (up_answer vs) v is
+values_built Label vs v is = labels_built (label_answer vs) v is
 
 abbrev pub answers_of : Ranks → FunctionAnswers
-answers_of f = record {
-  given = λ vs. option_map rank_of (level_given f vs);
-  built = λ vs v is. ranks_built (level_given f vs) v is;
-  no_text = λ vs s is. ranks_no_texts (level_given f vs) s is;
-}
+answers_of f = record { given = value_given f; built = values_built f }

@@ -1,10 +1,9 @@
 // Functions of a caller's that make values of a type with an order, and tables with them and without.
-ghost use Rattle.std.specs.Prelude.{◌≡◌, ◌∷◌, [], IfOk, true};
+ghost use Rattle.std.specs.Prelude.{◌≡◌, IfOk, true, option_map};
 ghost use Rattle.std.specs.List.{flat_map};
 ghost use Rattle.cedar_language.specs.Order.{all_of, same_name};
-ghost use Rattle.cedar_names.specs.Identifiers.{IsUnreservedId};
 ghost use Rattle.cedar_extensions.specs.Holding.{extension_functions, is_named, are_named};
-ghost use Rattle.cedar_session_rows.specs.Ranks.{rank_type, rank_of, key_of, name_of, next_level, level_of_key, level_of, level_in, level_named, level_of_text, rank_answer, up_answer};
+ghost use Rattle.cedar_session_rows.specs.Ranks.{rank_type, rank_of, key_of, name_of, label_of, next_level, level_of_key, level_of, level_in, level_named, rank_answer, up_answer, label_answer};
 
 use cedar_extensions::extension::Extension;
 use cedar_extensions::extensions::Extensions;
@@ -12,7 +11,6 @@ use cedar_extensions::functions::{CallStyle, ExtensionFunction, SchemaType};
 use cedar_extensions::objects::{CallError, ExtensionFunctionObject};
 use cedar_extensions::table_errors::ExtensionInitializationError;
 use cedar_literals::literals::Literal;
-use cedar_names::errors::ParseNameError;
 use cedar_names::names::Name;
 use cedar_values::extension_values::{Argument, ExtensionValue, RepresentableExtensionValue};
 use cedar_values::values::{Value, ValueKind};
@@ -26,6 +24,8 @@ pub(crate) enum Ranks {
     Rank,
     /// The rank above this one.
     Up,
+    /// The name of this rank.
+    Label,
 }
 
 /// How high a rank is.
@@ -42,23 +42,24 @@ impl ExtensionFunctionObject for Ranks {
     ghost answers = { answers_of };
 
     fn call(&self, alloc: Global, args: &[Value]) -> Result<Value, CallError> {
-        match self.level(args) {
-            Some(level) => Ok(rank_of(alloc, level)?),
+        match self.value(alloc, args)? {
+            Some(value) => Ok(value),
             None => Err(CallError::NoAnswer(String::from_str(alloc, self.wanted())?)),
         }
     }
 }
 
 impl Ranks {
-    ghost use Rattle.cedar_session_rows.specs.Ranks.{level_given};
+    ghost use Rattle.cedar_session_rows.specs.Ranks.{value_given};
 
-    /// The level of the rank that it gives.
-    fn level(&self, args: &[Value]) -> Option<Level>
-        ensures { result ≡ level_given self.now (all_of args.now) }
+    /// The value that it gives.
+    fn value(&self, alloc: Global, args: &[Value]) -> Result<Option<Value>, AllocError>
+        ensures { IfOk result (λ value. value ≡ value_given self.now (all_of args.now)) }
     {
         match self {
-            Ranks::Rank => rank_answer(args),
-            Ranks::Up => up_answer(args),
+            Ranks::Rank => ranked(alloc, rank_answer(args)),
+            Ranks::Up => ranked(alloc, up_answer(args)),
+            Ranks::Label => labelled(alloc, label_answer(args)),
         }
     }
 
@@ -67,7 +68,29 @@ impl Ranks {
         match self {
             Ranks::Rank => "it takes the name of a rank",
             Ranks::Up => "it takes a rank that isn't the highest",
+            Ranks::Label => "it takes a rank",
         }
+    }
+}
+
+fn ranked(alloc: Global, level: Option<Level>) -> Result<Option<Value>, AllocError>
+    ensures { IfOk result (λ value. value ≡ option_map rank_of level) }
+{
+    match level {
+        Some(level) => Ok(Some(rank_of(alloc, level)?)),
+        None => Ok(None),
+    }
+}
+
+fn labelled(alloc: Global, level: Option<Level>) -> Result<Option<Value>, AllocError>
+    ensures { IfOk result (λ value. value ≡ option_map label_of level) }
+{
+    match level {
+        Some(level) => {
+            let name = RcStr::from_str(alloc, name_of(level))?;
+            Ok(Some(Value::from(Literal::String(name))))
+        }
+        None => Ok(None),
     }
 }
 
@@ -78,7 +101,7 @@ fn rank_answer(args: &[Value]) -> Option<Level>
     let [name] = args else {
         return None;
     };
-    level_of_text(name)
+    level_named(name.as_string()?.as_str())
 }
 
 #[tactic(auto, using(crate::proofs::Counts::up_answer_none))]
@@ -91,6 +114,16 @@ fn up_answer(args: &[Value]) -> Option<Level>
     next_level(level_in(rank)?)
 }
 
+#[tactic(auto, using(crate::proofs::Counts::label_answer_none))]
+fn label_answer(args: &[Value]) -> Option<Level>
+    ensures { result ≡ label_answer (all_of args.now) }
+{
+    let [rank] = args else {
+        return None;
+    };
+    level_in(rank)
+}
+
 fn next_level(level: Level) -> Option<Level>
     ensures { result ≡ next_level level }
 {
@@ -98,19 +131,6 @@ fn next_level(level: Level) -> Option<Level>
         Level::Low => Some(Level::Mid),
         Level::Mid => Some(Level::High),
         Level::High => None,
-    }
-}
-
-/// The level that a text names.
-fn level_of_text(value: &Value) -> Option<Level>
-    ensures { result ≡ level_of_text value.now }
-{
-    match value.value_kind() {
-        ValueKind::Lit(literal) => match literal {
-            Literal::String(text) => level_named(text.as_str()),
-            Literal::Bool(_) | Literal::Long(_) | Literal::EntityUID(_) => None,
-        },
-        ValueKind::Set(_) | ValueKind::Record(_) | ValueKind::ExtensionValue(_) => None,
     }
 }
 
@@ -173,10 +193,10 @@ fn rank_of(alloc: Global, level: Level) -> Result<Value, AllocError>
     ensures { IfOk result (λ value. value ≡ rank_of level) }
 {
     let key = vec![in alloc; key_of(level)]?;
-    let value = ExtensionValue::new(unqualified(alloc, "rank")?, true, key);
+    let value = ExtensionValue::new(Name::of_identifier(alloc, "rank")?, true, key);
     let name = Literal::String(RcStr::from_str(alloc, name_of(level))?);
     let args = vec![in alloc; Argument::Lit(name)]?;
-    let rank = RepresentableExtensionValue::new(value, unqualified(alloc, "rank")?, args);
+    let rank = RepresentableExtensionValue::new(value, Name::of_identifier(alloc, "rank")?, args);
     Ok(Value::new(ValueKind::ExtensionValue(Rc::new(alloc, rank)?), None))
 }
 
@@ -200,19 +220,6 @@ fn name_of(level: Level) -> &'static str
     }
 }
 
-/// The name of one identifier, which is free to use.
-fn unqualified(alloc: Global, identifier: &str) -> Result<Name, AllocError>
-    requires { IsUnreservedId identifier.now }
-    ensures { IfOk result (λ name. name ≡ identifier.now ∷ []) }
-{
-    match Name::parse_unqualified_name(alloc, identifier) {
-        Ok(name) => Ok(name),
-        Err(ParseNameError::Memory(error)) => Err(error),
-        Err(ParseNameError::NotNormalized) => unreachable!(),
-        Err(ParseNameError::Reserved(_)) => unreachable!(),
-    }
-}
-
 /// The table of the built-in function alone.
 pub(crate) fn bare_table<'a>(
     alloc: Global,
@@ -230,7 +237,7 @@ pub(crate) fn table<'a>(
 fn bare_extensions(alloc: Global) -> Result<Vec<Extension<Ranks>>, AllocError>
     ensures { IfOk result (λ extensions. are_named (flat_map extension_functions extensions.items) ≡ true) }
 {
-    let name = unqualified(alloc, "partial_evaluation")?;
+    let name = Name::of_identifier(alloc, "partial_evaluation")?;
     let functions = vec![in alloc; unknown(alloc)?]?;
     let extension = Extension::new(name, functions, Vec::new(alloc));
     Ok(vec![in alloc; extension]?)
@@ -239,9 +246,9 @@ fn bare_extensions(alloc: Global) -> Result<Vec<Extension<Ranks>>, AllocError>
 fn extensions(alloc: Global) -> Result<Vec<Extension<Ranks>>, AllocError>
     ensures { IfOk result (λ extensions. are_named (flat_map extension_functions extensions.items) ≡ true) }
 {
-    let name = unqualified(alloc, "ranks")?;
-    let functions = vec![in alloc; unknown(alloc)?, rank(alloc)?, up(alloc)?]?;
-    let ordered = vec![in alloc; unqualified(alloc, "rank")?]?;
+    let name = Name::of_identifier(alloc, "ranks")?;
+    let functions = vec![in alloc; unknown(alloc)?, rank(alloc)?, up(alloc)?, label(alloc)?]?;
+    let ordered = vec![in alloc; Name::of_identifier(alloc, "rank")?]?;
     let extension = Extension::new(name, functions, ordered);
     Ok(vec![in alloc; extension]?)
 }
@@ -249,7 +256,7 @@ fn extensions(alloc: Global) -> Result<Vec<Extension<Ranks>>, AllocError>
 fn unknown(alloc: Global) -> Result<ExtensionFunction<Ranks>, AllocError>
     ensures { IfOk result (λ function. is_named function ≡ true) }
 {
-    let name = unqualified(alloc, "unknown")?;
+    let name = Name::of_identifier(alloc, "unknown")?;
     let (style, arg) = (CallStyle::FunctionStyle, SchemaType::String);
     ExtensionFunction::partial_eval_unknown(alloc, name, style, arg)
 }
@@ -257,7 +264,7 @@ fn unknown(alloc: Global) -> Result<ExtensionFunction<Ranks>, AllocError>
 fn rank(alloc: Global) -> Result<ExtensionFunction<Ranks>, AllocError>
     ensures { IfOk result (λ function. is_named function ≡ true) }
 {
-    let name = unqualified(alloc, "rank")?;
+    let name = Name::of_identifier(alloc, "rank")?;
     let (style, arg) = (CallStyle::FunctionStyle, SchemaType::String);
     let ty = of_ranks(alloc)?;
     ExtensionFunction::unary(alloc, name, style, Ranks::Rank, ty, arg)
@@ -266,14 +273,22 @@ fn rank(alloc: Global) -> Result<ExtensionFunction<Ranks>, AllocError>
 fn up(alloc: Global) -> Result<ExtensionFunction<Ranks>, AllocError>
     ensures { IfOk result (λ function. is_named function ≡ true) }
 {
-    let name = unqualified(alloc, "up")?;
+    let name = Name::of_identifier(alloc, "up")?;
     let (style, arg) = (CallStyle::MethodStyle, of_ranks(alloc)?);
     let ty = of_ranks(alloc)?;
     ExtensionFunction::unary(alloc, name, style, Ranks::Up, ty, arg)
 }
 
+fn label(alloc: Global) -> Result<ExtensionFunction<Ranks>, AllocError>
+    ensures { IfOk result (λ function. is_named function ≡ true) }
+{
+    let name = Name::of_identifier(alloc, "label")?;
+    let (style, arg) = (CallStyle::FunctionStyle, of_ranks(alloc)?);
+    ExtensionFunction::unary(alloc, name, style, Ranks::Label, SchemaType::String, arg)
+}
+
 /// The type of ranks.
 fn of_ranks(alloc: Global) -> Result<SchemaType, AllocError> {
-    let name = unqualified(alloc, "rank")?;
+    let name = Name::of_identifier(alloc, "rank")?;
     Ok(SchemaType::Extension { name })
 }
