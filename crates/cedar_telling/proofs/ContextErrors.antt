@@ -19,11 +19,7 @@ use Rattle.cedar_world.specs.Bodies.{calls_unknown, some_name, some_name_of, hol
 use Rattle.cedar_world.specs.Setting.{functions_alone}
 use Rattle.cedar_world.specs.Values.{fails, holds_open, context_errs}
 use Rattle.cedar_telling.specs.ContextErrors.{ContextsErrInParts}
-use Rattle.cedar_telling.proofs.PlainAnswers.{both_false, neither}
-
-and_true : (a b : Bool) → (a && b) ≡ true → (a ≡ true) × (b ≡ true)
-and_true true b h = (refl, h)
-and_true false b h = cc
+use Rattle.cedar_telling.proofs.Both.{and_true, both_false, neither}
 
 or_true : (a b : Bool) → (a || b) ≡ true → (a ≡ true) ⊎ (b ≡ true)
 or_true true b h = inl refl

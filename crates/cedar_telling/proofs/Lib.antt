@@ -1,6 +1,10 @@
+mod Both
+mod CallsLeft
 mod PlainAnswers
 mod ContextErrors
 mod Members
+mod Called
+mod Lookups
 mod KnownAnswer
 mod Beside
 mod Allowed
@@ -9,7 +13,6 @@ mod Prompt
 mod Whole
 mod Joined
 mod Later
-mod Both
 mod Standings
 mod HeldMade
 mod Carrying

@@ -2,4 +2,5 @@ pub mod Sound
 pub mod Again
 pub mod Joined
 pub mod Plain
+pub mod Lookups
 pub mod ContextErrors

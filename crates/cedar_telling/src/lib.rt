@@ -4,6 +4,7 @@
 ghost use Rattle.cedar_telling.specs.Again.{AgainIsSound, EarlyStaysSound};
 ghost use Rattle.cedar_telling.specs.ContextErrors.{ContextsErrInParts};
 ghost use Rattle.cedar_telling.specs.Joined.{FirstAnswersAreSteady, LaterAnswersStand};
+ghost use Rattle.cedar_telling.specs.Lookups.{EarlyTextsFindFunctions, FoundAnswers};
 ghost use Rattle.cedar_telling.specs.Plain.{PlainAnswers};
 
 // ---- evaluations
@@ -11,6 +12,12 @@ ghost use Rattle.cedar_telling.specs.Plain.{PlainAnswers};
 /// What is left of a tree that calls no function for an unknown calls none.
 pub fn plain_answers()
     ensures { PlainAnswers }
+{}
+
+/// What is left of a tree that calls functions that are there calls such functions alone, and it errs with no failed
+/// look-up of one.
+pub fn found_answers()
+    ensures { FoundAnswers }
 {}
 
 /// A context is refused once values are told where some part of it errs, all of whose names are told.
@@ -35,6 +42,15 @@ pub fn early_stays_sound()
     cedar_partial_evaluation::names_dont_matter();
     cedar_partial_evaluation::without_unknowns();
     cedar_partial_evaluation::all_told_is_known();
+}
+
+/// No policy of a text errs with a failed look-up of a function when a body's question is asked, nor where what was left
+/// of it is evaluated again, whatever is told.
+pub fn early_texts_find_functions()
+    ensures { EarlyTextsFindFunctions }
+{
+    cedar_grammar::linking_binds_the_condition();
+    cedar_world::calls_are_found();
 }
 
 /// What was left of policies when a question was asked, evaluated again once more is told, has them stand as their conditions do.

@@ -1,0 +1,72 @@
+-- No early answer names a failed look-up of a function. (Cedar language reference, "Extension functions".)
+use Rattle.std.specs.Prelude.{◌≡◌, ◌≢◌, Bool, true, ◌&&◌, Option, Some, is_some, IsSome, List, Contains}
+use Rattle.cedar_language.specs.Uid.{Text, Name}
+use Rattle.cedar_language.specs.Tree.{Variable, SlotId, ValueType, Tree, If, And, Or, Apply, Trees, no_trees, a_tree}
+use Rattle.cedar_language.specs.Value.{Kind, FailedExtensionFunctionLookup}
+use Rattle.cedar_language.specs.Facts.{Facts}
+use Rattle.cedar_language.specs.Constructing.{the_constructor}
+use Rattle.cedar_language.specs.Answering.{Erring}
+use Rattle.cedar_partial_evaluation.specs.Partial.{Answer, Evaluated, ResidualTree, Failed, LeafAnswers, partial_in}
+use Rattle.cedar_grammar.specs.Calls.{calls_none_but}
+use Rattle.cedar_world.specs.Asking.{Question, Told}
+use Rattle.cedar_world.specs.Bodies.{ask_body}
+use Rattle.cedar_world.specs.Setting.{Setting, ArePolicies, IsBody}
+use Rattle.cedar_world.specs.Standing.{StandsEarly}
+use Rattle.cedar_world.specs.Syntax.{PolicySyntax, Bindings, linked}
+use Rattle.cedar_world.specs.World.{Entities, AreFacts}
+use Rattle.cedar_telling.specs.Again.{StandsAgain}
+
+-- ---- trees
+
+module _ (passes : Name → Bool) where
+  -- each function that the tree calls has a name that passes; unknowns may stand in it
+  abbrev mutual
+    pub calls_among : Tree → Bool
+    calls_among (If t y n) = calls_among t && (calls_among y && calls_among n)
+    calls_among (And l r) = calls_among l && calls_among r
+    calls_among (Or l r) = calls_among l && calls_among r
+    calls_among (Apply op ts) = calls_none_but passes op && all_call_among ts
+    calls_among t = true
+
+    pub all_call_among : Trees → Bool
+    all_call_among no_trees = true
+    all_call_among (a_tree t ts) = calls_among t && all_call_among ts
+
+-- each function that the tree calls is there
+abbrev pub finds_all : Facts → Tree → Bool
+finds_all facts = calls_among (λ name. is_some (facts.function name))
+
+-- ---- evaluations
+
+-- what is left calls functions that are there, and an error is no failed look-up
+abbrev pub IsFoundAnswer : Facts → Answer → Type 0
+IsFoundAnswer facts (Evaluated v) = Unit {0}
+IsFoundAnswer facts (ResidualTree t) = finds_all facts t ≡ true
+IsFoundAnswer facts (Failed k) = k ≢ FailedExtensionFunctionLookup
+
+pub record AreFoundLeaves (facts : Facts) (holds : LeafAnswers) : Type 0 where
+  pub variable : (v : Variable) → IsFoundAnswer facts (holds.variable v)
+  pub unknown : (n : Text) (ty : Option ValueType) → IsFoundAnswer facts (holds.unknown n ty)
+  pub slot : (s : SlotId) → IsFoundAnswer facts (holds.slot s)
+
+-- so is the answer to a tree whose functions are there; values in what is left are written by the constructor
+abbrev pub FoundAnswers : Type 0
+FoundAnswers =
+    (facts : Facts) → IsSome (facts.function the_constructor) → (holds : LeafAnswers) → AreFoundLeaves facts holds
+    → (t : Tree) → finds_all facts t ≡ true → IsFoundAnswer facts (partial_in facts holds t)
+
+-- ---- policies
+
+-- the policy errs with no failed look-up, neither when the question is asked nor where what was left is evaluated again
+pub record FindsFunctions (facts : Facts) (q : Question) (told : Told) (s : PolicySyntax) : Type 0 where
+  pub early : (k : Kind) → StandsEarly facts q told s (Erring k) → k ≢ FailedExtensionFunctionLookup
+  pub again : (k : Kind) → StandsAgain facts q told s (Erring k) → k ≢ FailedExtensionFunctionLookup
+
+-- So does each policy of a text, as it is written and with slots bound, for a question that a body asks, whatever is told.
+abbrev pub EarlyTextsFindFunctions : Type 0
+EarlyTextsFindFunctions =
+    (by : Setting) (entities : Entities) (facts : Facts) → AreFacts by.functions entities facts
+    → (text : Text) (ss : List PolicySyntax) → ArePolicies by text ss
+    → (s : PolicySyntax) → Contains ss s
+    → (body : Text) (tree : Tree) (q : Question) → IsBody by body tree → ask_body tree ≡ Some q
+    → (told : Told) → FindsFunctions facts q told s × ((b : Bindings) → FindsFunctions facts q told (linked b s))
