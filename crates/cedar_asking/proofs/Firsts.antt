@@ -43,6 +43,9 @@ use Rattle.cedar_evaluator.specs.Evaluations.{Kept, IsKept, AreKept, IsServed, c
 use Rattle.cedar_evaluator.specs.Responses.{errors_of, holding_of, judged_held}
 use Rattle.cedar_asking.specs.Answers.{IsSettingOf, SomeTooHigh}
 use Rattle.cedar_asking.specs.Erring.{with_failure, SomeAtLimit}
+use Rattle.cedar_telling.specs.Lookups.{ListsStanding}
+use Rattle.cedar_telling.proofs.NoLookups.{rules_list}
+use Rattle.cedar_asking.specs.Laws.{SaysHeld}
 use Rattle.cedar_asking.specs.Requests.{IsRequestOf}
 use Rattle.cedar_asking.proofs.Errors.{errors_listed, settled_listed, limit_kept}
 use Rattle.cedar_asking.proofs.InForce.{written_entry, is_bound, is_there, is_in_force, written_by}
@@ -142,7 +145,14 @@ module _ (r : RequestParts) (store : Entities) (table : Table) (depth : ℕ) whe
           same_kind k l
           (sym errs_a ∙ x.standing ∙ ap (λ (s : PolicySyntax). standing_of_answer (partial_in facts (held_of facts q (λ s. None) finite.empty) (condition s))) same ∙ sym y.standing ∙ errs_b)
 
-    -- what a response says is a first answer, where no bound was met
+    -- what a response says lists the errors with which the policies stand, where no bound was met
+    pub lists_first : AnswersAreMade → (listed : List (Text × ErrorKind)) (answer : Answer) → SaysHeld (holding_of ks) listed answer → ListsStanding world (StandsEarly facts q finite.empty) answer
+    lists_first made listed answer says =
+        let settled = settled_listed listed ks says.kinds says.errors in
+        rules_list world (StandsEarly facts q finite.empty) (map judged ks) answer (judges settled)
+        (says_rules ks made (once settled) answer says.decided says.must says.may (says.erring ∙ ap finite.from_entries (errors_listed listed ks says.errors)))
+
+    -- and it is a first answer
     pub says_first : EarlyAnswersStand → AnswersAreMade → AreFactsOf by world facts → HoldsMade facts → (listed : List (Text × ErrorKind)) → have_kinds listed ≡ true → map with_failure listed ≡ errors_of ks → (answer : Answer)
         → answer.decision ≡ decision (judged_held (holding_of ks))
         → answer.must ≡ ids_of (ids_with (in_must (judged_held (holding_of ks))) (judged_held (holding_of ks)))

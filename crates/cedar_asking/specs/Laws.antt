@@ -10,9 +10,11 @@ use Rattle.cedar_world.specs.Answers.{ids_with}
 use Rattle.cedar_world.specs.Asking.{Question}
 use Rattle.cedar_world.specs.Question.{IsKnown}
 use Rattle.cedar_world.specs.Setting.{Setting, functions_alone}
+use Rattle.cedar_world.specs.Standing.{StandsEarly}
 use Rattle.cedar_world.specs.Step.{IsFirstAnswer}
 use Rattle.cedar_world.specs.World.{World}
 use Rattle.cedar_world.specs.WorldFacts.{AreFactsOf}
+use Rattle.cedar_telling.specs.Lookups.{ListsStanding}
 use Rattle.cedar_entities.specs.Shown.{Shows}
 use Rattle.cedar_entities.specs.Store.{held_at, is_partial_store, IsClosed}
 use Rattle.cedar_entities.specs.declared.store.Entities.{Entities}
@@ -72,6 +74,8 @@ module _ (by : Setting) (world : World) (facts : Facts) (es : Entries) (s : Enti
   pub record AnswersQuestion : Type 0 where
     -- where no limit was met, what the response says is a first answer
     pub first : HoldsMade facts → (listed : List (Text × ErrorKind)) (answer : Answer) → SaysHeld (holding_of ks) listed answer → IsFirstAnswer by world q answer
+    -- and its errors are those with which the policies in force stand
+    pub errors : (listed : List (Text × ErrorKind)) (answer : Answer) → SaysHeld (holding_of ks) listed answer → ListsStanding world (StandsEarly facts q finite.empty) answer
     -- the limit is met at a known question only where a condition in force is higher
     pub limit : IsSettingOf table depth by → SomeAtLimit (holding_of ks).errors → IsKnown q → SomeTooHigh by world
 

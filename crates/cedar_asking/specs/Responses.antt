@@ -1,5 +1,6 @@
 -- What a question is answered over the policies and entities of a world, when it is asked and once more is told.
 use Rattle.std.specs.Prelude.{◌≡◌, ⊤, true, Result, Ok, Err, List, []}
+use Rattle.std.specs.FinMap as finite
 use Rattle.std.specs.declared.alloc.Global.{Global}
 use Rattle.std.specs.declared.rc.RcStr.{RcStr}
 use Rattle.cedar_language.specs.Uid.{Text}
@@ -8,9 +9,12 @@ use Rattle.cedar_world.specs.Answer as answers
 use Rattle.cedar_world.specs.Asking.{Question}
 use Rattle.cedar_world.specs.Question.{IsKnown}
 use Rattle.cedar_world.specs.Setting.{Setting}
+use Rattle.cedar_world.specs.Standing.{StandsEarly}
 use Rattle.cedar_world.specs.Step.{IsFirstAnswer}
 use Rattle.cedar_world.specs.Values.{context_errs}
 use Rattle.cedar_world.specs.World.{World}
+use Rattle.cedar_world.specs.WorldFacts.{facts_of}
+use Rattle.cedar_telling.specs.Lookups.{ListsStanding}
 use Rattle.cedar_bodies.specs.Refusals.{refusal_by}
 use Rattle.cedar_evaluator.specs.Holding.{holding_in}
 use Rattle.cedar_evaluator.specs.declared.errors.ConcretizationError.TheVariants as concretization
@@ -37,9 +41,11 @@ SaysResponse response (Err Depth) = SomeAtLimit (holding_in response).errors
 SaysResponse response (Err Memory) = ⊤
 SaysResponse response (Err r) = ⊥
 
--- a first answer to the question, and the response by which it goes on
+-- a first answer to the question, whose errors are those with which the policies in force stand, and the response by which it
+-- goes on
 pub record IsAnswered (by : Setting) (world : World) (q : Question) (first : PartialResponse) (answer : answers.Answer) : Type 0 where
   pub answers : IsFirstAnswer by world q answer
+  pub errors : ListsStanding world (StandsEarly (facts_of by world) q finite.empty) answer
   pub keeps : KeepsQuestion by world q first [] answer
 
 -- At a known question the limit is met only where a condition in force is higher. Want of memory says nothing.

@@ -12,7 +12,10 @@ use Rattle.cedar_world.specs.Setting.{Setting}
 use Rattle.cedar_world.specs.Step.{IsLaterAnswer}
 use Rattle.cedar_world.specs.Values.{context_errs}
 use Rattle.cedar_world.specs.World.{World}
+use Rattle.cedar_world.specs.WorldFacts.{facts_of}
+use Rattle.cedar_telling.specs.Again.{StandsAgain}
 use Rattle.cedar_telling.specs.Joined.{IsJoined}
+use Rattle.cedar_telling.specs.Lookups.{ListsStanding}
 use Rattle.cedar_entities.specs.declared.store.Entities.{Entities}
 use Rattle.cedar_extensions.specs.Failures.{Failure, OfKind, failure_of}
 use Rattle.cedar_extensions.specs.Table.{Table}
@@ -49,11 +52,13 @@ QuestionsAreKept =
     → KeepsQuestion by world q first [] answer
 
 module _ (by : Setting) (world : World) (q : Question) (first : PartialResponse) (old told : List (RcStr Global × Value)) (last answer : Answer) where
-  -- the answer once these values are told, and what is kept then
+  -- The answer once these values are told, and what is kept then. It joins the last one with one whose errors are those with
+  -- which the policies in force stand again.
   pub record IsAnsweredLater : Type 0 where
     pub later : IsLaterAnswer by world (record { question = q; told = told_in old; last = last }) (told_in told) answer
     pub keeps : KeepsQuestion by world q first told answer
     pub fine : context_errs by q.context (told_in told) ≡ false
+    pub joins : (new : Answer) × ListsStanding world (StandsAgain (facts_of by world) q (told_in told)) new × IsJoined last new answer
 
 -- where no limit is met, the first response taken up again, joined with the last answer, answers the question
 abbrev pub TellsAreAnswered : Type 0

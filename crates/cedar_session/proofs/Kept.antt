@@ -19,7 +19,8 @@ use Rattle.cedar_world.specs.Commands.{Tell, Answered, Refused}
 use Rattle.cedar_world.specs.InForce.{AnswersReadWhatIsInForce}
 use Rattle.cedar_world.specs.Setting.{Setting, IsBodyWithin, BodiesAreOne}
 use Rattle.cedar_world.specs.Step.{Step, IsLaterAnswer, opens}
-use Rattle.cedar_world.specs.World.{World, Policies, Entities}
+use Rattle.cedar_world.specs.World.{World, Asked as Opened, Policies, Entities}
+use Rattle.cedar_telling.specs.Lookups.{NamesNoLookup, IsAskedBy, AnswersNameNoLookup}
 use Rattle.cedar_world.proofs.Parts.{not_none}
 use Rattle.cedar_asking.specs.Answering.{AreOf}
 use Rattle.cedar_asking.specs.Answers.{IsSettingOf}
@@ -39,6 +40,7 @@ use Rattle.cedar_replies.specs.declared.answer.Answer.{Answer}
 use Rattle.cedar_replies.specs.declared.refusal.Refusal.{Refusal}
 use Rattle.cedar_replies.specs.declared.refusal.Refusal.TheVariants as refusal
 use Rattle.cedar_restricted.specs.Views.{restricted_tree}
+use Rattle.cedar_session.specs.Lookups.{LaterFindsFunctions}
 use Rattle.cedar_session.specs.Open.{KeepsAsked, KeepsOpen, question_in, nothing_given}
 use Rattle.cedar_session.specs.Sessions.{asked_of}
 use Rattle.cedar_session.specs.declared.asked.Asked.{Asked}
@@ -48,6 +50,9 @@ use Rattle.cedar_session.proofs.Telling.{context_fails, too_deep, no_memory, tol
 is_stated : (o : Option Question) → (o ≡ None → ⊥) → o ≡ Some (unwrap_or o nothing_given)
 is_stated (Some q) h = refl
 is_stated None h = absurd (h refl)
+
+one_asked : (x y : Opened) → Some x ≡ Some y → x ≡ y
+one_asked x y e = cc
 
 no_two : (x y : ⊥) → x ≡ y
 no_two x y = absurd x
@@ -129,6 +134,16 @@ module _ (by : Setting) (policies : Policies) (entities : Entities) where
 
       later_here : (answer : world.Answer) → IsLaterAnswer by bare (asked_of asked) (told_in all.entries) answer → IsLaterAnswer by (world_with o) (asked_of asked) (told_in all.entries) answer
       later_here answer h = ((reads.alike by bare (world_with o) (record { entities = refl; policies = λ id. refl })).later (asked_of asked) (told_in all.entries) answer).0 h
+
+      -- no error is a failed look-up, where commands lead here, a body asked the question and the last answer names none
+      pub names_no_lookup : AnswersNameNoLookup → (answer : Answer) → Says table all s (Ok answer) → LaterFindsFunctions by (world_with o) (answer_of answer)
+      names_no_lookup law answer says commands replies reached open_now at asks last id e =
+          let same : asked_of asked ≡ open_now = one_asked (asked_of asked) open_now (sym was_open ∙ at) in
+          ∥∥₁_elim kept no_two (λ k.
+          let joins = (answered (Ok answer) says k).joins in
+          law.later by commands replies bare (record { policies = reached.policies; entities = reached.entities; links = reached.links; no_cycle = reached.no_cycle }) question
+          (subst (λ (a : Opened). IsAskedBy by a.question) (sym same) asks) (told_in all.entries) (answer_of asked.answer) joins.0 (answer_of answer) joins.1 joins.2
+          (subst (λ (a : Opened). NamesNoLookup a.last) (sym same) last) id e)
 
       module _ (answer copy : Answer) (same : copy ≡ answer) (says : Says table all s (Ok answer)) (new : Option Asked) (new_is : new ≡ option_map (λ (a : Asked). record a { told = all; answer = copy }) o) where
         goes_on : new ≡ Some (record asked { told = all; answer = copy })

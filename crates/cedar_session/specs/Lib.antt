@@ -1,4 +1,5 @@
 pub mod Commands
+pub mod Lookups
 pub mod Open
 pub mod Programs
 pub mod Reading

@@ -20,6 +20,7 @@ use Rattle.cedar_world.specs.Functions.{function_of, is_the_unknown}
 use Rattle.cedar_world.specs.KnownKinds.{IsOrdinary, ErrsOrdinarily}
 use Rattle.cedar_world.specs.NameLaws.{is_answered, CallsAreFound}
 use Rattle.cedar_world.specs.Setting.{Setting}
+use Rattle.cedar_world.specs.World.{Entities, AreFacts}
 use Rattle.cedar_world.specs.Syntax.{PolicySyntax, binding_of, linked, condition}
 use Rattle.cedar_world.proofs.OrdinaryErrors.{applied_fine}
 use Rattle.cedar_telling.specs.Lookups.{finds_all, IsFoundAnswer, AreFoundLeaves, FoundAnswers, FindsFunctions, EarlyTextsFindFunctions}
@@ -32,7 +33,7 @@ use Rattle.cedar_telling.proofs.Members.{contained}
 
 module _ (facts : Facts) where
   -- there is a function of this name
-  abbrev there : Name → Bool
+  abbrev pub there : Name → Bool
   there name = is_some (facts.function name)
 
   abbrev NoLookup : Kind → Type 0
@@ -113,7 +114,7 @@ module _ (facts : Facts) where
       answer_found : (slots : Slots) (told : Told) (t : Tree) → finds_all facts t ≡ true → IsFoundAnswer facts (partial_in facts (held_of facts q slots told) t)
       answer_found slots told = found (held_of facts q slots told) (held_found slots told)
 
-      policy_finds : (told : Told) (s : PolicySyntax) → finds_all facts (condition s) ≡ true → FindsFunctions facts q told s
+      pub policy_finds : (told : Told) (s : PolicySyntax) → finds_all facts (condition s) ≡ true → FindsFunctions facts q told s
       policy_finds told s h = record {
         early = kind_found (partial_in facts (held_of facts q no_slots told) (condition s)) (answer_found no_slots told (condition s) h);
         again = λ k so.
@@ -131,11 +132,18 @@ still_some : {A : Type 0} (b : Bool) (x : A) (o : Option A) → is_some o ≡ tr
 still_some true x o h = refl
 still_some false x o h = h
 
+module _ (by : Setting) {entities : Entities} (facts : Facts) (are : AreFacts by.functions entities facts) where
+  -- what the table answers is there, and so is the constructor
+  pub answered_there : (name : Name) → is_answered by.functions name ≡ true → there facts name ≡ true
+  answered_there name h = ap is_some (are.function name) ∙ still_some (is_the_constructor name) constructor_function (function_of by.functions name) h
+
+  pub constructor_there : IsSome (facts.function the_constructor)
+  constructor_there = ap is_some (are.function the_constructor)
+
 pub early_texts_find_functions : LinkConditions → ((by : Setting) → CallsAreFound by) → EarlyTextsFindFunctions
 early_texts_find_functions links calls by entities facts are text ss reads s among body tree q is_body asks told =
-    let answered : (name : Name) → is_answered by.functions name ≡ true → there facts name ≡ true =
-    λ name h. ap is_some (are.function name) ∙ still_some (is_the_constructor name) constructor_function (function_of by.functions name) h in
-    let constructs : IsSome (facts.function the_constructor) = ap is_some (are.function the_constructor) in
+    let answered = answered_there by facts are in
+    let constructs = constructor_there by facts are in
     let context = question_calls (is_answered by.functions) (there facts) answered tree q ((calls by).bodies body tree is_body) asks in
     let passes : Name → Bool = λ name. is_answered by.functions name && not (is_the_unknown name) in
     let written = fewer_pass passes (there facts) (λ name h. answered name (and_left (is_answered by.functions name) _ h)) (condition s) (of_each _ ss ((calls by).policies text ss reads) s (contained ss s among)) in (

@@ -1,20 +1,26 @@
 -- No early answer names a failed look-up of a function. (Cedar language reference, "Extension functions".)
 use Rattle.std.specs.Prelude.{◌≡◌, ◌≢◌, Bool, true, ◌&&◌, Option, Some, is_some, IsSome, List, Contains}
+use Rattle.std.specs.FinMap as finite
 use Rattle.cedar_language.specs.Uid.{Text, Name}
 use Rattle.cedar_language.specs.Tree.{Variable, SlotId, ValueType, Tree, If, And, Or, Apply, Trees, no_trees, a_tree}
 use Rattle.cedar_language.specs.Value.{Kind, FailedExtensionFunctionLookup}
 use Rattle.cedar_language.specs.Facts.{Facts}
 use Rattle.cedar_language.specs.Constructing.{the_constructor}
-use Rattle.cedar_language.specs.Answering.{Erring}
+use Rattle.cedar_language.specs.Answering.{Standing, Erring}
 use Rattle.cedar_partial_evaluation.specs.Partial.{Answer, Evaluated, ResidualTree, Failed, LeafAnswers, partial_in}
 use Rattle.cedar_grammar.specs.Calls.{calls_none_but}
+use Rattle.cedar_world.specs.Answer.{Answer as Answered}
 use Rattle.cedar_world.specs.Asking.{Question, Told}
 use Rattle.cedar_world.specs.Bodies.{ask_body}
+use Rattle.cedar_world.specs.Commands.{Reply}
+use Rattle.cedar_world.specs.Session.{Command, IsReached}
 use Rattle.cedar_world.specs.Setting.{Setting, ArePolicies, IsBody}
 use Rattle.cedar_world.specs.Standing.{StandsEarly}
 use Rattle.cedar_world.specs.Syntax.{PolicySyntax, Bindings, linked}
-use Rattle.cedar_world.specs.World.{Entities, AreFacts}
+use Rattle.cedar_world.specs.World.{World, Entities, AreFacts, in_force_at}
+use Rattle.cedar_world.specs.WorldFacts.{facts_of}
 use Rattle.cedar_telling.specs.Again.{StandsAgain}
+use Rattle.cedar_telling.specs.Joined.{IsJoined}
 
 -- ---- trees
 
@@ -70,3 +76,36 @@ EarlyTextsFindFunctions =
     → (s : PolicySyntax) → Contains ss s
     → (body : Text) (tree : Tree) (q : Question) → IsBody by body tree → ask_body tree ≡ Some q
     → (told : Told) → FindsFunctions facts q told s × ((b : Bindings) → FindsFunctions facts q told (linked b s))
+
+-- So does each policy that is in force after any list of commands.
+abbrev pub PoliciesInForceFindFunctions : Type 0
+PoliciesInForceFindFunctions =
+    (by : Setting) (commands : List Command) (replies : List Reply) (world : World) → IsReached by commands replies world
+    → (facts : Facts) → AreFacts by.functions world.entities facts
+    → (id : Text) (s : PolicySyntax) → in_force_at world.policies id ≡ Some s
+    → (body : Text) (tree : Tree) (q : Question) → IsBody by body tree → ask_body tree ≡ Some q
+    → (told : Told) → FindsFunctions facts q told s
+
+-- ---- answers
+
+-- each error that the answer lists is one with which a policy in force stands
+abbrev pub ListsStanding : World → (PolicySyntax → Standing → Type 0) → Answered → Type 0
+ListsStanding world Stands answer =
+    (id : Text) (k : Kind) → finite.get answer.erring id ≡ Some k → (s : PolicySyntax) × (in_force_at world.policies id ≡ Some s) × Stands s (Erring k)
+
+-- no error is a failed look-up
+abbrev pub NamesNoLookup : Answered → Type 0
+NamesNoLookup answer = (id : Text) → finite.get answer.erring id ≡ Some FailedExtensionFunctionLookup → ⊥
+
+-- some body asks the question
+abbrev pub IsAskedBy : Setting → Question → Type 0
+IsAskedBy by q = (body : Text) × (tree : Tree) × IsBody by body tree × (ask_body tree ≡ Some q)
+
+-- So no answer names a failed look-up, in a world that is reached by commands: neither one to a question that a body asks,
+-- nor one that is joined with it once more is told.
+pub record AnswersNameNoLookup : Type 0 where
+  pub first : (by : Setting) (commands : List Command) (replies : List Reply) (world : World) → IsReached by commands replies world
+      → (q : Question) → IsAskedBy by q → (answer : Answered) → ListsStanding world (StandsEarly (facts_of by world) q finite.empty) answer → NamesNoLookup answer
+  pub later : (by : Setting) (commands : List Command) (replies : List Reply) (world : World) → IsReached by commands replies world
+      → (q : Question) → IsAskedBy by q → (told : Told) (last new answer : Answered) → ListsStanding world (StandsAgain (facts_of by world) q told) new
+      → IsJoined last new answer → NamesNoLookup last → NamesNoLookup answer

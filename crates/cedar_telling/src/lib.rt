@@ -4,7 +4,7 @@
 ghost use Rattle.cedar_telling.specs.Again.{AgainIsSound, EarlyStaysSound};
 ghost use Rattle.cedar_telling.specs.ContextErrors.{ContextsErrInParts};
 ghost use Rattle.cedar_telling.specs.Joined.{FirstAnswersAreSteady, LaterAnswersStand};
-ghost use Rattle.cedar_telling.specs.Lookups.{EarlyTextsFindFunctions, FoundAnswers};
+ghost use Rattle.cedar_telling.specs.Lookups.{EarlyTextsFindFunctions, PoliciesInForceFindFunctions, FoundAnswers, AnswersNameNoLookup};
 ghost use Rattle.cedar_telling.specs.Plain.{PlainAnswers};
 
 // ---- evaluations
@@ -53,6 +53,14 @@ pub fn early_texts_find_functions()
     cedar_world::calls_are_found();
 }
 
+/// So it is of each policy that is in force after any list of commands.
+pub fn policies_in_force_find_functions()
+    ensures { PoliciesInForceFindFunctions }
+{
+    cedar_grammar::linking_binds_the_condition();
+    cedar_world::calls_are_found();
+}
+
 /// What was left of policies when a question was asked, evaluated again once more is told, has them stand as their conditions do.
 pub fn again_is_sound()
     ensures { AgainIsSound }
@@ -74,6 +82,14 @@ pub fn again_is_sound()
 }
 
 // ---- answers
+
+/// No answer names a failed look-up of a function, when a body's question is asked or once more is told.
+pub fn answers_name_no_lookup()
+    ensures { AnswersNameNoLookup }
+{
+    crate::policies_in_force_find_functions();
+    cedar_world::worlds_have_facts();
+}
 
 /// A first answer stays true, whatever is told later.
 pub fn first_answers_are_steady()

@@ -4,6 +4,7 @@ use Rattle.std.proofs.lemmas.Result.{err_from_is_err_and}
 use Rattle.cedar_extensions.specs.Table.{as_table}
 use Rattle.cedar_restricted.specs.Views.{restricted_tree}
 use Rattle.cedar_world.specs.NameLaws.{is_answered}
+use Rattle.cedar_replies.specs.Replies.{answer_of}
 use Rattle.cedar_asking.specs.Keeping.{IsNamed}
 use Rattle.cedar_session.specs.Sessions.{setting_of, world_of}
 use Rattle.cedar_session.proofs.Kept.{bare, begins}
@@ -70,6 +71,27 @@ returns-clause-step g c =
     }) asked.2.is_request named in
     answered by (world_of self) c.args.text.now (c.texts_are_one.ensures.bodies by) tree read.0 read.1 c.in_ok-body.body.restricted asked.0 asked.1 asked.2.fine asked.2.named
     c.in_ok-first.answer c.in_ok-kept.kept c.in_ok-kept.ensures.cases c.new.result.entries c.new.ensures.empty first.answers
+
+pub returns-clause-lookups : goal.returns-clause-lookups
+returns-clause-lookups g c = λ commands replies reached.
+    let self = c.args.self.now in
+    let by = setting_of self in
+    let tree = restricted_tree c.in_ok-body.body in
+    let read = read_tree by c.args.text.now tree tree refl c.in_ok-body.ensures.body in
+    let served = serves g.F.ExtensionFunctionObject.answers self.extensions.now self.depth tree tree refl c.names_are_defined.ensures c.in_ok-body.ensures.calls in
+    let asked = c.in_ok-request.ensures by served in
+    let named : IsNamed asked.0.context = record { well = asked.2.named; untyped = question_untyped (is_answered by.functions) tree asked.0 ((c.calls_are_found.ensures by).bodies c.args.text.now tree (self.depth, read.0)) asked.1 } in
+    let first = c.in_ok-first.ensures by (world_of self) asked.0 (record {
+      setting = record { functions = served.functions; depth_is = refl };
+      slots = c.set-policies.ensures.slots;
+      names = c.set-policies.ensures.names;
+      policies = sym c.set-policies.ensures.policies;
+      shows = c.store-entities.ensures.shows;
+      closed = c.store-entities.ensures.closed;
+      whole = c.store-entities.ensures.whole;
+      built = c.store-entities.ensures.built;
+    }) asked.2.is_request named in
+    c.answers_name_no_lookup.ensures.first by commands replies (world_of self) reached asked.0 (c.args.text.now, tree, (self.depth, read.0), asked.1) (answer_of c.in_ok-first.answer) first.errors
 
 pub invariant_of-self-2 : goal.invariant_of-self-2
 invariant_of-self-2 g c =
