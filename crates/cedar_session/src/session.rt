@@ -4,7 +4,7 @@ ghost use Rattle.cedar_frames.specs.Heads.{body_limit};
 ghost use Rattle.cedar_world.specs.World.{new_world};
 ghost use Rattle.cedar_replies.specs.Replies.{answer_of, reply_of};
 ghost use Rattle.cedar_session.specs.Commands.{command_verb, command_text};
-ghost use Rattle.cedar_session.specs.Lookups.{FirstFindsFunctions, LaterFindsFunctions};
+ghost use Rattle.cedar_session.specs.Lookups.{FirstErrsOrdinarily, LaterFindsFunctions};
 ghost use Rattle.cedar_session.specs.Open.{KeepsOpen};
 ghost use Rattle.cedar_texts.specs.Settings.{setting_with};
 
@@ -266,7 +266,7 @@ impl<'e, 'f, F: ExtensionFunctionObject> Session<'e, 'f, F> {
     /// out or named so is unknown, and the answer holds whatever it is: a decision stands there only where
     /// all that it may be leads to it, an id is among `must` only where its policy is a reason in each case,
     /// and among `may` where it is one in some. No id errs by a failed look-up of a function, since a text
-    /// calls functions of the session alone.
+    /// calls functions of the session alone, or by a slot that isn't linked, since no policy in force has one.
     ///
     /// It is refused as any body, then `Shape` where it isn't such a record, `Evaluation` where a part of the
     /// context without unknowns errs, `BadUnknown` where `unknown` is called there on anything but a string
@@ -276,7 +276,7 @@ impl<'e, 'f, F: ExtensionFunctionObject> Session<'e, 'f, F> {
     pub fn ask(&mut self, text: &str) -> Result<Answer, Refusal>
         requires { length text.now ≤ body_limit }
         ensures step { Step (setting_of self.old) (world_of self.old) AskVerb text.now (ask_reply result) (world_of self.new) }
-        ensures lookups { IfOk result (λ answer. FirstFindsFunctions (setting_of self.old) (world_of self.old) (answer_of answer)) }
+        ensures ordinary { IfOk result (λ answer. FirstErrsOrdinarily (setting_of self.old) (world_of self.old) (answer_of answer)) }
         ensures setting { setting_of self.new ≡ setting_of self.old }
     {
         self.policies.index(self.allocator)?;
@@ -287,7 +287,7 @@ impl<'e, 'f, F: ExtensionFunctionObject> Session<'e, 'f, F> {
     fn ask_indexed(&mut self, text: &str) -> Result<Answer, Refusal>
         requires { length text.now ≤ body_limit }
         ensures step { Step (setting_of self.old) (world_of self.old) AskVerb text.now (ask_reply result) (world_of self.new) }
-        ensures lookups { IfOk result (λ answer. FirstFindsFunctions (setting_of self.old) (world_of self.old) (answer_of answer)) }
+        ensures ordinary { IfOk result (λ answer. FirstErrsOrdinarily (setting_of self.old) (world_of self.old) (answer_of answer)) }
         ensures setting { setting_of self.new ≡ setting_of self.old }
     {
         cedar_world::texts_are_one();

@@ -5,6 +5,8 @@ mod ContextErrors
 mod Members
 mod Called
 mod Lookups
+mod InForce
+mod FreeSlots
 mod FoundInForce
 pub mod NoLookups
 mod KnownAnswer

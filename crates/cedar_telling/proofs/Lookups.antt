@@ -1,9 +1,10 @@
 -- Where a tree calls functions that are there, no look-up fails in its evaluation; and so it is of the policies of a text.
-use Rattle.std.proofs.Common.{◌≡◌, ◌≢◌, Bool, true, false, cond, ◌&&◌, not, Option, Some, None, is_some, IsSome, refl, sym, ◌∙◌, ap, subst}
+use Rattle.std.proofs.Common.{◌≡◌, ◌≢◌, Bool, true, false, cond, ◌&&◌, not, Option, Some, None, is_some, IsSome, List, [], refl, sym, ◌∙◌, ap, subst}
 use Rattle.std.specs.FinMap as finite
 use Rattle.cedar_language.specs.Uid.{Text, Name, Uid}
-use Rattle.cedar_language.specs.Tree.{Boolean, ValueType, Variable, Principal, Action, Resource, Context, MakeRecord, Tree, Apply}
-use Rattle.cedar_language.specs.Value.{Value, Plain, Kind, FailedExtensionFunctionLookup, Outcome, Gives, Fails}
+use Rattle.cedar_language.specs.Tree.{Boolean, ValueType, Variable, Principal, Action, Resource, Context, SlotId, MakeRecord, Tree, Apply}
+use Rattle.cedar_language.specs.Slots.{bound_tree}
+use Rattle.cedar_language.specs.Value.{Value, Plain, Kind, TypeError, RecordAttrDoesNotExist, FailedExtensionFunctionLookup, Outcome, Gives, Fails}
 use Rattle.cedar_language.specs.Constructing.{the_constructor, is_the_constructor, constructor_function}
 use Rattle.cedar_language.specs.Facts.{Facts}
 use Rattle.cedar_language.specs.Operators as operators
@@ -11,6 +12,7 @@ use Rattle.cedar_language.specs.Meaning.{Slots, slot_outcome}
 use Rattle.cedar_language.specs.Answering.{Erring}
 use Rattle.cedar_partial_evaluation.specs.Early.{standing_of_answer}
 use Rattle.cedar_partial_evaluation.specs.Linking.{no_slots}
+use Rattle.cedar_partial_evaluation.specs.LinkingEarly.{StandAlike, LinkingIsWritingEarly}
 use Rattle.cedar_partial_evaluation.specs.Partial.{Answer, Evaluated, ResidualTree, Failed, LeafAnswers, answer_of, partial_in}
 use Rattle.cedar_partial_evaluation.specs.Question.{Part, Given, Missing, Entries, NoContext, WithEntries, Question, Told, entity_type, value_held, name_held, part_held, held_names, context_held, variable_held, held_of}
 use Rattle.cedar_partial_evaluation.specs.Reauthorizing.{condition_again}
@@ -19,15 +21,16 @@ use Rattle.cedar_grammar.specs.Laws.{LinkConditions}
 use Rattle.cedar_world.specs.Functions.{function_of, is_the_unknown}
 use Rattle.cedar_world.specs.KnownKinds.{IsOrdinary, ErrsOrdinarily}
 use Rattle.cedar_world.specs.NameLaws.{is_answered, CallsAreFound}
-use Rattle.cedar_world.specs.Setting.{Setting}
+use Rattle.cedar_world.specs.Bodies.{ask_body}
+use Rattle.cedar_world.specs.Setting.{Setting, ArePolicies, IsBody}
 use Rattle.cedar_world.specs.World.{Entities, AreFacts}
-use Rattle.cedar_world.specs.Syntax.{PolicySyntax, binding_of, linked, condition}
+use Rattle.cedar_world.specs.Syntax.{PolicySyntax, Bindings, binding_of, linked, condition}
 use Rattle.cedar_world.proofs.OrdinaryErrors.{applied_fine}
-use Rattle.cedar_telling.specs.Lookups.{finds_all, IsFoundAnswer, AreFoundLeaves, FoundAnswers, FindsFunctions, EarlyTextsFindFunctions}
+use Rattle.cedar_telling.specs.Lookups.{finds_all, IsFoundAnswer, FoundAnswers, FindsFunctions, EarlyTextsFindFunctions, ErrsOrdinarilyFirst}
 use Rattle.cedar_telling.proofs.Both.{and_left}
-use Rattle.cedar_telling.proofs.CallsLeft.{IsKept, kept}
+use Rattle.cedar_telling.proofs.CallsLeft.{IsKept, AreKeptLeaves, kept}
 use Rattle.cedar_telling.proofs.Called.{ContextCalls, question_calls, fewer_pass, bound_calls, of_each}
-use Rattle.cedar_telling.proofs.Members.{contained}
+use Rattle.cedar_telling.proofs.Members.{IsAmong, contained}
 
 -- ---- evaluations
 
@@ -39,6 +42,9 @@ module _ (facts : Facts) where
   abbrev NoLookup : Kind → Type 0
   NoLookup k = k ≢ FailedExtensionFunctionLookup
 
+  ordinary_is_none : (k : Kind) → IsOrdinary k → NoLookup k
+  ordinary_is_none k h e = subst IsOrdinary e h
+
   to_found : (p : Answer) → IsKept there NoLookup p → IsFoundAnswer facts p
   to_found (Evaluated v) h = tt
   to_found (ResidualTree t) h = h
@@ -49,82 +55,112 @@ module _ (facts : Facts) where
   of_found (ResidualTree t) h = h
   of_found (Failed k) h = h
 
-  outcome_kept : (o : Outcome) → ErrsOrdinarily o → IsKept there NoLookup (answer_of o)
-  outcome_kept (Gives v) h = tt
-  outcome_kept (Fails k) h = λ e. subst IsOrdinary e h
+-- where ordinary errors are fine, with functions that are there
+module _ (IsFine : Kind → Type 0) (facts : Facts) (fine : (k : Kind) → IsOrdinary k → IsFine k) (constructs : IsSome (facts.function the_constructor)) where
+  abbrev IsFineAnswer : Answer → Type 0
+  IsFineAnswer = IsKept (there facts) IsFine
 
-  module _ (constructs : IsSome (facts.function the_constructor)) where
-    found : (holds : LeafAnswers) → AreFoundLeaves facts holds → (t : Tree) → finds_all facts t ≡ true → IsFoundAnswer facts (partial_in facts holds t)
-    found holds leaves t h =
-        to_found _
-        (kept there NoLookup facts
-        (record { constructs = constructs; type_error = λ e. cc; no_attribute = λ e. cc; applied = λ o vs c. outcome_kept (operators.applied facts o vs) (applied_fine facts there (λ name h. h) o vs c) }) holds
-        (record { variable = λ v. of_found _ (leaves.variable v); unknown = λ n ty. of_found _ (leaves.unknown n ty); slot = λ s. of_found _ (leaves.slot s) }) t h)
+  outcome_fine : (o : Outcome) → ErrsOrdinarily o → IsFineAnswer (answer_of o)
+  outcome_fine (Gives v) h = tt
+  outcome_fine (Fails k) h = fine k h
 
-    -- ---- what is held of a question
+  answer_fine : (holds : LeafAnswers) → AreKeptLeaves (there facts) IsFine holds → (t : Tree) → finds_all facts t ≡ true → IsFineAnswer (partial_in facts holds t)
+  answer_fine =
+      kept (there facts) IsFine facts
+      (record { constructs = constructs; type_error = fine TypeError tt; no_attribute = fine RecordAttrDoesNotExist tt; applied = λ o vs c. outcome_fine (operators.applied facts o vs) (applied_fine facts (there facts) (λ name h. h) o vs c) })
 
-    value_found : (b : Bool) (v : Value) → IsFoundAnswer facts (value_held b v)
-    value_found true v = tt
-    value_found false v = λ e. cc
+  -- ---- what is held of a question
 
-    name_found : (o : Option Value) (n : Text) (ty : Option ValueType) → IsFoundAnswer facts (name_held o n ty)
-    name_found (Some v) n ty = value_found (fits ty v) v
-    name_found None n ty = refl
+  value_fine : (b : Bool) (v : Value) → IsFineAnswer (value_held b v)
+  value_fine true v = tt
+  value_fine false v = fine TypeError tt
 
-    part_found : (p : Part) (o : Option Value) (n : Text) → IsFoundAnswer facts (part_held p o n)
-    part_found (Given u) o n = tt
-    part_found (Missing ty) o n = name_found o n (entity_type ty)
+  name_fine : (o : Option Value) (n : Text) (ty : Option ValueType) → IsFineAnswer (name_held o n ty)
+  name_fine (Some v) n ty = value_fine (fits ty v) v
+  name_fine None n ty = refl
 
-    slot_found : (o : Option Uid) → IsFoundAnswer facts (answer_of (slot_outcome o))
-    slot_found (Some u) = tt
-    slot_found None = λ e. cc
+  part_fine : (p : Part) (o : Option Value) (n : Text) → IsFineAnswer (part_held p o n)
+  part_fine (Given u) o n = tt
+  part_fine (Missing ty) o n = name_fine o n (entity_type ty)
 
-    names_found : (told : Told) → AreFoundLeaves facts (held_names told)
-    names_found told = record { variable = λ v. refl; unknown = λ n ty. name_found (finite.get told n) n ty; slot = λ s. refl }
+  names_fine : (told : Told) → AreKeptLeaves (there facts) IsFine (held_names told)
+  names_fine told = record { variable = λ v. refl; unknown = λ n ty. name_fine (finite.get told n) n ty; slot = λ s. refl }
 
-    context_found : (told : Told) (c : Entries) → ContextCalls there c → IsFoundAnswer facts (context_held facts told c)
-    context_found told NoContext h = name_found _ _ None
-    context_found told (WithEntries ks ts) h = found (held_names told) (names_found told) (Apply (MakeRecord ks) ts) h
+  context_fine : (told : Told) (c : Entries) → ContextCalls (there facts) c → IsFineAnswer (context_held facts told c)
+  context_fine told NoContext h = name_fine _ _ None
+  context_fine told (WithEntries ks ts) h = answer_fine (held_names told) (names_fine told) (Apply (MakeRecord ks) ts) h
 
-    module _ (q : Question) (calls : ContextCalls there q.context) where
-      variable_found : (told : Told) (v : Variable) → IsFoundAnswer facts (variable_held facts q told v)
-      variable_found told Principal = part_found q.principal _ _
-      variable_found told Action = part_found q.action _ _
-      variable_found told Resource = part_found q.resource _ _
-      variable_found told Context = context_found told q.context calls
+  -- ---- how a policy stands
 
-      held_found : (slots : Slots) (told : Told) → AreFoundLeaves facts (held_of facts q slots told)
-      held_found slots told = record { variable = variable_found told; unknown = λ n ty. name_found (finite.get told n) n ty; slot = λ s. slot_found (slots s) }
+  kind_fine : (p : Answer) → IsFineAnswer p → (k : Kind) → Erring k ≡ standing_of_answer p → IsFine k
+  kind_fine (Evaluated (Plain (Boolean true))) h k e = cc
+  kind_fine (Evaluated (Plain (Boolean false))) h k e = cc
+  kind_fine (Evaluated _) h k e = let same : TypeError ≡ k = cc in subst IsFine same (fine TypeError tt)
+  kind_fine (ResidualTree t) h k e = cc
+  kind_fine (Failed l) h k e = let same : l ≡ k = cc in subst IsFine same h
 
-      -- ---- how a policy stands
+  module _ (q : Question) (calls : ContextCalls (there facts) q.context) where
+    variable_fine : (told : Told) (v : Variable) → IsFineAnswer (variable_held facts q told v)
+    variable_fine told Principal = part_fine q.principal _ _
+    variable_fine told Action = part_fine q.action _ _
+    variable_fine told Resource = part_fine q.resource _ _
+    variable_fine told Context = context_fine told q.context calls
 
-      kind_found : (p : Answer) → IsFoundAnswer facts p → (k : Kind) → Erring k ≡ standing_of_answer p → k ≢ FailedExtensionFunctionLookup
-      kind_found (Evaluated (Plain (Boolean true))) h k e = cc
-      kind_found (Evaluated (Plain (Boolean false))) h k e = cc
-      kind_found (Evaluated _) h k e = λ same. cc
-      kind_found (ResidualTree t) h k e = cc
-      kind_found (Failed l) h k e = λ same. h cc
-
-      again_calls : (p : Answer) → IsFoundAnswer facts p → finds_all facts (condition_again p) ≡ true
-      again_calls (Evaluated (Plain (Boolean true))) h = refl
-      again_calls (Evaluated _) h = refl
-      again_calls (ResidualTree t) h = h
-      again_calls (Failed k) h = refl
-
-      answer_found : (slots : Slots) (told : Told) (t : Tree) → finds_all facts t ≡ true → IsFoundAnswer facts (partial_in facts (held_of facts q slots told) t)
-      answer_found slots told = found (held_of facts q slots told) (held_found slots told)
-
-      pub policy_finds : (told : Told) (s : PolicySyntax) → finds_all facts (condition s) ≡ true → FindsFunctions facts q told s
-      policy_finds told s h = record {
-        early = kind_found (partial_in facts (held_of facts q no_slots told) (condition s)) (answer_found no_slots told (condition s) h);
-        again = λ k so.
-            let unbound = sym (bound_calls there so.slots so.unbound) ∙ sym (ap (finds_all facts) so.binds) ∙ h in
-            let left = condition_again (partial_in facts (held_of facts q so.slots finite.empty) so.unbound) in
-            kind_found (partial_in facts (held_of facts q no_slots told) left) (answer_found no_slots told left (again_calls _ (answer_found so.slots finite.empty so.unbound unbound))) k so.stands;
-      }
+    -- where slots are fine
+    held_fine : (slots : Slots) → ((s : SlotId) → IsFineAnswer (answer_of (slot_outcome (slots s)))) → (told : Told) (t : Tree) → finds_all facts t ≡ true
+        → IsFineAnswer (partial_in facts (held_of facts q slots told) t)
+    held_fine slots bound told =
+        answer_fine (held_of facts q slots told) (record { variable = variable_fine told; unknown = λ n ty. name_fine (finite.get told n) n ty; slot = bound })
 
 pub found_answers : FoundAnswers
-found_answers = λ facts constructs holds leaves t h. found facts constructs holds leaves t h
+found_answers = λ facts constructs holds leaves t h.
+    to_found facts _
+    (answer_fine (NoLookup facts) facts (ordinary_is_none facts) constructs holds
+    (record { variable = λ v. of_found facts _ (leaves.variable v); unknown = λ n ty. of_found facts _ (leaves.unknown n ty); slot = λ s. of_found facts _ (leaves.slot s) }) t h)
+
+-- any entity
+pub an_entity : Uid
+an_entity = record { type_name = []; id = [] }
+
+module _ (facts : Facts) (constructs : IsSome (facts.function the_constructor)) (q : Question) (calls : ContextCalls (there facts) q.context) where
+  slot_found : (o : Option Uid) → IsKept (there facts) (NoLookup facts) (answer_of (slot_outcome o))
+  slot_found (Some u) = tt
+  slot_found None = λ e. cc
+
+  found : (slots : Slots) (told : Told) (t : Tree) → finds_all facts t ≡ true → IsKept (there facts) (NoLookup facts) (partial_in facts (held_of facts q slots told) t)
+  found slots = held_fine (NoLookup facts) facts (ordinary_is_none facts) constructs q calls slots (λ s. slot_found (slots s))
+
+  again_calls : (p : Answer) → IsKept (there facts) (NoLookup facts) p → finds_all facts (condition_again p) ≡ true
+  again_calls (Evaluated (Plain (Boolean true))) h = refl
+  again_calls (Evaluated _) h = refl
+  again_calls (ResidualTree t) h = h
+  again_calls (Failed k) h = refl
+
+  pub policy_finds : (told : Told) (s : PolicySyntax) → finds_all facts (condition s) ≡ true → FindsFunctions facts q told s
+  policy_finds told s h = record {
+    early = kind_fine (NoLookup facts) facts (ordinary_is_none facts) constructs (partial_in facts (held_of facts q no_slots told) (condition s)) (found no_slots told (condition s) h);
+    again = λ k so.
+        let unbound = sym (bound_calls (there facts) so.slots so.unbound) ∙ sym (ap (finds_all facts) so.binds) ∙ h in
+        let left = condition_again (partial_in facts (held_of facts q so.slots finite.empty) so.unbound) in
+        kind_fine (NoLookup facts) facts (ordinary_is_none facts) constructs (partial_in facts (held_of facts q no_slots told) left) (found no_slots told left (again_calls _ (found so.slots finite.empty so.unbound unbound))) k so.stands;
+  }
+
+  -- ---- slots
+
+  -- an answer that stands as one with ordinary errors has such too
+  alike_ordinary : (p r : Answer) → IsKept (there facts) IsOrdinary p → StandAlike p r → (k : Kind) → Erring k ≡ standing_of_answer r → IsOrdinary k
+  alike_ordinary (Evaluated v) r h e k is = kind_fine IsOrdinary facts (λ l o. o) constructs (Evaluated v) tt k (is ∙ ap standing_of_answer e)
+  alike_ordinary (ResidualTree t) r h e k is = kind_fine IsOrdinary facts (λ l o. o) constructs (ResidualTree t) h k (is ∙ ap standing_of_answer e.1)
+  alike_ordinary (Failed l) r h e k is = kind_fine IsOrdinary facts (λ m o. o) constructs (Failed l) h k (is ∙ ap standing_of_answer e)
+
+  -- where no slot stands in a condition, it is answered as with any entities in the slots' places
+  pub policy_errs_ordinarily : LinkingIsWritingEarly → (told : Told) (s : PolicySyntax) → finds_all facts (condition s) ≡ true → bound_tree (λ slot. Some an_entity) (condition s) ≡ condition s
+      → ErrsOrdinarilyFirst facts q told s
+  policy_errs_ordinarily linking told s h stays =
+      let slots : Slots = λ slot. Some an_entity in
+      let filled = partial_in facts (held_of facts q slots told) (condition s) in
+      alike_ordinary filled (partial_in facts (held_of facts q no_slots told) (condition s)) (held_fine IsOrdinary facts (λ k o. o) constructs q calls slots (λ slot. tt) told (condition s) h)
+      (subst (λ t. StandAlike filled (partial_in facts (held_of facts q no_slots told) t)) stays (linking.answers facts q slots told (condition s)))
 
 -- ---- policies of a text
 
@@ -140,14 +176,22 @@ module _ (by : Setting) {entities : Entities} (facts : Facts) (are : AreFacts by
   pub constructor_there : IsSome (facts.function the_constructor)
   constructor_there = ap is_some (are.function the_constructor)
 
+  pub texts_find : CallsAreFound by → (text : Text) (ss : List PolicySyntax) → ArePolicies by text ss → (s : PolicySyntax) → IsAmong s ss → finds_all facts (condition s) ≡ true
+  texts_find calls text ss reads s among =
+      let passes : Name → Bool = λ name. is_answered by.functions name && not (is_the_unknown name) in
+      fewer_pass passes (there facts) (λ name h. answered_there name (and_left (is_answered by.functions name) _ h)) (condition s) (of_each _ ss (calls.policies text ss reads) s among)
+
+  pub context_finds : CallsAreFound by → (body : Text) (tree : Tree) (q : Question) → IsBody by body tree → ask_body tree ≡ Some q → ContextCalls (there facts) q.context
+  context_finds calls body tree q is asks = question_calls (is_answered by.functions) (there facts) answered_there tree q (calls.bodies body tree is) asks
+
+-- binding slots adds no call
+pub links_find : LinkConditions → (facts : Facts) (b : Bindings) (s : PolicySyntax) → finds_all facts (condition s) ≡ true → finds_all facts (condition (linked b s)) ≡ true
+links_find links facts b s h = ap (finds_all facts) (links (binding_of b) s) ∙ bound_calls (there facts) (binding_of b) (condition s) ∙ h
+
 pub early_texts_find_functions : LinkConditions → ((by : Setting) → CallsAreFound by) → EarlyTextsFindFunctions
-early_texts_find_functions links calls by entities facts are text ss reads s among body tree q is_body asks told =
-    let answered = answered_there by facts are in
-    let constructs = constructor_there by facts are in
-    let context = question_calls (is_answered by.functions) (there facts) answered tree q ((calls by).bodies body tree is_body) asks in
-    let passes : Name → Bool = λ name. is_answered by.functions name && not (is_the_unknown name) in
-    let written = fewer_pass passes (there facts) (λ name h. answered name (and_left (is_answered by.functions name) _ h)) (condition s) (of_each _ ss ((calls by).policies text ss reads) s (contained ss s among)) in (
-      policy_finds facts constructs q context told s written,
-      λ b.
-          policy_finds facts constructs q context told (linked b s) (ap (finds_all facts) (links (binding_of b) s) ∙ bound_calls (there facts) (binding_of b) (condition s) ∙ written),
+early_texts_find_functions links calls by entities facts are text ss reads s among body tree q is asks told =
+    let context = context_finds by facts are (calls by) body tree q is asks in
+    let finds = texts_find by facts are (calls by) text ss reads s (contained ss s among) in (
+      policy_finds facts (constructor_there by facts are) q context told s finds,
+      λ b. policy_finds facts (constructor_there by facts are) q context told (linked b s) (links_find links facts b s finds),
     )

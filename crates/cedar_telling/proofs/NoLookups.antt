@@ -11,7 +11,7 @@ use Rattle.cedar_world.specs.Syntax.{PolicySyntax}
 use Rattle.cedar_world.specs.World.{World, in_force_at}
 use Rattle.cedar_world.specs.WorldFacts.{facts_of, WorldsHaveFacts}
 use Rattle.cedar_telling.specs.Joined.{IsJoined}
-use Rattle.cedar_telling.specs.Lookups.{PoliciesInForceFindFunctions, ListsStanding, NamesNoLookup, AnswersNameNoLookup}
+use Rattle.cedar_telling.specs.Lookups.{PoliciesInForceFindFunctions, ListsStanding, NamesNoLookup, PoliciesInForceErrOrdinarily, AnswersNameNoLookup}
 
 -- what the rules say of policies that stand so lists no other errors
 pub rules_list : (world : World) (Stands : PolicySyntax → Standing → Type 0) (js : List Judged) (answer : Answer) → Judges world Stands js → Says js answer → ListsStanding world Stands answer
@@ -31,11 +31,11 @@ no_lookup last new answer joined old now id e = of_either (either (finite.get la
     of_either (inl h) = old id h
     of_either (inr h) = now id h
 
-pub answers_name_no_lookup : PoliciesInForceFindFunctions → WorldsHaveFacts → AnswersNameNoLookup
-answers_name_no_lookup finds exist = record {
-  first = λ by commands replies world reached q (body, tree, is, asks) answer lists id e.
-      let (s, force, stands) = lists id FailedExtensionFunctionLookup e in
-      (finds by commands replies world reached (facts_of by world) (exist.exist by world) id s force body tree q is asks finite.empty).early FailedExtensionFunctionLookup stands refl;
+pub answers_name_no_lookup : PoliciesInForceFindFunctions → PoliciesInForceErrOrdinarily → WorldsHaveFacts → AnswersNameNoLookup
+answers_name_no_lookup finds ordinary exist = record {
+  first = λ by commands replies world reached q (body, tree, is, asks) answer lists id k e.
+      let (s, force, stands) = lists id k e in
+      ordinary by commands replies world reached (facts_of by world) (exist.exist by world) id s force body tree q is asks finite.empty k stands;
   later = λ by commands replies world reached q (body, tree, is, asks) told last new answer lists joined old.
       no_lookup last new answer joined old (λ id e.
       let (s, force, stands) = lists id FailedExtensionFunctionLookup e in

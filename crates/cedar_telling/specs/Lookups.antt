@@ -1,4 +1,5 @@
--- No early answer names a failed look-up of a function. (Cedar language reference, "Extension functions".)
+-- No early answer names a failed look-up of a function, and no first one a slot that isn't linked. (Cedar language reference,
+-- "Extension functions" and "Policy templates".)
 use Rattle.std.specs.Prelude.{◌≡◌, ◌≢◌, Bool, true, ◌&&◌, Option, Some, is_some, IsSome, List, Contains}
 use Rattle.std.specs.FinMap as finite
 use Rattle.cedar_language.specs.Uid.{Text, Name}
@@ -13,6 +14,7 @@ use Rattle.cedar_world.specs.Answer.{Answer as Answered}
 use Rattle.cedar_world.specs.Asking.{Question, Told}
 use Rattle.cedar_world.specs.Bodies.{ask_body}
 use Rattle.cedar_world.specs.Commands.{Reply}
+use Rattle.cedar_world.specs.KnownKinds.{IsOrdinary}
 use Rattle.cedar_world.specs.Session.{Command, IsReached}
 use Rattle.cedar_world.specs.Setting.{Setting, ArePolicies, IsBody}
 use Rattle.cedar_world.specs.Standing.{StandsEarly}
@@ -86,6 +88,19 @@ PoliciesInForceFindFunctions =
     → (body : Text) (tree : Tree) (q : Question) → IsBody by body tree → ask_body tree ≡ Some q
     → (told : Told) → FindsFunctions facts q told s
 
+-- the policy errs with no slot that isn't linked either when the question is asked
+abbrev pub ErrsOrdinarilyFirst : Facts → Question → Told → PolicySyntax → Type 0
+ErrsOrdinarilyFirst facts q told s = (k : Kind) → StandsEarly facts q told s (Erring k) → IsOrdinary k
+
+-- So does each policy that is in force after any list of commands.
+abbrev pub PoliciesInForceErrOrdinarily : Type 0
+PoliciesInForceErrOrdinarily =
+    (by : Setting) (commands : List Command) (replies : List Reply) (world : World) → IsReached by commands replies world
+    → (facts : Facts) → AreFacts by.functions world.entities facts
+    → (id : Text) (s : PolicySyntax) → in_force_at world.policies id ≡ Some s
+    → (body : Text) (tree : Tree) (q : Question) → IsBody by body tree → ask_body tree ≡ Some q
+    → (told : Told) → ErrsOrdinarilyFirst facts q told s
+
 -- ---- answers
 
 -- each error that the answer lists is one with which a policy in force stands
@@ -97,15 +112,19 @@ ListsStanding world Stands answer =
 abbrev pub NamesNoLookup : Answered → Type 0
 NamesNoLookup answer = (id : Text) → finite.get answer.erring id ≡ Some FailedExtensionFunctionLookup → ⊥
 
+-- no error is a failed look-up, or a slot that isn't linked
+abbrev pub NamesOrdinaryErrors : Answered → Type 0
+NamesOrdinaryErrors answer = (id : Text) (k : Kind) → finite.get answer.erring id ≡ Some k → IsOrdinary k
+
 -- some body asks the question
 abbrev pub IsAskedBy : Setting → Question → Type 0
 IsAskedBy by q = (body : Text) × (tree : Tree) × IsBody by body tree × (ask_body tree ≡ Some q)
 
 -- So no answer names a failed look-up, in a world that is reached by commands: neither one to a question that a body asks,
--- nor one that is joined with it once more is told.
+-- nor one that is joined with it once more is told; and the first names no slot that isn't linked.
 pub record AnswersNameNoLookup : Type 0 where
   pub first : (by : Setting) (commands : List Command) (replies : List Reply) (world : World) → IsReached by commands replies world
-      → (q : Question) → IsAskedBy by q → (answer : Answered) → ListsStanding world (StandsEarly (facts_of by world) q finite.empty) answer → NamesNoLookup answer
+      → (q : Question) → IsAskedBy by q → (answer : Answered) → ListsStanding world (StandsEarly (facts_of by world) q finite.empty) answer → NamesOrdinaryErrors answer
   pub later : (by : Setting) (commands : List Command) (replies : List Reply) (world : World) → IsReached by commands replies world
       → (q : Question) → IsAskedBy by q → (told : Told) (last new answer : Answered) → ListsStanding world (StandsAgain (facts_of by world) q told) new
       → IsJoined last new answer → NamesNoLookup last → NamesNoLookup answer

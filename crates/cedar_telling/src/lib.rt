@@ -4,7 +4,7 @@
 ghost use Rattle.cedar_telling.specs.Again.{AgainIsSound, EarlyStaysSound};
 ghost use Rattle.cedar_telling.specs.ContextErrors.{ContextsErrInParts};
 ghost use Rattle.cedar_telling.specs.Joined.{FirstAnswersAreSteady, LaterAnswersStand};
-ghost use Rattle.cedar_telling.specs.Lookups.{EarlyTextsFindFunctions, PoliciesInForceFindFunctions, FoundAnswers, AnswersNameNoLookup};
+ghost use Rattle.cedar_telling.specs.Lookups.{EarlyTextsFindFunctions, PoliciesInForceFindFunctions, PoliciesInForceErrOrdinarily, FoundAnswers, AnswersNameNoLookup};
 ghost use Rattle.cedar_telling.specs.Plain.{PlainAnswers};
 
 // ---- evaluations
@@ -61,6 +61,17 @@ pub fn policies_in_force_find_functions()
     cedar_world::calls_are_found();
 }
 
+/// None of these errs with a slot that isn't linked either when the question is asked.
+pub fn policies_in_force_err_ordinarily()
+    ensures { PoliciesInForceErrOrdinarily }
+{
+    cedar_grammar::linking_binds_the_condition();
+    cedar_grammar::slots_stand_in_scopes();
+    cedar_partial_evaluation::linking_is_writing_early();
+    cedar_world::link_laws();
+    cedar_world::calls_are_found();
+}
+
 /// What was left of policies when a question was asked, evaluated again once more is told, has them stand as their conditions do.
 pub fn again_is_sound()
     ensures { AgainIsSound }
@@ -83,11 +94,13 @@ pub fn again_is_sound()
 
 // ---- answers
 
-/// No answer names a failed look-up of a function, when a body's question is asked or once more is told.
+/// No answer names a failed look-up of a function, when a body's question is asked or once more is told, and the first
+/// none of a slot that isn't linked.
 pub fn answers_name_no_lookup()
     ensures { AnswersNameNoLookup }
 {
     crate::policies_in_force_find_functions();
+    crate::policies_in_force_err_ordinarily();
     cedar_world::worlds_have_facts();
 }
 

@@ -72,8 +72,8 @@ returns-clause-step g c =
     answered by (world_of self) c.args.text.now (c.texts_are_one.ensures.bodies by) tree read.0 read.1 c.in_ok-body.body.restricted asked.0 asked.1 asked.2.fine asked.2.named
     c.in_ok-first.answer c.in_ok-kept.kept c.in_ok-kept.ensures.cases c.new.result.entries c.new.ensures.empty first.answers
 
-pub returns-clause-lookups : goal.returns-clause-lookups
-returns-clause-lookups g c = λ commands replies reached.
+pub returns-clause-ordinary : goal.returns-clause-ordinary
+returns-clause-ordinary g c = λ commands replies reached.
     let self = c.args.self.now in
     let by = setting_of self in
     let tree = restricted_tree c.in_ok-body.body in
