@@ -21,7 +21,7 @@ use Rattle.cedar_world.specs.Setting.{Setting, IsBodyWithin, BodiesAreOne}
 use Rattle.cedar_world.specs.Step.{Step, IsLaterAnswer, opens}
 use Rattle.cedar_world.specs.World.{World, Asked as Opened, Policies, Entities}
 use Rattle.cedar_telling.specs.Lookups.{NamesNoLookup, IsAskedBy, AnswersNameNoLookup}
-use Rattle.cedar_world.proofs.Parts.{not_none}
+use Rattle.cedar_world.proofs.Parts.{not_none, same_some}
 use Rattle.cedar_asking.specs.Answering.{AreOf}
 use Rattle.cedar_asking.specs.Answers.{IsSettingOf}
 use Rattle.cedar_bodies.specs.Built.{HoldBuilt}
@@ -50,9 +50,6 @@ use Rattle.cedar_session.proofs.Telling.{context_fails, too_deep, no_memory, tol
 is_stated : (o : Option Question) → (o ≡ None → ⊥) → o ≡ Some (unwrap_or o nothing_given)
 is_stated (Some q) h = refl
 is_stated None h = absurd (h refl)
-
-one_asked : (x y : Opened) → Some x ≡ Some y → x ≡ y
-one_asked x y e = cc
 
 no_two : (x y : ⊥) → x ≡ y
 no_two x y = absurd x
@@ -138,7 +135,7 @@ module _ (by : Setting) (policies : Policies) (entities : Entities) where
       -- no error is a failed look-up, where commands lead here, a body asked the question and the last answer names none
       pub names_no_lookup : AnswersNameNoLookup → (answer : Answer) → Says table all s (Ok answer) → LaterFindsFunctions by (world_with o) (answer_of answer)
       names_no_lookup law answer says commands replies reached open_now at asks last id e =
-          let same : asked_of asked ≡ open_now = one_asked (asked_of asked) open_now (sym was_open ∙ at) in
+          let same : asked_of asked ≡ open_now = same_some (asked_of asked) open_now (sym was_open ∙ at) in
           ∥∥₁_elim kept no_two (λ k.
           let joins = (answered (Ok answer) says k).joins in
           law.later by commands replies bare (record { policies = reached.policies; entities = reached.entities; links = reached.links; no_cycle = reached.no_cycle }) question

@@ -34,16 +34,16 @@ use Rattle.cedar_telling.proofs.Members.{IsAmong, contained}
 
 -- ---- evaluations
 
+abbrev NoLookup : Kind → Type 0
+NoLookup k = k ≢ FailedExtensionFunctionLookup
+
+ordinary_is_none : (k : Kind) → IsOrdinary k → NoLookup k
+ordinary_is_none k h e = subst IsOrdinary e h
+
 module _ (facts : Facts) where
   -- there is a function of this name
   abbrev pub there : Name → Bool
   there name = is_some (facts.function name)
-
-  abbrev NoLookup : Kind → Type 0
-  NoLookup k = k ≢ FailedExtensionFunctionLookup
-
-  ordinary_is_none : (k : Kind) → IsOrdinary k → NoLookup k
-  ordinary_is_none k h e = subst IsOrdinary e h
 
   to_found : (p : Answer) → IsKept there NoLookup p → IsFoundAnswer facts p
   to_found (Evaluated v) h = tt
@@ -90,15 +90,6 @@ module _ (IsFine : Kind → Type 0) (facts : Facts) (fine : (k : Kind) → IsOrd
   context_fine told NoContext h = name_fine _ _ None
   context_fine told (WithEntries ks ts) h = answer_fine (held_names told) (names_fine told) (Apply (MakeRecord ks) ts) h
 
-  -- ---- how a policy stands
-
-  kind_fine : (p : Answer) → IsFineAnswer p → (k : Kind) → Erring k ≡ standing_of_answer p → IsFine k
-  kind_fine (Evaluated (Plain (Boolean true))) h k e = cc
-  kind_fine (Evaluated (Plain (Boolean false))) h k e = cc
-  kind_fine (Evaluated _) h k e = let same : TypeError ≡ k = cc in subst IsFine same (fine TypeError tt)
-  kind_fine (ResidualTree t) h k e = cc
-  kind_fine (Failed l) h k e = let same : l ≡ k = cc in subst IsFine same h
-
   module _ (q : Question) (calls : ContextCalls (there facts) q.context) where
     variable_fine : (told : Told) (v : Variable) → IsFineAnswer (variable_held facts q told v)
     variable_fine told Principal = part_fine q.principal _ _
@@ -115,22 +106,32 @@ module _ (IsFine : Kind → Type 0) (facts : Facts) (fine : (k : Kind) → IsOrd
 pub found_answers : FoundAnswers
 found_answers = λ facts constructs holds leaves t h.
     to_found facts _
-    (answer_fine (NoLookup facts) facts (ordinary_is_none facts) constructs holds
+    (answer_fine NoLookup facts ordinary_is_none constructs holds
     (record { variable = λ v. of_found facts _ (leaves.variable v); unknown = λ n ty. of_found facts _ (leaves.unknown n ty); slot = λ s. of_found facts _ (leaves.slot s) }) t h)
+
+-- ---- how a policy stands
+
+module _ (IsFine : Kind → Type 0) (facts : Facts) (fine : (k : Kind) → IsOrdinary k → IsFine k) where
+  kind_fine : (p : Answer) → IsKept (there facts) IsFine p → (k : Kind) → Erring k ≡ standing_of_answer p → IsFine k
+  kind_fine (Evaluated (Plain (Boolean true))) h k e = cc
+  kind_fine (Evaluated (Plain (Boolean false))) h k e = cc
+  kind_fine (Evaluated _) h k e = let same : TypeError ≡ k = cc in subst IsFine same (fine TypeError tt)
+  kind_fine (ResidualTree t) h k e = cc
+  kind_fine (Failed l) h k e = let same : l ≡ k = cc in subst IsFine same h
 
 -- any entity
 pub an_entity : Uid
 an_entity = record { type_name = []; id = [] }
 
 module _ (facts : Facts) (constructs : IsSome (facts.function the_constructor)) (q : Question) (calls : ContextCalls (there facts) q.context) where
-  slot_found : (o : Option Uid) → IsKept (there facts) (NoLookup facts) (answer_of (slot_outcome o))
+  slot_found : (o : Option Uid) → IsKept (there facts) NoLookup (answer_of (slot_outcome o))
   slot_found (Some u) = tt
   slot_found None = λ e. cc
 
-  found : (slots : Slots) (told : Told) (t : Tree) → finds_all facts t ≡ true → IsKept (there facts) (NoLookup facts) (partial_in facts (held_of facts q slots told) t)
-  found slots = held_fine (NoLookup facts) facts (ordinary_is_none facts) constructs q calls slots (λ s. slot_found (slots s))
+  found : (slots : Slots) (told : Told) (t : Tree) → finds_all facts t ≡ true → IsKept (there facts) NoLookup (partial_in facts (held_of facts q slots told) t)
+  found slots = held_fine NoLookup facts ordinary_is_none constructs q calls slots (λ s. slot_found (slots s))
 
-  again_calls : (p : Answer) → IsKept (there facts) (NoLookup facts) p → finds_all facts (condition_again p) ≡ true
+  again_calls : (p : Answer) → IsKept (there facts) NoLookup p → finds_all facts (condition_again p) ≡ true
   again_calls (Evaluated (Plain (Boolean true))) h = refl
   again_calls (Evaluated _) h = refl
   again_calls (ResidualTree t) h = h
@@ -138,20 +139,20 @@ module _ (facts : Facts) (constructs : IsSome (facts.function the_constructor)) 
 
   pub policy_finds : (told : Told) (s : PolicySyntax) → finds_all facts (condition s) ≡ true → FindsFunctions facts q told s
   policy_finds told s h = record {
-    early = kind_fine (NoLookup facts) facts (ordinary_is_none facts) constructs (partial_in facts (held_of facts q no_slots told) (condition s)) (found no_slots told (condition s) h);
+    early = kind_fine NoLookup facts ordinary_is_none (partial_in facts (held_of facts q no_slots told) (condition s)) (found no_slots told (condition s) h);
     again = λ k so.
         let unbound = sym (bound_calls (there facts) so.slots so.unbound) ∙ sym (ap (finds_all facts) so.binds) ∙ h in
         let left = condition_again (partial_in facts (held_of facts q so.slots finite.empty) so.unbound) in
-        kind_fine (NoLookup facts) facts (ordinary_is_none facts) constructs (partial_in facts (held_of facts q no_slots told) left) (found no_slots told left (again_calls _ (found so.slots finite.empty so.unbound unbound))) k so.stands;
+        kind_fine NoLookup facts ordinary_is_none (partial_in facts (held_of facts q no_slots told) left) (found no_slots told left (again_calls _ (found so.slots finite.empty so.unbound unbound))) k so.stands;
   }
 
   -- ---- slots
 
   -- an answer that stands as one with ordinary errors has such too
   alike_ordinary : (p r : Answer) → IsKept (there facts) IsOrdinary p → StandAlike p r → (k : Kind) → Erring k ≡ standing_of_answer r → IsOrdinary k
-  alike_ordinary (Evaluated v) r h e k is = kind_fine IsOrdinary facts (λ l o. o) constructs (Evaluated v) tt k (is ∙ ap standing_of_answer e)
-  alike_ordinary (ResidualTree t) r h e k is = kind_fine IsOrdinary facts (λ l o. o) constructs (ResidualTree t) h k (is ∙ ap standing_of_answer e.1)
-  alike_ordinary (Failed l) r h e k is = kind_fine IsOrdinary facts (λ m o. o) constructs (Failed l) h k (is ∙ ap standing_of_answer e)
+  alike_ordinary (Evaluated v) r h e k is = kind_fine IsOrdinary facts (λ l o. o) (Evaluated v) tt k (is ∙ ap standing_of_answer e)
+  alike_ordinary (ResidualTree t) r h e k is = kind_fine IsOrdinary facts (λ l o. o) (ResidualTree t) h k (is ∙ ap standing_of_answer e.1)
+  alike_ordinary (Failed l) r h e k is = kind_fine IsOrdinary facts (λ m o. o) (Failed l) h k (is ∙ ap standing_of_answer e)
 
   -- where no slot stands in a condition, it is answered as with any entities in the slots' places
   pub policy_errs_ordinarily : LinkingIsWritingEarly → (told : Told) (s : PolicySyntax) → finds_all facts (condition s) ≡ true → bound_tree (λ slot. Some an_entity) (condition s) ≡ condition s
