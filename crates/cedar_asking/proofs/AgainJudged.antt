@@ -4,7 +4,6 @@ use Rattle.std.proofs.Common.{◌≡◌, ◌∙◌, refl, ap, sym, subst, ℕ, B
 use Rattle.std.specs.declared.alloc.Global.{Global}
 use Rattle.std.specs.declared.rc.RcStr.{RcStr}
 use Rattle.cedar_grammar.specs.Calls.{calls_only}
-use Rattle.cedar_grammar.specs.Laws.{LinkConditions}
 use Rattle.cedar_language.specs.Answering.{Standing, Judged}
 use Rattle.cedar_language.specs.Facts.{Facts}
 use Rattle.cedar_language.specs.Tree.{Tree}
@@ -40,7 +39,7 @@ use Rattle.cedar_asking.specs.Keeping.{IsFirstResponse}
 use Rattle.cedar_asking.specs.Tells.{told_in}
 use Rattle.cedar_asking.proofs.Exactness.{clause_stands, clause_calls}
 use Rattle.cedar_asking.proofs.Firsts.{kept_of, of_kept, some_value, same_value, same_kind, effect_as_written, all_among}
-use Rattle.cedar_asking.proofs.InForce.{written_entry, is_bound, is_there, is_in_force, written_by}
+use Rattle.cedar_asking.proofs.InForce.{written_entry, is_bound, is_there, is_in_force, is_held, written_by}
 use Rattle.cedar_asking.proofs.Lists.{IsAmong, contained, contains, mapped, unmapped}
 use Rattle.cedar_asking.proofs.Members.{among_left, among_right, among_either, filtered, unfiltered}
 use Rattle.cedar_asking.proofs.Naming.{is_other, no_unknown}
@@ -158,19 +157,22 @@ module _ (law : PlainAnswers) (finds : FindsAsWorlds) (by : Setting) (world : Wo
             subst IsAgain is (again_without k in_ks out)
       ]
 
-  each_judged : LinkConditions → (j : Judged) → IsAmong j (map judged all_later) → IsJudged world (StandsAgain facts q (told_in told)) j
-  each_judged conditions j a =
+  each_judged : (j : Judged) → IsAmong j (map judged all_later) → IsJudged world (StandsAgain world.policies facts q (told_in told)) j
+  each_judged j a =
       let (l, in_later, is) = unmapped judged all_later j a in
       let x = each_again l in_later in
       let (at, policy) = is_bound response.policies response.whole x.entry x.in_set in
-      subst (IsJudged world (StandsAgain facts q (told_in told))) is (record {
+      let (own, held) = is_held response.policies response.whole response.of.slots finds world response.of.policies x.entry.0 x.entry.1 at in
+      subst (IsJudged world (StandsAgain world.policies facts q (told_in told))) is (record {
         syntax = written_entry x.entry.1;
         in_force = ap (in_force_at world.policies) x.id ∙ is_in_force response.policies response.whole response.of.slots finds world response.of.policies x.entry.0 x.entry.1 at policy;
         effect = x.effect;
         standing = record {
+          id = own;
+          unbound = syntax_in x.entry.1;
+          held = held;
           slots = binding_of (bindings_in x.entry.1);
-          unbound = condition_in x.entry.1;
-          binds = binds_written conditions x.entry.1;
+          binds = binds_written x.entry.1;
           names_nothing = no_unknown is_other (condition_in x.entry.1) x.named;
           stands = x.standing;
         };
@@ -195,8 +197,8 @@ module _ (law : PlainAnswers) (finds : FindsAsWorlds) (by : Setting) (world : Wo
       let (k, in_ks, named) = of_kept (untold response.request) response.store response.table response.depth (policies_of response.policies) ks response.responds.each (id, e) (is_there response.policies response.whole id e at policy) in
       has_judged id k in_ks named (is_out k.found) refl
 
-  pub judges_again : LinkConditions → Judges world (StandsAgain facts q (told_in told)) (map judged all_later)
-  judges_again conditions = record { each = all_among _ (map judged all_later) (each_judged conditions); every = every_judged }
+  pub judges_again : Judges world (StandsAgain world.policies facts q (told_in told)) (map judged all_later)
+  judges_again = record { each = all_among _ (map judged all_later) each_judged; every = every_judged }
 
   -- under one id one policy is kept, and it stands in one way
   pub once_again : ErrOnce (map judged later)

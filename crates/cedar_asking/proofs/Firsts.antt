@@ -44,7 +44,7 @@ use Rattle.cedar_evaluator.specs.Responses.{errors_of, holding_of, judged_held}
 use Rattle.cedar_asking.specs.Answers.{IsSettingOf, SomeTooHigh}
 use Rattle.cedar_asking.specs.Erring.{with_failure, SomeAtLimit}
 use Rattle.cedar_telling.specs.Lookups.{ListsStanding}
-use Rattle.cedar_telling.proofs.NoLookups.{rules_list}
+use Rattle.cedar_telling.proofs.OrdinaryAnswers.{rules_list}
 use Rattle.cedar_asking.specs.Laws.{SaysHeld}
 use Rattle.cedar_asking.specs.Requests.{IsRequestOf}
 use Rattle.cedar_asking.proofs.Errors.{errors_listed, settled_listed, limit_kept}

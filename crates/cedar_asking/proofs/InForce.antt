@@ -7,10 +7,10 @@ use Rattle.std.proofs.lemmas.Map.Entries.{option_filter}
 use Rattle.std.proofs.lemmas.Map.Views.{lookup-from_Contains, Contains-from_lookup}
 use Rattle.cedar_language.specs.Uid.{Text}
 use Rattle.cedar_world.specs.Syntax.{PolicySyntax, are_some, linked}
-use Rattle.cedar_world.specs.World.{World, template_of, template_at, standing_for, in_force_as, in_force_at}
+use Rattle.cedar_world.specs.World.{World, Policy, template_of, template_at, standing_for, in_force_as, in_force_at}
 use Rattle.cedar_asking.proofs.Lists.{IsAmong, contained, contains}
 use Rattle.cedar_policy_set.specs.Entries.{Entry, static_policy, template, link, Entries, bound_at, HasItsTemplate, IsFull, IsWhole, is_policy, policies_of}
-use Rattle.cedar_policy_set.specs.Texts.{HaveSlots}
+use Rattle.cedar_policy_set.specs.Texts.{HaveSlots, syntax_in}
 use Rattle.cedar_policy_set.specs.Worlds.{world_bound, policies_in, FindsAsWorlds}
 use Rattle.cedar_asking.proofs.Members.{filtered, unfiltered}
 
@@ -56,6 +56,12 @@ module _ (es : Entries) (whole : IsWhole es) where
     -- a policy is in force as it is written
     pub is_in_force : (id : Text) (e : Entry) → bound_at es id ≡ Some e → is_policy e ≡ true → in_force_at world.policies id ≡ Some (written_entry e)
     is_in_force id e at is = in_force id (Some e) at ∙ ap (λ b. option_map written_entry (if b then Some e else None)) is
+
+    -- the world holds a static policy, and the template of a link
+    pub is_held : (id : Text) (e : Entry) → bound_at es id ≡ Some e → (own : Text) × (finite.get world.policies own ≡ Some (Policy (syntax_in e)))
+    is_held id (static_policy s) at = (id, found id (Some (static_policy s)) at)
+    is_held id (template s) at = (id, found id (Some (template s)) at)
+    is_held id (link t s b) at = (t, found t (Some (template s)) (whole.templates id (link t s b) at))
 
     -- what is in force is written by a policy of the set
     abbrev pub IsWritten : Text → PolicySyntax → Type 0

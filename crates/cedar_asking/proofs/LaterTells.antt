@@ -19,7 +19,7 @@ use Rattle.cedar_partial_evaluation.specs.Question.{Extends, AreMadeTold, IsAcce
 use Rattle.cedar_partial_evaluation.specs.Telling.{ContextsStay}
 use Rattle.cedar_telling.specs.Again.{StandsAgain, AgainIsSound}
 use Rattle.cedar_telling.specs.ContextErrors.{ContextsErrInParts}
-use Rattle.cedar_telling.proofs.NoLookups.{rules_list}
+use Rattle.cedar_telling.proofs.OrdinaryAnswers.{rules_list}
 use Rattle.cedar_telling.specs.Joined.{IsJoined, LaterAnswersStand}
 use Rattle.cedar_language.specs.Constructing.{the_constructor}
 use Rattle.cedar_telling.specs.Plain.{PlainAnswers}
@@ -187,7 +187,7 @@ module _ (c : Rests) (by : Setting) (world : World) (q : Question) (first : Part
       pub is_answered : (old : List (RcStr Global × Value)) (last answer : Answer) → KeepsQuestion by world q first old last → Extends (told_in old) (told_in told) → IsJoined last new answer → IsAnsweredLater by world q first old told last answer
       is_answered old last answer keeps extends joined =
           let judges =
-          judges_again c.plain c.finds by world facts are_facts q first response told r.request held s table depth (store_has_facts by world facts s are_facts now.shows now.closed now.whole) served r.kept r.each settled d.conditions in
+          judges_again c.plain c.finds by world facts are_facts q first response told r.request held s table depth (store_has_facts by world facts s are_facts now.shows now.closed now.whole) served r.kept r.each settled in
           let stands = d.later by world facts (record { question = q; told = told_in old; last = last }) (told_in told) (map judged all_later) new answer are_facts extends (made_told facts served) accepted keeps.steady
           (d.again by world facts q (told_in told) are_facts good (first_names c.plain c.finds by world facts are_facts q first response d.conditions) asked.is_data (asked.accepted facts served_first) (made_told facts served) accepted)
           judges says_all joined in
@@ -195,7 +195,7 @@ module _ (c : Rests) (by : Setting) (world : World) (q : Question) (first : Part
             later = stands.later;
             keeps = record { response = response; are_told = are; steady = stands.steady };
             fine = fine;
-            joins = (new, rules_list world (StandsAgain facts q (told_in told)) (map judged all_later) new judges says_all, joined);
+            joins = (new, rules_list world (StandsAgain world.policies facts q (told_in told)) (map judged all_later) new judges says_all, joined);
           }
 
   -- ---- why nothing is answered

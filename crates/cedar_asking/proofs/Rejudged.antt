@@ -1,8 +1,9 @@
 -- How the policies of a first response stand that are taken up again once values are told.
-use Rattle.std.proofs.Common.{◌≡◌, ◌∙◌, refl, ap, sym, subst, Bool, true, false, ◌&&◌, None, List, Contains}
+use Rattle.std.proofs.Common.{◌≡◌, ◌∙◌, refl, ap, sym, subst, Bool, true, false, ◌&&◌, Option, Some, None, List, Contains}
 use Rattle.std.specs.FinMap as finite
 use Rattle.cedar_grammar.specs.Calls.{calls_only}
 use Rattle.cedar_grammar.specs.Laws.{LinkConditions}
+use Rattle.cedar_grammar.specs.Policy.{Constraint, anything, equals, within, of_type, of_type_within, bound_constraint, bound_body, bound}
 use Rattle.cedar_language.specs.Facts.{Facts}
 use Rattle.cedar_language.specs.Slots.{Slots, bound_slot, bound_tree, bound_trees}
 use Rattle.cedar_language.specs.Tree.{SlotId, Tree, Lit, Var, Slot, Unknown, If, And, Or, Apply, Trees, no_trees, a_tree}
@@ -27,6 +28,7 @@ use Rattle.cedar_interpreter.specs.Asking.{untold, request_held}
 use Rattle.cedar_interpreter.specs.Operating.{HasFunctions, NamesNothing}
 use Rattle.cedar_operators.specs.Store.{HasFacts}
 use Rattle.cedar_policy_set.specs.Entries.{Entry, static_policy, template, link, Entries, policies_of}
+use Rattle.cedar_policy_set.specs.Texts.{syntax_in}
 use Rattle.cedar_policy_set.specs.Worlds.{FindsAsWorlds}
 use Rattle.cedar_evaluator.specs.Evaluations.{Found, Satisfied, Unsatisfied, Erred, Open, Finds, bindings_in, condition_in, Kept, IsKept}
 use Rattle.cedar_evaluator.specs.Responses.{Holding, error_id, errors_of}
@@ -59,10 +61,25 @@ module _ (b : Slots) (none : (s : SlotId) → b s ≡ None) where
     all_bound_to_nothing no_trees = refl
     all_bound_to_nothing (a_tree t ts) = λ i. a_tree (bound_to_nothing t i) (all_bound_to_nothing ts i)
 
-pub binds_written : LinkConditions → (e : Entry) → condition (written_entry e) ≡ bound_tree (binding_of (bindings_in e)) (condition_in e)
-binds_written conditions (static_policy s) = sym (bound_to_nothing (binding_of unbound) nothing_bound (condition s))
-binds_written conditions (template s) = sym (bound_to_nothing (binding_of unbound) nothing_bound (condition s))
-binds_written conditions (link t s b) = conditions (binding_of b) s
+constraint_stays : (c : Constraint) → bound_constraint None c ≡ c
+constraint_stays anything = refl
+constraint_stays (equals t) = refl
+constraint_stays (within t) = refl
+constraint_stays (of_type name) = refl
+constraint_stays (of_type_within name t) = refl
+
+body_stays : (o : Option Tree) → bound_body (binding_of unbound) o ≡ o
+body_stays None = refl
+body_stays (Some c) = ap (λ (t : Tree). Some t) (bound_to_nothing (binding_of unbound) nothing_bound c)
+
+policy_stays : (p : PolicySyntax) → bound (binding_of unbound) p ≡ p
+policy_stays p = rw (constraint_stays p.principal, constraint_stays p.resource, body_stays p.body) refl
+
+-- an entry is written as its template is, with its slots bound
+pub binds_written : (e : Entry) → written_entry e ≡ bound (binding_of (bindings_in e)) (syntax_in e)
+binds_written (static_policy s) = sym (policy_stays s)
+binds_written (template s) = sym (policy_stays s)
+binds_written (link t s b) = refl
 
 pub names_nothing : (table : Table) (t : Tree) → calls_unknown t ≡ false → NamesNothing table t
 names_nothing table t h = by_table table.has_unknown (calls_unknown t) h

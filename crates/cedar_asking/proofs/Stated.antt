@@ -23,7 +23,8 @@ use Rattle.cedar_trees.specs.declared.expr.Expr.{Expr}
 use Rattle.cedar_extensions.specs.Failures.{failure_of}
 use Rattle.cedar_extensions.specs.declared.evaluation_error.EvaluationError.{EvaluationError}
 use Rattle.cedar_extensions.specs.Table.{Table}
-use Rattle.cedar_bodies.specs.Fields.{Serves, part_answer, IsEvaluated}
+use Rattle.cedar_restricted_evaluation.specs.Evaluations.{part_answer}
+use Rattle.cedar_bodies.specs.Fields.{Serves, IsEvaluated}
 use Rattle.cedar_bodies.specs.Questions.{question_of, StandsAt, LendsContext}
 use Rattle.cedar_bodies.specs.Reading.{HasUnknown, TreesAreRead, IsRead}
 use Rattle.cedar_bodies.specs.Refusals.{refusal_by}

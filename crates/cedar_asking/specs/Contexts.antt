@@ -11,7 +11,7 @@ use Rattle.cedar_world.specs.Asking.{Entries, NoContext, WithEntries, Question}
 use Rattle.cedar_world.specs.Bodies.{all_named, hold_call, some_name_of}
 use Rattle.cedar_world.specs.Setting.{Setting, value_of}
 use Rattle.cedar_extensions.specs.Table.{Table}
-use Rattle.cedar_restricted_evaluation.specs.Evaluations.{HasFunctions, answer_in, IsAnswer}
+use Rattle.cedar_restricted_evaluation.specs.Evaluations.{HasFunctions, answer_in, part_answer}
 use Rattle.cedar_requests.specs.Holding.{RequestParts}
 use Rattle.cedar_asking.specs.Requests.{IsRequestOf}
 
@@ -26,7 +26,7 @@ pub record IsEvaluatedTo (table : Table) (ks : List Text) (ts : Trees) (p : Eith
   pub restricted : are_restricted ts ≡ true
   pub uncalled : table.has_unknown ≡ false → hold_call ts ≡ false
   pub written : hold_call (all_named ts) ≡ false
-  pub answers : (facts : Facts) → HasFunctions table facts → IsAnswer facts (answer_in table facts (Apply (MakeRecord ks) ts)) p
+  pub answers : (facts : Facts) → HasFunctions table facts → answer_in table facts (Apply (MakeRecord ks) ts) ≡ part_answer p
 
 -- the question's context is the one written, and the request's what it was evaluated to; or neither has one
 pub data HasContext (table : Table) : Entries → Option (Either Value Tree) → Type 0 where

@@ -58,7 +58,7 @@ module _ (by : Setting) (world : World) (q : Question) (first : PartialResponse)
     pub later : IsLaterAnswer by world (record { question = q; told = told_in old; last = last }) (told_in told) answer
     pub keeps : KeepsQuestion by world q first told answer
     pub fine : context_errs by q.context (told_in told) ≡ false
-    pub joins : (new : Answer) × ListsStanding world (StandsAgain (facts_of by world) q (told_in told)) new × IsJoined last new answer
+    pub joins : (new : Answer) × ListsStanding world (StandsAgain world.policies (facts_of by world) q (told_in told)) new × IsJoined last new answer
 
 -- where no limit is met, the first response taken up again, joined with the last answer, answers the question
 abbrev pub TellsAreAnswered : Type 0

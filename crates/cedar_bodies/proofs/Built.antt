@@ -35,7 +35,7 @@ use Rattle.cedar_extensions.specs.declared.functions.Function.TheVariants as fun
 use Rattle.cedar_restricted.specs.PartialValues.{partial_of}
 use Rattle.cedar_restricted.specs.declared.partial_values.PartialValue.{PartialValue}
 use Rattle.cedar_restricted_evaluation.specs.Evaluations as evaluation
-use Rattle.cedar_restricted_evaluation.specs.Evaluations.{nothing_told, name_called, named_or, answer_in, answers_in, IsAnswer}
+use Rattle.cedar_restricted_evaluation.specs.Evaluations.{nothing_told, name_called, named_or, answer_in, answers_in, part_answer}
 use Rattle.cedar_bodies.specs.Built.{IsBuilt, AreBuilt, IsBuiltPart, AreBuiltEntries, GivesBuilt}
 
 -- ---- sets
@@ -206,13 +206,13 @@ module _ (table : Table) (gives : GivesBuilt table) (facts : Facts) (has : HasFu
 
 -- ---- what an evaluation gives
 
-part_built : (facts : Facts) (a : Answer) → IsBuiltAnswer a → (p : Either Value Tree) → IsAnswer facts a p → IsBuiltPart p
-part_built facts a h (Left v) is = subst IsBuiltAnswer is h
-part_built facts a h (Right r) is = tt
+part_built : (a : Answer) → IsBuiltAnswer a → (p : Either Value Tree) → a ≡ part_answer p → IsBuiltPart p
+part_built a h (Left v) is = subst IsBuiltAnswer is h
+part_built a h (Right r) is = tt
 
 pub value_built : (table : Table) → GivesBuilt table → (depth : ℕ) (t : Tree) → is_restricted t ≡ true → (p : PartialValue) → evaluation.Answers table depth t (Ok p) → IsBuiltPart (partial_of p)
 value_built table gives depth t restricted p h =
-    part_built (functions_of table) (answer_in table (functions_of table) t)
+    part_built (answer_in table (functions_of table) t)
     (tree_built table gives (functions_of table) (λ n. refl) t restricted) (partial_of p) (h (functions_of table) (λ n. refl))
 
 -- ---- values at their names

@@ -1,5 +1,5 @@
 -- Trees that are evaluated, and fields whose trees are evaluated in turn.
-use Rattle.std.proofs.Common.{◌≡◌, ◌∙◌, ◌<◌, ℕ, refl, ap, sym, subst, Bool, true, false, ◌||◌, not, cond, ◌&&◌, Option, Some, None, option_map, List, [], ◌∷◌, ◌++◌, map, Global, Ok, Err}
+use Rattle.std.proofs.Common.{◌≡◌, ◌∙◌, ◌<◌, ℕ, refl, ap, sym, subst, Bool, true, false, ◌||◌, Some, option_map, List, [], ◌∷◌, ◌++◌, map, Global, Ok, Err}
 use Rattle.std.proofs.lemmas.List.{map-append}
 use Rattle.std.proofs.lemmas.Bool.{lt-ltb}
 use Rattle.std.specs.BTreeMap.{insert_entry}
@@ -8,13 +8,13 @@ use Rattle.std.specs.Rc.{rc_str_bytes}
 use Rattle.std.specs.declared.rc.RcStr.{RcStr}
 use Rattle.either.specs.declared.Either.{Either}
 use Rattle.either.specs.declared.Either.TheVariants.{Left, Right}
-use Rattle.cedar_language.specs.Uid.{Text, Name}
+use Rattle.cedar_language.specs.Uid.{Text}
 use Rattle.cedar_language.specs.Height.{height}
 use Rattle.cedar_language.specs.Facts.{Facts}
 use Rattle.cedar_language.specs.Restricted.{is_restricted}
 use Rattle.cedar_language.specs.Tree.{Tree}
 use Rattle.cedar_language.specs.Value.{Value}
-use Rattle.cedar_partial_evaluation.specs.Partial.{Answer, Evaluated, ResidualTree, Failed}
+use Rattle.cedar_partial_evaluation.specs.Partial.{Answer, Failed}
 use Rattle.cedar_world.specs.Bodies.{named, holds_call}
 use Rattle.cedar_world.specs.Setting.{Setting, functions_alone}
 use Rattle.cedar_world.specs.Fillings.{given_value}
@@ -36,14 +36,14 @@ use Rattle.cedar_restricted.specs.declared.partial_values.PartialValue.{PartialV
 use Rattle.cedar_replies.specs.declared.refusal.Refusal.{Refusal}
 use Rattle.cedar_replies.specs.declared.refusal.Refusal.TheVariants as refusal
 use Rattle.cedar_restricted_evaluation.specs.Evaluations as evaluation
-use Rattle.cedar_restricted_evaluation.specs.Evaluations.{answer_in, IsAnswer}
+use Rattle.cedar_restricted_evaluation.specs.Evaluations.{answer_in, part_answer}
 use Rattle.cedar_restricted_evaluation.proofs.Naming.{unknown_is_found}
 use Rattle.cedar_entities.specs.Attributes.{Entries, seen_entries}
 use Rattle.cedar_bodies.specs.Built.{IsBuiltPart}
 use Rattle.cedar_bodies.specs.Entities.{named_all}
 use Rattle.cedar_bodies.specs.Reading.{HasUnknown, TreesAreRead, IsRead}
 use Rattle.cedar_bodies.specs.Refusals.{refusal_by}
-use Rattle.cedar_bodies.specs.Fields.{deeper, Serves, part_answer, IsEvaluated, as_entries, HoldValues, err, hold_unknowns, AreValues, AreOpen, AreFound, AreEvaluated}
+use Rattle.cedar_bodies.specs.Fields.{deeper, Serves, IsEvaluated, as_entries, HoldValues, err, hold_unknowns, AreValues, AreOpen, AreFound, AreEvaluated}
 use Rattle.cedar_bodies.proofs.Built.{built_append}
 use Rattle.cedar_bodies.proofs.Carrying.{or_left, or_right, or_true, false_back, Carries, at_first, next_value, next_open, all_fine, all_unknowns, all_given}
 
@@ -57,9 +57,8 @@ module _ (read : TreesAreRead) (table : Table) (unknown_is : HasUnknown table) (
   answered : (by : Setting) → Serves table by (holds_call t) → (a : Answer) → answer_in table (functions_alone by.functions) t ≡ a → IsRead by (named t) a
   answered by serves a is = subst (IsRead by (named t)) is (read by table unknown_is t serves restricted)
 
-  pub part_read : (by : Setting) → Serves table by (holds_call t) → (p : Either Value Tree) → IsAnswer (functions_alone by.functions) (answer_in table (functions_alone by.functions) t) p → IsRead by (named t) (part_answer p)
-  part_read by serves (Left v) h = answered by serves (Evaluated v) h
-  part_read by serves (Right r) h = answered by serves (ResidualTree r) h
+  pub part_read : (by : Setting) → Serves table by (holds_call t) → (p : Either Value Tree) → answer_in table (functions_alone by.functions) t ≡ part_answer p → IsRead by (named t) (part_answer p)
+  part_read by serves p h = answered by serves (part_answer p) h
 
   pub value_is : (p : PartialValue) → evaluation.Answers table depth t (Ok p) → IsEvaluated table depth t (Ok p)
   value_is p h by serves = part_read by serves (partial_of p) (h (functions_alone by.functions) serves.functions)

@@ -3,20 +3,19 @@ use Rattle.std.specs.Prelude.{◌≡◌, ◌<◌, ⊤, ℕ, Bool, true, false, n
 use Rattle.std.specs.declared.alloc.Global.{Global}
 use Rattle.std.specs.declared.rc.RcStr.{RcStr}
 use Rattle.std.specs.BTreeMap.{BTreeMap}
-use Rattle.either.specs.declared.Either.{Either}
-use Rattle.either.specs.declared.Either.TheVariants.{Left, Right}
+use Rattle.either.specs.declared.Either.TheVariants.{Left}
 use Rattle.cedar_language.specs.Uid.{Text}
 use Rattle.cedar_language.specs.Height.{height}
 use Rattle.cedar_language.specs.Restricted.{is_restricted}
 use Rattle.cedar_language.specs.Tree.{Tree}
 use Rattle.cedar_language.specs.Value.{Value}
-use Rattle.cedar_partial_evaluation.specs.Partial.{Answer, Evaluated, ResidualTree}
 use Rattle.cedar_world.specs.Bodies.{Fields, named, holds_call}
 use Rattle.cedar_world.specs.Setting.{Setting}
 use Rattle.cedar_world.specs.Values.{some_field, holds_unknown, errs_alone, values}
 use Rattle.cedar_extensions.specs.Table.{Table}
 use Rattle.cedar_restricted.specs.PartialValues.{partial_of}
 use Rattle.cedar_restricted.specs.declared.partial_values.PartialValue.{PartialValue}
+use Rattle.cedar_restricted_evaluation.specs.Evaluations.{part_answer}
 use Rattle.cedar_replies.specs.declared.refusal.Refusal.{Refusal}
 use Rattle.cedar_replies.specs.declared.refusal.Refusal.TheVariants.{Depth, Evaluation, Memory}
 use Rattle.cedar_entities.specs.Attributes.{Attribute, seen_entries}
@@ -33,10 +32,6 @@ abbrev pub deeper : ℕ → Tree → Bool
 deeper depth t = nat_lt depth (height t)
 
 -- ---- one tree
-
-abbrev pub part_answer : Either Value Tree → Answer
-part_answer (Left v) = Evaluated v
-part_answer (Right r) = ResidualTree r
 
 -- a value is the tree's, and a residual holds an unknown; a refusal is that of some part, or the tree is deeper than the limit
 abbrev pub IsEvaluated : Table → ℕ → Tree → Result PartialValue Refusal → Type 0

@@ -1,4 +1,6 @@
 -- What a scope compares its variable with, as the grammar has it.
+use Rattle.std.specs.Prelude.{Option, Some}
+use Rattle.cedar_language.specs.Uid.{Uid}
 use Rattle.cedar_grammar.specs.Policy.{Target, the_entity, the_slot}
 use Rattle.cedar_constraints.specs.declared.references.EntityReference.{EntityReference}
 use Rattle.cedar_constraints.specs.declared.references.EntityReference.TheVariants.{EUID, Slot}
@@ -6,3 +8,8 @@ use Rattle.cedar_constraints.specs.declared.references.EntityReference.TheVarian
 abbrev pub target_of : EntityReference → Target
 target_of (EUID u) = the_entity u.value
 target_of (Slot loc) = the_slot
+
+-- the entity that it names, or that its slot is bound to
+abbrev pub target_bound : Option Uid → Target → Option Uid
+target_bound bound (the_entity u) = Some u
+target_bound bound the_slot = bound

@@ -1,8 +1,9 @@
 // What a scope compares its variable with.
 ghost use Rattle.std.specs.Prelude.{◌≡◌, IfOk, Some, option_map, option_to_list};
+ghost use Rattle.std.specs.Option.{option_copied};
 ghost use Rattle.cedar_grammar.specs.Policy.{the_entity, target_tree, target_slots, bound_target};
 ghost use Rattle.cedar_trees.specs.Bare.{bare};
-ghost use Rattle.cedar_constraints.specs.References.{target_of};
+ghost use Rattle.cedar_constraints.specs.References.{target_of, target_bound};
 
 use crate::constraints::PrincipalOrResource;
 use cedar_literals::literals::Literal;
@@ -64,6 +65,16 @@ impl EntityReference {
         }
     }
 
+    /// The entity that it names, or for a slot the one that this is bound to.
+    pub fn uid_or_bound<'p>(&'p self, bound: Option<&'p EntityUID>) -> Option<&'p EntityUID>
+        ensures { option_copied result ≡ target_bound (option_copied bound.entry) (target_of self.now) }
+    {
+        match self {
+            EntityReference::EUID(uid) => Some(uid.as_ref()),
+            EntityReference::Slot(_) => bound,
+        }
+    }
+
     /// This entity in the place of the slot; an entity stays.
     pub fn with_filled_slot(self, euid: Rc<EntityUID>) -> EntityReference
         ensures { target_of result ≡ bound_target (Some euid.value) (target_of self) }
@@ -115,8 +126,9 @@ impl FromIn<EntityUID> for EntityReference {
     type Error = AllocError;
 
     ghost use Rattle.std.specs.Prelude.{◌≡◌, IfOk};
+    ghost use Rattle.std.specs.Option.{option_copied};
     ghost use Rattle.cedar_grammar.specs.Policy.{the_entity};
-    ghost use Rattle.cedar_constraints.specs.References.{target_of};
+    ghost use Rattle.cedar_constraints.specs.References.{target_of, target_bound};
 
     ghost from_in_gives = { λ uid result. IfOk result (λ made. target_of made ≡ the_entity uid) };
 
@@ -184,7 +196,7 @@ impl Ord for EntityReference {
 }
 
 impl Hash for EntityReference {
-    ghost use Rattle.cedar_constraints.specs.References.{target_of};
+    ghost use Rattle.cedar_constraints.specs.References.{target_of, target_bound};
     ghost use Rattle.cedar_constraints.specs.Sameness.{target_hash, references_alike};
 
     ghost hash_input = { λ e. target_hash (target_of e) };

@@ -3,7 +3,7 @@ use Rattle.std.proofs.Common.{◌≡◌, suc, ◌<◌, length, arith, map, Vec, 
 use Rattle.std.proofs.lemmas.Bool.{eqb-true, eqb-false}
 use Rattle.std.specs.Prelude.{◌==◌, Bool, ◌&&◌, ◌||◌, IfSome, is_err}
 use Rattle.cedar_language.specs.Tree as tree
-use Rattle.cedar_language.specs.Tree.{Tree, Trees, Operator, Lit, Boolean, And, Or, Apply}
+use Rattle.cedar_language.specs.Tree.{Tree, Operator, Lit, Boolean, And, Or, Apply}
 use Rattle.cedar_language.specs.Uid.{Text}
 use Rattle.cedar_literals.specs.declared.operators.BinaryOp.{BinaryOp}
 use Rattle.cedar_literals.specs.declared.operators.BinaryOp.TheVariants as binary_op

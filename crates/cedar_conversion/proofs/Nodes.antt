@@ -1,17 +1,18 @@
 -- The trees of nodes, by the constructs that they hold.
 use Rattle.std.proofs.Common.{◌≡◌, ℕ, zero, suc, ◌-◌, ◌<◌, length, arith, List, [], ◌∷◌, map, Option, Some, None, Box, Vec, Global, refl, sym, ap, ◌∙◌, subst}
-use Rattle.std.specs.Prelude.{cond, nat_le, ◌^◌, pos, neg_ℤ, ◌==◌, Bool, true, false}
-use Rattle.std.proofs.lemmas.Bool.{eqb-true}
+use Rattle.std.specs.Prelude.{cond, nat_le, ◌^◌, pos, neg_ℤ, Bool, true, false, option_to_list}
+use Rattle.std.specs.Borrow.{Bor}
+use Rattle.std.specs.Option.{option_copied}
 use Rattle.cedar_language.specs.Tree as tree
 use Rattle.cedar_language.specs.Tree.{Tree}
 use Rattle.cedar_grammar.specs.Build as build
-use Rattle.cedar_grammar.specs.Build.{Comparison, compared, unary, is_in, nots, negs, long, trees}
+use Rattle.cedar_grammar.specs.Build.{compared, unary, is_in, nots, negs, long, trees}
 use Rattle.cedar_grammar.specs.Names.{Names}
 use Rattle.cedar_grammar.specs.Reading.{◌>>=◌}
 use Rattle.cedar_grammar.specs.Escape.{pattern_of}
 use Rattle.cedar_grammar.specs.Loose as loose
 use Rattle.cedar_grammar.specs.Converting as converting
-use Rattle.cedar_grammar.specs.Converting.{expr_tree, or_tree, relation_tree, adds_tree, add_tree, unary_tree, member_tree, access_head, primary_head, exprs_trees, rec_inits_trees, rec_init_tree, head_tree, comparison_of, lone_member, member_fields, lone_primary, primary_raw, primary_path, primary_text, primary_key, lone_number, alone, ident_text, called, literal_tree, ref_entity, record_tree, signed, negated}
+use Rattle.cedar_grammar.specs.Converting.{expr_tree, or_tree, relation_tree, adds_tree, add_tree, unary_tree, member_tree, access_head, primary_head, exprs_trees, rec_inits_trees, rec_init_tree, head_tree, comparison_of, lone_member, member_fields, lone_primary, primary_raw, primary_path, primary_text, primary_key, lone_number, alone, ident_text, called, literal_tree, ref_entity, record_tree, negated}
 use Rattle.cedar_cst.specs.declared.node.Node.{Node}
 use Rattle.cedar_cst.specs.declared.leaves.Ident.{Ident}
 use Rattle.cedar_cst.specs.declared.leaves.Literal.{Literal}
@@ -221,16 +222,18 @@ module _ (names : Names) where
 
 -- ---- lists that aren't empty
 
-pub cons_of : {A : Type 0} (xs : List A) → (length xs == 0) ≡ false → (y : A) × (ys : List A) × (xs ≡ y ∷ ys)
-cons_of [] e = cc
-cons_of (y ∷ ys) e = (y, ys, refl)
+pub two_of : {A : Type 0} (xs : List A) → 1 < length xs → (x : A) × (y : A) × (ys : List A) × (xs ≡ x ∷ y ∷ ys)
+two_of [] h = absurd (omega (arith, h))
+two_of (x ∷ []) h = absurd (omega (arith, h))
+two_of (x ∷ y ∷ ys) h = (x, y, ys, refl)
 
-pub length_none : {A : Type 0} (xs : List A) → length xs ≡ 0 → xs ≡ []
-length_none [] e = refl
-length_none (x ∷ xs) e = absurd (omega arith)
+-- what is the one of a list, if any is
+module _ {A : Type 0} (xs : List A) (o : Option (Bor A)) where
+  pub none_lone : xs ≡ option_to_list (option_copied o) → o ≡ None → xs ≡ []
+  none_lone e is = e ∙ ap (λ (p : Option (Bor A)). option_to_list (option_copied p)) is
 
-pub none_more : {A : Type 0} (xs : List A) → (length xs == 0) ≡ true → xs ≡ []
-none_more xs e = length_none xs (eqb-true (length xs) 0 e)
+  pub some_lone : (x : Bor A) → xs ≡ option_to_list (option_copied o) → o ≡ Some x → xs ≡ x.now ∷ []
+  some_lone x e is = e ∙ ap (λ (p : Option (Bor A)). option_to_list (option_copied p)) is
 
 -- ---- the one variant of an expression
 

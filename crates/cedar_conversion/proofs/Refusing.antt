@@ -5,7 +5,7 @@ use Rattle.std.specs.Prelude.{cond, is_err, IsErr}
 use Rattle.std.specs.Ordering.{nat_cmp, is_lt}
 use Rattle.std.specs.Cmp.Lexicographic.{slice_cmp}
 use Rattle.cedar_language.specs.Tree as tree
-use Rattle.cedar_language.specs.Tree.{Tree, Trees, Operator, Lit, Boolean, And, Or, Apply, MakeRecord}
+use Rattle.cedar_language.specs.Tree.{Tree, Operator, Lit, Boolean, And, Or, Apply, MakeRecord}
 use Rattle.cedar_language.specs.Uid.{Text, Name}
 use Rattle.cedar_grammar.specs.Names.{Names, is_among, is_function, are_distinct}
 use Rattle.cedar_grammar.specs.Build as build

@@ -8,7 +8,7 @@ use Rattle.cedar_grammar.specs.Names.{Names}
 use Rattle.cedar_grammar.specs.Reading.{◌>>=◌}
 use Rattle.cedar_grammar.specs.Loose as loose
 use Rattle.cedar_grammar.specs.Converting as converting
-use Rattle.cedar_grammar.specs.Converting.{expr_tree, or_tree, ands_tree, and_tree, relations_tree, relation_tree, adds_tree, add_tree, mults_tree, mult_tree, unaries_tree, unary_tree, member_tree, accesses_tree, access_head, primary_head, exprs_trees, rec_inits_trees, rec_init_tree, head_tree, comparison_of, sum, product}
+use Rattle.cedar_grammar.specs.Converting.{expr_tree, or_tree, ands_tree, and_tree, relations_tree, relation_tree, add_tree, mults_tree, mult_tree, unaries_tree, unary_tree, member_tree, accesses_tree, access_head, primary_head, exprs_trees, rec_inits_trees, rec_init_tree, head_tree}
 use Rattle.cedar_cst.specs.declared.node.Node.{Node}
 use Rattle.cedar_cst.specs.declared.leaves.AddOp.{AddOp}
 use Rattle.cedar_cst.specs.declared.leaves.MultOp.{MultOp}

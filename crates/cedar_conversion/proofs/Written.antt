@@ -1,7 +1,7 @@
 -- The trees that texts write are fine.
 use Rattle.std.proofs.Common.{refl, List, Option, map}
 use Rattle.cedar_language.specs.Tree as tree
-use Rattle.cedar_language.specs.Tree.{Tree, Lit, If, Apply, GetAttr, Like, Is, MakeSet}
+use Rattle.cedar_language.specs.Tree.{Tree, GetAttr, Like, Is}
 use Rattle.cedar_grammar.specs.Escape.{pattern_of}
 use Rattle.cedar_grammar.specs.Names.{Names}
 use Rattle.cedar_grammar.specs.Build.{conjunction, disjunction, Keyed}

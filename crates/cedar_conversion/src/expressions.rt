@@ -19,8 +19,9 @@ use crate::{
 };
 use cedar_builders::expr_builder::ExprBuilder;
 use cedar_conversion_leaves::{
-    ConversionError, ExtStyles, ToASTErrorKind, flatten_tuple_2, lone_number, to_entity_type,
-    to_fields, to_index, to_key, to_like_pattern, to_literal, to_ref, to_unreserved_ident,
+    ConversionError, ExtStyles, ToASTErrorKind, flatten_tuple_2, lone_comparison, lone_number,
+    to_entity_type, to_fields, to_index, to_key, to_like_pattern, to_literal, to_ref,
+    to_unreserved_ident,
 };
 use cedar_cst::cst::{
     Add, And, Expr, ExprData, MemAccess, Member, Mult, NegOp, Or, Primary, RecInit, Relation, Slot,
@@ -125,18 +126,15 @@ fn relation_to_expr<B: ExprBuilder>(
             Relation::Common { initial, extended } => {
                 let operand = &**initial;
                 let first = add_to_expr::<B>(alloc, styles, operand);
-                let links = extended.as_slice();
-                match links.split_first() {
-                    None => first,
-                    Some((link, more)) => {
-                        if more.is_empty() {
+                match lone_comparison(alloc, extended.as_slice(), node.loc()) {
+                    Ok(comparison) => match comparison {
+                        None => first,
+                        Some(link) => {
                             let second = add_to_expr::<B>(alloc, styles, &link.1);
                             join::<B>(alloc, node.loc(), Joint::Relation(link.0), first, second)
-                        } else {
-                            let kind = ToASTErrorKind::AmbiguousOperators;
-                            Err(ConversionError::fault(alloc, kind, node.loc()))
                         }
-                    }
+                    },
+                    Err(error) => Err(error),
                 }
             }
             Relation::Has { target, field } => {

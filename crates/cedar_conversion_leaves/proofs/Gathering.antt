@@ -5,7 +5,7 @@ use Rattle.std.proofs.lemmas.List.{append-nil}
 use Rattle.cedar_conversion_leaves.specs.declared.errors.ConversionError.{ConversionError}
 use Rattle.cedar_conversion_leaves.specs.declared.errors.ConversionError.TheVariants as error
 use Rattle.cedar_conversion_leaves.specs.Reasons.{Reason, Gathers, gathered, means_nothing, refused, out_of_memory, reason, faults_of}
-use Rattle.cedar_conversion_leaves.specs.Flat.{Flat, FailsByAll, Attains, all_gathered, all_faults, failing}
+use Rattle.cedar_conversion_leaves.specs.Flat.{Flat, FailsByAll, all_gathered, all_faults, failing}
 
 gathered_more : {E : Type 0} (r : Reason E) (es : List (ConversionError E)) (f : ConversionError E) → all_gathered r (es ++ f ∷ []) ≡ gathered (all_gathered r es) (reason f)
 gathered_more r [] f = refl

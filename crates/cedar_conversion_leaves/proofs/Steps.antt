@@ -5,7 +5,7 @@ use Rattle.std.proofs.lemmas.Bool.{eqb-true}
 use Rattle.std.proofs.lemmas.Bool.Decides.{nat_tests}
 use Rattle.cedar_grammar.specs.Reading.{◌>>=◌}
 use Rattle.cedar_grammar.specs.Loose as loose
-use Rattle.cedar_grammar.specs.Converting.{lone_member, without_accesses, lone_primary, lone_add, alone, lone_number, member_fields, fields, primary_key, primary_text}
+use Rattle.cedar_grammar.specs.Converting.{lone_member, without_accesses, lone_add, lone_number, member_fields, fields, primary_key, primary_text}
 use Rattle.cedar_conversion_leaves.specs.declared.kinds.ToASTErrorKind.{ToASTErrorKind}
 use Rattle.cedar_conversion_leaves.specs.declared.errors.ConversionError.{ConversionError}
 use Rattle.cedar_conversion_leaves.specs.declared.errors.ConversionError.TheVariants as error

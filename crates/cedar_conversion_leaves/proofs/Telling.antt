@@ -1,5 +1,5 @@
 -- What is told by one fault, and by those that are handed on.
-use Rattle.std.proofs.Common.{◌≡◌, ◌⊎◌, inl, inr, ℕ, zero, suc, ◌+◌, ◌<◌, length, get_or, drop, drop-cons, add-one, List, [], ◌∷◌, ◌++◌, Result, Ok, Err, Option, Some, refl, sym, ap, ◌∙◌, subst}
+use Rattle.std.proofs.Common.{◌≡◌, ◌⊎◌, inl, inr, ℕ, zero, suc, ◌+◌, ◌<◌, length, get_or, drop, drop-cons, List, [], ◌∷◌, ◌++◌, Result, Ok, Err, Option, Some, refl, sym, ap, ◌∙◌, subst}
 use Rattle.std.specs.Prelude.{IfErr, IsErr, IsErrAnd}
 use Rattle.cedar_names.specs.declared.places.Loc.{Loc}
 use Rattle.cedar_cst.specs.declared.errors.PlacedError.{PlacedError}

@@ -1,6 +1,6 @@
 -- Words, by their spelling.
 use Rattle.std.proofs.Common.{◌≡◌, ◌<◌, length, arith, Bool, true, false, List, [], ◌∷◌, drop, refl, sym, ap, ◌∙◌, subst, Option, Some, None}
-use Rattle.std.specs.Prelude.{cond, not, ◌&&◌, IsTrue}
+use Rattle.std.specs.Prelude.{cond, not, ◌&&◌}
 use Rattle.std.specs.Str.{bytes_eq}
 use Rattle.std.proofs.lemmas.Slice.Eq.{bytes_eq-Decides}
 use Rattle.cedar_language.specs.Uid.{Text}

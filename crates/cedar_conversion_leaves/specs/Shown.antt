@@ -1,5 +1,5 @@
 -- Which kinds of faults leaves show: one rule for a kind, at the node where it may be told.
-use Rattle.std.specs.Prelude.{◌≡◌, ◌⊎◌, ⊤, ◌^◌, ℕ, nat_lt, List, [], ◌∷◌, Option, Some, None, MatchOption, false}
+use Rattle.std.specs.Prelude.{◌≡◌, ◌⊎◌, ⊤, ◌^◌, ℕ, nat_lt, List, [], ◌∷◌, None, MatchOption, false}
 use Rattle.std.specs.Rc.{rc_str_bytes}
 use Rattle.std.specs.Str.{chars}
 use Rattle.cedar_grammar.specs.Token as token

@@ -18,8 +18,8 @@ pub use flattening::{flatten_tuple_2, flatten_tuple_3, flatten_tuple_4};
 pub use kinds::ToASTErrorKind;
 pub use literals::{to_literal, to_ref};
 pub use lookahead::{
-    alone, lone_number, only_add, only_and, only_mult, only_or, only_relation, only_unary, to_lit,
-    unsigned, without_accesses,
+    alone, lone_comparison, lone_number, only_add, only_and, only_mult, only_or, only_relation,
+    only_unary, to_lit, unsigned, without_accesses,
 };
 pub use names::{spelling, to_any_ident, to_name, to_unreserved_ident, to_valid_ident};
 pub use primaries::{

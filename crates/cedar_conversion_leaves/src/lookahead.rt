@@ -1,15 +1,20 @@
 // What stands alone in an expression: without operators, signs and accesses.
-ghost use Rattle.std.specs.Prelude.{◌≡◌};
-ghost use Rattle.std.specs.Option.{option_map};
+ghost use Rattle.std.specs.Prelude.{◌≡◌, ◌<◌, length, IfOk, IfErr, option_to_list};
+ghost use Rattle.std.specs.Option.{option_map, option_copied};
 ghost use Rattle.cedar_grammar.specs.Converting as converting;
 ghost use Rattle.cedar_cst.specs.LeafView.{shown_literal, shown_name, view_literal};
 ghost use Rattle.cedar_cst.specs.View.{shown_expr, shown_or, shown_and, shown_relation, shown_add, shown_mult, shown_unary, shown_member, shown_primary};
 ghost use Rattle.cedar_conversion_leaves.specs.Alone as alone;
+ghost use Rattle.cedar_conversion_leaves.specs.Reasons.{IsFault, IsFaultOf};
 
+use crate::errors::ConversionError;
+use crate::kinds::ToASTErrorKind;
 use cedar_cst::cst::{
-    Add, And, Expr, ExprData, Literal, Member, Mult, Name, Or, Primary, Relation, Unary,
+    Add, And, Expr, ExprData, Literal, Member, Mult, Name, Or, Primary, RelOp, Relation, Unary,
 };
 use cedar_cst::node::Node;
+use cedar_names::places::Loc;
+use std::alloc::Global;
 
 /// The chain of `||` that an expression is, if it is one.
 pub fn only_or(node: &Node<Option<Expr>>) -> Option<&Node<Option<Or>>>
@@ -76,6 +81,31 @@ pub fn only_add(node: &Node<Option<Relation>>) -> Option<&Node<Option<Add>>>
             Relation::Like { .. } => None,
             Relation::IsIn { .. } => None,
         },
+    }
+}
+
+/// The one comparison of a relation, if it has any. Comparisons that follow each other are the fault `AmbiguousOperators`
+/// of the relation, which stands here; or memory runs out. (Cedar language reference, "Operators and functions".)
+pub fn lone_comparison<'n, E: Drop>(
+    alloc: Global,
+    comparisons: &'n [(RelOp, Node<Option<Add>>)],
+    loc: Option<&Loc>,
+) -> Result<Option<&'n (RelOp, Node<Option<Add>>)>, ConversionError<E>>
+    ensures lone { IfOk result (λ comparison. comparisons.now ≡ option_to_list (option_copied comparison)) }
+    ensures others { IfErr result (λ error. 1 < length comparisons.now) }
+    ensures fault { IfErr result IsFault }
+    ensures kind { IfErr result (λ error. IsFaultOf ToASTErrorKind.AmbiguousOperators (option_copied loc.entry) error) }
+{
+    match comparisons.split_first() {
+        None => Ok(None),
+        Some((comparison, others)) => {
+            if others.is_empty() {
+                Ok(Some(comparison))
+            } else {
+                let kind = ToASTErrorKind::AmbiguousOperators;
+                Err(ConversionError::fault(alloc, kind, loc))
+            }
+        }
     }
 }
 

@@ -8,7 +8,7 @@ use Rattle.std.proofs.lemmas.Bool.{eqb-true, ne_eqb}
 use Rattle.std.proofs.lemmas.List.{get_or_past}
 use Rattle.std.proofs.lemmas.Str.{chars-nil, IsCharBoundary-after_ascii}
 use Rattle.cedar_grammar.specs.Token as token
-use Rattle.cedar_grammar.specs.Token.{Mark, Token, word, number, text, mark, word_of, mark_spelled}
+use Rattle.cedar_grammar.specs.Token.{Mark, Token, word, number, mark, word_of, mark_spelled}
 use Rattle.cedar_grammar.specs.Tokens.{colon, begins_word, is_in_word, lengthens, Stops, Run, ends, goes_on, nothing, space, Front, is_word, is_number, is_mark, AreTokens, none, next}
 use Rattle.cedar_data.specs.declared.texts.Sign.{Sign}
 use Rattle.cedar_data.specs.declared.texts.Sign.TheVariants as sign

@@ -1,5 +1,5 @@
 -- What is decided by the groups of a response that have a policy, and which groups are its reasons.
-use Rattle.std.proofs.Common.{◌≡◌, ℕ, Bool, true, false, ◌&&◌, ◌||◌, cond, List, [], ◌∷◌, ◌++◌, map, filter, refl, sym, ◌∙◌, ap}
+use Rattle.std.proofs.Common.{◌≡◌, Bool, true, false, ◌&&◌, ◌||◌, cond, List, [], ◌∷◌, ◌++◌, map, filter, refl, ◌∙◌, ap}
 use Rattle.std.proofs.lemmas.List.{append-nil}
 use Rattle.cedar_language.specs.Uid.{Text}
 use Rattle.cedar_language.specs.Answering.{Effect, Permit, Forbid, Standing, Satisfied, Unsatisfied, Residual, Judged, some, satisfied_permit, satisfied_forbid, residual_permit, residual_forbid, decision, decision_by, in_must, in_may}

@@ -1,5 +1,5 @@
 -- A policy as an entry of a set: its syntax, and its slots' entities.
-use Rattle.std.proofs.Common.{◌≡◌, Bool, true, false, ◌&&◌, Option, Some, None, is_some, [], refl, sym, ◌∙◌, ap}
+use Rattle.std.proofs.Common.{◌≡◌, true, false, ◌&&◌, Option, Some, None, is_some, [], refl, sym, ◌∙◌, ap}
 use Rattle.std.specs.List.{list_any}
 use Rattle.std.specs.Option.{ForNone}
 use Rattle.cedar_language.specs.Uid.{Text, Uid}

@@ -15,7 +15,6 @@ mod HeldIds
 mod Telling
 mod LeftSets
 mod Again
-mod ActionSets
 mod Scoped
 mod Judged
 mod Unmet

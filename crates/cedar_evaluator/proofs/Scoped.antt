@@ -1,39 +1,29 @@
 -- What the scope of a policy asks, decided by the entities that are given.
-use Rattle.std.proofs.Common.{◌≡◌, Bool, true, false, Option, Some, None, option_map, List, map, refl, sym, ◌∙◌, ap, subst}
-use Rattle.std.specs.Prelude.{⊤}
+use Rattle.std.proofs.Common.{◌≡◌, Bool, true, false, Option, Some, None, option_map, map, refl, sym, ◌∙◌, ap, subst}
 use Rattle.std.specs.Borrow.{Bor}
-use Rattle.std.specs.Cmp.{both_ways}
-use Rattle.std.specs.List.{list_any}
 use Rattle.std.specs.Option.{option_copied}
 use Rattle.cedar_language.specs.Uid.{Name, Uid}
 use Rattle.cedar_language.specs.Tree.{Boolean, Entity, Operator, Equal, In, Is, MakeSet, Variable, Action, SlotId, Tree, Lit, Var, Apply, And}
-use Rattle.cedar_language.specs.Value.{Value, Plain, SetOf, a_value, no_values}
-use Rattle.cedar_language.specs.Order.{same, same_name, same_uid, rising}
-use Rattle.cedar_language.specs.OrderLaws.{same_is, is_same}
+use Rattle.cedar_language.specs.Value.{Value, Plain, SetOf, no_values}
+use Rattle.cedar_language.specs.Order.{same_name, same_uid, rising}
 use Rattle.cedar_language.specs.Facts.{Facts}
 use Rattle.cedar_language.specs.Meaning.{slot_outcome}
 use Rattle.cedar_language.specs.Operators.{applied, is_within, within_members}
 use Rattle.cedar_grammar.specs.Build.{trees, unary, binary, conjunction}
 use Rattle.cedar_grammar.specs.Policy.{Target, the_entity, the_slot, Constraint, anything, equals, within, of_type, of_type_within, ActionConstraint, any_action, action_equals, action_within_any, target_tree, constraint_tree, action_tree, with_body}
-use Rattle.cedar_partial_evaluation.specs.Partial.{Answer, Evaluated, Answers, AllEvaluated, and_answer, and_next, last_answer, answer_of, apply_answer, LeafAnswers, partial_in, all_partial_in}
+use Rattle.cedar_partial_evaluation.specs.Partial.{Evaluated, AllEvaluated, and_answer, and_next, last_answer, answer_of, apply_answer, LeafAnswers, partial_in}
 use Rattle.cedar_world.specs.Scope.{and_then_met, action_meets}
-use Rattle.cedar_constraints.specs.Sameness.{uids_decide}
+use Rattle.cedar_world.proofs.Scope.{entity_equal, conjoined, entities, all_listed, rising_uids}
+use Rattle.cedar_constraints.specs.References.{target_bound}
 use Rattle.cedar_entities.specs.Data.{EntityData}
 use Rattle.cedar_entities.specs.declared.store.Entities.{Entities}
 use Rattle.cedar_operators.specs.Operands.{two}
 use Rattle.cedar_operators.specs.Hierarchy.{is_within_entity}
 use Rattle.cedar_operators.specs.Store.{HasFacts}
 use Rattle.cedar_interpreter.specs.Seen.{IsSeen}
-use Rattle.cedar_evaluator.specs.Scopes.{IsDecided, IsGivenAs, target_bound, constraint_met, unasked}
-use Rattle.cedar_evaluator.specs.declared.scopes.GivenEntity.{GivenEntity}
-use Rattle.cedar_evaluator.proofs.ActionSets.{entities, all_listed, rising_uids}
+use Rattle.cedar_evaluator.specs.Scopes.{IsDecided, constraint_met, unasked}
 
 -- ---- conjunctions
-
-pub conjoined : (facts : Facts) (holds : LeafAnswers) (l r : Tree) → partial_in facts holds (conjunction l r) ≡ and_answer facts (partial_in facts holds l) (partial_in facts holds r) r
-conjoined facts holds (Lit (Boolean true)) (Lit (Boolean b)) = refl
-conjoined facts holds (Lit (Boolean false)) (Lit (Boolean b)) = refl
-conjoined facts holds _ _ = refl
 
 module _ (facts : Facts) (holds : LeafAnswers) where
   left_decides : (l r : Tree) → partial_in facts holds l ≡ Evaluated (Plain (Boolean false)) → partial_in facts holds (conjunction l r) ≡ Evaluated (Plain (Boolean false))
@@ -54,12 +44,6 @@ module _ (facts : Facts) (holds : LeafAnswers) where
   out_of_scope scope (Some c) h = left_decides scope c h
 
 -- ---- single constraints
-
-entity_equal : (a b : Uid) → same (Plain (Entity a)) (Plain (Entity b)) ≡ same_uid a b
-entity_equal a b =
-    both_ways (same (Plain (Entity a)) (Plain (Entity b))) (same_uid a b)
-    (λ h. let e : Plain (Entity a) ≡ Plain (Entity b) = same_is _ _ h in let is : a ≡ b = cc in (uids_decide a b).1 is)
-    (λ h. is_same _ _ (ap (λ u. Plain (Entity u)) ((uids_decide a b).0 h)))
 
 mapped : (f : Uid → Bool) (o : Option Uid) (b : Bool) → option_map f o ≡ Some b → (x : Uid) × (o ≡ Some x) × (f x ≡ b)
 mapped f (Some x) b e = (x, refl, cc)

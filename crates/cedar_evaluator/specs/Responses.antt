@@ -1,5 +1,5 @@
 -- What a response keeps of policies, by their effects and by what was found of them.
-use Rattle.std.specs.Prelude.{◌≡◌, Bool, true, false, ◌&&◌, Option, Some, None, List, [], ◌∷◌, ◌++◌, map}
+use Rattle.std.specs.Prelude.{Bool, true, false, Option, Some, None, List, [], ◌++◌, map}
 use Rattle.std.specs.List.{filter_map}
 use Rattle.cedar_language.specs.Uid.{Text}
 use Rattle.cedar_language.specs.Tree.{Tree}

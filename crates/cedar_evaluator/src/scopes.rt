@@ -14,7 +14,6 @@ ghost use Rattle.cedar_world.specs.Scope.{action_meets};
 ghost use Rattle.cedar_literals.specs.Variables.{variable_of};
 ghost use Rattle.cedar_constraints.specs.Actions.{action_of, held_uids};
 ghost use Rattle.cedar_constraints.specs.Asked.{constraint_of};
-ghost use Rattle.cedar_constraints.specs.References.{target_of};
 ghost use Rattle.cedar_entities.specs.Data.{ancestors_of};
 ghost use Rattle.cedar_entities.specs.declared.store.Entities.{Entities as Store};
 ghost use Rattle.cedar_extensions.specs.Table.{Table};
@@ -22,11 +21,10 @@ ghost use Rattle.cedar_operators.specs.Hierarchy.{is_within_entity};
 ghost use Rattle.cedar_operators.specs.Store.{HasFacts};
 ghost use Rattle.cedar_interpreter.specs.Asking.{Inquiry, variable_asked, request_held, IsEvaluatorOf};
 ghost use Rattle.cedar_policies.specs.Policies.{bindings_of, policy_syntax};
-ghost use Rattle.cedar_evaluator.specs.Scopes.{IsDecided, IsGivenAs, AreScopesOf, target_bound, constraint_met, unasked};
+ghost use Rattle.cedar_evaluator.specs.Scopes.{IsDecided, IsGivenAs, AreScopesOf, constraint_met, unasked};
 
 use cedar_constraints::actions::ActionConstraint;
 use cedar_constraints::constraints::PrincipalOrResourceConstraint;
-use cedar_constraints::references::EntityReference;
 use cedar_entities::entity::Entity;
 use cedar_entities::store::Entities;
 use cedar_extensions::objects::ExtensionFunctionObject;
@@ -136,12 +134,14 @@ impl<'s> GivenEntity<'s> {
     {
         match constraint {
             PrincipalOrResourceConstraint::Any => Some(true),
-            PrincipalOrResourceConstraint::Eq(named) => self.is_target(target(named, bound)),
-            PrincipalOrResourceConstraint::In(named) => self.is_in_target(target(named, bound)),
+            PrincipalOrResourceConstraint::Eq(named) => self.is_target(named.uid_or_bound(bound)),
+            PrincipalOrResourceConstraint::In(named) => self.is_in_target(named.uid_or_bound(
+                bound,
+            )),
             PrincipalOrResourceConstraint::Is(ty) => Some(self.is_of(ty)),
             PrincipalOrResourceConstraint::IsIn(ty, named) => {
                 if self.is_of(ty) {
-                    self.is_in_target(target(named, bound))
+                    self.is_in_target(named.uid_or_bound(bound))
                 } else {
                     Some(false)
                 }
@@ -158,16 +158,6 @@ impl<'s> GivenEntity<'s> {
             ActionConstraint::Eq(uid) => self.is(uid),
             ActionConstraint::In(uids) => self.is_in_some(uids),
         }
-    }
-}
-
-// The entity that a scope names, or that its slot is bound to.
-fn target<'p>(named: &'p EntityReference, bound: Option<&'p EntityUID>) -> Option<&'p EntityUID>
-    ensures { option_copied result ≡ target_bound (option_copied bound.entry) (target_of named.now) }
-{
-    match named {
-        EntityReference::EUID(uid) => Some(uid.as_ref()),
-        EntityReference::Slot(_) => bound,
     }
 }
 

@@ -3,7 +3,7 @@ use Rattle.std.proofs.Common.{◌≡◌, ◌≢◌, suc, List, [], ◌∷◌, le
 use Rattle.std.proofs.lemmas.Bool.{ne_eqb}
 use Rattle.std.specs.Prelude.{Some, cond, true, false}
 use Rattle.cedar_language.specs.Facts.{Function}
-use Rattle.cedar_language.specs.Value.{Value, FailedExtensionFunctionExecution, WrongNumArguments, Outcome, Fails}
+use Rattle.cedar_language.specs.Value.{Value, FailedExtensionFunctionExecution, WrongNumArguments, Fails}
 use Rattle.cedar_language.specs.Order.{all_of}
 use Rattle.cedar_language.specs.Operators.{count, called, or_fails, takes}
 use Rattle.cedar_world.specs.Functions.{one_string, unknown_function}

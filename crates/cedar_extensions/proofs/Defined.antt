@@ -1,9 +1,8 @@
 -- What a name calls is what the definitions say of the functions of a table.
-use Rattle.std.proofs.Common.{◌≡◌, List, [], ◌∷◌, refl, ap, sym, ◌∙◌, subst}
-use Rattle.std.specs.Prelude.{Bool, true, false, not, cond, ◌&&◌, ◌||◌, Option, Some, None, option_map, map, filter, if◌then◌else◌}
+use Rattle.std.proofs.Common.{◌≡◌, List, [], ◌∷◌, refl, ap, sym, ◌∙◌}
+use Rattle.std.specs.Prelude.{Bool, true, false, not, cond, ◌&&◌, ◌||◌, Some, None, option_map, map, filter}
 use Rattle.std.specs.List.{list_any}
 use Rattle.cedar_language.specs.Uid.{Name}
-use Rattle.cedar_language.specs.Facts as facts
 use Rattle.cedar_language.specs.Order.{same_name}
 use Rattle.cedar_names.specs.Laws.{same_name_equiv}
 use Rattle.cedar_names.proofs.Sameness.{names_same}
@@ -20,17 +19,22 @@ means_unknown : {F : Type 0} (answers : F → FunctionAnswers) (g : Function F) 
 means_unknown answers Unknown h = refl
 means_unknown answers (Callers f) h = cc
 
-and_left : (a b : Bool) → (a && b) ≡ true → a ≡ true
+pub and_left : (a b : Bool) → (a && b) ≡ true → a ≡ true
 and_left true b h = refl
 and_left false b h = h
 
-and_right : (a b : Bool) → (a && b) ≡ true → b ≡ true
+pub and_right : (a b : Bool) → (a && b) ≡ true → b ≡ true
 and_right true b h = h
 and_right false b h = cc
 
 not_true : (a : Bool) → not a ≡ true → a ≡ false
 not_true true h = cc
 not_true false h = refl
+
+-- a function is the built-in one exactly where it has its name
+pub named_so : {F : Type 0} (f : ExtensionFunction F) (u : Bool) → is_unknown f ≡ u → is_named f ≡ true → is_the_unknown (function_name f) ≡ u
+named_so f true is h = sym (ap (λ b. cond b (is_the_unknown (function_name f)) (not (is_the_unknown (function_name f)))) is) ∙ h
+named_so f false is h = not_true (is_the_unknown (function_name f)) (sym (ap (λ b. cond b (is_the_unknown (function_name f)) (not (is_the_unknown (function_name f)))) is) ∙ h)
 
 -- what the name that is looked up is, decides how each function's name compares with it
 same_there : (m n : Name) → is_the_unknown n ≡ true → same_name m n ≡ is_the_unknown m
@@ -42,35 +46,39 @@ apart m n h i true e = sym i ∙ (ap is_the_unknown ((names_same m n).0 e) ∙ h
 
 -- the built-in one
 module _ {F : Type 0} (answers : F → FunctionAnswers) (n : Name) (is : is_the_unknown n ≡ true) where
-  built_in_here : (f : ExtensionFunction F) (fs : List (ExtensionFunction F)) (u : Bool) → is_unknown f ≡ u → cond u (is_the_unknown (function_name f)) (not (is_the_unknown (function_name f))) ≡ true
+  built_in_here : (f : ExtensionFunction F) (fs : List (ExtensionFunction F)) (u : Bool) → is_unknown f ≡ u → is_named f ≡ true
       → cond (list_any is_unknown fs) (Some unknown_function) None ≡ option_map (meaning_of answers) (found_in fs n)
       → cond (u || list_any is_unknown fs) (Some unknown_function) None ≡ option_map (meaning_of answers) (cond (same_name (function_name f) n) (Some f) (found_in fs n))
   built_in_here f fs true e h below =
       ap Some (sym (means_unknown answers f.function e))
-      ∙ ap (λ b. option_map (meaning_of answers) (cond b (Some f) (found_in fs n))) (sym (same_there (function_name f) n is ∙ h))
+      ∙ ap (λ b. option_map (meaning_of answers) (cond b (Some f) (found_in fs n))) (sym (same_there (function_name f) n is ∙ named_so f true e h))
   built_in_here f fs false e h below =
-      below ∙ ap (λ b. option_map (meaning_of answers) (cond b (Some f) (found_in fs n))) (sym (same_there (function_name f) n is ∙ not_true _ h))
+      below ∙ ap (λ b. option_map (meaning_of answers) (cond b (Some f) (found_in fs n))) (sym (same_there (function_name f) n is ∙ named_so f false e h))
 
-  built_in : (fs : List (ExtensionFunction F)) → are_named fs ≡ true → cond (list_any is_unknown fs) (Some unknown_function) None ≡ option_map (meaning_of answers) (found_in fs n)
+  pub built_in : (fs : List (ExtensionFunction F)) → are_named fs ≡ true → cond (list_any is_unknown fs) (Some unknown_function) None ≡ option_map (meaning_of answers) (found_in fs n)
   built_in [] h = refl
   built_in (f ∷ fs) h = built_in_here f fs (is_unknown f) refl (and_left _ _ h) (built_in fs (and_right _ _ h))
 
 -- the others
-module _ {F : Type 0} (answers : F → FunctionAnswers) (n : Name) (is : is_the_unknown n ≡ false) where
-  abbrev callers : List (ExtensionFunction F) → List NamedFunction
+module _ {F : Type 0} (answers : F → FunctionAnswers) where
+  abbrev pub callers : List (ExtensionFunction F) → List NamedFunction
   callers fs = filter (λ (f : NamedFunction). not (is_the_unknown f.name)) (map (named_function answers) fs)
 
+module _ {F : Type 0} (answers : F → FunctionAnswers) (n : Name) (is : is_the_unknown n ≡ false) where
+  abbrev listed : List (ExtensionFunction F) → List NamedFunction
+  listed = callers answers
+
   other_here : (f : ExtensionFunction F) (fs : List (ExtensionFunction F)) (u : Bool) → is_the_unknown (function_name f) ≡ u
-      → first_named n (callers fs) ≡ option_map (meaning_of answers) (found_in fs n)
-      → first_named n (cond (not u) (named_function answers f ∷ callers fs) (callers fs)) ≡ option_map (meaning_of answers) (cond (same_name (function_name f) n) (Some f) (found_in fs n))
+      → first_named n (listed fs) ≡ option_map (meaning_of answers) (found_in fs n)
+      → first_named n (cond (not u) (named_function answers f ∷ listed fs) (listed fs)) ≡ option_map (meaning_of answers) (cond (same_name (function_name f) n) (Some f) (found_in fs n))
   other_here f fs true e below =
       below ∙ ap (λ b. option_map (meaning_of answers) (cond b (Some f) (found_in fs n))) (sym (apart (function_name f) n is e (same_name (function_name f) n) refl))
   other_here f fs false e below = first (same_name (function_name f) n) (same_name_equiv.symm n (function_name f)) where
-    first : (b : Bool) → same_name n (function_name f) ≡ b → cond (same_name n (function_name f)) (Some (meaning_of answers f)) (first_named n (callers fs)) ≡ option_map (meaning_of answers) (cond b (Some f) (found_in fs n))
-    first true i = ap (λ b. cond b (Some (meaning_of answers f)) (first_named n (callers fs))) i
-    first false i = ap (λ b. cond b (Some (meaning_of answers f)) (first_named n (callers fs))) i ∙ below
+    first : (b : Bool) → same_name n (function_name f) ≡ b → cond (same_name n (function_name f)) (Some (meaning_of answers f)) (first_named n (listed fs)) ≡ option_map (meaning_of answers) (cond b (Some f) (found_in fs n))
+    first true i = ap (λ b. cond b (Some (meaning_of answers f)) (first_named n (listed fs))) i
+    first false i = ap (λ b. cond b (Some (meaning_of answers f)) (first_named n (listed fs))) i ∙ below
 
-  others : (fs : List (ExtensionFunction F)) → first_named n (callers fs) ≡ option_map (meaning_of answers) (found_in fs n)
+  others : (fs : List (ExtensionFunction F)) → first_named n (listed fs) ≡ option_map (meaning_of answers) (found_in fs n)
   others [] = refl
   others (f ∷ fs) = other_here f fs (is_the_unknown (function_name f)) refl (others fs)
 

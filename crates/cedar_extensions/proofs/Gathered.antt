@@ -1,6 +1,6 @@
 -- Pairs whose keys differ, gathered into a map one by one.
 use Rattle.std.proofs.Common.{◌≡◌, List, [], ◌∷◌, ◌++◌, refl, ap, sym, ◌∙◌}
-use Rattle.std.specs.Prelude.{Bool, true, false, cond, map, is_some, Option, Some, None}
+use Rattle.std.specs.Prelude.{Bool, true, false, cond, is_some, Option, Some, None}
 use Rattle.std.specs.Option.{option_or}
 use Rattle.std.specs.Cmp.{IsEquivalence}
 use Rattle.std.specs.List.{list_any, IsDistinct}

@@ -1,16 +1,14 @@
 -- What is told of a tree by what is lent of its parts.
-use Rattle.std.proofs.Common.{◌≡◌, ◌∙◌, ◌≤◌, ◌+◌, ℕ, suc, max, refl, sym, ap, subst, Bool, true, false, not, Option, Some, None, IfSome, arith}
+use Rattle.std.proofs.Common.{◌≡◌, ◌∙◌, ◌≤◌, ◌+◌, ℕ, refl, sym, ap, subst, Bool, true, false, not, Option, Some, None, IfSome, arith}
 use Rattle.std.specs.Bool.{Decides, one_answer}
 use Rattle.std.specs.Cmp.Lexicographic.{bytes_decides}
-use Rattle.either.specs.declared.Either.{Either}
-use Rattle.either.specs.declared.Either.TheVariants.{Left}
 use Rattle.cedar_language.specs.Uid.{Text, Uid}
 use Rattle.cedar_language.specs.Tree.{Boolean, String, Entity, Literal, Operator, Not, GetAttr, Tree, Lit, Var, Variable, If, And, Or}
 use Rattle.cedar_language.specs.Value.{Value, Plain, no_values, Gives}
 use Rattle.cedar_language.specs.Facts.{Facts}
-use Rattle.cedar_language.specs.Order.{same, same_text, same_uid, value_cmp}
+use Rattle.cedar_language.specs.Order.{same, same_text, same_uid}
 use Rattle.cedar_language.specs.OrderLaws.{value_cmp_total, value_cmp_same}
-use Rattle.cedar_language.specs.Operators.{applied, truth, attribute, attribute_held}
+use Rattle.cedar_language.specs.Operators.{applied, attribute, attribute_held}
 use Rattle.cedar_partial_evaluation.specs.Partial.{Evaluated, AllEvaluated, answer_of, last_answer, and_answer, or_answer, if_answer, and_next, apply_answer, partial_in}
 use Rattle.cedar_entities.specs.Data.{EntityData}
 use Rattle.cedar_entities.specs.Held.{held_of}

@@ -19,7 +19,7 @@ use Rattle.cedar_extensions.specs.declared.evaluation_error.EvaluationError.{Eva
 use Rattle.cedar_extensions.specs.Table.{Table}
 use Rattle.cedar_operators.specs.Store.{HasFacts}
 use Rattle.cedar_restricted.specs.PartialValues.{partial_of}
-use Rattle.cedar_requests.specs.Answers.{part_answer}
+use Rattle.cedar_restricted_evaluation.specs.Evaluations.{part_answer}
 use Rattle.cedar_requests.specs.Holding.{RequestParts}
 use Rattle.cedar_interpreter.specs.Holding.{held_by, is_evaluated, Serves, depth_of}
 use Rattle.cedar_interpreter.specs.Operating.{HasFunctions, NamesNothing}

@@ -20,7 +20,7 @@ use Rattle.cedar_restricted.specs.PartialValues.{partial_of}
 use Rattle.cedar_restricted.specs.declared.partial_values.PartialValue.{PartialValue}
 use Rattle.cedar_extensions.specs.Answering.{FunctionAnswers}
 use Rattle.cedar_extensions.specs.Table.{as_table}
-use Rattle.cedar_requests.specs.Answers.{part_answer}
+use Rattle.cedar_restricted_evaluation.specs.Evaluations.{part_answer}
 use Rattle.cedar_substitution.specs.Told.{told_for}
 use Rattle.cedar_interpreter.specs.Operating.{HasFunctions, NamesNothing}
 use Rattle.cedar_interpreter.specs.declared.evaluator.Variables.{Variables}

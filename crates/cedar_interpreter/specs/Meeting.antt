@@ -16,7 +16,7 @@ use Rattle.cedar_restricted.specs.declared.partial_values.PartialValue.{PartialV
 use Rattle.cedar_extensions.specs.Failures.{Failure, OfKind, LimitMet, MemoryRanOut, failure_of}
 use Rattle.cedar_extensions.specs.Giving.{GivesBy}
 use Rattle.cedar_extensions.specs.declared.evaluation_error.EvaluationError.{EvaluationError}
-pub use Rattle.cedar_requests.specs.Answers.{part_answer}
+pub use Rattle.cedar_restricted_evaluation.specs.Evaluations.{part_answer}
 use Rattle.cedar_interpreter.specs.declared.lazy.Tested.{Tested}
 use Rattle.cedar_interpreter.specs.declared.lazy.Tested.TheVariants as tested
 

@@ -6,7 +6,7 @@ ghost use Rattle.cedar_entities.specs.declared.store.Entities.{Entities as Store
 ghost use Rattle.cedar_extensions.specs.Table.{Table, as_table};
 ghost use Rattle.cedar_trees.specs.Bare.{bare};
 ghost use Rattle.cedar_restricted.specs.PartialValues.{partial_of};
-ghost use Rattle.cedar_requests.specs.Answers.{part_answer};
+ghost use Rattle.cedar_restricted_evaluation.specs.Evaluations.{part_answer};
 ghost use Rattle.cedar_requests.specs.Contexts.{context_part};
 ghost use Rattle.cedar_requests.specs.Holding.{RequestParts, request_parts};
 ghost use Rattle.cedar_substitution.specs.Told.{told_for};

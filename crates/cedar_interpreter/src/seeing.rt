@@ -8,7 +8,7 @@ ghost use Rattle.cedar_language.specs.Value.{Plain};
 ghost use Rattle.cedar_literals.specs.Variables.{variable_of};
 ghost use Rattle.cedar_partial_evaluation.specs.Partial.{Evaluated};
 ghost use Rattle.cedar_restricted.specs.PartialValues.{partial_of};
-ghost use Rattle.cedar_requests.specs.Answers.{part_answer};
+ghost use Rattle.cedar_restricted_evaluation.specs.Evaluations.{part_answer};
 ghost use Rattle.cedar_interpreter.specs.Asking.{Inquiry, variable_asked, IsEvaluatorOf};
 ghost use Rattle.cedar_interpreter.specs.Holding.{variable_held};
 ghost use Rattle.cedar_interpreter.specs.Seen.{IsSeen, IsSeenFor, AreSeen, uid_standing};

@@ -1,5 +1,5 @@
 -- Annotations, clauses and policies take tokens.
-use Rattle.std.proofs.Common.{◌≡◌, ℕ, suc, ◌<◌, ◌≤◌, List, ◌∷◌, length, Some, Ok, refl, ap, arith}
+use Rattle.std.proofs.Common.{◌≡◌, ℕ, suc, ◌<◌, List, ◌∷◌, length, Ok, refl, ap, arith}
 use Rattle.cedar_grammar.specs.Token as token
 use Rattle.cedar_grammar.specs.Token.{Token, word, mark}
 use Rattle.cedar_grammar.specs.Reading.{eat}
@@ -8,7 +8,7 @@ use Rattle.cedar_grammar.proofs.Parts.{eat-is}
 use Rattle.cedar_grammar.specs.Loose as loose
 use Rattle.cedar_grammar.specs.LooseReading.{◌>>◌, needed, annotated, annotation_of, braced, begins_cond, cond_of, variable_def_of, policy_of, expr_at}
 use Rattle.cedar_grammar.proofs.Basics.{bind_ok, needed_ok, word_read-is}
-use Rattle.cedar_grammar.proofs.Rests.{rest-length, eat-leaves, word-leaves, each-leaves, items-leaves, expr_at-leaves}
+use Rattle.cedar_grammar.proofs.Rests.{rest-length, eat-leaves, each-leaves, items-leaves, expr_at-leaves}
 use Rattle.cedar_grammar.proofs.PolicyRests.{annotated-leaves, annotation-leaves, variable_def-leaves, braced-leaves, cond-leaves, parts}
 
 pub annotation_fewer : (ts : List Token) (x : loose.Annotation) (rest : List Token) → annotation_of ts ≡ Ok (x, rest) → length rest < length ts

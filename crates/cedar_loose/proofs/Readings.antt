@@ -1,5 +1,5 @@
 -- How parts of policies are read, step by step as their readers take them.
-use Rattle.std.proofs.Common.{◌≡◌, ℕ, suc, ◌+◌, add-one, List, ◌∷◌, Option, Some, None, Result, Ok, Err, refl, sym, ap, ◌∙◌}
+use Rattle.std.proofs.Common.{◌≡◌, ℕ, suc, ◌+◌, add-one, List, Option, Some, None, Result, Ok, Err, refl, sym, ap}
 use Rattle.cedar_grammar.specs.Token as token
 use Rattle.cedar_grammar.specs.Token.{Word, Token}
 use Rattle.cedar_grammar.specs.Reading.{eat, text_read}

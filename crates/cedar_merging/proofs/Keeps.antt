@@ -1,5 +1,5 @@
 -- A merge keeps each policy of both sets, a link with its template.
-use Rattle.std.proofs.Common.{◌≡◌, Bool, true, false, not, ◌||◌, cond, List, [], ◌∷◌, ◌++◌, map, filter, refl, sym, ap, ◌∙◌, true≢false, is_some, Option, None, Some, unwrap_or}
+use Rattle.std.proofs.Common.{◌≡◌, Bool, true, false, not, ◌||◌, cond, List, [], ◌∷◌, map, filter, refl, sym, ap, ◌∙◌, true≢false, is_some, Option, None, Some, unwrap_or}
 use Rattle.std.specs.Prelude.{Result, Ok, Err, OnOk}
 use Rattle.std.specs.List.{IsDistinct, AllByRecursion}
 use Rattle.std.specs.Map.{keys_of, lookup}
@@ -9,10 +9,9 @@ use Rattle.std.proofs.lemmas.Map.Made.{is_some-lookup}
 use Rattle.std.proofs.lemmas.Map.Keys.{IsDistinct-head, IsDistinct-tail}
 use Rattle.cedar_language.specs.Uid.{Text}
 use Rattle.cedar_language.specs.Order.{same_text}
-use Rattle.cedar_grammar.specs.Policy.{Policy}
 use Rattle.cedar_policy_set.specs.Entries.{Entry, static_policy, template, link, Entries, bound_at, is_bound, IsWhole}
 use Rattle.cedar_policy_set.specs.EntryNodes.{same_entry, entries_decide}
-use Rattle.cedar_policy_set.proofs.Finding.{same_id, id_itself, none_from, some_apart, or_left, or_right, found_first, found_later}
+use Rattle.cedar_policy_set.proofs.Finding.{same_id, id_itself, none_from, or_left, or_right, found_first, found_later}
 use Rattle.cedar_merging.specs.Renaming.{NewIds, conflicts, conflicting, IsRenaming, new_id, renamed}
 use Rattle.cedar_merging.specs.Merged.{renamed_entry, is_more, joining, joined, KeepsMine, KeepsTheirs}
 use Rattle.cedar_merging.proofs.RenamingLaws.{new_id_apart, numbers_keys}

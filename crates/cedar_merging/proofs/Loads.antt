@@ -1,6 +1,5 @@
 -- A merge with the policies of a text is the world's load of that text.
-use Rattle.std.proofs.Common.{inl, inr, ◌⊎◌, ◌≡◌, ◌≢◌, ℕ, zero, suc, ◌+◌, ◌^◌, ◌<◌, ◌≤◌, Bool, true, false, not, ◌||◌, cond, List, [], ◌∷◌, ◌++◌, map, filter, length, refl, sym, ap, subst, ◌∙◌, true≢false, arith, is_some, Option, None, Some, unwrap_or, ltb, ltb-true, ltb-false}
-use Rattle.std.specs.Prelude.{IsSome}
+use Rattle.std.proofs.Common.{inl, inr, ◌≡◌, ◌≢◌, ℕ, suc, ◌+◌, ◌^◌, ◌<◌, ◌≤◌, Bool, true, false, not, ◌||◌, cond, List, [], ◌∷◌, ◌++◌, map, filter, length, refl, sym, ap, subst, ◌∙◌, true≢false, arith, is_some, Option, None, Some, unwrap_or, ltb, ltb-true, ltb-false}
 use Rattle.std.specs.List.{IsDistinct, AllByRecursion}
 use Rattle.std.specs.Map.{keys_of, lookup}
 use Rattle.std.specs.Option.{option_map, option_map_or}
@@ -13,7 +12,6 @@ use Rattle.std.proofs.lemmas.Map.Made.{is_some-lookup}
 use Rattle.cedar_language.specs.Uid.{Text}
 use Rattle.cedar_language.specs.Order.{same_text, text_cmp}
 use Rattle.cedar_language.specs.OrderLaws.{text_cmp_total, text_cmp_same}
-use Rattle.cedar_grammar.specs.Policy.{slots}
 use Rattle.cedar_world.specs.Syntax.{PolicySyntax, is_template, are_some}
 use Rattle.cedar_world.specs.World as world
 use Rattle.cedar_world.specs.PolicyEdits as edits
@@ -25,7 +23,7 @@ use Rattle.cedar_policy_set.proofs.Distinct.{distinct_apart}
 use Rattle.cedar_policy_set.proofs.Finding.{id_apart, same_id, id_itself, none_from, or_right, found_first}
 use Rattle.cedar_policy_set.proofs.WorldLaws.{ties_are, finds_as_worlds, binds_as_worlds}
 use Rattle.cedar_merging.specs.Renaming as merging
-use Rattle.cedar_merging.specs.Renaming.{NewIds, is_taken, conflicts, conflicting, Numbers, IsRenaming, new_id, renamed}
+use Rattle.cedar_merging.specs.Renaming.{NewIds, conflicts, conflicting, Numbers, new_id, renamed}
 use Rattle.cedar_merging.specs.Merged.{renamed_entry, is_more, joining, joined}
 use Rattle.cedar_policy_set.specs.Texts.{text_entry, text_entries, HaveSlots}
 use Rattle.cedar_merging.specs.Loading.{LoadsAsWorlds}

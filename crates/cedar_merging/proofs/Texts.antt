@@ -1,16 +1,15 @@
 -- What the policies of a text bind under their numbers.
-use Rattle.std.proofs.Common.{◌≡◌, ℕ, zero, suc, ◌+◌, ◌^◌, ◌<◌, ◌≤◌, Bool, true, false, cond, List, [], ◌∷◌, length, refl, sym, ap, ◌∙◌, true≢false, arith, is_some, Option, None, Some, ltb, ltb-true, ltb-false}
+use Rattle.std.proofs.Common.{◌≡◌, ℕ, suc, ◌+◌, ◌^◌, ◌<◌, ◌≤◌, Bool, true, false, cond, List, [], ◌∷◌, length, refl, sym, ap, ◌∙◌, true≢false, arith, is_some, Some, ltb, ltb-true, ltb-false}
 use Rattle.std.specs.List.{IsDistinct, AllByRecursion}
 use Rattle.std.specs.Map.{keys_of}
 use Rattle.std.specs.Cmp.Lexicographic.{nat_list_eq_equiv}
-use Rattle.cedar_language.specs.Uid.{Text}
 use Rattle.cedar_language.specs.Order.{same_text}
 use Rattle.cedar_grammar.specs.Policy.{slots}
 use Rattle.cedar_world.specs.Syntax.{PolicySyntax, is_template, are_some}
 use Rattle.cedar_world.specs.World as world
 use Rattle.cedar_world.specs.PolicyEdits.{numbered}
 use Rattle.cedar_language.specs.Tree.{SlotId}
-use Rattle.cedar_policy_set.specs.Entries.{Entry, static_policy, template, link, Entries, bound_at, is_bound, HasItsTemplate, IsFull, IsWhole}
+use Rattle.cedar_policy_set.specs.Entries.{Entry, static_policy, template, bound_at, is_bound, HasItsTemplate, IsFull, IsWhole}
 use Rattle.cedar_policy_set.specs.Worlds.{world_bound}
 use Rattle.cedar_policy_set.proofs.Finding.{same_id, id_itself}
 use Rattle.cedar_merging.specs.Renaming.{NewIds, renamed}

@@ -1,19 +1,19 @@
 -- Two whole sets are one whole set after a merge.
-use Rattle.std.proofs.Common.{◌≡◌, Bool, true, false, ◌||◌, cond, List, [], ◌∷◌, ◌++◌, map, filter, refl, sym, ap, subst, ◌∙◌, true≢false, is_some, Option, None, Some}
+use Rattle.std.proofs.Common.{◌≡◌, Bool, true, false, cond, [], ◌∷◌, map, filter, refl, sym, ap, subst, ◌∙◌, true≢false, is_some, Option, None, Some}
 use Rattle.std.specs.List.{IsDistinct, AllByRecursion}
-use Rattle.std.specs.Map.{keys_of, lookup}
+use Rattle.std.specs.Map.{keys_of}
 use Rattle.std.specs.Set.{is_member}
 use Rattle.std.proofs.lemmas.List.{map-append}
 use Rattle.std.proofs.lemmas.Map.Made.{is_some-lookup}
 use Rattle.std.proofs.lemmas.Map.Keys.{IsDistinct-head, IsDistinct-tail}
 use Rattle.cedar_language.specs.Uid.{Text}
 use Rattle.cedar_language.specs.Order.{same_text}
-use Rattle.cedar_policy_set.specs.Entries.{Entry, static_policy, template, link, Entries, bound_at, is_bound, HasItsTemplate, IsFull, IsWhole}
+use Rattle.cedar_policy_set.specs.Entries.{Entry, static_policy, template, link, Entries, bound_at, HasItsTemplate, IsFull, IsWhole}
 use Rattle.cedar_policy_set.proofs.Distinct.{distinct_append}
-use Rattle.cedar_policy_set.proofs.Finding.{same_id, id_itself, none_from, some_apart, found_first, found_later}
+use Rattle.cedar_policy_set.proofs.Finding.{same_id, id_itself, some_apart, found_first, found_later}
 use Rattle.cedar_policy_set.proofs.Wholes.{has_more}
-use Rattle.cedar_merging.specs.Renaming.{NewIds, IsRenaming, new_id, renamed}
-use Rattle.cedar_merging.specs.Merged.{renamed_entry, is_more, joining, joined, KeepsTheirs}
+use Rattle.cedar_merging.specs.Renaming.{NewIds, IsRenaming, renamed}
+use Rattle.cedar_merging.specs.Merged.{renamed_entry, is_more, joining, joined}
 use Rattle.cedar_merging.proofs.Joins.{join_first, more_are_free}
 use Rattle.cedar_merging.proofs.Keeps.{absent_from_all, keeps_theirs}
 

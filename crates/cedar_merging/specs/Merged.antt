@@ -1,5 +1,5 @@
 -- What a merge of two policy sets leaves.
-use Rattle.std.specs.Prelude.{◌≡◌, ⊤, Bool, true, false, ◌||◌, not, List, [], ◌∷◌, ◌++◌, filter, map, Some, Result, Ok, Err}
+use Rattle.std.specs.Prelude.{◌≡◌, ⊤, Bool, false, ◌||◌, not, List, [], ◌∷◌, ◌++◌, filter, map, Some, Result, Ok, Err}
 use Rattle.cedar_language.specs.Uid.{Text}
 use Rattle.cedar_policy_set.specs.Entries.{Entry, Entries, bound_at, is_bound}
 use Rattle.cedar_policy_set.specs.declared.errors.PolicySetError.{PolicySetError}

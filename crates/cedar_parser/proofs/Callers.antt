@@ -1,5 +1,5 @@
 -- What texts may call.
-use Rattle.std.proofs.Common.{◌≡◌, ap, sym, not, List, [], ◌∷◌, ◌++◌, map, filter, Bool, true, false, ◌&&◌, cond, length, refl, true≢false, arith, Ok, Err, Result, ◌∙◌}
+use Rattle.std.proofs.Common.{◌≡◌, ap, sym, not, List, [], ◌∷◌, ◌++◌, true, false, cond, length, refl, true≢false, arith, Ok, Err, Result, ◌∙◌}
 use Rattle.std.proofs.lemmas.Bool.{ne_eqb}
 use Rattle.std.proofs.lemmas.List.{append_assoc}
 use Rattle.std.specs.Prelude.{IfOk}
@@ -7,28 +7,17 @@ use Rattle.cedar_language.specs.Uid.{Text, Name}
 use Rattle.cedar_language.specs.Tree.{Tree}
 use Rattle.cedar_world.specs.Bodies.{holds_call}
 use Rattle.cedar_names.specs.Names.{basename_of}
-use Rattle.cedar_world.specs.Functions.{CallStyle, as_function, as_method, NamedFunction, is_the_unknown, with_function, function_names, with_method, method_names}
+use Rattle.cedar_world.specs.Functions.{CallStyle, as_function, as_method, is_the_unknown, with_function, function_names, with_method, method_names}
 use Rattle.cedar_extensions.specs.Answering.{FunctionAnswers}
 use Rattle.cedar_extensions.specs.Functions.{function_name, function_style, is_unknown, named_function}
 use Rattle.cedar_extensions.specs.Holding.{is_named, are_named}
+use Rattle.cedar_extensions.proofs.Defined.{and_left, and_right, named_so, callers}
 use Rattle.cedar_extensions.specs.declared.functions.ExtensionFunction.{ExtensionFunction}
 use Rattle.cedar_restricted.specs.Views.{restricted_tree}
 use Rattle.cedar_restricted.specs.declared.restricted.RestrictedExpr.{RestrictedExpr}
 use Rattle.cedar_parser.specs.Settings.{is_method}
 use Rattle.cedar_parser.specs.Strict.{Keeps}
 use Rattle.cedar_parser.specs.declared.restricted.RestrictedExpressionParseError.{RestrictedExpressionParseError}
-
--- the caller's functions among those of a table
-abbrev pub callers : {F : Type 0} → (F → FunctionAnswers) → List (ExtensionFunction F) → List NamedFunction
-callers answers fs = filter (λ (f : NamedFunction). not (is_the_unknown f.name)) (map (named_function answers) fs)
-
-and_left : (a b : Bool) → (a && b) ≡ true → a ≡ true
-and_left true b h = refl
-and_left false b h = h
-
-and_right : (a b : Bool) → (a && b) ≡ true → b ≡ true
-and_right true b h = h
-and_right false b h = cc
 
 method_next : (style : CallStyle) (name : Name) (rest : List Text) → is_method style name ≡ true → with_method style name rest ≡ basename_of name ∷ rest
 method_next as_function name rest h = cc
@@ -43,9 +32,7 @@ module _ {F : Type 0} (answers : F → FunctionAnswers) (f : ExtensionFunction F
 
   module _ (other : is_unknown f ≡ false) where
     apart : not (is_the_unknown (function_name f)) ≡ true
-    apart =
-        sym (ap (λ u. cond u (is_the_unknown (function_name f)) (not (is_the_unknown (function_name f)))) other)
-        ∙ and_left (is_named f) (are_named fs) named
+    apart = ap not (named_so f false other (and_left (is_named f) (are_named fs) named))
 
     listed : callers answers (f ∷ fs) ≡ named_function answers f ∷ callers answers fs
     listed = ap (λ b. cond b (named_function answers f ∷ callers answers fs) (callers answers fs)) apart

@@ -10,7 +10,7 @@ use Rattle.cedar_grammar.specs.LooseLaws.{ExprsConvert, ExprsStand, PoliciesConv
 use Rattle.cedar_grammar.specs.Loose as loose
 use Rattle.cedar_grammar.specs.LooseReading.{read_expr, read_policies, read_ref}
 use Rattle.cedar_conversion_leaves.specs.Reasons as reasons
-use Rattle.cedar_conversion_leaves.specs.Reasons.{Reason, reason}
+use Rattle.cedar_conversion_leaves.specs.Reasons.{Reason}
 use Rattle.cedar_conversion_leaves.specs.Converts.{Lacks, Misses}
 use Rattle.cedar_loose.specs.Texts.{IsRead, Refuses, RefusesFlat, flat}
 use Rattle.cedar_loose.specs.Errors as cause

@@ -7,7 +7,6 @@ use Rattle.cedar_grammar.specs.Token as token
 use Rattle.cedar_grammar.specs.Token.{Word}
 use Rattle.cedar_grammar.specs.Names.{variable_of}
 use Rattle.cedar_grammar.specs.Policy as policy
-use Rattle.cedar_grammar.specs.Policy.{Constraint}
 use Rattle.cedar_grammar.specs.Reading.{◌>>=◌}
 use Rattle.cedar_grammar.specs.ReadingPolicies.{owns}
 use Rattle.cedar_grammar.specs.Loose as loose

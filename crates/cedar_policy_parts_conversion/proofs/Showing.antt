@@ -1,5 +1,5 @@
 -- What is told of several parts together, and by faults that take another one's place.
-use Rattle.std.proofs.Common.{◌≡◌, ◌⊎◌, inl, inr, List, [], ◌∷◌, ◌++◌, Option, Some, None, Result, Ok, Err, refl, sym, subst}
+use Rattle.std.proofs.Common.{◌≡◌, ◌⊎◌, inl, inr, List, [], ◌∷◌, ◌++◌, Option, None, Result, Ok, Err, refl, sym, subst}
 use Rattle.std.specs.Prelude.{IfErr}
 use Rattle.cedar_names.specs.declared.places.Loc.{Loc}
 use Rattle.cedar_cst.specs.declared.errors.PlacedError.{PlacedError}

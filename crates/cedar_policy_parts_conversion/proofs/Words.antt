@@ -1,5 +1,5 @@
 -- Words that effects and clauses begin with, by their spelling.
-use Rattle.std.proofs.Common.{◌≡◌, Bool, true, false, None, Some, refl, sym, ap, ◌∙◌, subst, codes}
+use Rattle.std.proofs.Common.{◌≡◌, Bool, true, false, None, refl, sym, codes}
 use Rattle.std.specs.Prelude.{cond}
 use Rattle.cedar_language.specs.Uid.{Text}
 use Rattle.cedar_grammar.specs.Token as token

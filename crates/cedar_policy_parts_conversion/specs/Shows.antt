@@ -12,7 +12,7 @@ use Rattle.cedar_grammar.specs.Token.{Word}
 use Rattle.cedar_grammar.specs.Names as names
 use Rattle.cedar_grammar.specs.Reading.{◌>>=◌}
 use Rattle.cedar_grammar.specs.Loose as loose
-use Rattle.cedar_grammar.specs.Converting.{each, ident_spelling, ref_entity, alone, inside_parens, is_own, effect}
+use Rattle.cedar_grammar.specs.Converting.{ident_spelling, alone, inside_parens, is_own, effect}
 use Rattle.cedar_cst.specs.LeafView.{view_ident, view_rel_op}
 use Rattle.cedar_policy_parts.specs.declared.arguments.Ref.{Ref}
 use Rattle.cedar_policy_parts.specs.declared.arguments.Ref.TheVariants.{Single, Set, Template}

@@ -1,6 +1,5 @@
 -- What adding a policy does, and for which ids it isn't added.
-use Rattle.std.proofs.Common.{◌≡◌, Bool, true, false, not, ◌||◌, cond, List, [], ◌∷◌, ◌++◌, refl, sym, ap, subst, ◌∙◌, true≢false, Option, None, Some, is_some}
-use Rattle.std.specs.Prelude.{if◌then◌else◌}
+use Rattle.std.proofs.Common.{◌≡◌, Bool, true, false, not, ◌||◌, cond, [], ◌∷◌, ◌++◌, refl, sym, ap, subst, ◌∙◌, true≢false, Option, None, Some, is_some}
 use Rattle.std.specs.Option.{option_map_or, ForNone}
 use Rattle.std.specs.List.{list_any}
 use Rattle.std.specs.Map.{keys_of}
@@ -12,10 +11,10 @@ use Rattle.cedar_language.specs.Order.{same_text}
 use Rattle.cedar_grammar.specs.Policy.{Policy, slots}
 use Rattle.cedar_world.specs.Syntax.{Bindings}
 use Rattle.cedar_world.specs.Refusals.{binds_exactly}
-use Rattle.cedar_policy_set.specs.Entries.{Entry, static_policy, template, link, Entries, bound_at, is_bound, HasItsTemplate, IsFull, IsWhole, is_link}
+use Rattle.cedar_policy_set.specs.Entries.{Entry, static_policy, template, link, Entries, bound_at, is_bound, IsFull, IsWhole}
 use Rattle.cedar_policy_set.specs.EntryNodes.{same_entry, entries_decide}
 use Rattle.cedar_policy_set.specs.Bounds.{entry_by}
-use Rattle.cedar_policy_set.specs.Refused.{taken, with_template, in_the_way, lacks_template, added}
+use Rattle.cedar_policy_set.specs.Refused.{taken, in_the_way, lacks_template, added}
 use Rattle.cedar_policy_set.proofs.Finding.{id_itself, none_from, some_apart, found_later}
 use Rattle.cedar_policy_set.proofs.Wholes.{whole_push}
 

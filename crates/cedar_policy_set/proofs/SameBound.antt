@@ -1,15 +1,14 @@
 -- The maps of two policy sets are equal where the sets bind alike.
-use Rattle.std.proofs.Common.{◌≡◌, Bool, true, false, ◌&&◌, List, refl, sym, ap, ◌∙◌, true≢false, Option, Some, None, is_some}
+use Rattle.std.proofs.Common.{◌≡◌, true, false, ◌&&◌, refl, sym, ap, ◌∙◌, true≢false, Option, Some, None, is_some}
 use Rattle.std.specs.Prelude.{IfSome, unwrap_or}
 use Rattle.std.specs.Bool.{Decides, one_answer}
 use Rattle.std.specs.Cmp.{second_so}
 use Rattle.std.specs.Cmp.Lexicographic.{bytes_decides, nat_list_eq_equiv}
-use Rattle.std.specs.HashMap.{HashMap, get, hash_map_eq}
+use Rattle.std.specs.HashMap.{HashMap, hash_map_eq}
 use Rattle.std.specs.HashMap.Eq.{get_from_hash_map_eq, hash_map_eq_from_get}
 use Rattle.std.specs.Option.{option_eq, option_map}
 use Rattle.cedar_language.specs.Uid.{Text}
 use Rattle.cedar_language.specs.Order.{same_text}
-use Rattle.cedar_policy_set.specs.Entries.{Entry}
 use Rattle.cedar_policy_set.specs.EntryNodes.{entries_decide}
 use Rattle.cedar_policy_set.specs.Bounds.{entry_of, bound_id, entries_of, IsNamed}
 use Rattle.cedar_policy_set.specs.SameSets.{BindAlike, same_sets, sets_decide, same_bound}

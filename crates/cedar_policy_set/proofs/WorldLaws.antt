@@ -1,5 +1,5 @@
 -- The edits of a policy set are those of a world's policies.
-use Rattle.std.proofs.Common.{◌≡◌, Bool, true, false, cond, List, [], ◌∷◌, ◌++◌, map, refl, sym, ap, ◌∙◌, Option, None, Some}
+use Rattle.std.proofs.Common.{◌≡◌, Bool, true, false, cond, List, [], ◌∷◌, map, refl, sym, ap, ◌∙◌, Option, None, Some}
 use Rattle.std.specs.Bool.{Decides}
 use Rattle.std.specs.Option.{option_map}
 use Rattle.std.specs.Ordering.{eq_by_cmp, is_eq}
@@ -17,7 +17,7 @@ use Rattle.std.proofs.lemmas.Map.Made.{lookup-map_values}
 use Rattle.cedar_language.specs.Uid.{Text}
 use Rattle.cedar_language.specs.Order.{same_text, text_cmp}
 use Rattle.cedar_language.specs.OrderLaws.{text_cmp_total, text_cmp_same}
-use Rattle.cedar_policy_set.specs.Entries.{Entry, Entries, bound_at, without}
+use Rattle.cedar_policy_set.specs.Entries.{Entry, bound_at, without}
 use Rattle.cedar_policy_set.specs.Worlds.{world_bound, policies_in, FindsAsWorlds, BindsAsWorlds, RemovesAsWorlds}
 use Rattle.cedar_policy_set.proofs.Finding.{same_id}
 

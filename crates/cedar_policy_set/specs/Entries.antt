@@ -1,5 +1,5 @@
 -- What a policy set binds, in the order in which it came. (Cedar language reference, "Policies" and "Policy templates".)
-use Rattle.std.specs.Prelude.{◌≡◌, Bool, true, false, ◌&&◌, not, List, [], ◌∷◌, ◌++◌, filter, map, Option, Some, None, is_some, if◌then◌else◌}
+use Rattle.std.specs.Prelude.{◌≡◌, Bool, true, false, List, [], filter, Option, Some, None, is_some, if◌then◌else◌}
 use Rattle.std.specs.Map.{lookup, remove_entry, keys_of}
 use Rattle.std.specs.List.{IsDistinct, list_any, filter_map}
 use Rattle.cedar_language.specs.Uid.{Text}

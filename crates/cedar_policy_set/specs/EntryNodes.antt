@@ -1,5 +1,5 @@
 -- Entries as nodes, by which they are compared, and as stored trees of numbers.
-use Rattle.std.proofs.Common.{◌≡◌, ℕ, zero, suc, ℤ, pos, refl, sym, ◌∙◌, ap, subst, List, [], ◌∷◌, map, Bool, true}
+use Rattle.std.proofs.Common.{◌≡◌, ℕ, zero, suc, pos, refl, sym, ◌∙◌, ap, subst, List, [], ◌∷◌, map, Bool, true}
 use Rattle.std.specs.Prelude.{Option, Some, None}
 use Rattle.std.specs.Bool.{Decides}
 use Rattle.std.specs.Ordering.{is_eq}
@@ -9,12 +9,12 @@ use Rattle.std.proofs.lemmas.Cmp.{tied_itself}
 use base.Stored.{Coded, Gv, gnil, gnum, gcons}
 use Rattle.cedar_language.specs.Uid.{Text, Name, Uid}
 use Rattle.cedar_language.specs.Tree.{Tree}
-use Rattle.cedar_language.specs.Order.{Head, head, Node, node, Nodes, no_nodes, a_node, node_cmp}
+use Rattle.cedar_language.specs.Order.{head, Node, node, Nodes, no_nodes, a_node, node_cmp}
 use Rattle.cedar_language.specs.OrderLaws.{node_cmp_total, node_same, node_gv, nodes_gv, head_code}
 use Rattle.cedar_language.specs.Answering.{Effect, Permit, Forbid}
 use Rattle.cedar_grammar.specs.Build.{Keyed}
 use Rattle.cedar_grammar.specs.Policy.{Target, the_entity, the_slot, Constraint, anything, equals, within, of_type, of_type_within, ActionConstraint, any_action, action_equals, action_within_any, Policy}
-use Rattle.cedar_shapes.specs.ShapeOrder.{shape, tree_cmp}
+use Rattle.cedar_shapes.specs.ShapeOrder.{shape}
 use Rattle.cedar_shapes.specs.ShapeLaws.{tree_cmp_same}
 use Rattle.cedar_world.specs.Syntax.{Bindings}
 use Rattle.cedar_policy_set.specs.Entries.{Entry, static_policy, template, link}

@@ -1,8 +1,7 @@
 -- When a policy set refuses an edit.
-use Rattle.std.specs.Prelude.{◌≡◌, ◌⊎◌, ⊤, Bool, true, false, ◌++◌, [], ◌∷◌, Option, Some, None, IsSome, if◌then◌else◌, is_some, not, Result, Ok, Err, List}
+use Rattle.std.specs.Prelude.{◌≡◌, ◌⊎◌, ⊤, Bool, true, false, ◌++◌, [], ◌∷◌, Option, Some, None, IsSome, if◌then◌else◌, is_some, not, Result, Ok, Err}
 use Rattle.std.specs.Option.{option_map_or}
 use Rattle.cedar_language.specs.Uid.{Text}
-use Rattle.cedar_language.specs.Order.{same_text}
 use Rattle.cedar_grammar.specs.Policy.{Policy}
 use Rattle.cedar_world.specs.Syntax.{Bindings}
 use Rattle.cedar_world.specs.Refusals.{binds_exactly}

@@ -1,5 +1,5 @@
 -- A policy set as the part of a world that holds the policies.
-use Rattle.std.specs.Prelude.{◌≡◌, List, [], ◌∷◌, ◌++◌, map, None}
+use Rattle.std.specs.Prelude.{◌≡◌, [], ◌∷◌, ◌++◌, map, None}
 use Rattle.std.specs.FinMap as finmap
 use Rattle.std.specs.List.{IsDistinct}
 use Rattle.std.specs.Map.{keys_of}

@@ -10,27 +10,24 @@ use Rattle.cedar_language.specs.Order.{text_cmp}
 use Rattle.cedar_language.specs.Restricted.{is_restricted, are_restricted}
 use Rattle.cedar_language.specs.Sets.{SetsAreFinite}
 use Rattle.cedar_language.specs.Constructing.{the_constructor, longs_of, construction}
-use Rattle.cedar_language.specs.Tree.{Literal, Boolean, Long, Entity, ValueType, MakeSet, MakeRecord, Call, Tree, Lit, Unknown, Apply, Trees, no_trees, a_tree}
+use Rattle.cedar_language.specs.Tree.{Boolean, Long, Entity, ValueType, MakeSet, MakeRecord, Call, Tree, Lit, Unknown, Apply, Trees, no_trees, a_tree}
 use Rattle.cedar_language.specs.Uid.{Text, Name}
 use Rattle.cedar_language.specs.Value.{Extension, Value, Plain, SetOf, RecordOf, ExtensionOf, Values, no_values, a_value}
 use Rattle.cedar_partial_evaluation.specs.MadeAgain.{long_values, IsMadeAgain, AreMadeAgain}
-use Rattle.cedar_partial_evaluation.specs.Partial.{Answer, Evaluated, Failed, Answers, AllEvaluated, SomeResiduals, SomeFailed, LeafAnswers, answer_of, and_next, apply_answer, partial_in, all_partial_in}
+use Rattle.cedar_partial_evaluation.specs.Partial.{Evaluated, Failed, Answers, AllEvaluated, SomeResiduals, SomeFailed, LeafAnswers, answer_of, and_next, apply_answer, partial_in, all_partial_in}
 use Rattle.cedar_partial_evaluation.specs.Question.{Told, AreMadeTold, held_names, name_held, value_held}
 use Rattle.cedar_partial_evaluation.specs.ReadUnknowns.{is_unknown_call, calls_unknown, some_calls_unknown}
 use Rattle.cedar_partial_evaluation.specs.Unknowns.{fits, EachUnknownOf}
-use Rattle.either.specs.declared.Either.{Either}
-use Rattle.either.specs.declared.Either.TheVariants.{Left, Right}
 use Rattle.cedar_extensions.specs.Failures.{failure_of}
 use Rattle.cedar_extensions.specs.Giving.{GivesBy, fails_on}
 use Rattle.cedar_extensions.specs.Table.{Table}
 use Rattle.cedar_extensions.specs.declared.evaluation_error.EvaluationError.{EvaluationError}
 use Rattle.cedar_restricted.specs.Expressing.{Expresses, ExpressAll}
 use Rattle.cedar_restricted.specs.Laws.{WrittenValuesAreGround, GroundTreesAreRestricted}
-use Rattle.cedar_restricted_evaluation.specs.Evaluations.{HasFunctions, nothing_told, answer_in, answers_in, IsAnswer}
+use Rattle.cedar_restricted_evaluation.specs.Evaluations.{HasFunctions, nothing_told, answer_in, answers_in, part_answer}
 use Rattle.cedar_restricted_evaluation.proofs.WrittenNames.{call_answered}
 use Rattle.cedar_substitution.specs.Told.{told_for}
 use Rattle.cedar_substitution.specs.Typed.{StandsFor, Tells, SubstitutesValues}
-use Rattle.cedar_requests.specs.Answers.{part_answer}
 use Rattle.cedar_requests.specs.Contexts.{context_part}
 use Rattle.cedar_requests.specs.Telling.{OfSubstituted, TellsRecord}
 use Rattle.cedar_requests.specs.ToldContexts.{HoldTold, StatesNoType, ToldContextsAreEvaluated}
@@ -140,10 +137,6 @@ module _ (finite_sets : SetsAreFinite) (table : Table) (facts : Facts) where
 
 -- ---- contexts
 
-part_is : (facts : Facts) (a : Answer) (p : Either Value Tree) → IsAnswer facts a p → part_answer p ≡ a
-part_is facts a (Left v) is = sym is
-part_is facts a (Right r) is = sym is
-
 module _ (finite_sets : SetsAreFinite) (written : WrittenValuesAreGround) (ground : GroundTreesAreRestricted) (table : Table) (depth : ℕ) (entries : List (RcStr Global × Value)) (told : Told) (same : HoldTold entries told)
     (t : Tree) (d : is_restricted t ≡ true) (s : StatesNoType t) (c : table.has_unknown ≡ true → calls_unknown t ≡ false) (facts : Facts) (has : HasFunctions table facts) (made : AreMadeTold facts told) where
   substituted_answer : (u : Tree) → SubstitutesValues entries t u → answer_in table facts u ≡ partial_in facts (held_names told) t
@@ -153,7 +146,7 @@ module _ (finite_sets : SetsAreFinite) (written : WrittenValuesAreGround) (groun
 
   told_result : (result : Result Context EvaluationError) → TellsRecord table depth entries t None result
       → GivesBy (λ x. part_answer (context_part x) ≡ partial_in facts (held_names told) t) (λ k. partial_in facts (held_names told) t ≡ Failed k) (OfSubstituted entries t (λ u. depth < height u)) result
-  told_result (Ok x) (u, puts, is) = part_is facts (answer_in table facts u) (context_part x) (is.answer facts has) ∙ substituted_answer u puts
+  told_result (Ok x) (u, puts, is) = sym (is.answer facts has) ∙ substituted_answer u puts
   told_result (Err e) h = fails_on (failure_of e) (λ k g. sym (substituted_answer g.0 g.1) ∙ g.2.answer facts has) (λ x. x) h
 
 pub told_contexts : SetsAreFinite → WrittenValuesAreGround → GroundTreesAreRestricted → ToldContextsAreEvaluated

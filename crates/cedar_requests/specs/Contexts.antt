@@ -9,7 +9,7 @@ use Rattle.cedar_partial_evaluation.specs.Partial.{Answer}
 use Rattle.cedar_grammar.specs.Build.{keys}
 use Rattle.cedar_trees.specs.Bare.{record_tree}
 use Rattle.cedar_values.specs.Kinds.{keys_of, values_of}
-use Rattle.cedar_requests.specs.Answers.{part_answer}
+use Rattle.cedar_restricted_evaluation.specs.Evaluations.{part_answer}
 use Rattle.cedar_requests.specs.Residuals.{residual_entries}
 use Rattle.cedar_requests.specs.declared.contexts.Context.{Context}
 use Rattle.cedar_requests.specs.declared.contexts.Context.TheVariants as context

@@ -16,7 +16,7 @@ use Rattle.cedar_trees.specs.declared.errors.ExpressionConstructionError.TheVari
 use Rattle.cedar_extensions.specs.Giving.{GivesBy}
 use Rattle.cedar_extensions.specs.declared.evaluation_error.EvaluationError.{EvaluationError}
 use Rattle.cedar_extensions.specs.Table.{Table}
-use Rattle.cedar_restricted_evaluation.specs.Evaluations.{HasFunctions, IsKnown, IsMeant, IsAnswer, answer_in}
+use Rattle.cedar_restricted_evaluation.specs.Evaluations.{HasFunctions, IsKnown, IsMeant, answer_in, part_answer}
 use Rattle.cedar_requests.specs.Contexts.{context_part, is_record}
 use Rattle.cedar_requests.specs.declared.contexts.Context.{Context}
 use Rattle.cedar_requests.specs.declared.errors.ContextCreationError.{ContextCreationError}
@@ -41,7 +41,7 @@ MeansContext table depth t result =
 abbrev pub AnswersContext : Table → ℕ → Tree → Result Context EvaluationError → Type 0
 AnswersContext table depth t result =
     (facts : Facts) → HasFunctions table facts →
-    GivesBy (λ c. IsAnswer facts (answer_in table facts t) (context_part c)) (λ k. answer_in table facts t ≡ Failed k) (depth < height t) result
+    GivesBy (λ c. answer_in table facts t ≡ part_answer (context_part c)) (λ k. answer_in table facts t ≡ Failed k) (depth < height t) result
 
 -- what is made holds, or the error of the evaluation; the other errors say nothing
 abbrev pub OnEvaluation : (Result Context EvaluationError → Type 0) → Result Context ContextCreationError → Type 0

@@ -1,4 +1,3 @@
-pub mod Answers
 pub mod Asking
 pub mod Contexts
 pub mod Creating

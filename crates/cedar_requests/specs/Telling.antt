@@ -16,7 +16,7 @@ use Rattle.cedar_extensions.specs.Failures.{failure_of}
 use Rattle.cedar_extensions.specs.Giving.{FailsBy, GivesBy}
 use Rattle.cedar_extensions.specs.declared.evaluation_error.EvaluationError.{EvaluationError}
 use Rattle.cedar_extensions.specs.Table.{Table}
-use Rattle.cedar_restricted_evaluation.specs.Evaluations.{HasFunctions, IsKnown, IsMeant, IsAnswer, answer_in}
+use Rattle.cedar_restricted_evaluation.specs.Evaluations.{HasFunctions, IsKnown, IsMeant, answer_in, part_answer}
 use Rattle.cedar_substitution.specs.Typed.{SubstitutesValues, mistyped_in}
 use Rattle.cedar_requests.specs.Contexts.{context_part}
 use Rattle.cedar_requests.specs.declared.contexts.Context.{Context}
@@ -36,7 +36,7 @@ IsMistypingOf (Some types) (Some e) = IsMistyping types e
 -- answers where no unknown has a value
 pub record IsContextOf (table : Table) (t : Tree) (c : Context) : Type 0 where
   pub meant : IsKnown table t → (facts : Facts) → HasFunctions table facts → (request : Request) → IsMeant (meaning facts request t) (context_part c)
-  pub answer : (facts : Facts) → HasFunctions table facts → IsAnswer facts (answer_in table facts t) (context_part c)
+  pub answer : (facts : Facts) → HasFunctions table facts → answer_in table facts t ≡ part_answer (context_part c)
 
 -- its evaluation errs so
 pub record ErrsAs (table : Table) (t : Tree) (k : Kind) : Type 0 where

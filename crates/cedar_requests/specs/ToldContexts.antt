@@ -17,9 +17,8 @@ use Rattle.cedar_partial_evaluation.specs.Unknowns.{EachUnknown}
 use Rattle.cedar_extensions.specs.Giving.{GivesBy}
 use Rattle.cedar_extensions.specs.Table.{Table}
 use Rattle.cedar_extensions.specs.declared.evaluation_error.EvaluationError.{EvaluationError}
-use Rattle.cedar_restricted_evaluation.specs.Evaluations.{HasFunctions}
 use Rattle.cedar_substitution.specs.Told.{told_for}
-use Rattle.cedar_requests.specs.Answers.{part_answer}
+use Rattle.cedar_restricted_evaluation.specs.Evaluations.{HasFunctions, part_answer}
 use Rattle.cedar_requests.specs.Contexts.{context_part}
 use Rattle.cedar_requests.specs.Telling.{OfSubstituted, TellsContext}
 use Rattle.cedar_requests.specs.declared.contexts.Context.{Context}

@@ -5,7 +5,7 @@ ghost use Rattle.cedar_literals.specs.Variables.{variable_of, variable_text};
 ghost use Rattle.cedar_partial_evaluation.specs.Question.{Given, Missing, entity_type, part_held};
 ghost use Rattle.cedar_trees.specs.Unknowns.{unknown_name, unknown_type};
 ghost use Rattle.cedar_restricted.specs.PartialValues.{partial_of};
-ghost use Rattle.cedar_requests.specs.Answers.{part_answer};
+ghost use Rattle.cedar_restricted_evaluation.specs.Evaluations.{part_answer};
 ghost use Rattle.cedar_requests.specs.Parts.{part_of, uid_given, type_stated};
 
 use cedar_literals::literals::Literal;

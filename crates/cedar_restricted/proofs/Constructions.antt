@@ -1,7 +1,7 @@
 -- Calls of the language's own constructor, as they are written and read.
-use Rattle.std.proofs.Common.{rules, ◌≡◌, ◌∙◌, ℕ, refl, ap, sym, Bool, List, [], ◌∷◌, map, Option, Some, None, option_map}
+use Rattle.std.proofs.Common.{rules, ◌≡◌, ◌∙◌, ℕ, refl, ap, Bool, List, [], ◌∷◌, map, Some}
 use Rattle.cedar_language.specs.Uid.{Name, Uid}
-use Rattle.cedar_language.specs.Tree.{Boolean, Entity, Call, Tree, Lit, Apply, Trees, a_tree}
+use Rattle.cedar_language.specs.Tree.{Boolean, Entity, Call, Tree, Lit, Apply, a_tree}
 use Rattle.cedar_language.specs.Value.{Extension, Value, Plain, ExtensionOf}
 use Rattle.cedar_language.specs.Constructing.{the_constructor, longs_of, construction, bytes_of, constructed}
 use Rattle.cedar_language.specs.Order.{all_of}

@@ -18,7 +18,7 @@ use Rattle.cedar_literals.specs.declared.operators.UnaryOp.{UnaryOp}
 use Rattle.cedar_literals.specs.declared.operators.UnaryOp.TheVariants as unary_op
 use Rattle.cedar_literals.specs.declared.operators.BinaryOp.{BinaryOp}
 use Rattle.cedar_literals.specs.declared.operators.BinaryOp.TheVariants as binary_op
-use Rattle.cedar_restricted.specs.Offences.{unless_refused, operator_feature, construct_feature, offence, offence_below, offence_among, seen_offence}
+use Rattle.cedar_restricted.specs.Offences.{unless_refused, construct_feature, offence, offence_below, offence_among, seen_offence}
 
 none_first : (a b : Option (Text × Tree)) → option_or a b ≡ None → a ≡ None
 none_first None b h = refl

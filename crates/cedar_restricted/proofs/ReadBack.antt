@@ -1,7 +1,7 @@
 -- Values that are written and read back.
-use Rattle.std.proofs.Common.{◌≡◌, ◌∙◌, ℕ, List, [], ◌∷◌, refl, ap, sym, Bool, true, false}
+use Rattle.std.proofs.Common.{◌≡◌, ◌∙◌, ℕ, List, [], ◌∷◌, refl, ap, Bool, true, false}
 use Rattle.std.specs.Prelude.{◌&&◌, ◌||◌, Option, Some, None, option_map}
-use Rattle.cedar_language.specs.Tree.{Operator, MakeSet, MakeRecord, Call, Tree, Lit, Var, Slot, Unknown, If, And, Or, Apply, Trees, no_trees, a_tree}
+use Rattle.cedar_language.specs.Tree.{MakeSet, MakeRecord, Call, Tree, Lit, Unknown, Apply, Trees, no_trees, a_tree}
 use Rattle.cedar_language.specs.Value.{Value, Plain, SetOf, RecordOf, ExtensionOf, Values, no_values, a_value, Gives}
 use Rattle.cedar_language.specs.Order.{set_of}
 use Rattle.cedar_language.specs.Constructing.{longs_of}

@@ -1,6 +1,6 @@
 -- What is read of sets, records and calls.
-use Rattle.std.proofs.Common.{◌≡◌, ◌∙◌, refl, ap, sym, Bool, true, false, List, [], ◌∷◌, map, Vec, BTreeMap, Global}
-use Rattle.std.specs.Prelude.{◌&&◌, Some}
+use Rattle.std.proofs.Common.{◌≡◌, ◌∙◌, refl, ap, sym, true, List, [], ◌∷◌, map, Vec, BTreeMap, Global}
+use Rattle.std.specs.Prelude.{Some}
 use Rattle.std.specs.List.{zip}
 use Rattle.std.specs.declared.rc.Rc.{Rc}
 use Rattle.std.specs.declared.rc.RcStr.{RcStr}

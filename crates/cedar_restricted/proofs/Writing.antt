@@ -1,12 +1,12 @@
 -- Trees that write values, and arguments of calls.
-use Rattle.std.proofs.Common.{◌≡◌, ◌∙◌, ℕ, suc, ◌+◌, ◌<◌, ◌≤◌, refl, ap, sym, List, [], ◌∷◌, ◌++◌, append_assoc, length, get_or, take, drop, drop-cons, map, Bool, true, false, add-one, arith, rules, Vec, BTreeMap, Global}
+use Rattle.std.proofs.Common.{◌≡◌, ◌∙◌, ℕ, suc, ◌+◌, ◌<◌, ◌≤◌, refl, ap, sym, List, [], ◌∷◌, ◌++◌, append_assoc, length, get_or, take, drop, drop-cons, map, Bool, true, false, add-one, arith, rules, BTreeMap, Global}
 use Rattle.std.specs.Prelude.{◌&&◌, max}
 use Rattle.std.specs.Rc.{rc_str_bytes}
 use Rattle.std.specs.declared.rc.Rc.{Rc}
 use Rattle.std.specs.declared.rc.RcStr.{RcStr}
 use Rattle.std.proofs.lemmas.List.{append-nil, take-append-drop}
 use Rattle.cedar_language.specs.Tree.{MakeRecord, Tree, Apply, Trees, no_trees, a_tree}
-use Rattle.cedar_language.specs.Value.{Value, Values, no_values, a_value}
+use Rattle.cedar_language.specs.Value.{Value, Values}
 use Rattle.cedar_language.specs.Order.{all_of}
 use Rattle.cedar_grammar.specs.Build.{trees, keys}
 use Rattle.cedar_values.specs.Representations.{trees_of, written, written_all}

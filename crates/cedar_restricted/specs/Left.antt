@@ -1,8 +1,7 @@
 -- What is still to come of the elements of a set, the arguments of a call and the pairs of a record.
-use Rattle.std.specs.Prelude.{List, map, Option, Some, None, option_map}
+use Rattle.std.specs.Prelude.{List, map}
 use Rattle.std.specs.Slice.Iter.{iter_rest}
-use Rattle.std.specs.Rc.{rc_str_bytes}
-use Rattle.cedar_language.specs.Uid.{Text, Name}
+use Rattle.cedar_language.specs.Uid.{Text}
 use Rattle.cedar_language.specs.Tree.{Tree}
 use Rattle.cedar_trees.specs.Bare.{bare, bare_entries}
 use Rattle.cedar_restricted.specs.declared.elements.RestrictedElements.{RestrictedElements}

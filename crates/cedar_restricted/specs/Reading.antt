@@ -1,6 +1,5 @@
 -- The value that a tree of literals, sets and records alone is.
 use Rattle.std.specs.Prelude.{◌≡◌, ⊤, Option, Some, None, option_map, Result, Ok, Err}
-use Rattle.std.specs.Option.{option_zip}
 use Rattle.cedar_language.specs.Tree.{MakeSet, MakeRecord, Tree, Lit, Apply, Trees, no_trees, a_tree}
 use Rattle.cedar_language.specs.Value.{Value, Plain, RecordOf, Values, no_values, a_value}
 use Rattle.cedar_language.specs.Order.{set_of}

@@ -13,7 +13,7 @@ use Rattle.cedar_language.specs.Height.{height, heights}
 use Rattle.cedar_language.specs.Order.{all_of}
 use Rattle.cedar_language.specs.Restricted.{is_restricted, are_restricted}
 use Rattle.cedar_partial_evaluation.specs.MadeAgain.{tree_of, trees_of}
-use Rattle.cedar_partial_evaluation.specs.Partial.{Answer, Evaluated, ResidualTree, Answers, AllEvaluated, SomeResiduals, SomeFailed, and_next}
+use Rattle.cedar_partial_evaluation.specs.Partial.{Evaluated, ResidualTree, Answers, AllEvaluated, SomeResiduals, SomeFailed, and_next}
 use Rattle.cedar_grammar.specs.Build.{trees}
 use Rattle.cedar_extensions.specs.Failures.{Failure, failure_of}
 use Rattle.cedar_extensions.specs.Giving.{FailsBy, GivesBy, fails_on}
@@ -22,7 +22,7 @@ use Rattle.cedar_extensions.specs.Table.{Table}
 use Rattle.cedar_restricted.specs.Expressing.{is_ground, are_ground, Expresses, ExpressAll}
 use Rattle.cedar_restricted.specs.Splitting.{ExpressEach, is_residual}
 use Rattle.cedar_restricted.proofs.ReadBack.{ground, restricted}
-use Rattle.cedar_restricted_evaluation.specs.Evaluations.{HasFunctions, answer_in, answers_in}
+use Rattle.cedar_restricted_evaluation.specs.Evaluations.{HasFunctions, answer_in, answers_in, part_answer}
 use Rattle.cedar_restricted_evaluation.specs.Findings.{IsFound, Errs, AreFound, SomeErrs}
 
 -- ---- what writes a value is the tree for it
@@ -43,16 +43,12 @@ module _ (facts : Facts) where
 
 -- ---- the answers of parts
 
-abbrev part_answer : Either Value Tree → Answer
-part_answer (Left v) = Evaluated v
-part_answer (Right r) = ResidualTree r
-
 abbrev gather : Facts → List (Either Value Tree) → Answers
 gather facts [] = AllEvaluated no_values
 gather facts (p ∷ ps) = and_next facts (part_answer p) (gather facts ps)
 
 module _ (table : Table) where
-  part_is : (t : Tree) (p : Either Value Tree) → IsFound table t p → (facts : Facts) → HasFunctions table facts → answer_in table facts t ≡ part_answer p
+  pub part_is : (t : Tree) (p : Either Value Tree) → IsFound table t p → (facts : Facts) → HasFunctions table facts → answer_in table facts t ≡ part_answer p
   part_is t (Left v) h facts has = h facts has
   part_is t (Right r) h facts has = h.answer facts has
 

@@ -20,8 +20,9 @@ use Rattle.cedar_restricted.proofs.ReadBack.{restricted}
 use Rattle.cedar_restricted.specs.PartialValues.{partial_of}
 use Rattle.cedar_restricted.specs.declared.partial_values.PartialValue.{PartialValue}
 use Rattle.cedar_restricted_evaluation.specs.Evaluations as evaluation
-use Rattle.cedar_restricted_evaluation.specs.Evaluations.{HasFunctions, IsKnown, IsMeant, MeansKnown, nothing_told, named_by, answer_in, IsAnswer, IsLeft}
+use Rattle.cedar_restricted_evaluation.specs.Evaluations.{HasFunctions, IsKnown, IsMeant, MeansKnown, nothing_told, named_by, answer_in, IsLeft}
 use Rattle.cedar_restricted_evaluation.specs.Findings.{IsFound, Errs, Evaluates}
+use Rattle.cedar_restricted_evaluation.proofs.Gathering.{part_is}
 use Rattle.cedar_restricted_evaluation.proofs.WrittenNames.{unnamed, written_names_are_read}
 
 and_left : (a b : Bool) → (a && b) ≡ true → a ≡ true
@@ -104,10 +105,6 @@ module _ (table : Table) (t : Tree) where
     meant_error : (k : Kind) → Errs table t k → meaning facts request t ≡ Fails k
     meant_error k e = fails_so (meaning facts request t) k (sym (known_answer law known facts request) ∙ e facts has)
 
-  answered : (facts : Facts) → HasFunctions table facts → (p : Either Value Tree) → IsFound table t p → IsAnswer facts (answer_in table facts t) p
-  answered facts has (Left v) h = h facts has
-  answered facts has (Right r) h = h.answer facts has
-
   what_is_left : (p : Either Value Tree) → IsFound table t p → IsLeft p
   what_is_left (Left v) h = tt
   what_is_left (Right r) h = (h.restricted, h.waits)
@@ -117,7 +114,7 @@ module _ (table : Table) (t : Tree) where
   means law depth (Err e) h = λ known facts has request. fails_on (failure_of e) (meant_error law known facts has request) (λ d. d) h
 
   pub answers : (depth : ℕ) (r : Result PartialValue EvaluationError) → Evaluates table t (depth < height t) r → evaluation.Answers table depth t r
-  answers depth (Ok p) h = λ facts has. answered facts has (partial_of p) h
+  answers depth (Ok p) h = λ facts has. part_is table t (partial_of p) h facts has
   answers depth (Err e) h = λ facts has. fails_on (failure_of e) (λ k f. f facts has) (λ d. d) h
 
   pub left : (depth : ℕ) (r : Result PartialValue EvaluationError) → Evaluates table t (depth < height t) r → IfOk r (λ p. IsLeft (partial_of p))

@@ -1,6 +1,6 @@
 -- What names call in a table, and what calls of `unknown` name.
 use Rattle.std.proofs.Common.{◌≡◌, ◌∙◌, refl, ap, sym, subst, List, [], ◌∷◌}
-use Rattle.std.specs.Prelude.{Bool, true, false, not, cond, ◌&&◌, ◌||◌, Option, Some, None, option_map}
+use Rattle.std.specs.Prelude.{Bool, true, false, cond, ◌||◌, Option, Some, None, option_map}
 use Rattle.std.specs.List.{list_any}
 use Rattle.cedar_language.specs.Uid.{Name}
 use Rattle.cedar_language.specs.Order.{same_name}
@@ -14,8 +14,9 @@ use Rattle.either.specs.declared.Either.TheVariants.{Left, Right}
 use Rattle.cedar_names.proofs.Sameness.{names_same}
 use Rattle.cedar_world.specs.Functions.{the_unknown, is_the_unknown, unknown_function}
 use Rattle.cedar_extensions.specs.Answering.{FunctionAnswers}
-use Rattle.cedar_extensions.specs.Functions.{function_name, meaning_in, meaning_of, names_unknown, is_unknown, output_value, IsOutput}
+use Rattle.cedar_extensions.specs.Functions.{function_name, meaning_of, is_unknown, output_value, IsOutput}
 use Rattle.cedar_extensions.specs.Tables.{functions_in, function_called, holds_unknown}
+use Rattle.cedar_extensions.proofs.Defined.{and_left, and_right, named_so, built_in}
 use Rattle.cedar_extensions.specs.declared.extensions.Extensions.{Extensions}
 use Rattle.cedar_extensions.specs.declared.functions.ExtensionOutputValue.{ExtensionOutputValue}
 use Rattle.cedar_extensions.specs.declared.functions.ExtensionOutputValue.TheVariants as output
@@ -24,34 +25,13 @@ use Rattle.cedar_trees.specs.declared.unknowns.Unknown as code
 use Rattle.cedar_restricted_evaluation.specs.Findings.{IsCalledBy}
 use Rattle.cedar_extensions.specs.Holding.{found_in, is_named, are_named}
 use Rattle.cedar_extensions.specs.declared.functions.Function.{Function}
-use Rattle.cedar_extensions.specs.declared.functions.Function.TheVariants as function
 use Rattle.cedar_extensions.specs.declared.functions.ExtensionFunction.{ExtensionFunction}
 
 -- ---- the functions of a table
 
-means_unknown : {F : Type 0} (answers : F → FunctionAnswers) (g : Function F) → names_unknown g ≡ true → meaning_in answers g ≡ unknown_function
-means_unknown answers function.Unknown h = refl
-means_unknown answers (function.Callers f) h = cc
-
-and_left : (a b : Bool) → (a && b) ≡ true → a ≡ true
-and_left true b h = refl
-and_left false b h = h
-
-and_right : (a b : Bool) → (a && b) ≡ true → b ≡ true
-and_right true b h = h
-and_right false b h = cc
-
 or_right : (a b : Bool) → b ≡ true → (a || b) ≡ true
 or_right true b h = refl
 or_right false b h = h
-
--- it is the built-in function exactly where it has its name
-named_so : {F : Type 0} (f : ExtensionFunction F) (u : Bool) → is_unknown f ≡ u → is_named f ≡ true → is_the_unknown (function_name f) ≡ u
-named_so f true is h = sym (ap (λ b. cond b (is_the_unknown (function_name f)) (not (is_the_unknown (function_name f)))) is) ∙ h
-named_so f false is h = not_true (is_the_unknown (function_name f)) (sym (ap (λ b. cond b (is_the_unknown (function_name f)) (not (is_the_unknown (function_name f)))) is) ∙ h) where
-  not_true : (a : Bool) → not a ≡ true → a ≡ false
-  not_true true h = cc
-  not_true false h = refl
 
 module _ {F : Type 0} (n : Name) (f : ExtensionFunction F) where
   named_here : (u : Bool) → is_unknown f ≡ u → (g : ExtensionFunction F) (gs : List (ExtensionFunction F)) → is_named g ≡ true → (found_in gs n ≡ Some f → is_the_unknown n ≡ u) → (b : Bool) → same_name (function_name g) n ≡ b → cond b (Some g) (found_in gs n) ≡ Some f → is_the_unknown n ≡ u
@@ -74,21 +54,6 @@ module _ {F : Type 0} (n : Name) (f : ExtensionFunction F) where
   pub found_is_held : is_unknown f ≡ true → (fs : List (ExtensionFunction F)) → found_in fs n ≡ Some f → list_any is_unknown fs ≡ true
   found_is_held is [] e = cc
   found_is_held is (g ∷ gs) e = held_here is g gs (found_is_held is gs) (same_name (function_name g) n) e
-
-module _ {F : Type 0} (answers : F → FunctionAnswers) (n : Name) (is : is_the_unknown n ≡ true) where
-  built_in_here : (g : ExtensionFunction F) (gs : List (ExtensionFunction F)) (u : Bool) → is_unknown g ≡ u → is_named g ≡ true → (list_any is_unknown gs ≡ true → option_map (meaning_of answers) (found_in gs n) ≡ Some unknown_function)
-      → (u || list_any is_unknown gs) ≡ true → option_map (meaning_of answers) (cond (same_name (function_name g) n) (Some g) (found_in gs n)) ≡ Some unknown_function
-  built_in_here g gs true u h below e =
-      ap (λ b. option_map (meaning_of answers) (cond b (Some g) (found_in gs n))) (ap (same_name (function_name g)) ((names_same n the_unknown).0 is) ∙ named_so g true u h)
-      ∙ ap Some (means_unknown answers g.function u)
-  built_in_here g gs false u h below e =
-      ap (λ b. option_map (meaning_of answers) (cond b (Some g) (found_in gs n))) (ap (same_name (function_name g)) ((names_same n the_unknown).0 is) ∙ named_so g false u h)
-      ∙ below e
-
-  -- and it is found where the table has it
-  pub held_is_found : (fs : List (ExtensionFunction F)) → are_named fs ≡ true → list_any is_unknown fs ≡ true → option_map (meaning_of answers) (found_in fs n) ≡ Some unknown_function
-  held_is_found [] h e = cc
-  held_is_found (g ∷ gs) h e = built_in_here g gs (is_unknown g) refl (and_left _ _ h) (held_is_found gs (and_right _ _ h)) e
 
 -- ---- what a call gives
 
@@ -158,4 +123,5 @@ unknown_constructs_nothing n is = ap is_the_constructor ((names_same n the_unkno
 pub unknown_is_found : {F : Type 0} (answers : F → FunctionAnswers) (n : Name) → is_the_unknown n ≡ true → (fs : List (ExtensionFunction F)) → are_named fs ≡ true → list_any is_unknown fs ≡ true
     → or_constructor (λ m. option_map (meaning_of answers) (found_in fs m)) n ≡ Some unknown_function
 unknown_is_found answers n is fs named held =
-    calls_declared n (λ m. option_map (meaning_of answers) (found_in fs m)) (unknown_constructs_nothing n is) ∙ held_is_found answers n is fs named held
+    calls_declared n (λ m. option_map (meaning_of answers) (found_in fs m)) (unknown_constructs_nothing n is)
+    ∙ sym (built_in answers n is fs named) ∙ ap (λ b. cond b (Some unknown_function) None) held

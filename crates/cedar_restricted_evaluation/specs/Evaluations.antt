@@ -85,16 +85,16 @@ WrittenNamesAreRead =
     (table : Table) (facts : Facts) (t : Tree) → is_restricted t ≡ true → NamesAreWritten table t →
     answer_in table facts t ≡ partial_in facts nothing_told (named_by table.has_unknown t)
 
--- it is the answer: its value, or what it leaves
-abbrev pub IsAnswer : Facts → Answer → Either Value Tree → Type 0
-IsAnswer facts a (Left v) = a ≡ Evaluated v
-IsAnswer facts a (Right r) = a ≡ ResidualTree r
+-- a value, or what is left, as an answer
+abbrev pub part_answer : Either Value Tree → Answer
+part_answer (Left v) = Evaluated v
+part_answer (Right r) = ResidualTree r
 
 -- the same of every tree, against partial evaluation
 abbrev pub Answers : Table → ℕ → Tree → Result PartialValue EvaluationError → Type 0
 Answers table depth t result =
     (facts : Facts) → HasFunctions table facts →
-    GivesBy (λ p. IsAnswer facts (answer_in table facts t) (partial_of p)) (λ k. answer_in table facts t ≡ Failed k) (depth < height t) result
+    GivesBy (λ p. answer_in table facts t ≡ part_answer (partial_of p)) (λ k. answer_in table facts t ≡ Failed k) (depth < height t) result
 
 -- what is left is restricted, and some unknown stands in it
 abbrev pub IsLeft : Either Value Tree → Type 0

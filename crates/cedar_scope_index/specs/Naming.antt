@@ -3,11 +3,7 @@ use Rattle.std.specs.Prelude.{Bool, true, List, [], ◌∷◌, Option, Some, Non
 use Rattle.cedar_language.specs.Uid.{Uid}
 use Rattle.cedar_grammar.specs.Policy.{Target, the_entity, the_slot, Constraint, anything, equals, within, of_type, of_type_within, ActionConstraint}
 use Rattle.cedar_constraints.specs.Actions.{uids_of}
-
--- the entity that it names, or that its slot is bound to
-abbrev pub target_bound : Option Uid → Target → Option Uid
-target_bound bound (the_entity u) = Some u
-target_bound bound the_slot = bound
+use Rattle.cedar_constraints.specs.References.{target_bound}
 
 -- the entity that a constraint names, with == or in; none where its slot isn't bound
 abbrev pub named : Option Uid → Constraint → Option Uid

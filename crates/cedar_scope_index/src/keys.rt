@@ -3,14 +3,12 @@ ghost use Rattle.std.specs.Prelude.{◌≡◌};
 ghost use Rattle.std.specs.Option.{option_copied};
 ghost use Rattle.cedar_constraints.specs.Actions.{action_of};
 ghost use Rattle.cedar_constraints.specs.Asked.{constraint_of};
-ghost use Rattle.cedar_constraints.specs.References.{target_of};
 ghost use Rattle.cedar_policies.specs.Policies.{bindings_of, policy_syntax};
-ghost use Rattle.cedar_scope_index.specs.Naming.{target_bound, named_action};
+ghost use Rattle.cedar_scope_index.specs.Naming.{named_action};
 ghost use Rattle.cedar_scope_index.specs.Keys.{IsAskedAs, IsKey};
 
 use cedar_constraints::actions::ActionConstraint;
 use cedar_constraints::constraints::PrincipalOrResourceConstraint;
-use cedar_constraints::references::EntityReference;
 use cedar_literals::slots::SlotId;
 use cedar_literals::uids::EntityUID;
 use cedar_policies::policies::Policy;
@@ -37,16 +35,6 @@ pub(crate) enum Key<'p> {
     Nothing,
 }
 
-// The entity that a scope names, or that its slot is bound to.
-fn target<'p>(named: &'p EntityReference, bound: Option<&'p EntityUID>) -> Option<&'p EntityUID>
-    ensures { option_copied result ≡ target_bound (option_copied bound.entry) (target_of named.now) }
-{
-    match named {
-        EntityReference::EUID(uid) => Some(uid.as_ref()),
-        EntityReference::Slot(_) => bound,
-    }
-}
-
 fn asked_by<'p>(
     constraint: &'p PrincipalOrResourceConstraint,
     bound: Option<&'p EntityUID>,
@@ -55,12 +43,12 @@ fn asked_by<'p>(
 {
     match constraint {
         PrincipalOrResourceConstraint::Any | PrincipalOrResourceConstraint::Is(_) => Asked::Unnamed,
-        PrincipalOrResourceConstraint::Eq(named) => match target(named, bound) {
+        PrincipalOrResourceConstraint::Eq(named) => match named.uid_or_bound(bound) {
             Some(uid) => Asked::Equal(uid),
             None => Asked::Open,
         },
         PrincipalOrResourceConstraint::In(named) | PrincipalOrResourceConstraint::IsIn(_, named) =>
-            match target(named, bound) {
+            match named.uid_or_bound(bound) {
                 Some(uid) => Asked::Within(uid),
                 None => Asked::Open,
             },

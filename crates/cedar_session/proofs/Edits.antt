@@ -7,7 +7,7 @@ use Rattle.cedar_language.specs.Tree.{Tree}
 use Rattle.cedar_language.specs.Height.{height}
 use Rattle.cedar_world.specs.World.{World, Entities, IsCyclic}
 use Rattle.cedar_world.specs.EntityEdits as edits
-use Rattle.cedar_world.specs.EntityEdits.{Version, IsListed, FitsIn, CanAdd, Puts, Adds, Removes}
+use Rattle.cedar_world.specs.EntityEdits.{Version, CanAdd, Puts, Adds, Removes}
 use Rattle.cedar_world.specs.Bodies.{EntityBody, is_restricted, entity_bodies, uids_of}
 use Rattle.cedar_world.specs.Setting.{Setting, IsBodyWithin, BodiesAreOne}
 use Rattle.cedar_world.specs.Values.{versions}

@@ -10,18 +10,19 @@ use Rattle.std.specs.declared.rc.RcStr.{RcStr}
 use Rattle.cedar_language.specs.Height.{height}
 use Rattle.cedar_language.specs.Tree.{Tree}
 use Rattle.cedar_language.specs.Uid as uid
-use Rattle.cedar_language.specs.Value.{Value}
+use Rattle.cedar_language.specs.Value.{Value, Kind, FailedExtensionFunctionLookup, UnlinkedSlot}
 use Rattle.cedar_partial_evaluation.specs.Question.{Extends}
 use Rattle.cedar_world.specs.Answer as world
 use Rattle.cedar_world.specs.Asking.{Question}
 use Rattle.cedar_world.specs.Bodies.{Fields, ask_body, is_restricted, tell_body}
 use Rattle.cedar_world.specs.Commands.{Tell, Answered, Refused}
 use Rattle.cedar_world.specs.InForce.{AnswersReadWhatIsInForce}
+use Rattle.cedar_world.specs.KnownKinds.{IsOrdinary}
 use Rattle.cedar_world.specs.Setting.{Setting, IsBodyWithin, BodiesAreOne}
 use Rattle.cedar_world.specs.Step.{Step, IsLaterAnswer, opens}
-use Rattle.cedar_world.specs.World.{World, Asked as Opened, Policies, Entities}
-use Rattle.cedar_telling.specs.Lookups.{NamesNoLookup, IsAskedBy, AnswersNameNoLookup}
-use Rattle.cedar_world.proofs.Parts.{not_none, same_some}
+use Rattle.cedar_world.specs.World.{World, Policies, Entities}
+use Rattle.cedar_telling.specs.Lookups.{IsAskedBy, AnswersErrOrdinarily}
+use Rattle.cedar_world.proofs.Parts.{not_none}
 use Rattle.cedar_asking.specs.Answering.{AreOf}
 use Rattle.cedar_asking.specs.Answers.{IsSettingOf}
 use Rattle.cedar_bodies.specs.Built.{HoldBuilt}
@@ -40,8 +41,8 @@ use Rattle.cedar_replies.specs.declared.answer.Answer.{Answer}
 use Rattle.cedar_replies.specs.declared.refusal.Refusal.{Refusal}
 use Rattle.cedar_replies.specs.declared.refusal.Refusal.TheVariants as refusal
 use Rattle.cedar_restricted.specs.Views.{restricted_tree}
-use Rattle.cedar_session.specs.Lookups.{LaterFindsFunctions}
-use Rattle.cedar_session.specs.Open.{KeepsAsked, KeepsOpen, question_in, nothing_given}
+use Rattle.cedar_session.specs.Open.{KeepsAsked, KeepsOpen, question_in, nothing_given, bare}
+use Rattle.cedar_session.specs.OrdinaryErrors.{AnswersOrdinarily}
 use Rattle.cedar_session.specs.Sessions.{asked_of}
 use Rattle.cedar_session.specs.declared.asked.Asked.{Asked}
 use Rattle.cedar_session.proofs.LaterProp.{later_prop}
@@ -53,6 +54,11 @@ is_stated None h = absurd (h refl)
 
 no_two : (x y : ⊥) → x ≡ y
 no_two x y = absurd x
+
+ordinary_prop : (k : Kind) (x y : IsOrdinary k) → x ≡ y
+ordinary_prop FailedExtensionFunctionLookup x y = absurd x
+ordinary_prop UnlinkedSlot x y = absurd x
+ordinary_prop _ x y = refl
 
 abbrev Map : Type 0
 Map = HashMap (RcStr Global) Value (BuildHasherDefault FoldHasher)
@@ -66,10 +72,10 @@ pub record IsStoreOf (by : Setting) (table : Table) (entities : Entities) (s : S
   pub built : HoldBuilt entities
 
 module _ (by : Setting) (policies : Policies) (entities : Entities) where
-  -- what is held, with no open question, and with one
-  abbrev pub bare : World
-  bare = record { policies = policies; entities = entities; asked = None }
+  abbrev held : World
+  held = bare policies entities
 
+  -- what is held, with an open question
   abbrev pub world_with : Option Asked → World
   world_with o = record { policies = policies; entities = entities; asked = option_map asked_of o }
 
@@ -78,16 +84,18 @@ module _ (by : Setting) (policies : Policies) (entities : Entities) where
   stays new same o h = subst (λ (e : Entities). ∥ KeepsOpen by policies e o ∥₁) (sym same) h
 
   -- what is kept of a question that was just asked
-  pub begins : (asked : Asked) (q : Question) (answer : Answer) → ask_body (restricted_tree asked.body) ≡ Some q → asked.told.entries ≡ [] → asked.answer ≡ answer
-      → KeepsQuestion by bare q asked.first [] (answer_of answer) → KeepsAsked by policies entities asked
-  begins asked q answer asks none same keeps =
+  pub begins : (asked : Asked) (q : Question) (answer : Answer) → ask_body (restricted_tree asked.body) ≡ Some q → IsAskedBy by q → asked.told.entries ≡ [] → asked.answer ≡ answer
+      → KeepsQuestion by held q asked.first [] (answer_of answer) → AnswersOrdinarily by held (answer_of answer) → KeepsAsked by policies entities asked
+  begins asked q answer asks asked_by none same keeps ordinary =
       let is : question_in (restricted_tree asked.body) ≡ q = ap (λ o. unwrap_or o nothing_given) asks in
       record {
         states = asks ∙ ap Some (sym is);
+        asked_by = subst (IsAskedBy by) (sym is) asked_by;
         keeps =
-            subst (λ (p : Question). KeepsQuestion by bare p asked.first asked.told.entries (answer_of asked.answer)) (sym is)
-            (subst (λ (es : List (RcStr Global × Value)). KeepsQuestion by bare q asked.first es (answer_of asked.answer)) (sym none)
-            (subst (λ (a : Answer). KeepsQuestion by bare q asked.first [] (answer_of a)) (sym same) keeps));
+            subst (λ (p : Question). KeepsQuestion by held p asked.first asked.told.entries (answer_of asked.answer)) (sym is)
+            (subst (λ (es : List (RcStr Global × Value)). KeepsQuestion by held q asked.first es (answer_of asked.answer)) (sym none)
+            (subst (λ (a : Answer). KeepsQuestion by held q asked.first [] (answer_of a)) (sym same) keeps));
+        ordinary = subst (λ (a : Answer). AnswersOrdinarily by held (answer_of a)) (sym same) ordinary;
       }
 
   module _ (asked : Asked) (o : Option Asked) (is : o ≡ Some asked) (steady : ∥ KeepsOpen by policies entities o ∥₁) where
@@ -107,13 +115,13 @@ module _ (by : Setting) (policies : Policies) (entities : Entities) where
     -- what an answer once these values are told is said to be
     abbrev Says : Table → Map → Store → Result Answer Refusal → Type 0
     Says table all s result =
-        (es : Entries) → KeepsQuestion by bare question asked.first asked.told.entries (answer_of asked.answer) → AreOf by bare es s table by.depth
+        (es : Entries) → KeepsQuestion by held question asked.first asked.told.entries (answer_of asked.answer) → AreOf by held es s table by.depth
         → AreTold question all.entries → Extends (told_in asked.told.entries) (told_in all.entries)
-        → AnswersTold by bare question asked.first asked.told.entries all.entries (answer_of asked.answer) result
+        → AnswersTold by held question asked.first asked.told.entries all.entries (answer_of asked.answer) result
 
     module _ (lasting : MoreIsTold) (reads : AnswersReadWhatIsInForce) (table : Table) (all : Map) (fs : Fields) (more : TellMore by question (told_in asked.told.entries) fs (told_in all.entries)) (s : Store) (holds : IsStoreOf by table entities s) where
       answered : (result : Result Answer Refusal) → Says table all s result → KeepsAsked by policies entities asked
-          → AnswersTold by bare question asked.first asked.told.entries all.entries (answer_of asked.answer) result
+          → AnswersTold by held question asked.first asked.told.entries all.entries (answer_of asked.answer) result
       answered result says k =
           let are_told = lasting by question asked.told.entries all.entries fs k.keeps.are_told more in
           says k.keeps.response.policies k.keeps
@@ -129,30 +137,33 @@ module _ (by : Setting) (policies : Policies) (entities : Entities) where
           })
           are_told.0 are_told.1
 
-      later_here : (answer : world.Answer) → IsLaterAnswer by bare (asked_of asked) (told_in all.entries) answer → IsLaterAnswer by (world_with o) (asked_of asked) (told_in all.entries) answer
-      later_here answer h = ((reads.alike by bare (world_with o) (record { entities = refl; policies = λ id. refl })).later (asked_of asked) (told_in all.entries) answer).0 h
+      later_here : (answer : world.Answer) → IsLaterAnswer by held (asked_of asked) (told_in all.entries) answer → IsLaterAnswer by (world_with o) (asked_of asked) (told_in all.entries) answer
+      later_here answer h = ((reads.alike by held (world_with o) (record { entities = refl; policies = λ id. refl })).later (asked_of asked) (told_in all.entries) answer).0 h
 
-      -- no error is a failed look-up, where commands lead here, a body asked the question and the last answer names none
-      pub names_no_lookup : AnswersNameNoLookup → (answer : Answer) → Says table all s (Ok answer) → LaterFindsFunctions by (world_with o) (answer_of answer)
-      names_no_lookup law answer says commands replies reached open_now at asks last id e =
-          let same : asked_of asked ≡ open_now = same_some (asked_of asked) open_now (sym was_open ∙ at) in
-          ∥∥₁_elim kept no_two (λ k.
+      -- the errors are ordinary, as those of the last answer
+      ordinary_then : AnswersErrOrdinarily → (answer : Answer) → Says table all s (Ok answer) → KeepsAsked by policies entities asked → AnswersOrdinarily by held (answer_of answer)
+      ordinary_then law answer says k commands replies reached =
           let joins = (answered (Ok answer) says k).joins in
-          law.later by commands replies bare (record { policies = reached.policies; entities = reached.entities; links = reached.links; no_cycle = reached.no_cycle }) question
-          (subst (λ (a : Opened). IsAskedBy by a.question) (sym same) asks) (told_in all.entries) (answer_of asked.answer) joins.0 (answer_of answer) joins.1 joins.2
-          (subst (λ (a : Opened). NamesNoLookup a.last) (sym same) last) id e)
+          law.later by commands replies held reached question k.asked_by (told_in all.entries) (answer_of asked.answer) joins.0 (answer_of answer) joins.1 joins.2 (k.ordinary commands replies reached)
+
+      pub errs_ordinarily : AnswersErrOrdinarily → (answer : Answer) → Says table all s (Ok answer) → AnswersOrdinarily by (world_with o) (answer_of answer)
+      errs_ordinarily law answer says commands replies reached id k e =
+          ∥∥₁_elim kept (ordinary_prop k) (λ h.
+          ordinary_then law answer says h commands replies (record { policies = reached.policies; entities = reached.entities; links = reached.links; no_cycle = reached.no_cycle }) id k e)
 
       module _ (answer copy : Answer) (same : copy ≡ answer) (says : Says table all s (Ok answer)) (new : Option Asked) (new_is : new ≡ option_map (λ (a : Asked). record a { told = all; answer = copy }) o) where
         goes_on : new ≡ Some (record asked { told = all; answer = copy })
         goes_on = new_is ∙ ap (option_map (λ (a : Asked). record a { told = all; answer = copy })) is
 
         -- what is kept then
-        pub keeps_on : ∥ KeepsOpen by policies entities new ∥₁
-        keeps_on =
+        pub keeps_on : AnswersErrOrdinarily → ∥ KeepsOpen by policies entities new ∥₁
+        keeps_on law =
             subst (λ x. ∥ KeepsOpen by policies entities x ∥₁) (sym goes_on)
             (∥∥₁_map kept (λ k. record {
               states = k.states;
-              keeps = subst (λ a. KeepsQuestion by bare question asked.first all.entries (answer_of a)) (sym same) (answered (Ok answer) says k).keeps;
+              asked_by = k.asked_by;
+              keeps = subst (λ (a : Answer). KeepsQuestion by held question asked.first all.entries (answer_of a)) (sym same) (answered (Ok answer) says k).keeps;
+              ordinary = subst (λ (a : Answer). AnswersOrdinarily by held (answer_of a)) (sym same) (ordinary_then law answer says k);
             }))
 
       module _ (text : uid.Text) (once : BodiesAreOne by) (tree : Tree) (is_read : IsBodyWithin by by.depth text tree) (low : height tree ≤ by.depth) (restricted : is_restricted tree ≡ true) (body : tell_body tree ≡ Some fs) where

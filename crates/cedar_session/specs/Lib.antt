@@ -1,6 +1,6 @@
 pub mod Commands
-pub mod Lookups
 pub mod Open
+pub mod OrdinaryErrors
 pub mod Programs
 pub mod Reading
 pub mod Running

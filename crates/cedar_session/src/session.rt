@@ -4,8 +4,8 @@ ghost use Rattle.cedar_frames.specs.Heads.{body_limit};
 ghost use Rattle.cedar_world.specs.World.{new_world};
 ghost use Rattle.cedar_replies.specs.Replies.{answer_of, reply_of};
 ghost use Rattle.cedar_session.specs.Commands.{command_verb, command_text};
-ghost use Rattle.cedar_session.specs.Lookups.{FirstErrsOrdinarily, LaterFindsFunctions};
 ghost use Rattle.cedar_session.specs.Open.{KeepsOpen};
+ghost use Rattle.cedar_session.specs.OrdinaryErrors.{AnswersOrdinarily, RepliesOrdinarily};
 ghost use Rattle.cedar_texts.specs.Settings.{setting_with};
 
 use crate::asked::{Asked, close, go_on};
@@ -276,7 +276,7 @@ impl<'e, 'f, F: ExtensionFunctionObject> Session<'e, 'f, F> {
     pub fn ask(&mut self, text: &str) -> Result<Answer, Refusal>
         requires { length text.now ≤ body_limit }
         ensures step { Step (setting_of self.old) (world_of self.old) AskVerb text.now (ask_reply result) (world_of self.new) }
-        ensures ordinary { IfOk result (λ answer. FirstErrsOrdinarily (setting_of self.old) (world_of self.old) (answer_of answer)) }
+        ensures ordinary { IfOk result (λ answer. AnswersOrdinarily (setting_of self.old) (world_of self.old) (answer_of answer)) }
         ensures setting { setting_of self.new ≡ setting_of self.old }
     {
         self.policies.index(self.allocator)?;
@@ -287,12 +287,12 @@ impl<'e, 'f, F: ExtensionFunctionObject> Session<'e, 'f, F> {
     fn ask_indexed(&mut self, text: &str) -> Result<Answer, Refusal>
         requires { length text.now ≤ body_limit }
         ensures step { Step (setting_of self.old) (world_of self.old) AskVerb text.now (ask_reply result) (world_of self.new) }
-        ensures ordinary { IfOk result (λ answer. FirstErrsOrdinarily (setting_of self.old) (world_of self.old) (answer_of answer)) }
+        ensures ordinary { IfOk result (λ answer. AnswersOrdinarily (setting_of self.old) (world_of self.old) (answer_of answer)) }
         ensures setting { setting_of self.new ≡ setting_of self.old }
     {
         cedar_world::texts_are_one();
         cedar_world::calls_are_found();
-        cedar_telling::answers_name_no_lookup();
+        cedar_telling::answers_err_ordinarily();
         self.extensions.names_are_defined();
         let body = read_body(self.allocator, text, self.extensions, self.depth)?;
         let request = request_of(self.allocator, &body, self.extensions, self.depth)?;
@@ -323,7 +323,8 @@ impl<'e, 'f, F: ExtensionFunctionObject> Session<'e, 'f, F> {
     /// (Cedar language reference, "Partial evaluation".)
     ///
     /// The body is a record from names to values: the names of the context's unknowns, and `principal`,
-    /// `action`, `resource` and `context` where the question leaves them out. An empty one is accepted.
+    /// `action`, `resource` and `context` where the question leaves them out. An empty one is accepted. No id errs
+    /// by a failed look-up of a function, or by a slot that isn't linked.
     ///
     /// It is refused `NoQuestion` where no question is open, which is checked first and takes no memory; then
     /// as any body; `Shape` where it is no record, `Evaluation` where a value errs, `NotAValue` where one holds
@@ -335,12 +336,12 @@ impl<'e, 'f, F: ExtensionFunctionObject> Session<'e, 'f, F> {
     pub fn tell(&mut self, text: &str) -> Result<Answer, Refusal>
         requires { length text.now ≤ body_limit }
         ensures step { Step (setting_of self.old) (world_of self.old) TellVerb text.now (ask_reply result) (world_of self.new) }
-        ensures lookups { IfOk result (λ answer. LaterFindsFunctions (setting_of self.old) (world_of self.old) (answer_of answer)) }
+        ensures ordinary { IfOk result (λ answer. AnswersOrdinarily (setting_of self.old) (world_of self.old) (answer_of answer)) }
         ensures setting { setting_of self.new ≡ setting_of self.old }
     {
         cedar_world::texts_are_one();
         cedar_world::answers_read_what_is_in_force();
-        cedar_telling::answers_name_no_lookup();
+        cedar_telling::answers_err_ordinarily();
         cedar_asking::more_is_told();
         self.extensions.names_are_defined();
         let Some(asked) = &self.asked else {
@@ -370,10 +371,12 @@ impl<'e, 'f, F: ExtensionFunctionObject> Session<'e, 'f, F> {
     }
 
     /// Answers a command as the method of its verb does: `load` by the ids, `ask` and `tell` by the answer, and any
-    /// other by [`Reply::Done`]. It is refused as that method, and a refused one changes nothing.
+    /// other by [`Reply::Done`]. It is refused as that method, and a refused one changes nothing. No answer names a failed
+    /// look-up of a function, or a slot that isn't linked.
     pub fn apply(&mut self, command: &Command<'_>) -> Result<Reply, Refusal>
         requires { length (command_text command.now) ≤ body_limit }
         ensures step { Step (setting_of self.old) (world_of self.old) (command_verb command.now) (command_text command.now) (reply_of result) (world_of self.new) }
+        ensures ordinary { RepliesOrdinarily (setting_of self.old) (world_of self.old) (reply_of result) }
         ensures setting { setting_of self.new ≡ setting_of self.old }
     {
         match *command {

@@ -1,8 +1,8 @@
 -- Slots, unknowns and projectable trees.
-use Rattle.std.specs.Prelude.{List, Bool, true, false, ◌&&◌, Option, Some, None}
+use Rattle.std.specs.Prelude.{List, Bool, true, false, Option, Some, None}
 use Rattle.std.specs.List.{filter_map, list_any}
 use Rattle.cedar_language.specs.Uid.{Text}
-use Rattle.cedar_language.specs.Tree.{SlotId, ValueType, Operator, Tree, Lit, Var, Slot, Unknown, Apply, MakeSet, MakeRecord, Trees, no_trees, a_tree}
+use Rattle.cedar_language.specs.Tree.{SlotId, ValueType, Operator, Tree, Lit, Var, Slot, Unknown, Apply, MakeSet, MakeRecord}
 pub use Rattle.cedar_language.specs.Restricted.{is_projectable, are_projectable}
 use Rattle.cedar_shapes.specs.Positions.{positions}
 

@@ -1,7 +1,7 @@
 -- The type that a tree's value has, as far as the tree shows it. (Cedar language reference, "Data types".)
 use Rattle.std.specs.Prelude.{cond, Option, Some, None}
 use Rattle.cedar_language.specs.Uid.{Name}
-use Rattle.cedar_language.specs.Tree.{Literal, Boolean, Long, String, Entity, ValueType, BooleanType, LongType, StringType, SetType, RecordType, EntityType, Operator, Neg, Add, Sub, Mul, GetTag, GetAttr, MakeSet, MakeRecord, Call, Tree, Lit, Var, Slot, Unknown, If, And, Or, Apply}
+use Rattle.cedar_language.specs.Tree.{ValueType, BooleanType, LongType, SetType, RecordType, Operator, Neg, Add, Sub, Mul, GetTag, GetAttr, MakeSet, MakeRecord, Call, Tree, Lit, Var, Slot, Unknown, If, And, Or, Apply}
 use Rattle.cedar_literals.specs.Types.{same_type, literal_type}
 
 -- a type that both sides have

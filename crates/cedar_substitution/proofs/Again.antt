@@ -1,6 +1,6 @@
 -- What is made of what the own builder made of a tree.
 use Rattle.std.proofs.Common.{◌≡◌, ◌∙◌, ap, sym, refl, List, [], ◌∷◌, length, suc, map, arith}
-use Rattle.std.specs.Prelude.{Bool, true, cond, Option, Some, None, Result, Ok, Err, ◌&&◌, ◌||◌}
+use Rattle.std.specs.Prelude.{cond, Option, Some, None, Result, Ok, Err}
 use Rattle.std.specs.List.{zip}
 use Rattle.std.specs.List.Sorted.{IsStrictlySortedBy}
 use Rattle.std.specs.Ordering.{is_lt}

@@ -7,7 +7,7 @@ use Rattle.std.specs.declared.rc.RcStr.{RcStr}
 use Rattle.std.specs.Rc.{rc_str_bytes}
 use Rattle.cedar_language.specs.Uid.{Text, Name}
 use Rattle.cedar_language.specs.Tree as tree
-use Rattle.cedar_language.specs.Tree.{ValueType, Tree}
+use Rattle.cedar_language.specs.Tree.{ValueType}
 use Rattle.cedar_grammar.specs.Build.{trees, keys}
 use Rattle.cedar_literals.specs.Literals.{literal_of}
 use Rattle.cedar_literals.specs.Operators.{unary_operator_of, binary_operator_of}

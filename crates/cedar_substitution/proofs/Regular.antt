@@ -1,6 +1,6 @@
 -- What is built again has records whose keys rise, and is refused for want of memory alone where no call is refused.
-use Rattle.std.proofs.Common.{◌≡◌, ◌∙◌, ap, sym, refl, subst, ℕ, suc, List, [], ◌∷◌, ◌++◌, length, map, Vec, BTreeMap, Global}
-use Rattle.std.specs.Prelude.{Bool, true, false, not, ◌&&◌, ◌||◌, cond, Option, Some, None, Result, Ok, Err}
+use Rattle.std.proofs.Common.{◌≡◌, ◌∙◌, ap, sym, refl, subst, suc, List, [], ◌∷◌, ◌++◌, length, map, Vec, BTreeMap, Global}
+use Rattle.std.specs.Prelude.{true, false, not, ◌&&◌, ◌||◌, Option, Some, None, Result, Ok, Err}
 use Rattle.std.specs.declared.cmp.Ordering.{Ordering}
 use Rattle.std.specs.declared.cmp.Ordering.TheVariants.{Less}
 use Rattle.std.specs.Ordering.{is_eq}
@@ -19,7 +19,7 @@ use Rattle.cedar_language.specs.Order.{text_cmp}
 use Rattle.cedar_language.specs.Tree as tree
 use Rattle.cedar_language.specs.Tree.{ValueType, Tree, Trees}
 use Rattle.cedar_language.specs.WellFormed.{tree_count}
-use Rattle.cedar_grammar.specs.Build.{trees, Keyed, keys}
+use Rattle.cedar_grammar.specs.Build.{trees, keys}
 use Rattle.cedar_grammar.specs.Names.{is_among, are_distinct}
 use Rattle.cedar_literals.specs.Operators.{unary_operator_of, binary_operator_of}
 use Rattle.cedar_literals.specs.declared.literals.Literal.{Literal}
@@ -35,7 +35,7 @@ use Rattle.cedar_trees.specs.declared.expr.ExprKind.TheVariants as kind
 use Rattle.cedar_trees.specs.declared.unknowns.Unknown.{Unknown}
 use Rattle.cedar_trees.specs.declared.unknowns.NonEmpty.{NonEmpty}
 use Rattle.cedar_trees.proofs.Bares.{bare_is, bare-Lit, bare-Var, bare-Slot, bare-Unknown, bare-If, bare-And, bare-Or, bare-UnaryApp, bare-BinaryApp, bare-ExtensionFunctionApp, bare-GetAttr, bare-HasAttr, bare-ExtHasAttr, bare-Like, bare-Is, bare-Set, bare-Record}
-use Rattle.cedar_builders.specs.Operations.{Operations, IsLawful, OnRefusal, Gives}
+use Rattle.cedar_builders.specs.Operations.{Operations, OnRefusal, Gives}
 use Rattle.cedar_substitution.specs.Chains.{takes_list, first_of_all, first_of, chain_of}
 use Rattle.cedar_substitution.specs.Rising.{KeysRise, RiseWhere, AllRiseWhere, RestRises, RestsRise, CallsAreTaken, BuildsRising}
 use Rattle.cedar_substitution.proofs.Chaining.{some_of, some_same}

@@ -16,7 +16,7 @@ use Rattle.cedar_builders.specs.Operations.{Operations, made}
 use Rattle.cedar_shapes.specs.Leaves.{unknowns_among}
 use Rattle.cedar_shapes.specs.Positions.{positions}
 use Rattle.cedar_substitution.specs.Chains.{with_built}
-use Rattle.cedar_substitution.specs.Rising.{RecordsRiseWith, CallsAreTaken}
+use Rattle.cedar_substitution.specs.Rising.{RecordsRiseWith}
 use Rattle.cedar_substitution.specs.Told.{told_for, Substitutes}
 use Rattle.cedar_substitution.specs.declared.errors.SubstitutionError.{SubstitutionError}
 use Rattle.cedar_substitution.specs.declared.errors.SubstitutionError.TheVariants.{TypeError, Memory}

@@ -23,6 +23,7 @@ use Rattle.cedar_partial_evaluation.specs.Errors.{SettlingIsOne}
 use Rattle.cedar_partial_evaluation.specs.Unbound.{UnboundAnswersAreFair}
 use Rattle.cedar_partial_evaluation.specs.UnboundSeam.{UnboundResidualsSettle}
 use Rattle.cedar_partial_evaluation.specs.Reauthorizing.{IsErring, ReauthorizingIsSharp, ErrorsAreNamed, ReauthorizingEnds, ReauthorizingIsExact}
+use Rattle.cedar_grammar.specs.Laws.{LinkConditions}
 use Rattle.cedar_world.specs.Syntax.{PolicySyntax, condition}
 use Rattle.cedar_world.specs.World.{World, in_force_at}
 use Rattle.cedar_world.specs.Setting.{Setting, functions_alone, means, Settles}
@@ -97,65 +98,72 @@ module _ (facts : Facts) (made : HoldsMade facts) (q : Question) (of_data : IsDa
 
 -- ---- the law
 
-module _ (fairly : AnswersAreFair) (meant : FilledIsMeant) (unbound_fairly : UnboundAnswersAreFair) (carries : TellingCarries) (settle : ResidualsSettle) (unbound_settle : UnboundResidualsSettle)
+module _ (links : LinkConditions) (fairly : AnswersAreFair) (meant : FilledIsMeant) (unbound_fairly : UnboundAnswersAreFair) (carries : TellingCarries) (settle : ResidualsSettle) (unbound_settle : UnboundResidualsSettle)
     (linking : LinkingIsWriting) (linking_early : LinkingIsWritingEarly) (one : SettlingIsOne) (nameless : NamesDontMatter) (given : WithoutUnknowns) (sharper : ReauthorizingIsSharp) (named : ErrorsAreNamed) (ends : ReauthorizingIsExact) where
   module _ (by : Setting) (world : World) (facts : Facts) (q : Question) (told : Told) (are : AreFactsOf by world facts) (made : HoldsMade facts) (closed : NamesNoUnknown world) (of_data : IsData q.context)
       (accepted : IsAccepted facts finite.empty q.context) (are_made : AreMadeTold facts told) (now : IsAccepted facts told q.context) where
     there : (filling : Told) (known : Known) → IsFilling (functions_alone by.functions) q filling known → IsFilling facts q filling known
     there filling known fills = filling_there facts (functions_alone by.functions) are.function q filling known fills
 
-    module _ (s : PolicySyntax) (standing : Standing) (stands : StandsAgain facts q told s standing) where
-      means_so : (id : Text) → in_force_at world.policies id ≡ Some s → (filling : Told) (request : Known) → meaning facts (request_filled request stands.slots filling) stands.unbound ≡ means facts request (condition s)
+    module _ (s : PolicySyntax) (standing : Standing) (stands : StandsAgain world.policies facts q told s standing) where
+      -- what the world holds, with its slots not bound
+      abbrev unbound : Tree
+      unbound = condition stands.unbound
+
+      binds : condition s ≡ bound_tree stands.slots unbound
+      binds = ap condition stands.binds ∙ links stands.slots stands.unbound
+
+      means_so : (id : Text) → in_force_at world.policies id ≡ Some s → (filling : Told) (request : Known) → meaning facts (request_filled request stands.slots filling) unbound ≡ means facts request (condition s)
       means_so id force filling request =
-          linking.means facts (request_filled request stands.slots filling) stands.unbound
-          ∙ ap (meaning facts (request_filled request no_slots filling)) (sym stands.binds)
+          linking.means facts (request_filled request stands.slots filling) unbound
+          ∙ ap (meaning facts (request_filled request no_slots filling)) (sym binds)
           ∙ means_known nameless facts request filling (condition s) (closed id s force)
 
-      settles_so : (later : Told) (result : Outcome) → Settles facts q later (condition s) result → settled_in facts (settled_of facts q stands.slots later) stands.unbound ≡ kindless result
+      settles_so : (later : Told) (result : Outcome) → Settles facts q later (condition s) result → settled_in facts (settled_of facts q stands.slots later) unbound ≡ kindless result
       settles_so later result settles =
-          linking.settles facts q stands.slots later stands.unbound
-          ∙ ap (settled_in facts (settled_of facts q no_slots later)) (sym stands.binds)
+          linking.settles facts q stands.slots later unbound
+          ∙ ap (settled_in facts (settled_of facts q no_slots later)) (sym binds)
           ∙ settled_as one facts q later (condition s) result settles
 
-      gives : (filling : Told) → GivesEach filling stands.unbound
-      gives filling = given filling (λ v. true) true stands.unbound stands.names_nothing
+      gives : (filling : Told) → GivesEach filling unbound
+      gives filling = given filling (λ v. true) true unbound stands.names_nothing
 
       -- what erred or errs with slots bound did so as it is written
-      erred_so : IsErring (standing_of_answer (first facts made q of_data accepted told are_made now stands.slots stands.unbound)) ⊎ IsErring (standing_again facts q told stands.slots stands.unbound) →
+      erred_so : IsErring (standing_of_answer (first facts made q of_data accepted told are_made now stands.slots unbound)) ⊎ IsErring (standing_again facts q told stands.slots unbound) →
           ErrsOrErred standing (ErredFirst facts q s)
       erred_so (inl (k, e)) =
           inr (
             k,
             sym e
-                ∙ alike_standing (partial_in facts (held_of facts q stands.slots finite.empty) stands.unbound) (partial_in facts (held_of facts q no_slots finite.empty) (bound_tree stands.slots stands.unbound))
-                (linking_early.answers facts q stands.slots finite.empty stands.unbound)
-                ∙ ap (λ x. standing_of_answer (partial_in facts (held_of facts q no_slots finite.empty) x)) (sym stands.binds),
+                ∙ alike_standing (partial_in facts (held_of facts q stands.slots finite.empty) unbound) (partial_in facts (held_of facts q no_slots finite.empty) (bound_tree stands.slots unbound))
+                (linking_early.answers facts q stands.slots finite.empty unbound)
+                ∙ ap (λ x. standing_of_answer (partial_in facts (held_of facts q no_slots finite.empty) x)) (sym binds),
           )
       erred_so (inr (k, e)) = inl (k, stands.stands ∙ e)
 
       fair_so : (id : Text) → in_force_at world.policies id ≡ Some s → (filling : Told) (request : Known) → Extends told filling → IsFilling facts q filling request → Becomes standing (standing_of (means facts request (condition s)))
       fair_so id force filling request extends fills =
           subst (λ x. Becomes x (standing_of (means facts request (condition s)))) (sym stands.stands)
-          (subst (λ x. Becomes (standing_again facts q told stands.slots stands.unbound) (standing_of x)) (means_so id force filling request)
-          (becomes_filled facts made q of_data accepted told are_made now stands.slots stands.unbound fairly meant unbound_fairly filling request extends fills (gives filling)))
+          (subst (λ x. Becomes (standing_again facts q told stands.slots unbound) (standing_of x)) (means_so id force filling request)
+          (becomes_filled facts made q of_data accepted told are_made now stands.slots unbound fairly meant unbound_fairly filling request extends fills (gives filling)))
 
       carried_so : (later : Told) → Extends told later → IsAccepted facts later q.context → (result : Outcome) → Settles facts q later (condition s) result → Becomes standing (standing_of result)
       carried_so later extends then result settles =
           subst (λ x. Becomes x (standing_of result)) (sym stands.stands)
-          (becomes_settled facts made q of_data accepted told are_made now stands.slots stands.unbound carries settle unbound_settle later extends then result (settles_so later result settles))
+          (becomes_settled facts made q of_data accepted told are_made now stands.slots unbound carries settle unbound_settle later extends then result (settles_so later result settles))
 
       sharp_so : (result : Outcome) → Settles facts q told (condition s) result → (is_residual standing ≡ false) × ((k : Kind) → standing_of result ≡ Erring k → ErrsOrErred standing (ErredFirst facts q s))
       sharp_so result settles =
           let is = settles_so told result settles in (
-            ap is_residual stands.stands ∙ closed_again facts made q of_data accepted told are_made now stands.slots stands.unbound sharper result is,
-            λ k errs. erred_so (errs_again facts made q of_data accepted told are_made now stands.slots stands.unbound named result is k errs),
+            ap is_residual stands.stands ∙ closed_again facts made q of_data accepted told are_made now stands.slots unbound sharper result is,
+            λ k errs. erred_so (errs_again facts made q of_data accepted told are_made now stands.slots unbound named result is k errs),
           )
 
       exact_so : (id : Text) → in_force_at world.policies id ≡ Some s → (request : Known) → IsFilling facts q told request →
           (is_residual standing ≡ false) × ((k : Kind) → standing_of (means facts request (condition s)) ≡ Erring k → ErrsOrErred standing (ErredFirst facts q s))
       exact_so id force request fills = (
-        ap is_residual stands.stands ∙ closed_at_last facts made q of_data accepted told are_made now stands.slots stands.unbound ends request fills (gives told),
-        λ k errs. erred_so (errs_at_last facts made q of_data accepted told are_made now stands.slots stands.unbound ends request fills (gives told) k (ap standing_of (means_so id force told request) ∙ errs)),
+        ap is_residual stands.stands ∙ closed_at_last facts made q of_data accepted told are_made now stands.slots unbound ends request fills (gives told),
+        λ k errs. erred_so (errs_at_last facts made q of_data accepted told are_made now stands.slots unbound ends request fills (gives told) k (ap standing_of (means_so id force told request) ∙ errs)),
       )
 
   pub again_is_sound : AgainIsSound

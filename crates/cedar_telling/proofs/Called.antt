@@ -1,16 +1,18 @@
--- What is called by a policy with its slots bound, and by the context of a question that a body asks.
-use Rattle.std.proofs.Common.{◌≡◌, Bool, true, false, ◌&&◌, cond, Option, Some, None, List, [], ◌∷◌, inl, inr, refl, subst}
+-- What is called by a policy with its slots bound, by a tree in which no slot stands, and by the context of a question that a body asks.
+use Rattle.std.proofs.Common.{◌≡◌, Bool, true, false, ◌&&◌, cond, Option, Some, None, List, [], ◌∷◌, ◌++◌, inl, inr, refl, ap, subst}
 use Rattle.std.specs.List.{list_all}
 use Rattle.std.specs.Option.{unwrap_or}
 use lib.Chars.{codes}
 use Rattle.cedar_language.specs.Uid.{Text, Name, Uid}
 use Rattle.cedar_language.specs.Tree.{String, SlotId, Operator, MakeRecord, Call, Tree, Lit, Var, Slot, Unknown, If, And, Or, Apply, Trees, no_trees, a_tree}
-use Rattle.cedar_language.specs.Slots.{Slots, bound_slot, bound_tree, bound_trees}
+use Rattle.cedar_language.specs.Slots.{Slots, tree_slots, trees_slots, bound_slot, bound_tree, bound_trees}
 use Rattle.cedar_grammar.specs.Calls.{calls_none_but, calls_only, all_call_only}
+use Rattle.cedar_grammar.specs.Policy.{body_slots, bound_body}
 use Rattle.cedar_world.specs.Asking.{Entries, NoContext, WithEntries, Question}
 use Rattle.cedar_world.specs.Bodies.{Fields, zipped, found, if_there, entries_of, unknown_or, named_call, named, all_named, question_with, question_fields, question_keys, are_among, ask_body}
 use Rattle.cedar_world.specs.Functions.{is_the_unknown}
 use Rattle.cedar_world.specs.Orders.{text_eq}
+use Rattle.cedar_world.proofs.KnownKinds.{first_empty, second_empty}
 use Rattle.cedar_world.proofs.Parts.{same_some}
 use Rattle.cedar_telling.specs.Lookups.{calls_among, all_call_among}
 use Rattle.cedar_telling.proofs.Both.{and_left, and_right, and_true, and_both}
@@ -24,13 +26,13 @@ of_each test (y ∷ ys) h x (inr a) = of_each test ys (and_right (test y) (list_
 -- ---- binding slots
 
 module _ (passes : Name → Bool) (b : Slots) where
-  slot_calls : (s : SlotId) (o : Option Uid) → calls_among passes (bound_slot s o) ≡ true
+  slot_calls : (s : SlotId) (o : Option Uid) → calls_among true passes (bound_slot s o) ≡ true
   slot_calls s None = refl
   slot_calls s (Some u) = refl
 
   mutual
     -- a tree calls what it calls with its slots bound
-    pub bound_calls : (t : Tree) → calls_among passes (bound_tree b t) ≡ calls_among passes t
+    pub bound_calls : (t : Tree) → calls_among true passes (bound_tree b t) ≡ calls_among true passes t
     bound_calls (Lit l) = refl
     bound_calls (Var v) = refl
     bound_calls (Slot s) = slot_calls s (b s)
@@ -40,16 +42,34 @@ module _ (passes : Name → Bool) (b : Slots) where
     bound_calls (Or l r) = rw (bound_calls l, bound_calls r) refl
     bound_calls (Apply op ts) = rw (all_bound_call ts) refl
 
-    all_bound_call : (ts : Trees) → all_call_among passes (bound_trees b ts) ≡ all_call_among passes ts
+    all_bound_call : (ts : Trees) → all_call_among true passes (bound_trees b ts) ≡ all_call_among true passes ts
     all_bound_call no_trees = refl
     all_bound_call (a_tree t ts) = rw (bound_calls t, all_bound_call ts) refl
 
--- ---- texts
+-- what holds no slot stays as it is
+module _ (b : Slots) where
+  mutual
+    tree_stays : (t : Tree) → tree_slots t ≡ [] → bound_tree b t ≡ t
+    tree_stays (Lit l) e = refl
+    tree_stays (Var v) e = refl
+    tree_stays (Slot s) e = absurd (cc e)
+    tree_stays (Unknown n ty) e = refl
+    tree_stays (If t y n) e =
+        let more = second_empty (tree_slots t) (tree_slots y ++ tree_slots n) e in
+        rw (tree_stays t (first_empty (tree_slots t) (tree_slots y ++ tree_slots n) e), tree_stays y (first_empty (tree_slots y) (tree_slots n) more), tree_stays n (second_empty (tree_slots y) (tree_slots n) more)) refl
+    tree_stays (And l r) e = rw (tree_stays l (first_empty (tree_slots l) (tree_slots r) e), tree_stays r (second_empty (tree_slots l) (tree_slots r) e)) refl
+    tree_stays (Or l r) e = rw (tree_stays l (first_empty (tree_slots l) (tree_slots r) e), tree_stays r (second_empty (tree_slots l) (tree_slots r) e)) refl
+    tree_stays (Apply op ts) e = rw (trees_stay ts e) refl
 
--- a context calls what passes
-abbrev pub ContextCalls : (Name → Bool) → Entries → Type 0
-ContextCalls passes NoContext = Unit {0}
-ContextCalls passes (WithEntries ks ts) = all_call_among passes ts ≡ true
+    trees_stay : (ts : Trees) → trees_slots ts ≡ [] → bound_trees b ts ≡ ts
+    trees_stay no_trees e = refl
+    trees_stay (a_tree t ts) e = rw (tree_stays t (first_empty (tree_slots t) (trees_slots ts) e), trees_stay ts (second_empty (tree_slots t) (trees_slots ts) e)) refl
+
+  pub body_stays : (o : Option Tree) → body_slots o ≡ [] → bound_body b o ≡ o
+  body_stays None e = refl
+  body_stays (Some t) e = ap (λ c. Some c) (tree_stays t e)
+
+-- ---- texts
 
 module _ (fewer passes : Name → Bool) (pass : (name : Name) → fewer name ≡ true → passes name ≡ true) where
   operator_passes : (op : Operator) → calls_none_but fewer op ≡ true → calls_none_but passes op ≡ true
@@ -58,7 +78,7 @@ module _ (fewer passes : Name → Bool) (pass : (name : Name) → fewer name ≡
 
   mutual
     -- where fewer names pass
-    pub fewer_pass : (t : Tree) → calls_only fewer t ≡ true → calls_among passes t ≡ true
+    pub fewer_pass : (t : Tree) → calls_only fewer t ≡ true → calls_among true passes t ≡ true
     fewer_pass (Lit l) h = refl
     fewer_pass (Var v) h = refl
     fewer_pass (Slot s) h = refl
@@ -71,56 +91,90 @@ module _ (fewer passes : Name → Bool) (pass : (name : Name) → fewer name ≡
     fewer_pass (Or l r) h = let (hl, hr) = and_true (calls_only fewer l) (calls_only fewer r) h in and_both _ _ (fewer_pass l hl) (fewer_pass r hr)
     fewer_pass (Apply op ts) h = let (c, i) = and_true (calls_none_but fewer op) (all_call_only fewer ts) h in and_both _ _ (operator_passes op c) (all_fewer_pass ts i)
 
-    all_fewer_pass : (ts : Trees) → all_call_only fewer ts ≡ true → all_call_among passes ts ≡ true
+    all_fewer_pass : (ts : Trees) → all_call_only fewer ts ≡ true → all_call_among true passes ts ≡ true
     all_fewer_pass no_trees h = refl
     all_fewer_pass (a_tree t ts) h = let (ht, hts) = and_true (calls_only fewer t) (all_call_only fewer ts) h in and_both _ _ (fewer_pass t ht) (all_fewer_pass ts hts)
 
-  -- ---- the context of a question
+module _ (passes : Name → Bool) where
+  mutual
+    -- no slot stands in the tree
+    pub without_slots : (t : Tree) → tree_slots t ≡ [] → calls_among true passes t ≡ true → calls_among false passes t ≡ true
+    without_slots (Lit l) e h = refl
+    without_slots (Var v) e h = refl
+    without_slots (Slot s) e h = absurd (cc e)
+    without_slots (Unknown n ty) e h = refl
+    without_slots (If t y n) e h =
+        let (ht, rest) = and_true (calls_among true passes t) (calls_among true passes y && calls_among true passes n) h in
+        let (hy, hn) = and_true (calls_among true passes y) (calls_among true passes n) rest in
+        let more = second_empty (tree_slots t) (tree_slots y ++ tree_slots n) e in
+        and_both _ _ (without_slots t (first_empty (tree_slots t) (tree_slots y ++ tree_slots n) e) ht)
+        (and_both _ _ (without_slots y (first_empty (tree_slots y) (tree_slots n) more) hy) (without_slots n (second_empty (tree_slots y) (tree_slots n) more) hn))
+    without_slots (And l r) e h =
+        let (hl, hr) = and_true (calls_among true passes l) (calls_among true passes r) h in
+        and_both _ _ (without_slots l (first_empty (tree_slots l) (tree_slots r) e) hl) (without_slots r (second_empty (tree_slots l) (tree_slots r) e) hr)
+    without_slots (Or l r) e h =
+        let (hl, hr) = and_true (calls_among true passes l) (calls_among true passes r) h in
+        and_both _ _ (without_slots l (first_empty (tree_slots l) (tree_slots r) e) hl) (without_slots r (second_empty (tree_slots l) (tree_slots r) e) hr)
+    without_slots (Apply op ts) e h = let (c, i) = and_true (calls_none_but passes op) (all_call_among true passes ts) h in and_both _ _ c (all_without_slots ts e i)
 
-  unknown_passes : (b : Bool) (f : Name) (t : Tree) (ts : Trees) → calls_among passes (Apply (Call f) (a_tree t ts)) ≡ true → calls_among passes (unknown_or b f t ts) ≡ true
+    all_without_slots : (ts : Trees) → trees_slots ts ≡ [] → all_call_among true passes ts ≡ true → all_call_among false passes ts ≡ true
+    all_without_slots no_trees e h = refl
+    all_without_slots (a_tree t ts) e h =
+        let (ht, hts) = and_true (calls_among true passes t) (all_call_among true passes ts) h in
+        and_both _ _ (without_slots t (first_empty (tree_slots t) (trees_slots ts) e) ht) (all_without_slots ts (second_empty (tree_slots t) (trees_slots ts) e) hts)
+
+-- ---- the context of a question
+
+module _ (slots : Bool) (passes : Name → Bool) where
+  -- a context calls what passes
+  abbrev pub ContextCalls : Entries → Type 0
+  ContextCalls NoContext = Unit {0}
+  ContextCalls (WithEntries ks ts) = all_call_among slots passes ts ≡ true
+
+  unknown_passes : (b : Bool) (f : Name) (t : Tree) (ts : Trees) → calls_among slots passes (Apply (Call f) (a_tree t ts)) ≡ true → calls_among slots passes (unknown_or b f t ts) ≡ true
   unknown_passes true f (Lit (String n)) no_trees h = refl
   unknown_passes _ f t ts h = h
 
-  call_passes : (op : Operator) (ts : Trees) → calls_among passes (Apply op ts) ≡ true → calls_among passes (named_call op ts) ≡ true
+  call_passes : (op : Operator) (ts : Trees) → calls_among slots passes (Apply op ts) ≡ true → calls_among slots passes (named_call op ts) ≡ true
   call_passes (Call f) (a_tree t ts) h = unknown_passes (is_the_unknown f) f t ts h
   call_passes op ts h = h
 
   mutual
-    named_passes : (t : Tree) → calls_only fewer t ≡ true → calls_among passes (named t) ≡ true
+    named_passes : (t : Tree) → calls_among slots passes t ≡ true → calls_among slots passes (named t) ≡ true
     named_passes (Apply op ts) h =
-        let (c, i) = and_true (calls_none_but fewer op) (all_call_only fewer ts) h in
-        call_passes op (all_named ts) (and_both _ _ (operator_passes op c) (all_named_pass ts i))
-    named_passes t h = fewer_pass t h
+        let (c, i) = and_true (calls_none_but passes op) (all_call_among slots passes ts) h in
+        call_passes op (all_named ts) (and_both _ _ c (all_named_pass ts i))
+    named_passes t h = h
 
-    all_named_pass : (ts : Trees) → all_call_only fewer ts ≡ true → all_call_among passes (all_named ts) ≡ true
+    all_named_pass : (ts : Trees) → all_call_among slots passes ts ≡ true → all_call_among slots passes (all_named ts) ≡ true
     all_named_pass no_trees h = refl
-    all_named_pass (a_tree t ts) h = let (ht, hts) = and_true (calls_only fewer t) (all_call_only fewer ts) h in and_both _ _ (named_passes t ht) (all_named_pass ts hts)
+    all_named_pass (a_tree t ts) h = let (ht, hts) = and_true (calls_among slots passes t) (all_call_among slots passes ts) h in and_both _ _ (named_passes t ht) (all_named_pass ts hts)
 
   abbrev Calls : Option Tree → Type 0
   Calls None = Unit {0}
-  Calls (Some t) = calls_only fewer t ≡ true
+  Calls (Some t) = calls_among slots passes t ≡ true
 
-  one_calls : (b : Bool) (t : Tree) (o : Option Tree) → calls_only fewer t ≡ true → Calls o → Calls (cond b (Some t) o)
+  one_calls : (b : Bool) (t : Tree) (o : Option Tree) → calls_among slots passes t ≡ true → Calls o → Calls (cond b (Some t) o)
   one_calls true t o h k = h
   one_calls false t o h k = k
 
-  field_calls : (key : Text) (ks : List Text) (ts : Trees) → all_call_only fewer ts ≡ true → Calls (found key (zipped ks ts))
+  field_calls : (key : Text) (ks : List Text) (ts : Trees) → all_call_among slots passes ts ≡ true → Calls (found key (zipped ks ts))
   field_calls key [] ts h = tt
   field_calls key (k ∷ ks) no_trees h = tt
   field_calls key (k ∷ ks) (a_tree t ts) h =
-      let (ht, hts) = and_true (calls_only fewer t) (all_call_only fewer ts) h in
+      let (ht, hts) = and_true (calls_among slots passes t) (all_call_among slots passes ts) h in
       one_calls (text_eq key k) t (found key (zipped ks ts)) ht (field_calls key ks ts hts)
 
-  optional_calls : (o : Option Tree) (c : Option Entries) → Calls o → if_there entries_of o ≡ Some c → ContextCalls passes (unwrap_or c NoContext)
-  optional_calls None c h is = let same : None ≡ c = cc in subst (λ x. ContextCalls passes (unwrap_or x NoContext)) same tt
+  optional_calls : (o : Option Tree) (c : Option Entries) → Calls o → if_there entries_of o ≡ Some c → ContextCalls (unwrap_or c NoContext)
+  optional_calls None c h is = let same : None ≡ c = cc in subst (λ x. ContextCalls (unwrap_or x NoContext)) same tt
   optional_calls (Some (Apply (MakeRecord ks) ts)) c h is =
       let same : Some (WithEntries ks (all_named ts)) ≡ c = cc in
-      subst (λ x. ContextCalls passes (unwrap_or x NoContext)) same (all_named_pass ts h)
+      subst (λ x. ContextCalls (unwrap_or x NoContext)) same (all_named_pass ts h)
   optional_calls (Some t) c h is = cc
 
   with_parts : (p a r : Option (Option Uid)) (c : Option (Option Entries)) (q : Question) → question_with p a r c ≡ Some q
-      → ((e : Option Entries) → c ≡ Some e → ContextCalls passes (unwrap_or e NoContext)) → ContextCalls passes q.context
-  with_parts (Some p) (Some a) (Some r) (Some c) q is h = subst (λ (x : Question). ContextCalls passes x.context) (same_some _ q is) (h c refl)
+      → ((e : Option Entries) → c ≡ Some e → ContextCalls (unwrap_or e NoContext)) → ContextCalls q.context
+  with_parts (Some p) (Some a) (Some r) (Some c) q is h = subst (λ (x : Question). ContextCalls x.context) (same_some _ q is) (h c refl)
   with_parts (Some p) (Some a) (Some r) None q is h = cc
   with_parts (Some p) (Some a) None c q is h = cc
   with_parts (Some p) None r c q is h = cc
@@ -131,7 +185,7 @@ module _ (fewer passes : Name → Bool) (pass : (name : Name) → fewer name ≡
   if_among false fs q h = cc
 
   -- the question of a body calls what passes
-  pub question_calls : (tree : Tree) (q : Question) → calls_only fewer tree ≡ true → ask_body tree ≡ Some q → ContextCalls passes q.context
+  pub question_calls : (tree : Tree) (q : Question) → calls_among slots passes tree ≡ true → ask_body tree ≡ Some q → ContextCalls q.context
   question_calls (Apply (MakeRecord ks) ts) q calls asks =
       with_parts _ _ _ _ q (if_among (are_among question_keys (zipped ks ts)) (zipped ks ts) q asks)
       (λ e there. optional_calls (found (codes "context") (zipped ks ts)) e (field_calls (codes "context") ks ts calls) there)

@@ -17,7 +17,7 @@ use Rattle.cedar_telling.proofs.Members.{IsAmong}
 
 module _ (by : Setting) (Holds : PolicySyntax → Type 0) (texts : (text : Text) (ss : List PolicySyntax) → ArePolicies by text ss → (s : PolicySyntax) → IsAmong s ss → Holds s) where
   -- each policy that is held, and each template
-  abbrev AllHold : Policies → Type 0
+  abbrev pub AllHold : Policies → Type 0
   AllHold policies = (id : Text) (s : PolicySyntax) → map.get policies id ≡ Some (world.Policy s) → Holds s
 
   -- ---- what one command edits
@@ -71,6 +71,10 @@ module _ (by : Setting) (Holds : PolicySyntax → Type 0) (texts : (text : Text)
   none_holds : AllHold map.empty
   none_holds id s e = let never : None ≡ Some (world.Policy s) = sym (map.get-empty text_cmp id) ∙ e in cc
 
+  -- so it is of all that is held after a list of commands
+  pub all_hold : (commands : List Command) (replies : List Reply) (policies : Policies) → Edited (EditsPolicies by) map.empty commands replies policies → AllHold policies
+  all_hold commands replies policies edited = edited_hold map.empty policies commands replies edited none_holds
+
   -- ---- what is in force
 
   module _ (binds : (b : Bindings) (s : PolicySyntax) → Holds s → Holds (linked b s)) (policies : Policies) (all : AllHold policies) where
@@ -100,12 +104,8 @@ module _ (by : Setting) (Holds : PolicySyntax → Type 0) (texts : (text : Text)
     bound_holds id (Some (world.Link template bindings)) s at e =
         linked_holds bindings (world.template_at policies template) s e (λ t is. found_template template (map.get policies template) t refl is)
 
-    is_held : (id : Text) (s : PolicySyntax) → in_force_at policies id ≡ Some s → Holds s
-    is_held id s e = bound_holds id (map.get policies id) s refl e
-
-  pub in_force_holds : (binds : (b : Bindings) (s : PolicySyntax) → Holds s → Holds (linked b s)) (commands : List Command) (replies : List Reply) (policies : Policies)
-      → Edited (EditsPolicies by) map.empty commands replies policies → (id : Text) (s : PolicySyntax) → in_force_at policies id ≡ Some s → Holds s
-  in_force_holds binds commands replies policies edited = is_held binds policies (edited_hold map.empty policies commands replies edited none_holds)
+    pub in_force_holds : (id : Text) (s : PolicySyntax) → in_force_at policies id ≡ Some s → Holds s
+    in_force_holds id s e = bound_holds id (map.get policies id) s refl e
 
 -- ---- slots
 

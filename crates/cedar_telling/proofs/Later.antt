@@ -167,4 +167,4 @@ module _ (laws : Laws) (by : Setting) (world : World) (facts : Facts) (asked : A
 
 pub later_answers_stand : Laws → LaterAnswersStand
 later_answers_stand laws by world facts asked told js new answer are more made accepted steady sound judges says joined =
-    stands laws by world facts asked told (StandsAgain facts asked.question told) js new answer are more made accepted steady sound judges says joined
+    stands laws by world facts asked told (StandsAgain world.policies facts asked.question told) js new answer are more made accepted steady sound judges says joined

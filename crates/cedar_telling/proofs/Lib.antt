@@ -4,11 +4,11 @@ mod PlainAnswers
 mod ContextErrors
 mod Members
 mod Called
+mod Scopes
 mod Lookups
 mod InForce
-mod FreeSlots
 mod FoundInForce
-pub mod NoLookups
+pub mod OrdinaryAnswers
 mod KnownAnswer
 mod Beside
 mod Allowed

@@ -1,9 +1,9 @@
--- Where a tree calls functions that are there, no look-up fails in its evaluation; and so it is of the policies of a text.
-use Rattle.std.proofs.Common.{◌≡◌, ◌≢◌, Bool, true, false, cond, ◌&&◌, not, Option, Some, None, is_some, IsSome, List, [], refl, sym, ◌∙◌, ap, subst}
+-- Where a tree calls functions that are there, no look-up fails in its evaluation; and so it is of the policies of a text. Where no
+-- slot stands in it either, it errs with ordinary kinds alone.
+use Rattle.std.proofs.Common.{◌≡◌, ◌≢◌, Bool, true, false, ◌&&◌, not, Option, Some, None, is_some, IsSome, List, [], refl, sym, ◌∙◌, ap, subst, true≢false}
 use Rattle.std.specs.FinMap as finite
 use Rattle.cedar_language.specs.Uid.{Text, Name, Uid}
-use Rattle.cedar_language.specs.Tree.{Boolean, ValueType, Variable, Principal, Action, Resource, Context, SlotId, MakeRecord, Tree, Apply}
-use Rattle.cedar_language.specs.Slots.{bound_tree}
+use Rattle.cedar_language.specs.Tree.{Boolean, ValueType, Variable, Principal, Action, Resource, Context, SlotId, PrincipalSlot, ResourceSlot, MakeRecord, Tree, Lit, Apply}
 use Rattle.cedar_language.specs.Value.{Value, Plain, Kind, TypeError, RecordAttrDoesNotExist, FailedExtensionFunctionLookup, Outcome, Gives, Fails}
 use Rattle.cedar_language.specs.Constructing.{the_constructor, is_the_constructor, constructor_function}
 use Rattle.cedar_language.specs.Facts.{Facts}
@@ -12,25 +12,30 @@ use Rattle.cedar_language.specs.Meaning.{Slots, slot_outcome}
 use Rattle.cedar_language.specs.Answering.{Erring}
 use Rattle.cedar_partial_evaluation.specs.Early.{standing_of_answer}
 use Rattle.cedar_partial_evaluation.specs.Linking.{no_slots}
-use Rattle.cedar_partial_evaluation.specs.LinkingEarly.{StandAlike, LinkingIsWritingEarly}
 use Rattle.cedar_partial_evaluation.specs.Partial.{Answer, Evaluated, ResidualTree, Failed, LeafAnswers, answer_of, partial_in}
 use Rattle.cedar_partial_evaluation.specs.Question.{Part, Given, Missing, Entries, NoContext, WithEntries, Question, Told, entity_type, value_held, name_held, part_held, held_names, context_held, variable_held, held_of}
 use Rattle.cedar_partial_evaluation.specs.Reauthorizing.{condition_again}
 use Rattle.cedar_partial_evaluation.specs.Unknowns.{fits}
-use Rattle.cedar_grammar.specs.Laws.{LinkConditions}
-use Rattle.cedar_world.specs.Functions.{function_of, is_the_unknown}
+use Rattle.cedar_grammar.specs.Build.{conjunction}
+use Rattle.cedar_grammar.specs.Laws.{ExprsHoldNoSlot, LinkConditions}
+use Rattle.cedar_grammar.specs.Policy.{scope_tree, with_body, slots, body_slots, constraint_slots, bound_constraint, bound}
+use Rattle.cedar_world.specs.Functions.{body_names, function_of, is_the_unknown}
 use Rattle.cedar_world.specs.KnownKinds.{IsOrdinary, ErrsOrdinarily}
 use Rattle.cedar_world.specs.NameLaws.{is_answered, CallsAreFound}
 use Rattle.cedar_world.specs.Bodies.{ask_body}
 use Rattle.cedar_world.specs.Setting.{Setting, ArePolicies, IsBody}
+use Rattle.cedar_world.specs.Standing.{StandsEarly}
 use Rattle.cedar_world.specs.World.{Entities, AreFacts}
 use Rattle.cedar_world.specs.Syntax.{PolicySyntax, Bindings, binding_of, linked, condition}
+use Rattle.cedar_world.proofs.KnownKinds.{first_empty, second_empty, still_some}
 use Rattle.cedar_world.proofs.OrdinaryErrors.{applied_fine}
-use Rattle.cedar_telling.specs.Lookups.{finds_all, IsFoundAnswer, FoundAnswers, FindsFunctions, EarlyTextsFindFunctions, ErrsOrdinarilyFirst}
-use Rattle.cedar_telling.proofs.Both.{and_left}
-use Rattle.cedar_telling.proofs.CallsLeft.{IsKept, AreKeptLeaves, kept}
-use Rattle.cedar_telling.proofs.Called.{ContextCalls, question_calls, fewer_pass, bound_calls, of_each}
+use Rattle.cedar_telling.specs.Again.{standing_again}
+use Rattle.cedar_telling.specs.Lookups.{calls_among, finds_all, IsFoundAnswer, FoundAnswers, FindsFunctions, EarlyTextsFindFunctions}
+use Rattle.cedar_telling.proofs.Both.{and_left, and_right}
+use Rattle.cedar_telling.proofs.CallsLeft.{AnyKind, IsKept, AreKeptLeaves, Keeps, kept}
+use Rattle.cedar_telling.proofs.Called.{ContextCalls, question_calls, fewer_pass, without_slots, bound_calls, of_each}
 use Rattle.cedar_telling.proofs.Members.{IsAmong, contained}
+use Rattle.cedar_telling.proofs.Scopes.{condition_free, scope_tests, condition_kept}
 
 -- ---- evaluations
 
@@ -45,29 +50,38 @@ module _ (facts : Facts) where
   abbrev pub there : Name → Bool
   there name = is_some (facts.function name)
 
-  to_found : (p : Answer) → IsKept there NoLookup p → IsFoundAnswer facts p
+  to_found : (p : Answer) → IsKept true there NoLookup p → IsFoundAnswer facts p
   to_found (Evaluated v) h = tt
   to_found (ResidualTree t) h = h
   to_found (Failed k) h = h
 
-  of_found : (p : Answer) → IsFoundAnswer facts p → IsKept there NoLookup p
+  of_found : (p : Answer) → IsFoundAnswer facts p → IsKept true there NoLookup p
   of_found (Evaluated v) h = tt
   of_found (ResidualTree t) h = h
   of_found (Failed k) h = h
 
 -- where ordinary errors are fine, with functions that are there
-module _ (IsFine : Kind → Type 0) (facts : Facts) (fine : (k : Kind) → IsOrdinary k → IsFine k) (constructs : IsSome (facts.function the_constructor)) where
+module _ (slotted : Bool) (IsFine : Kind → Type 0) (facts : Facts) (fine : (k : Kind) → IsOrdinary k → IsFine k) (constructs : IsSome (facts.function the_constructor)) where
   abbrev IsFineAnswer : Answer → Type 0
-  IsFineAnswer = IsKept (there facts) IsFine
+  IsFineAnswer = IsKept slotted (there facts) IsFine
+
+  abbrev AreFineLeaves : LeafAnswers → Type 0
+  AreFineLeaves = AreKeptLeaves slotted (there facts) IsFine
 
   outcome_fine : (o : Outcome) → ErrsOrdinarily o → IsFineAnswer (answer_of o)
   outcome_fine (Gives v) h = tt
   outcome_fine (Fails k) h = fine k h
 
-  answer_fine : (holds : LeafAnswers) → AreKeptLeaves (there facts) IsFine holds → (t : Tree) → finds_all facts t ≡ true → IsFineAnswer (partial_in facts holds t)
-  answer_fine =
-      kept (there facts) IsFine facts
-      (record { constructs = constructs; type_error = fine TypeError tt; no_attribute = fine RecordAttrDoesNotExist tt; applied = λ o vs c. outcome_fine (operators.applied facts o vs) (applied_fine facts (there facts) (λ name h. h) o vs c) })
+  pub keeps_fine : Keeps slotted (there facts) IsFine facts
+  keeps_fine = record {
+    constructs = constructs;
+    type_error = fine TypeError tt;
+    no_attribute = fine RecordAttrDoesNotExist tt;
+    applied = λ o vs c. outcome_fine (operators.applied facts o vs) (applied_fine facts (there facts) (λ name h. h) o vs c);
+  }
+
+  answer_fine : (holds : LeafAnswers) → AreFineLeaves holds → (t : Tree) → calls_among slotted (there facts) t ≡ true → IsFineAnswer (partial_in facts holds t)
+  answer_fine = kept slotted (there facts) IsFine facts keeps_fine
 
   -- ---- what is held of a question
 
@@ -83,14 +97,14 @@ module _ (IsFine : Kind → Type 0) (facts : Facts) (fine : (k : Kind) → IsOrd
   part_fine (Given u) o n = tt
   part_fine (Missing ty) o n = name_fine o n (entity_type ty)
 
-  names_fine : (told : Told) → AreKeptLeaves (there facts) IsFine (held_names told)
-  names_fine told = record { variable = λ v. refl; unknown = λ n ty. name_fine (finite.get told n) n ty; slot = λ s. refl }
+  names_fine : (told : Told) → AreFineLeaves (held_names told)
+  names_fine told = record { variable = λ v. refl; unknown = λ n ty. name_fine (finite.get told n) n ty; slot = λ h s. h }
 
-  context_fine : (told : Told) (c : Entries) → ContextCalls (there facts) c → IsFineAnswer (context_held facts told c)
+  context_fine : (told : Told) (c : Entries) → ContextCalls slotted (there facts) c → IsFineAnswer (context_held facts told c)
   context_fine told NoContext h = name_fine _ _ None
   context_fine told (WithEntries ks ts) h = answer_fine (held_names told) (names_fine told) (Apply (MakeRecord ks) ts) h
 
-  module _ (q : Question) (calls : ContextCalls (there facts) q.context) where
+  module _ (q : Question) (calls : ContextCalls slotted (there facts) q.context) where
     variable_fine : (told : Told) (v : Variable) → IsFineAnswer (variable_held facts q told v)
     variable_fine told Principal = part_fine q.principal _ _
     variable_fine told Action = part_fine q.action _ _
@@ -98,7 +112,7 @@ module _ (IsFine : Kind → Type 0) (facts : Facts) (fine : (k : Kind) → IsOrd
     variable_fine told Context = context_fine told q.context calls
 
     -- where slots are fine
-    held_fine : (slots : Slots) → ((s : SlotId) → IsFineAnswer (answer_of (slot_outcome (slots s)))) → (told : Told) (t : Tree) → finds_all facts t ≡ true
+    held_fine : (slots : Slots) → (slotted ≡ true → (s : SlotId) → IsFineAnswer (answer_of (slot_outcome (slots s)))) → (told : Told) (t : Tree) → calls_among slotted (there facts) t ≡ true
         → IsFineAnswer (partial_in facts (held_of facts q slots told) t)
     held_fine slots bound told =
         answer_fine (held_of facts q slots told) (record { variable = variable_fine told; unknown = λ n ty. name_fine (finite.get told n) n ty; slot = bound })
@@ -106,68 +120,78 @@ module _ (IsFine : Kind → Type 0) (facts : Facts) (fine : (k : Kind) → IsOrd
 pub found_answers : FoundAnswers
 found_answers = λ facts constructs holds leaves t h.
     to_found facts _
-    (answer_fine NoLookup facts ordinary_is_none constructs holds
-    (record { variable = λ v. of_found facts _ (leaves.variable v); unknown = λ n ty. of_found facts _ (leaves.unknown n ty); slot = λ s. of_found facts _ (leaves.slot s) }) t h)
+    (answer_fine true NoLookup facts ordinary_is_none constructs holds
+    (record { variable = λ v. of_found facts _ (leaves.variable v); unknown = λ n ty. of_found facts _ (leaves.unknown n ty); slot = λ h s. of_found facts _ (leaves.slot s) }) t h)
 
 -- ---- how a policy stands
 
-module _ (IsFine : Kind → Type 0) (facts : Facts) (fine : (k : Kind) → IsOrdinary k → IsFine k) where
-  kind_fine : (p : Answer) → IsKept (there facts) IsFine p → (k : Kind) → Erring k ≡ standing_of_answer p → IsFine k
+module _ (slotted : Bool) (IsFine : Kind → Type 0) (facts : Facts) (fine : (k : Kind) → IsOrdinary k → IsFine k) where
+  kind_fine : (p : Answer) → IsKept slotted (there facts) IsFine p → (k : Kind) → Erring k ≡ standing_of_answer p → IsFine k
   kind_fine (Evaluated (Plain (Boolean true))) h k e = cc
   kind_fine (Evaluated (Plain (Boolean false))) h k e = cc
   kind_fine (Evaluated _) h k e = let same : TypeError ≡ k = cc in subst IsFine same (fine TypeError tt)
   kind_fine (ResidualTree t) h k e = cc
   kind_fine (Failed l) h k e = let same : l ≡ k = cc in subst IsFine same h
 
--- any entity
-pub an_entity : Uid
-an_entity = record { type_name = []; id = [] }
-
-module _ (facts : Facts) (constructs : IsSome (facts.function the_constructor)) (q : Question) (calls : ContextCalls (there facts) q.context) where
-  slot_found : (o : Option Uid) → IsKept (there facts) NoLookup (answer_of (slot_outcome o))
-  slot_found (Some u) = tt
-  slot_found None = λ e. cc
-
-  found : (slots : Slots) (told : Told) (t : Tree) → finds_all facts t ≡ true → IsKept (there facts) NoLookup (partial_in facts (held_of facts q slots told) t)
-  found slots = held_fine NoLookup facts ordinary_is_none constructs q calls slots (λ s. slot_found (slots s))
-
-  again_calls : (p : Answer) → IsKept (there facts) NoLookup p → finds_all facts (condition_again p) ≡ true
+  -- what is taken up again calls what was called
+  again_calls : (p : Answer) → IsKept slotted (there facts) IsFine p → calls_among slotted (there facts) (condition_again p) ≡ true
   again_calls (Evaluated (Plain (Boolean true))) h = refl
   again_calls (Evaluated _) h = refl
   again_calls (ResidualTree t) h = h
   again_calls (Failed k) h = refl
 
+module _ (facts : Facts) (constructs : IsSome (facts.function the_constructor)) (q : Question) (calls : ContextCalls true (there facts) q.context) where
+  slot_found : (o : Option Uid) → IsKept true (there facts) NoLookup (answer_of (slot_outcome o))
+  slot_found (Some u) = tt
+  slot_found None = λ e. cc
+
+  found : (slots : Slots) (told : Told) (t : Tree) → finds_all facts t ≡ true → IsKept true (there facts) NoLookup (partial_in facts (held_of facts q slots told) t)
+  found slots = held_fine true NoLookup facts ordinary_is_none constructs q calls slots (λ h s. slot_found (slots s))
+
   pub policy_finds : (told : Told) (s : PolicySyntax) → finds_all facts (condition s) ≡ true → FindsFunctions facts q told s
   policy_finds told s h = record {
-    early = kind_fine NoLookup facts ordinary_is_none (partial_in facts (held_of facts q no_slots told) (condition s)) (found no_slots told (condition s) h);
-    again = λ k so.
-        let unbound = sym (bound_calls (there facts) so.slots so.unbound) ∙ sym (ap (finds_all facts) so.binds) ∙ h in
-        let left = condition_again (partial_in facts (held_of facts q so.slots finite.empty) so.unbound) in
-        kind_fine NoLookup facts ordinary_is_none (partial_in facts (held_of facts q no_slots told) left) (found no_slots told left (again_calls _ (found so.slots finite.empty so.unbound unbound))) k so.stands;
+    early = kind_fine true NoLookup facts ordinary_is_none (partial_in facts (held_of facts q no_slots told) (condition s)) (found no_slots told (condition s) h);
+    again = λ slots k stands.
+        let first = partial_in facts (held_of facts q slots finite.empty) (condition s) in
+        kind_fine true NoLookup facts ordinary_is_none (partial_in facts (held_of facts q no_slots told) (condition_again first))
+        (found no_slots told (condition_again first) (again_calls true NoLookup facts ordinary_is_none first (found slots finite.empty (condition s) h))) k stands;
   }
 
-  -- ---- slots
+-- ---- where no slot stands
 
-  -- an answer that stands as one with ordinary errors has such too
-  alike_ordinary : (p r : Answer) → IsKept (there facts) IsOrdinary p → StandAlike p r → (k : Kind) → Erring k ≡ standing_of_answer r → IsOrdinary k
-  alike_ordinary (Evaluated v) r h e k is = kind_fine IsOrdinary facts (λ l o. o) (Evaluated v) tt k (is ∙ ap standing_of_answer e)
-  alike_ordinary (ResidualTree t) r h e k is = kind_fine IsOrdinary facts (λ l o. o) (ResidualTree t) h k (is ∙ ap standing_of_answer e.1)
-  alike_ordinary (Failed l) r h e k is = kind_fine IsOrdinary facts (λ m o. o) (Failed l) h k (is ∙ ap standing_of_answer e)
+no_slot_stands : {A : Type 0} → false ≡ true → A
+no_slot_stands e = absurd (true≢false (sym e))
 
-  -- where no slot stands in a condition, it is answered as with any entities in the slots' places
-  pub policy_errs_ordinarily : LinkingIsWritingEarly → (told : Told) (s : PolicySyntax) → finds_all facts (condition s) ≡ true → bound_tree (λ slot. Some an_entity) (condition s) ≡ condition s
-      → ErrsOrdinarilyFirst facts q told s
-  policy_errs_ordinarily linking told s h stays =
-      let slots : Slots = λ slot. Some an_entity in
-      let filled = partial_in facts (held_of facts q slots told) (condition s) in
-      alike_ordinary filled (partial_in facts (held_of facts q no_slots told) (condition s)) (held_fine IsOrdinary facts (λ k o. o) constructs q calls slots (λ slot. tt) told (condition s) h)
-      (subst (λ t. StandAlike filled (partial_in facts (held_of facts q no_slots told) t)) stays (linking.answers facts q slots told (condition s)))
+clause_calls : (passes : Name → Bool) (scope c : Tree) → calls_among true passes (conjunction scope c) ≡ true → calls_among true passes c ≡ true
+clause_calls passes (Lit (Boolean a)) (Lit (Boolean b)) h = refl
+clause_calls passes scope c h = and_right (calls_among true passes scope) (calls_among true passes c) h
+
+module _ (facts : Facts) (constructs : IsSome (facts.function the_constructor)) (q : Question) (calls : ContextCalls false (there facts) q.context) where
+  any : (slots : Slots) (told : Told) (t : Tree) → calls_among false (there facts) t ≡ true → IsKept false (there facts) AnyKind (partial_in facts (held_of facts q slots told) t)
+  any slots = held_fine false AnyKind facts (λ k o. tt) constructs q calls slots (λ e s. no_slot_stands e)
+
+  ordinary : (told : Told) (t : Tree) → calls_among false (there facts) t ≡ true → (k : Kind) → Erring k ≡ standing_of_answer (partial_in facts (held_of facts q no_slots told) t) → IsOrdinary k
+  ordinary told t h =
+      kind_fine false IsOrdinary facts (λ k o. o) (partial_in facts (held_of facts q no_slots told) t) (held_fine false IsOrdinary facts (λ k o. o) constructs q calls no_slots (λ e s. no_slot_stands e) told t h)
+
+  pub early_ordinary : (told : Told) (s : PolicySyntax) → finds_all facts (condition s) ≡ true → slots s ≡ [] → body_slots s.body ≡ [] → (k : Kind) → StandsEarly facts q told s (Erring k) → IsOrdinary k
+  early_ordinary told s h e f = ordinary told (condition s) (without_slots (there facts) (condition s) (condition_free s e f) h)
+
+  -- what was left of a condition, whose slots these bind, evaluated again without them
+  pub again_ordinary : (told : Told) (p : PolicySyntax) (b : Slots) → finds_all facts (condition p) ≡ true → slots (bound b p) ≡ [] → body_slots p.body ≡ []
+      → (k : Kind) → Erring k ≡ standing_again facts q told b (condition p) → IsOrdinary k
+  again_ordinary told p b h e f =
+      let keeps = keeps_fine false AnyKind facts (λ k o. tt) constructs in
+      let principal = constraint_slots PrincipalSlot (bound_constraint (b PrincipalSlot) p.principal) in
+      let resource = constraint_slots ResourceSlot (bound_constraint (b ResourceSlot) p.resource) in
+      let first = partial_in facts (held_of facts q b finite.empty) (condition p) in
+      let left : IsKept false (there facts) AnyKind first =
+      condition_kept (there facts) facts keeps q b p (scope_tests (there facts) facts keeps q b p (first_empty principal resource e) (second_empty principal resource e)) (λ c is.
+      let free = without_slots (there facts) c (ap body_slots (sym is) ∙ f) (clause_calls (there facts) (scope_tree p) c (ap (λ o. calls_among true (there facts) (with_body (scope_tree p) o)) (sym is) ∙ h)) in
+      (free, any b finite.empty c free)) in
+      ordinary told (condition_again first) (again_calls false AnyKind facts (λ k o. tt) first left)
 
 -- ---- policies of a text
-
-still_some : {A : Type 0} (b : Bool) (x : A) (o : Option A) → is_some o ≡ true → is_some (cond b (Some x) o) ≡ true
-still_some true x o h = refl
-still_some false x o h = h
 
 module _ (by : Setting) {entities : Entities} (facts : Facts) (are : AreFacts by.functions entities facts) where
   -- what the table answers is there, and so is the constructor
@@ -182,8 +206,16 @@ module _ (by : Setting) {entities : Entities} (facts : Facts) (are : AreFacts by
       let passes : Name → Bool = λ name. is_answered by.functions name && not (is_the_unknown name) in
       fewer_pass passes (there facts) (λ name h. answered_there name (and_left (is_answered by.functions name) _ h)) (condition s) (of_each _ ss (calls.policies text ss reads) s among)
 
-  pub context_finds : CallsAreFound by → (body : Text) (tree : Tree) (q : Question) → IsBody by body tree → ask_body tree ≡ Some q → ContextCalls (there facts) q.context
-  context_finds calls body tree q is asks = question_calls (is_answered by.functions) (there facts) answered_there tree q (calls.bodies body tree is) asks
+  body_finds : CallsAreFound by → (body : Text) (tree : Tree) → IsBody by body tree → finds_all facts tree ≡ true
+  body_finds calls body tree is = fewer_pass (is_answered by.functions) (there facts) answered_there tree (calls.bodies body tree is)
+
+  pub context_finds : CallsAreFound by → (body : Text) (tree : Tree) (q : Question) → IsBody by body tree → ask_body tree ≡ Some q → ContextCalls true (there facts) q.context
+  context_finds calls body tree q is asks = question_calls true (there facts) tree q (body_finds calls body tree is) asks
+
+  -- and no slot stands in a context
+  pub context_holds_no_slot : CallsAreFound by → ExprsHoldNoSlot → (body : Text) (tree : Tree) (q : Question) → IsBody by body tree → ask_body tree ≡ Some q → ContextCalls false (there facts) q.context
+  context_holds_no_slot calls free body tree q (n, is) asks =
+      question_calls false (there facts) tree q (without_slots (there facts) tree (free (body_names by.functions) n is.0 tree is.2) (body_finds calls body tree (n, is))) asks
 
 -- binding slots adds no call
 pub links_find : LinkConditions → (facts : Facts) (b : Bindings) (s : PolicySyntax) → finds_all facts (condition s) ≡ true → finds_all facts (condition (linked b s)) ≡ true

@@ -1,9 +1,9 @@
 -- How policies stand that are taken up again once more is told.
-use Rattle.std.specs.Prelude.{◌≡◌, true}
+use Rattle.std.specs.Prelude.{◌≡◌, true, Some}
 use Rattle.std.specs.FinMap as finite
+use Rattle.cedar_language.specs.Uid.{Text}
 use Rattle.cedar_language.specs.Facts.{Facts}
 use Rattle.cedar_language.specs.Meaning.{Slots}
-use Rattle.cedar_language.specs.Slots.{bound_tree}
 use Rattle.cedar_language.specs.Tree.{Tree}
 use Rattle.cedar_language.specs.Value.{Kind}
 use Rattle.cedar_language.specs.Answering.{Standing, Erring}
@@ -14,8 +14,9 @@ use Rattle.cedar_partial_evaluation.specs.Mentions.{mentions_only}
 use Rattle.cedar_partial_evaluation.specs.Partial.{partial_in}
 use Rattle.cedar_partial_evaluation.specs.Question.{held_of, AreMadeTold, IsAccepted}
 use Rattle.cedar_partial_evaluation.specs.Reauthorizing.{condition_again}
+use Rattle.cedar_grammar.specs.Policy.{bound}
 use Rattle.cedar_world.specs.Syntax.{PolicySyntax, condition}
-use Rattle.cedar_world.specs.World.{World}
+use Rattle.cedar_world.specs.World.{World, Policies, Policy}
 use Rattle.cedar_world.specs.Asking.{Question, Told}
 use Rattle.cedar_world.specs.Setting.{Setting}
 use Rattle.cedar_world.specs.First.{IsData, NamesNoUnknown}
@@ -28,13 +29,15 @@ abbrev pub standing_again : Facts → Question → Told → Slots → Tree → S
 standing_again facts q told slots t =
     standing_of_answer (partial_in facts (held_of facts q no_slots told) (condition_again (partial_in facts (held_of facts q slots finite.empty) t)))
 
--- so the policy stands whose condition this is with its slots bound
-pub record StandsAgain (facts : Facts) (q : Question) (told : Told) (s : PolicySyntax) (standing : Standing) : Type 0 where
+-- so the policy stands that is, with its slots bound, a static policy or the template of a link that these hold
+pub record StandsAgain (policies : Policies) (facts : Facts) (q : Question) (told : Told) (s : PolicySyntax) (standing : Standing) : Type 0 where
+  pub id : Text
+  pub unbound : PolicySyntax
+  pub held : finite.get policies id ≡ Some (Policy unbound)
   pub slots : Slots
-  pub unbound : Tree
-  pub binds : condition s ≡ bound_tree slots unbound
-  pub names_nothing : mentions_only (λ v. true) true unbound ≡ true
-  pub stands : standing ≡ standing_again facts q told slots unbound
+  pub binds : s ≡ bound slots unbound
+  pub names_nothing : mentions_only (λ v. true) true (condition unbound) ≡ true
+  pub stands : standing ≡ standing_again facts q told slots (condition unbound)
 
 -- the policy erred when the question was asked
 abbrev pub ErredFirst : Facts → Question → PolicySyntax → Type 0
@@ -55,4 +58,4 @@ AgainIsSound =
     (by : Setting) (world : World) (facts : Facts) (q : Question) (told : Told)
     → AreFactsOf by world facts → HoldsMade facts → NamesNoUnknown world → IsData q.context → IsAccepted facts finite.empty q.context
     → AreMadeTold facts told → IsAccepted facts told q.context
-    → IsSoundLater by world facts q told (StandsAgain facts q told) (ErredFirst facts q)
+    → IsSoundLater by world facts q told (StandsAgain world.policies facts q told) (ErredFirst facts q)

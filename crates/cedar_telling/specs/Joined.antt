@@ -61,6 +61,6 @@ LaterAnswersStand =
     (by : Setting) (world : World) (facts : Facts) (asked : Asked) (told : Told) (js : List Judged) (new answer : Answer)
     → AreFactsOf by world facts → Extends asked.told told → AreMadeTold facts told → IsAccepted facts told asked.question.context
     → IsSteady by world facts asked.question asked.told asked.last
-    → IsSoundLater by world facts asked.question told (StandsAgain facts asked.question told) (ErredFirst facts asked.question)
-    → Judges world (StandsAgain facts asked.question told) js → Says js new → IsJoined asked.last new answer
+    → IsSoundLater by world facts asked.question told (StandsAgain world.policies facts asked.question told) (ErredFirst facts asked.question)
+    → Judges world (StandsAgain world.policies facts asked.question told) js → Says js new → IsJoined asked.last new answer
     → StandsLater by world facts asked told answer

@@ -1,13 +1,14 @@
--- No early answer names a failed look-up of a function, and no first one a slot that isn't linked. (Cedar language reference,
--- "Extension functions" and "Policy templates".)
+-- No early answer names a failed look-up of a function, or a slot that isn't linked. (Cedar language reference, "Extension
+-- functions" and "Policy templates".)
 use Rattle.std.specs.Prelude.{◌≡◌, ◌≢◌, Bool, true, ◌&&◌, Option, Some, is_some, IsSome, List, Contains}
 use Rattle.std.specs.FinMap as finite
 use Rattle.cedar_language.specs.Uid.{Text, Name}
-use Rattle.cedar_language.specs.Tree.{Variable, SlotId, ValueType, Tree, If, And, Or, Apply, Trees, no_trees, a_tree}
+use Rattle.cedar_language.specs.Tree.{Variable, SlotId, ValueType, Tree, Slot, If, And, Or, Apply, Trees, no_trees, a_tree}
 use Rattle.cedar_language.specs.Value.{Kind, FailedExtensionFunctionLookup}
 use Rattle.cedar_language.specs.Facts.{Facts}
 use Rattle.cedar_language.specs.Constructing.{the_constructor}
 use Rattle.cedar_language.specs.Answering.{Standing, Erring}
+use Rattle.cedar_language.specs.Slots.{Slots}
 use Rattle.cedar_partial_evaluation.specs.Partial.{Answer, Evaluated, ResidualTree, Failed, LeafAnswers, partial_in}
 use Rattle.cedar_grammar.specs.Calls.{calls_none_but}
 use Rattle.cedar_world.specs.Answer.{Answer as Answered}
@@ -18,18 +19,19 @@ use Rattle.cedar_world.specs.KnownKinds.{IsOrdinary}
 use Rattle.cedar_world.specs.Session.{Command, IsReached}
 use Rattle.cedar_world.specs.Setting.{Setting, ArePolicies, IsBody}
 use Rattle.cedar_world.specs.Standing.{StandsEarly}
-use Rattle.cedar_world.specs.Syntax.{PolicySyntax, Bindings, linked}
-use Rattle.cedar_world.specs.World.{World, Entities, AreFacts, in_force_at}
+use Rattle.cedar_world.specs.Syntax.{PolicySyntax, Bindings, linked, condition}
+use Rattle.cedar_world.specs.World.{World, Policies, Entities, AreFacts, in_force_at}
 use Rattle.cedar_world.specs.WorldFacts.{facts_of}
-use Rattle.cedar_telling.specs.Again.{StandsAgain}
+use Rattle.cedar_telling.specs.Again.{standing_again, StandsAgain}
 use Rattle.cedar_telling.specs.Joined.{IsJoined}
 
 -- ---- trees
 
-module _ (passes : Name → Bool) where
-  -- each function that the tree calls has a name that passes; unknowns may stand in it
+module _ (slots : Bool) (passes : Name → Bool) where
+  -- each function that the tree calls has a name that passes, and slots stand in it only where they may; unknowns may stand in it
   abbrev mutual
     pub calls_among : Tree → Bool
+    calls_among (Slot s) = slots
     calls_among (If t y n) = calls_among t && (calls_among y && calls_among n)
     calls_among (And l r) = calls_among l && calls_among r
     calls_among (Or l r) = calls_among l && calls_among r
@@ -42,7 +44,7 @@ module _ (passes : Name → Bool) where
 
 -- each function that the tree calls is there
 abbrev pub finds_all : Facts → Tree → Bool
-finds_all facts = calls_among (λ name. is_some (facts.function name))
+finds_all facts = calls_among true (λ name. is_some (facts.function name))
 
 -- ---- evaluations
 
@@ -65,10 +67,11 @@ FoundAnswers =
 
 -- ---- policies
 
--- the policy errs with no failed look-up, neither when the question is asked nor where what was left is evaluated again
+-- the policy errs with no failed look-up, neither when the question is asked nor where what was left, with any slots bound, is
+-- evaluated again
 pub record FindsFunctions (facts : Facts) (q : Question) (told : Told) (s : PolicySyntax) : Type 0 where
   pub early : (k : Kind) → StandsEarly facts q told s (Erring k) → k ≢ FailedExtensionFunctionLookup
-  pub again : (k : Kind) → StandsAgain facts q told s (Erring k) → k ≢ FailedExtensionFunctionLookup
+  pub again : (slots : Slots) (k : Kind) → Erring k ≡ standing_again facts q told slots (condition s) → k ≢ FailedExtensionFunctionLookup
 
 -- So does each policy of a text, as it is written and with slots bound, for a question that a body asks, whatever is told.
 abbrev pub EarlyTextsFindFunctions : Type 0
@@ -79,18 +82,11 @@ EarlyTextsFindFunctions =
     → (body : Text) (tree : Tree) (q : Question) → IsBody by body tree → ask_body tree ≡ Some q
     → (told : Told) → FindsFunctions facts q told s × ((b : Bindings) → FindsFunctions facts q told (linked b s))
 
--- So does each policy that is in force after any list of commands.
-abbrev pub PoliciesInForceFindFunctions : Type 0
-PoliciesInForceFindFunctions =
-    (by : Setting) (commands : List Command) (replies : List Reply) (world : World) → IsReached by commands replies world
-    → (facts : Facts) → AreFacts by.functions world.entities facts
-    → (id : Text) (s : PolicySyntax) → in_force_at world.policies id ≡ Some s
-    → (body : Text) (tree : Tree) (q : Question) → IsBody by body tree → ask_body tree ≡ Some q
-    → (told : Told) → FindsFunctions facts q told s
-
--- the policy errs with no slot that isn't linked either when the question is asked
-abbrev pub ErrsOrdinarilyFirst : Facts → Question → Told → PolicySyntax → Type 0
-ErrsOrdinarilyFirst facts q told s = (k : Kind) → StandsEarly facts q told s (Erring k) → IsOrdinary k
+-- the policy errs with no failed look-up, and with no slot that isn't linked, neither when the question is asked nor where
+-- what was left is evaluated again
+pub record StandsOrdinarily (policies : Policies) (facts : Facts) (q : Question) (told : Told) (s : PolicySyntax) : Type 0 where
+  pub early : (k : Kind) → StandsEarly facts q told s (Erring k) → IsOrdinary k
+  pub again : (k : Kind) → StandsAgain policies facts q told s (Erring k) → IsOrdinary k
 
 -- So does each policy that is in force after any list of commands.
 abbrev pub PoliciesInForceErrOrdinarily : Type 0
@@ -99,7 +95,7 @@ PoliciesInForceErrOrdinarily =
     → (facts : Facts) → AreFacts by.functions world.entities facts
     → (id : Text) (s : PolicySyntax) → in_force_at world.policies id ≡ Some s
     → (body : Text) (tree : Tree) (q : Question) → IsBody by body tree → ask_body tree ≡ Some q
-    → (told : Told) → ErrsOrdinarilyFirst facts q told s
+    → (told : Told) → StandsOrdinarily world.policies facts q told s
 
 -- ---- answers
 
@@ -107,10 +103,6 @@ PoliciesInForceErrOrdinarily =
 abbrev pub ListsStanding : World → (PolicySyntax → Standing → Type 0) → Answered → Type 0
 ListsStanding world Stands answer =
     (id : Text) (k : Kind) → finite.get answer.erring id ≡ Some k → (s : PolicySyntax) × (in_force_at world.policies id ≡ Some s) × Stands s (Erring k)
-
--- no error is a failed look-up
-abbrev pub NamesNoLookup : Answered → Type 0
-NamesNoLookup answer = (id : Text) → finite.get answer.erring id ≡ Some FailedExtensionFunctionLookup → ⊥
 
 -- no error is a failed look-up, or a slot that isn't linked
 abbrev pub NamesOrdinaryErrors : Answered → Type 0
@@ -120,11 +112,11 @@ NamesOrdinaryErrors answer = (id : Text) (k : Kind) → finite.get answer.erring
 abbrev pub IsAskedBy : Setting → Question → Type 0
 IsAskedBy by q = (body : Text) × (tree : Tree) × IsBody by body tree × (ask_body tree ≡ Some q)
 
--- So no answer names a failed look-up, in a world that is reached by commands: neither one to a question that a body asks,
--- nor one that is joined with it once more is told; and the first names no slot that isn't linked.
-pub record AnswersNameNoLookup : Type 0 where
+-- So no answer names a failed look-up or a slot that isn't linked, in a world that is reached by commands: neither one to a
+-- question that a body asks, nor one that is joined with it once more is told.
+pub record AnswersErrOrdinarily : Type 0 where
   pub first : (by : Setting) (commands : List Command) (replies : List Reply) (world : World) → IsReached by commands replies world
       → (q : Question) → IsAskedBy by q → (answer : Answered) → ListsStanding world (StandsEarly (facts_of by world) q finite.empty) answer → NamesOrdinaryErrors answer
   pub later : (by : Setting) (commands : List Command) (replies : List Reply) (world : World) → IsReached by commands replies world
-      → (q : Question) → IsAskedBy by q → (told : Told) (last new answer : Answered) → ListsStanding world (StandsAgain (facts_of by world) q told) new
-      → IsJoined last new answer → NamesNoLookup last → NamesNoLookup answer
+      → (q : Question) → IsAskedBy by q → (told : Told) (last new answer : Answered) → ListsStanding world (StandsAgain world.policies (facts_of by world) q told) new
+      → IsJoined last new answer → NamesOrdinaryErrors last → NamesOrdinaryErrors answer

@@ -4,7 +4,7 @@
 ghost use Rattle.cedar_telling.specs.Again.{AgainIsSound, EarlyStaysSound};
 ghost use Rattle.cedar_telling.specs.ContextErrors.{ContextsErrInParts};
 ghost use Rattle.cedar_telling.specs.Joined.{FirstAnswersAreSteady, LaterAnswersStand};
-ghost use Rattle.cedar_telling.specs.Lookups.{EarlyTextsFindFunctions, PoliciesInForceFindFunctions, PoliciesInForceErrOrdinarily, FoundAnswers, AnswersNameNoLookup};
+ghost use Rattle.cedar_telling.specs.Lookups.{EarlyTextsFindFunctions, PoliciesInForceErrOrdinarily, FoundAnswers, AnswersErrOrdinarily};
 ghost use Rattle.cedar_telling.specs.Plain.{PlainAnswers};
 
 // ---- evaluations
@@ -53,21 +53,12 @@ pub fn early_texts_find_functions()
     cedar_world::calls_are_found();
 }
 
-/// So it is of each policy that is in force after any list of commands.
-pub fn policies_in_force_find_functions()
-    ensures { PoliciesInForceFindFunctions }
-{
-    cedar_grammar::linking_binds_the_condition();
-    cedar_world::calls_are_found();
-}
-
-/// None of these errs with a slot that isn't linked either when the question is asked.
+/// No policy that is in force after any list of commands errs so, or with a slot that isn't linked.
 pub fn policies_in_force_err_ordinarily()
     ensures { PoliciesInForceErrOrdinarily }
 {
     cedar_grammar::linking_binds_the_condition();
     cedar_grammar::slots_stand_in_scopes();
-    cedar_partial_evaluation::linking_is_writing_early();
     cedar_world::link_laws();
     cedar_world::calls_are_found();
 }
@@ -76,6 +67,7 @@ pub fn policies_in_force_err_ordinarily()
 pub fn again_is_sound()
     ensures { AgainIsSound }
 {
+    cedar_grammar::linking_binds_the_condition();
     cedar_partial_evaluation::question_answers_are_fair();
     cedar_partial_evaluation::filled_is_meant();
     cedar_partial_evaluation::unbound_answers_are_fair();
@@ -94,12 +86,11 @@ pub fn again_is_sound()
 
 // ---- answers
 
-/// No answer names a failed look-up of a function, when a body's question is asked or once more is told, and the first
-/// none of a slot that isn't linked.
-pub fn answers_name_no_lookup()
-    ensures { AnswersNameNoLookup }
+/// No answer names a failed look-up of a function, or a slot that isn't linked, when a body's question is asked or once more
+/// is told.
+pub fn answers_err_ordinarily()
+    ensures { AnswersErrOrdinarily }
 {
-    crate::policies_in_force_find_functions();
     crate::policies_in_force_err_ordinarily();
     cedar_world::worlds_have_facts();
 }

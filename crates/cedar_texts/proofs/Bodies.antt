@@ -1,14 +1,12 @@
 -- Bodies, from the restricted expressions of their texts.
-use Rattle.std.proofs.Common.{◌≡◌, ◌≤◌, ◌<◌, sym, subst, inl, inr, Result, Ok, Err, arith}
+use Rattle.std.proofs.Common.{◌≡◌, ◌≤◌, subst, inl, inr, Err, arith}
 use Rattle.cedar_language.specs.Uid.{Text}
 use Rattle.cedar_language.specs.Height.{height}
-use Rattle.cedar_language.specs.Tree.{Tree}
 use Rattle.cedar_world.specs.Functions.{body_names}
 use Rattle.cedar_world.specs.Setting.{Setting, BodyNestsWithin, BodiesAreOne}
 use Rattle.cedar_loose.specs.Errors as cause
 use Rattle.cedar_loose.specs.Errors.{Cause, cause_of}
 use Rattle.cedar_restricted.specs.declared.errors.RestrictedExpressionError.TheVariants as refused
-use Rattle.cedar_restricted.specs.declared.restricted.RestrictedExpr.{RestrictedExpr}
 use Rattle.cedar_parser.specs.declared.restricted.RestrictedExpressionParseError.{RestrictedExpressionParseError}
 use Rattle.cedar_parser.specs.declared.restricted.RestrictedExpressionParseError.TheVariants as parse
 use Rattle.cedar_parser.specs.Strict.{IsUnread, IsTooDeep, ReadsRestricted}

@@ -1,7 +1,6 @@
 -- Policies that a session loads.
-use Rattle.std.proofs.Common.{◌≡◌, inl, inr, ℕ, Bool, true, not, ◌&&◌, List, Result, Ok, Err, arith}
+use Rattle.std.proofs.Common.{inl, inr, ℕ, not, ◌&&◌, Result, Ok, Err, arith}
 use Rattle.std.specs.Prelude.{IfOk}
-use Rattle.std.specs.List.{list_all}
 use Rattle.cedar_language.specs.Uid.{Text}
 use Rattle.cedar_grammar.specs.Names.{Names}
 use Rattle.cedar_grammar.specs.Policies.{Reads}

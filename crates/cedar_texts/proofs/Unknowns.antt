@@ -1,5 +1,5 @@
 -- A tree that calls what stands in a table without `unknown` calls no `unknown`.
-use Rattle.std.proofs.Common.{◌≡◌, ◌∙◌, refl, sym, ap, Bool, true, false, ◌&&◌, ◌||◌, true≢false}
+use Rattle.std.proofs.Common.{◌≡◌, ◌∙◌, refl, sym, ap, Bool, true, false, ◌||◌, true≢false}
 use Rattle.cedar_language.specs.Tree.{Operator, Call, Tree, Lit, Var, Slot, Unknown, If, And, Or, Apply, Trees, no_trees, a_tree}
 use Rattle.cedar_language.specs.Uid.{Name}
 use Rattle.cedar_grammar.specs.Calls.{calls_none_but, calls_only, all_call_only, is_in_table, is_method}

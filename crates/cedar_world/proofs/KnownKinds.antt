@@ -22,7 +22,8 @@ use Rattle.cedar_world.specs.KnownKinds.{IsOrdinary, ErrsOrdinarily, TextsErrOrd
 use Rattle.cedar_world.specs.LinkLaws.{LinksAreStatic}
 use Rattle.cedar_world.specs.NameLaws.{is_answered, CallsAreFound}
 use Rattle.cedar_world.specs.Refusals.{binds_exactly}
-use Rattle.cedar_world.specs.Setting.{Setting, means}
+use Rattle.cedar_world.specs.Setting as setting
+use Rattle.cedar_world.specs.Setting.{Setting}
 use Rattle.cedar_world.specs.Syntax.{PolicySyntax, Bindings, binding_of, is_template, are_some, linked}
 use Rattle.cedar_world.specs.World.{Entities, AreFacts}
 use Rattle.cedar_world.proofs.Lists.{IsAmong, contained, and_left, and_right}
@@ -30,11 +31,11 @@ use Rattle.cedar_world.proofs.OrdinaryErrors.{applied_fine}
 
 -- ---- lists of two parts
 
-first_empty : (xs ys : List SlotId) → xs ++ ys ≡ [] → xs ≡ []
+pub first_empty : (xs ys : List SlotId) → xs ++ ys ≡ [] → xs ≡ []
 first_empty [] ys e = refl
 first_empty (x ∷ xs) ys e = absurd (cc e)
 
-second_empty : (xs ys : List SlotId) → xs ++ ys ≡ [] → ys ≡ []
+pub second_empty : (xs ys : List SlotId) → xs ++ ys ≡ [] → ys ≡ []
 second_empty [] ys e = e
 second_empty (x ∷ xs) ys e = absurd (cc e)
 
@@ -180,23 +181,28 @@ at_one test [] h p among = absurd among
 at_one test (q ∷ ps) h p (inl e) = subst (λ r. test r ≡ true) e (and_left (test q) (list_all test ps) h)
 at_one test (q ∷ ps) h p (inr a) = at_one test ps (and_right (test q) (list_all test ps) h) p a
 
-none_left : (ss : List SlotId) → are_some ss ≡ false → ss ≡ []
+pub none_left : (ss : List SlotId) → are_some ss ≡ false → ss ≡ []
 none_left [] e = refl
 none_left (s ∷ ss) e = absurd (true≢false e)
 
-still_some : {A : Type 0} (b : Bool) (x : A) (o : Option A) → is_some o ≡ true → is_some (cond b (Some x) o) ≡ true
+pub still_some : {A : Type 0} (b : Bool) (x : A) (o : Option A) → is_some o ≡ true → is_some (cond b (Some x) o) ≡ true
 still_some true x o h = refl
 still_some false x o h = h
 
+-- no clause of a text's policies holds a slot
+pub clauses_are_free : BodiesHoldNoSlot → (by : Setting) (text : Text) (ss : List PolicySyntax) → setting.ArePolicies by text ss → (s : PolicySyntax) → Contains ss s → body_slots s.body ≡ []
+clauses_are_free free by text ss reads s among =
+    let names = policy_names by.functions in
+    let one = read_within names reads.0 reads.1.0 ss reads.1.2 s (contained ss s among) in
+    free names reads.0 one.0 s one.1 one.2
+
 pub texts_err_ordinarily : LinksAreStatic → BodiesHoldNoSlot → ((by : Setting) → CallsAreFound by) → TextsErrOrdinarily
 texts_err_ordinarily static free found by entities facts are text ss reads s among b exact request =
-    let names = policy_names by.functions in
     let passes : Name → Bool = λ name. is_answered by.functions name && not (is_the_unknown name) in
-    let one = read_within names reads.0 reads.1.0 ss reads.1.2 s (contained ss s among) in
     let no_slot = none_left _ (static b s exact) in
     let calls = at_one (λ p. calls_only passes (condition p)) ss ((found by).policies text ss reads) s (contained ss s among) in
     let is_found : (name : Name) → passes name ≡ true → is_some (facts.function name) ≡ true =
     λ name h. ap is_some (are.function name)
     ∙ still_some (is_the_constructor name) constructor_function (function_of by.functions name) (and_left (is_answered by.functions name) (not (is_the_unknown name)) h) in
-    with_body_fine facts (request_at request (λ s. None)) (binding_of b) passes is_found (scope_tree s) (scope_tree (linked b s)) s.body calls (free names reads.0 one.0 s one.1 one.2)
+    with_body_fine facts (request_at request (λ s. None)) (binding_of b) passes is_found (scope_tree s) (scope_tree (linked b s)) s.body calls (clauses_are_free free by text ss reads s among)
     (scope_fine facts (request_at request (λ s. None)) (binding_of b) passes is_found (linked b s) (first_empty _ _ no_slot) (second_empty _ _ no_slot))

@@ -13,6 +13,7 @@ use Rattle.cedar_language.specs.Order.{same, same_text, same_name, same_uid, val
 use Rattle.cedar_language.specs.OrderLaws.{value_cmp_same, same_is, is_same}
 use Rattle.cedar_language.specs.Facts.{Facts}
 use Rattle.cedar_language.specs.Operators.{and_uid, uids_in, is_within, is_within_some}
+use Rattle.cedar_partial_evaluation.specs.Partial.{Evaluated, Answers, AllEvaluated, and_answer, and_next, LeafAnswers, partial_in, all_partial_in}
 use Rattle.cedar_partial_evaluation.specs.Settling.{Settling, Open, Is, AllAre, and_settled, LeafSettlings, settled_in, all_settled_in}
 use Rattle.cedar_partial_evaluation.specs.Mentions.{mentions_only, all_mention_only}
 use Rattle.cedar_partial_evaluation.specs.Question.{part_settled, settled_of}
@@ -39,7 +40,7 @@ decides_equality a b = (
   λ e. and_both (same_name a.type_name b.type_name) (same_text a.id b.id) ((name_decides a.type_name b.type_name).1 (ap (λ (u : Uid). u.type_name) e)) ((bytes_decides a.id b.id).1 (ap (λ (u : Uid). u.id) e)),
 )
 
-entity_equal : (a b : Uid) → same (Plain (Entity a)) (Plain (Entity b)) ≡ same_uid a b
+pub entity_equal : (a b : Uid) → same (Plain (Entity a)) (Plain (Entity b)) ≡ same_uid a b
 entity_equal a b =
     both_ways (same (Plain (Entity a)) (Plain (Entity b))) (same_uid a b)
     (λ h. let e : Plain (Entity a) ≡ Plain (Entity b) = same_is _ _ h in let is : a ≡ b = cc in (decides_equality a b).1 is)
@@ -52,6 +53,11 @@ folded facts around (Lit (Boolean true)) (Lit (Boolean b)) = refl
 folded facts around (Lit (Boolean false)) (Lit (Boolean b)) = refl
 folded facts around _ _ = refl
 
+pub conjoined : (facts : Facts) (holds : LeafAnswers) (l r : Tree) → partial_in facts holds (conjunction l r) ≡ and_answer facts (partial_in facts holds l) (partial_in facts holds r) r
+conjoined facts holds (Lit (Boolean true)) (Lit (Boolean b)) = refl
+conjoined facts holds (Lit (Boolean false)) (Lit (Boolean b)) = refl
+conjoined facts holds _ _ = refl
+
 -- ---- `in` without ancestors
 
 is_equality : (facts : Facts) → ((a b : Uid) → facts.reaches a b ≡ false) → is_within facts ≡ same_uid
@@ -61,7 +67,7 @@ is_equality facts none =
 
 -- ---- a set of entities
 
-abbrev entities : List Uid → Values
+abbrev pub entities : List Uid → Values
 entities [] = no_values
 entities (u ∷ us) = a_value (Plain (Entity u)) (entities us)
 
@@ -69,11 +75,15 @@ all_literals : (facts : Facts) (around : LeafSettlings) (us : List Uid) → all_
 all_literals facts around [] = refl
 all_literals facts around (u ∷ us) = rw (all_literals facts around us) refl
 
+pub all_listed : (facts : Facts) (holds : LeafAnswers) (us : List Uid) → all_partial_in facts holds (trees (map (λ u. Lit (Entity u)) us)) ≡ AllEvaluated (entities us)
+all_listed facts holds [] = refl
+all_listed facts holds (u ∷ us) = ap (λ (ps : Answers). and_next facts (Evaluated (Plain (Entity u))) ps) (all_listed facts holds us)
+
 -- the values are entities, among which one is found just where it is found among these
-record AreUids (facts : Facts) (vs : Values) (is_found : Uid → Bool) : Type 0 where
-  uids : List Uid
-  uids_are : uids_in vs ≡ Some uids
-  found : (a : Uid) → is_within_some facts a uids ≡ is_found a
+pub record AreUids (facts : Facts) (vs : Values) (is_found : Uid → Bool) : Type 0 where
+  pub uids : List Uid
+  pub uids_are : uids_in vs ≡ Some uids
+  pub found : (a : Uid) → is_within_some facts a uids ≡ is_found a
 
 or_same : (p r : Bool) → (p || r) ≡ (p || (p || r))
 or_same true r = refl
@@ -118,7 +128,7 @@ module _ (facts : Facts) (u : Uid) where
       subst (λ (y : Value). AreUids facts (put (Plain (Entity u)) (a_value y ws)) (with_u cs)) (sym w_is)
       (subst (λ (ys : List Uid). AreUids facts (put (Plain (Entity u)) (a_value (Plain (Entity x)) ws)) (with_u ys)) (sym cs_is) here)
 
-rising_uids : (facts : Facts) (us : List Uid) → AreUids facts (rising (entities us)) (λ a. list_any (is_within facts a) us)
+pub rising_uids : (facts : Facts) (us : List Uid) → AreUids facts (rising (entities us)) (λ a. list_any (is_within facts a) us)
 rising_uids facts [] = record { uids = []; uids_are = refl; found = λ a. refl }
 rising_uids facts (u ∷ us) =
     let rest = rising_uids facts us in

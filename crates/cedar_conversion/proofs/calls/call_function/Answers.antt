@@ -2,7 +2,6 @@
 use Rattle.std.proofs.Common.{Some, None, sym, ap, ◌∙◌, ◌≡◌, false, inl, inr}
 use Rattle.std.specs.Prelude.{cond}
 use Rattle.cedar_language.specs.Tree as tree
-use Rattle.cedar_language.specs.Tree.{Tree}
 use Rattle.cedar_grammar.specs.Build.{trees}
 use Rattle.cedar_grammar.specs.Names.{is_function}
 use Rattle.cedar_grammar.specs.Converting.{name_path, name_variable}

@@ -2,7 +2,6 @@
 use Rattle.std.proofs.Common.{◌≡◌, Some, None, [], ◌∷◌, sym, ap, ◌∙◌, map, rules}
 use Rattle.std.specs.Prelude.{cond}
 use Rattle.cedar_language.specs.Tree as tree
-use Rattle.cedar_language.specs.Tree.{Tree}
 use Rattle.cedar_grammar.specs.Build.{trees}
 use Rattle.cedar_conversion.proofs.Made.{took_some, built_apply, built_more}
 use Rattle.cedar_conversion_leaves.proofs.Telling.{tells_more}

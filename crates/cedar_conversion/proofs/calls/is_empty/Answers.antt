@@ -2,7 +2,6 @@
 use Rattle.std.proofs.Common.{◌≡◌, ◌<◌, Ok, [], length, sym, ap, ◌∙◌, map, arith}
 use Rattle.std.proofs.lemmas.List.{length-map}
 use Rattle.cedar_language.specs.Tree as tree
-use Rattle.cedar_language.specs.Tree.{Tree}
 use Rattle.cedar_grammar.specs.Build.{unary, without_argument}
 use Rattle.cedar_conversion.specs.Building.{IsRefused}
 use Rattle.cedar_conversion.proofs.Converting.{faulty}

@@ -1,12 +1,12 @@
 -- The tree of a node is what its construct makes of its parts; that of a chain is joined one part at a time.
-use Rattle.std.proofs.Common.{◌≡◌, ◌<◌, Some, Ok, map, drop, [], ◌∷◌, length, refl, sym, ap, ◌∙◌, subst, arith, None, inl, inr}
+use Rattle.std.proofs.Common.{◌≡◌, ◌<◌, Some, Ok, map, drop, [], ◌∷◌, refl, sym, ap, ◌∙◌, subst, arith, None, inl, inr}
 use Rattle.std.proofs.lemmas.Grind.{common_steps}
 use Rattle.cedar_grammar.specs.Reading.{◌>>=◌}
 use Rattle.std.specs.Rc.{rc_str_bytes}
 use Rattle.cedar_cst.specs.LeafView.{shown_name, shown_ident}
 use Rattle.cedar_grammar.specs.Loose as loose
 use Rattle.cedar_grammar.specs.Converting as converting
-use Rattle.cedar_grammar.specs.Converting.{expr_tree, or_tree, and_tree, relation_tree, add_tree, mult_tree, unary_tree, member_tree, access_head, primary_head, rec_init_tree, exprs_trees, rec_inits_trees, record_tree, called, ident_text, alone, primary_text}
+use Rattle.cedar_grammar.specs.Converting.{expr_tree, or_tree, and_tree, relation_tree, add_tree, mult_tree, unary_tree, member_tree, primary_head, rec_init_tree, exprs_trees, rec_inits_trees, record_tree, called, ident_text, alone, primary_text}
 use Rattle.cedar_language.specs.Tree as tree
 use Rattle.cedar_grammar.specs.Build.{trees}
 use Rattle.cedar_cst.specs.View.{view_expr, view_or, view_and, view_relation, view_add, view_mult, view_unary, view_member, view_primary, view_rec_init, shown_expr, shown_rec_init, shown_member, shown_mem_access, view_mem_access}
@@ -16,7 +16,7 @@ use Rattle.cedar_conversion.specs.Heads.{IsHead, IsHeadRefused, head_shows, call
 use Rattle.cedar_conversion.proofs.Converting.{same_as, faulty, found, flat_pair}
 use Rattle.cedar_conversion.proofs.Made.{built_none}
 use Rattle.cedar_conversion.proofs.Trees.{empty, cut_at, or_start, or_more, or_end, and_start, and_more, and_end, add_start, add_more, add_end, mult_start, mult_more, mult_end, member_start, member_more, member_end, items_start, items_more, items_end, entries_start, entries_more, entries_end}
-use Rattle.cedar_conversion.proofs.Nodes.{expr_or, expr_if, relation_alone, relation_joined, relation_chain, relation_has, relation_like, relation_is, relation_is_in, unary_plain, unary_bangs, unary_over_bang, unary_over_dash, unary_dashes, unary_no_dash, unary_number, cons_of, length_none, none_more, one_variant, access_none, access_field, access_call, access_index, primary_literal, primary_ref, primary_name, primary_slot, primary_expr, primary_list, primary_record, entry_seen}
+use Rattle.cedar_conversion.proofs.Nodes.{expr_or, expr_if, relation_alone, relation_joined, relation_chain, relation_has, relation_like, relation_is, relation_is_in, unary_plain, unary_bangs, unary_over_bang, unary_over_dash, unary_dashes, unary_no_dash, unary_number, two_of, none_lone, some_lone, one_variant, access_none, access_field, access_call, access_index, primary_literal, primary_ref, primary_name, primary_slot, primary_expr, primary_list, primary_record, entry_seen}
 use borrow.Enum.Total.{values_d}
 use Rattle.cedar_cst.specs.contracts.cst.Expr.{enum}
 use Rattle.cedar_cst.specs.declared.leaves.NegOp.TheVariants as signs
@@ -147,24 +147,22 @@ expr_to_expr-returns-in-If-clause-tree g t c =
     let at = one_variant (λ t given. (values_d enum 0 given t).0) (λ a given. refl) c.in-Some.expr c.inner-1.given.0 in
     same_as g.B.ExprBuilder.refusal (IsBuilt g.B.ExprBuilder.operations g.B.ExprBuilder.meaning) (IsRefused g.B.ExprBuilder.operations) c.ite.result _ _ (expr_if c.args.styles.now c.args.node.now c.in-Some.expr _ c.deref-data.result.now c.in-If.test c.in-If.then_expr c.in-If.else_expr c.in-Some.is at c.deref-data.ensures c.in-If.is) (c.ite.ensures.tree _ _ _ c.expr_to_expr-tested.ensures.tree c.expr_to_expr-taken.ensures.tree c.expr_to_expr-other.ensures.tree)
 
-pub relation_to_expr-returns-in-None-split_first-clause-tree : goal.relation_to_expr-returns-in-None-split_first-clause-tree
-relation_to_expr-returns-in-None-split_first-clause-tree g t c =
-    let none : c.in-Common.extended.items ≡ [] = length_none _ (ap length (sym c.as_slice-links.ensures.value) ∙ c.in-None-split_first.ensures.cases) in
+pub relation_to_expr-returns-in-None-comparison-clause-tree : goal.relation_to_expr-returns-in-None-comparison-clause-tree
+relation_to_expr-returns-in-None-comparison-clause-tree g t c =
+    let none = sym c.as_slice.ensures.value ∙ none_lone _ _ c.in-Ok.ensures.lone c.in-None-comparison.is in
     same_as g.B.ExprBuilder.refusal (IsBuilt g.B.ExprBuilder.operations g.B.ExprBuilder.meaning) (IsRefused g.B.ExprBuilder.operations) c.add_to_expr-first.result _ _ (relation_alone c.args.styles.now c.args.node.now c.in-Some.relation c.in-Common.initial c.in-Common.extended c.deref-operand.result.now c.in-Some.is c.in-Common.is none c.deref-operand.ensures) c.add_to_expr-first.ensures.tree
 
-pub relation_to_expr-returns-then-is_empty-clause-tree : goal.relation_to_expr-returns-then-is_empty-clause-tree
-relation_to_expr-returns-then-is_empty-clause-tree g t c =
-    let x = c.in-Some-split_first.link.now in
-    let none : c.in-Some-split_first.more.now ≡ [] = none_more _ (sym c.is_empty.ensures ∙ c.if-is_empty.true) in
-    let cut = sym c.as_slice-links.ensures.value ∙ c.in-Some-split_first.ensures.cases.0 ∙ ap (λ r. x ∷ r) none in
+pub relation_to_expr-returns-in-Some-comparison-clause-tree : goal.relation_to_expr-returns-in-Some-comparison-clause-tree
+relation_to_expr-returns-in-Some-comparison-clause-tree g t c =
+    let x = c.in-Some-comparison.link.now in
+    let cut = sym c.as_slice.ensures.value ∙ some_lone _ _ c.in-Some-comparison.link c.in-Ok.ensures.lone c.in-Some-comparison.is in
     same_as g.B.ExprBuilder.refusal (IsBuilt g.B.ExprBuilder.operations g.B.ExprBuilder.meaning) (IsRefused g.B.ExprBuilder.operations) c.join.result _ _ (relation_joined c.args.styles.now c.args.node.now c.in-Some.relation c.in-Common.initial c.in-Common.extended x c.deref-operand.result.now c.in-Some.is c.in-Common.is cut c.deref-operand.ensures) (c.join.ensures.tree _ _ c.add_to_expr-first.ensures.tree c.add_to_expr-second.ensures.tree)
 
-pub relation_to_expr-returns-else-is_empty-clause-tree : goal.relation_to_expr-returns-else-is_empty-clause-tree
-relation_to_expr-returns-else-is_empty-clause-tree g t c =
-    let x = c.in-Some-split_first.link.now in
-    let more = cons_of c.in-Some-split_first.more.now (sym c.is_empty.ensures ∙ c.if-is_empty.false) in
-    let cut = sym c.as_slice-links.ensures.value ∙ c.in-Some-split_first.ensures.cases.0 ∙ ap (λ r. x ∷ r) more.2 in
-    faulty g.B.ExprBuilder.refusal (IsRefused g.B.ExprBuilder.operations) c.fault.result _ c.fault.ensures.fault (relation_chain c.args.styles.now c.args.node.now c.in-Some.relation c.in-Common.initial c.in-Common.extended x more.0 more.1 c.in-Some.is c.in-Common.is cut)
+pub relation_to_expr-returns-in-Err-clause-tree : goal.relation_to_expr-returns-in-Err-clause-tree
+relation_to_expr-returns-in-Err-clause-tree g t c =
+    let (x, y, more, are) = two_of _ c.in-Err.ensures.others in
+    let cut = sym c.as_slice.ensures.value ∙ are in
+    faulty g.B.ExprBuilder.refusal (IsRefused g.B.ExprBuilder.operations) c.in-Err.error _ c.in-Err.ensures.fault (relation_chain c.args.styles.now c.args.node.now c.in-Some.relation c.in-Common.initial c.in-Common.extended x y more c.in-Some.is c.in-Common.is cut)
 
 pub relation_to_expr-returns-in-Has-clause-tree : goal.relation_to_expr-returns-in-Has-clause-tree
 relation_to_expr-returns-in-Has-clause-tree g t c = same_as g.B.ExprBuilder.refusal (IsBuilt g.B.ExprBuilder.operations g.B.ExprBuilder.meaning) (IsRefused g.B.ExprBuilder.operations) c.has.result _ _ (relation_has c.args.styles.now c.args.node.now c.in-Some.relation c.in-Has.target c.in-Has.field c.deref-holder.result.now c.deref-path.result.now c.in-Some.is c.in-Has.is c.deref-holder.ensures c.deref-path.ensures) (c.has.ensures.tree _ _ c.add_to_expr-held.ensures.tree c.to_fields-attrs.ensures.fields)
@@ -350,28 +348,26 @@ member_to_expr-returns-after-accesses-clause-shown g t c =
     let none : drop c.accesses.access-index c.deref-access-items.result.now ≡ [] = grind (arith, common_steps) in
     accessed_end c.args.styles.now c.accesses.head c.head_to_expr.result c.calls_method-is_called.result _ (subst (λ zs. AccessedSoFar c.args.styles.now c.accesses.head c.calls_method-is_called.result (loose.accesses (map shown_mem_access zs)) (member_shows c.args.styles.now (shown_member c.args.node.now))) none c.accesses.invariant.told) c.head_to_expr.ensures.shown
 
-pub relation_to_expr-returns-in-None-split_first-clause-shown : goal.relation_to_expr-returns-in-None-split_first-clause-shown
+pub relation_to_expr-returns-in-None-comparison-clause-shown : goal.relation_to_expr-returns-in-None-comparison-clause-shown
 unfolding relation_shows
-relation_to_expr-returns-in-None-split_first-clause-shown g t c =
-    let none : c.in-Common.extended.items ≡ [] = length_none _ (ap length (sym c.as_slice-links.ensures.value) ∙ c.in-None-split_first.ensures.cases) in
+relation_to_expr-returns-in-None-comparison-clause-shown g t c =
+    let none = sym c.as_slice.ensures.value ∙ none_lone _ _ c.in-Ok.ensures.lone c.in-None-comparison.is in
     seen_as c.add_to_expr-first.result (relation_shows c.args.styles.now) _ _ _ (common_seen c.args.node.now c.in-Some.relation c.in-Common.initial c.in-Common.extended [] c.deref-operand.result.now c.in-Some.is c.in-Common.is none c.deref-operand.ensures) (λ k s. s) c.add_to_expr-first.ensures.shown
 
-pub relation_to_expr-returns-then-is_empty-clause-shown : goal.relation_to_expr-returns-then-is_empty-clause-shown
+pub relation_to_expr-returns-in-Some-comparison-clause-shown : goal.relation_to_expr-returns-in-Some-comparison-clause-shown
 unfolding relation_shows
-relation_to_expr-returns-then-is_empty-clause-shown g t c =
-    let x = c.in-Some-split_first.link.now in
-    let none : c.in-Some-split_first.more.now ≡ [] = none_more _ (sym c.is_empty.ensures ∙ c.if-is_empty.true) in
-    let cut = sym c.as_slice-links.ensures.value ∙ c.in-Some-split_first.ensures.cases.0 ∙ ap (λ r. x ∷ r) none in
+relation_to_expr-returns-in-Some-comparison-clause-shown g t c =
+    let x = c.in-Some-comparison.link.now in
+    let cut = sym c.as_slice.ensures.value ∙ some_lone _ _ c.in-Some-comparison.link c.in-Ok.ensures.lone c.in-Some-comparison.is in
     seen_as c.join.result (relation_shows c.args.styles.now) _ _ _ (common_seen c.args.node.now c.in-Some.relation c.in-Common.initial c.in-Common.extended (x ∷ []) c.deref-operand.result.now c.in-Some.is c.in-Common.is cut c.deref-operand.ensures)
     (of_two_and c.add_to_expr-first.result c.add_to_expr-second.result (joint_shows (joint.Relation x.0)) _ _ _ c.add_to_expr-first.ensures.shown c.add_to_expr-second.ensures.shown (λ k s. inl s) (λ k s. inr (inl s)) (λ k s. inr (inr s))) c.join.ensures.shown
 
-pub relation_to_expr-returns-else-is_empty-clause-shown : goal.relation_to_expr-returns-else-is_empty-clause-shown
+pub relation_to_expr-returns-in-Err-clause-shown : goal.relation_to_expr-returns-in-Err-clause-shown
 unfolding relation_shows
-relation_to_expr-returns-else-is_empty-clause-shown g t c =
-    let x = c.in-Some-split_first.link.now in
-    let more = cons_of c.in-Some-split_first.more.now (sym c.is_empty.ensures ∙ c.if-is_empty.false) in
-    let cut = sym c.as_slice-links.ensures.value ∙ c.in-Some-split_first.ensures.cases.0 ∙ ap (λ r. x ∷ r) more.2 in
-    fault_seen c.fault.result (relation_shows c.args.styles.now) _ _ _ _ (common_seen c.args.node.now c.in-Some.relation c.in-Common.initial c.in-Common.extended (x ∷ more.0 ∷ more.1) c.in-Common.initial.value c.in-Some.is c.in-Common.is cut refl) c.fault.ensures.kind tt
+relation_to_expr-returns-in-Err-clause-shown g t c =
+    let (x, y, more, are) = two_of _ c.in-Err.ensures.others in
+    let cut = sym c.as_slice.ensures.value ∙ are in
+    fault_seen c.in-Err.error (relation_shows c.args.styles.now) _ _ _ _ (common_seen c.args.node.now c.in-Some.relation c.in-Common.initial c.in-Common.extended (x ∷ y ∷ more) c.in-Common.initial.value c.in-Some.is c.in-Common.is cut refl) c.in-Err.ensures.kind tt
 
 pub relation_to_expr-returns-in-Has-clause-shown : goal.relation_to_expr-returns-in-Has-clause-shown
 unfolding relation_shows

@@ -1,7 +1,6 @@
 -- The text of the identifier is the attribute that the operator reads.
 use Rattle.std.proofs.Common.{Ok, [], ◌∷◌, sym, ap, ◌∙◌}
 use Rattle.cedar_language.specs.Tree as tree
-use Rattle.cedar_language.specs.Tree.{Tree}
 use Rattle.cedar_grammar.specs.Build.{unary}
 use Rattle.cedar_conversion.proofs.Made.{took, built_unary}
 use Rattle.cedar_conversion.proofs.Told.{by_memory}

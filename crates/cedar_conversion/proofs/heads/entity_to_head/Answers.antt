@@ -1,9 +1,7 @@
 -- An entity is a literal, and what is shared of it is the same uid.
 use Rattle.std.proofs.Common.{◌≡◌, Some, Ok, sym, ap, ◌∙◌, subst}
 use Rattle.cedar_language.specs.Tree as tree
-use Rattle.cedar_language.specs.Tree.{Tree}
 use Rattle.cedar_grammar.specs.Converting as converting
-use Rattle.cedar_grammar.specs.Converting.{head_tree, name_path, record_tree}
 use Rattle.cedar_conversion_leaves.specs.Reasons.{reason}
 use Rattle.cedar_conversion_leaves.specs.Converts.{Finds}
 use Rattle.cedar_conversion.specs.Heads.{IsHead, IsHeadRefused}

@@ -1,7 +1,6 @@
 -- A head that is an expression is refused where its tree is.
 use Rattle.std.proofs.Common.{Some, subst}
 use Rattle.cedar_grammar.specs.Converting as converting
-use Rattle.cedar_grammar.specs.Converting.{head_tree, name_path, record_tree}
 use Rattle.cedar_conversion_leaves.specs.Reasons.{reason}
 use Rattle.cedar_conversion_leaves.specs.Converts.{Converts}
 use Rattle.cedar_conversion.specs.Building.{IsBuilt, IsRefused}

@@ -1,10 +1,8 @@
 -- A literal is built as it is, and stands alone as a head.
 use Rattle.std.proofs.Common.{◌≡◌, Some, subst}
 use Rattle.cedar_language.specs.Tree as tree
-use Rattle.cedar_language.specs.Tree.{Tree}
 use Rattle.cedar_literals.specs.Literals.{literal_of}
 use Rattle.cedar_grammar.specs.Converting as converting
-use Rattle.cedar_grammar.specs.Converting.{head_tree, name_path, record_tree}
 use Rattle.cedar_conversion_leaves.specs.Reasons.{reason}
 use Rattle.cedar_conversion_leaves.specs.Converts.{Finds}
 use Rattle.cedar_conversion.specs.Heads.{IsHead, IsHeadRefused}

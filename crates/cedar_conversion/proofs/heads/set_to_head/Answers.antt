@@ -1,10 +1,8 @@
 -- A set is one operator on all its items: built where they are, and refused where one of them is.
 use Rattle.std.proofs.Common.{Some, subst}
 use Rattle.cedar_language.specs.Tree as tree
-use Rattle.cedar_language.specs.Tree.{Tree}
 use Rattle.cedar_grammar.specs.Build.{trees}
 use Rattle.cedar_grammar.specs.Converting as converting
-use Rattle.cedar_grammar.specs.Converting.{head_tree, name_path, record_tree}
 use Rattle.cedar_conversion_leaves.specs.Reasons.{reason}
 use Rattle.cedar_conversion_leaves.specs.Converts.{Converts}
 use Rattle.cedar_conversion.specs.Building.{AreBuilt, AreRefused}

@@ -1,7 +1,6 @@
 -- A name is used as a tree where it is a variable, and that is what the builder makes.
 use Rattle.std.proofs.Common.{Some, sym}
 use Rattle.cedar_language.specs.Tree as tree
-use Rattle.cedar_language.specs.Tree.{Tree}
 use Rattle.cedar_literals.specs.Variables.{variable_of}
 use Rattle.cedar_conversion.proofs.Converting.{then_some}
 use Rattle.cedar_conversion.proofs.Made.{took_some, built_variable}

@@ -2,9 +2,8 @@
 use Rattle.std.proofs.Common.{◌≡◌, Some, ◌∷◌, sym, ap, ◌∙◌, map, inl, inr}
 use Rattle.std.specs.Rc.{rc_str_bytes}
 use Rattle.cedar_language.specs.Tree as tree
-use Rattle.cedar_language.specs.Tree.{Tree}
 use Rattle.cedar_grammar.specs.Build as build
-use Rattle.cedar_grammar.specs.Build.{Keyed, keys, by_key, record_of, trees, unary, binary, is_in, with_argument, without_argument}
+use Rattle.cedar_grammar.specs.Build.{unary}
 use Rattle.cedar_conversion_leaves.specs.Fields.{path_texts}
 use Rattle.cedar_conversion.specs.Building.{IsBuilt, IsRefused}
 use Rattle.cedar_conversion.proofs.Converting.{passed, found, both_some, flat_err, flat_ok}

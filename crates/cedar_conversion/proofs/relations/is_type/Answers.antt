@@ -1,7 +1,6 @@
 -- The type stands in the operator by its written name, and only the tested operand is built.
 use Rattle.std.proofs.Common.{◌≡◌, Some, Ok, [], ◌∷◌, sym, ap, ◌∙◌, inl, inr}
 use Rattle.cedar_language.specs.Tree as tree
-use Rattle.cedar_language.specs.Tree.{Tree}
 use Rattle.cedar_grammar.specs.Build.{unary}
 use Rattle.cedar_conversion.specs.Building.{IsBuilt, IsRefused}
 use Rattle.cedar_conversion.proofs.Converting.{passed, found, both_some, flat_err, flat_ok}

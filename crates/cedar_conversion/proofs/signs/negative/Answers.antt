@@ -1,7 +1,6 @@
 -- A number and the minus before it are one literal, which the builder makes as it is.
 use Rattle.std.proofs.Common.{sym, refl}
 use Rattle.cedar_language.specs.Tree as tree
-use Rattle.cedar_language.specs.Tree.{Tree}
 use Rattle.cedar_literals.specs.Literals.{literal_of}
 use Rattle.cedar_conversion.proofs.Made.{took_some, built_literal}
 use Rattle.cedar_conversion.specs.Shows.{minus_shows}

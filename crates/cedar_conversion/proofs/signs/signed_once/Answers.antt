@@ -1,7 +1,6 @@
 -- One sign is its operator, applied to what is built.
 use Rattle.std.proofs.Common.{Some, ap}
 use Rattle.cedar_language.specs.Tree as tree
-use Rattle.cedar_language.specs.Tree.{Tree}
 use Rattle.cedar_grammar.specs.Build.{unary}
 use Rattle.cedar_conversion.specs.Joints.{repeated}
 use Rattle.cedar_conversion.proofs.Made.{took_some, built_unary}

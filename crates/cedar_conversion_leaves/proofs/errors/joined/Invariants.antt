@@ -1,5 +1,5 @@
 -- The faults so far and those of the others that are left are all faults, in their order.
-use Rattle.std.proofs.Common.{◌≡◌, ◌++◌, [], ◌∷◌}
+use Rattle.std.proofs.Common.{◌≡◌, ◌++◌, ◌∷◌}
 use Rattle.cedar_conversion_leaves.proofs.errors.joined.Given as goal
 
 abbrev pub invariant-loop-other : goal.invariant-loop-other

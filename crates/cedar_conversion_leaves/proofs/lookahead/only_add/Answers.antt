@@ -1,8 +1,8 @@
 -- A chain of comparisons with a further operand has no lone one.
-use Rattle.std.proofs.Common.{◌≡◌, ◌<◌, length, sym, ap, ◌∙◌}
+use Rattle.std.proofs.Common.{◌<◌, length, sym, ap, ◌∙◌}
 use Rattle.std.specs.Prelude.{◌==◌}
 use Rattle.cedar_grammar.specs.Loose as loose
-use Rattle.cedar_cst.specs.LeafView.{view_add_op, view_mult_op, view_rel_op}
+use Rattle.cedar_cst.specs.LeafView.{view_rel_op}
 use Rattle.cedar_cst.specs.View.{view_relation, shown_add}
 use Rattle.cedar_cst.proofs.Views.{seen, view_relation_common}
 use Rattle.cedar_conversion_leaves.specs.Alone.{only_add}

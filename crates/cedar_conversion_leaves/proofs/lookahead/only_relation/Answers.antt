@@ -1,8 +1,7 @@
 -- A chain of `&&` with a further operand has no lone one.
-use Rattle.std.proofs.Common.{◌≡◌, ◌<◌, length, sym, ap, ◌∙◌}
+use Rattle.std.proofs.Common.{◌<◌, length, sym, ap, ◌∙◌}
 use Rattle.std.specs.Prelude.{◌==◌}
 use Rattle.cedar_grammar.specs.Loose as loose
-use Rattle.cedar_cst.specs.LeafView.{view_add_op, view_mult_op, view_rel_op}
 use Rattle.cedar_cst.specs.declared.cst.And.{out-And}
 use Rattle.cedar_cst.specs.View.{view_and, shown_relation}
 use Rattle.cedar_cst.proofs.Views.{seen, view_and_out}

@@ -1,8 +1,8 @@
 -- A product with a further factor has no lone one.
-use Rattle.std.proofs.Common.{◌≡◌, ◌<◌, length, sym, ap, ◌∙◌}
+use Rattle.std.proofs.Common.{◌<◌, length, sym, ap, ◌∙◌}
 use Rattle.std.specs.Prelude.{◌==◌}
 use Rattle.cedar_grammar.specs.Loose as loose
-use Rattle.cedar_cst.specs.LeafView.{view_add_op, view_mult_op, view_rel_op}
+use Rattle.cedar_cst.specs.LeafView.{view_mult_op}
 use Rattle.cedar_cst.specs.declared.cst.Mult.{out-Mult}
 use Rattle.cedar_cst.specs.View.{view_mult, shown_unary}
 use Rattle.cedar_cst.proofs.Views.{seen, view_mult_out}

@@ -1,8 +1,7 @@
 -- A member of which something is accessed doesn't stand without accesses.
-use Rattle.std.proofs.Common.{◌≡◌, ◌<◌, length, sym, ap, ◌∙◌}
+use Rattle.std.proofs.Common.{◌<◌, length, sym, ap, ◌∙◌}
 use Rattle.std.specs.Prelude.{◌==◌}
 use Rattle.cedar_grammar.specs.Loose as loose
-use Rattle.cedar_cst.specs.LeafView.{view_add_op, view_mult_op, view_rel_op}
 use Rattle.cedar_grammar.specs.Converting.{without_accesses}
 use Rattle.cedar_cst.specs.declared.cst.Member.{out-Member}
 use Rattle.cedar_cst.specs.View.{view_member, shown_primary, shown_mem_access}

@@ -1,6 +1,5 @@
 -- The identifiers so far and those of the words left are those of all words, and none so far is reserved.
 use Rattle.std.proofs.Common.{◌≡◌, map, drop, Some, ◌++◌, false}
-use Rattle.std.specs.Prelude.{Option, None}
 use Rattle.cedar_names.specs.Names.{is_reserved_name}
 use Rattle.cedar_grammar.specs.Reading.{◌>>=◌}
 use Rattle.cedar_grammar.specs.Converting.{ident_text, each}

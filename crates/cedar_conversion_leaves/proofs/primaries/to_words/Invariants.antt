@@ -2,7 +2,6 @@
 use Rattle.std.proofs.Common.{◌≡◌, ◌++◌, map, drop, Some}
 use Rattle.std.specs.Rc.{rc_str_bytes}
 use Rattle.cedar_grammar.specs.Reading.{◌>>=◌}
-use Rattle.std.specs.Prelude.{◌==◌}
 use Rattle.cedar_grammar.specs.Loose as loose
 use Rattle.cedar_grammar.specs.Converting.{fields}
 use Rattle.cedar_cst.specs.View.{shown_mem_access}

@@ -1,5 +1,4 @@
 -- Where an extension has no function of the name, what is found is found in those behind it.
-use Rattle.std.proofs.Common.{sym, ◌∙◌, ap}
 use Rattle.cedar_extensions.proofs.Finding.{found_next}
 use Rattle.cedar_extensions.proofs.extension.find_among.Goals as goal
 

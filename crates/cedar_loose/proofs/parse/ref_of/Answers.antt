@@ -1,17 +1,10 @@
 -- A reference is the whole where no token is left behind it.
-use Rattle.std.proofs.Common.{◌-◌, Ok, map, sym, ap, ◌∙◌}
+use Rattle.std.proofs.Common.{◌-◌, sym}
 use Rattle.std.proofs.lemmas.Result.{err_from_is_err_and}
-use Rattle.cedar_grammar.specs.ReadingPolicies.{word_read, is_more}
-use Rattle.cedar_grammar.specs.Loose as loose
-use Rattle.cedar_grammar.specs.LooseReading.{mapped, needed, whole, each_of, policy_of, expr_at, primary_of, ref_of, name_of, read_ref}
-use Rattle.cedar_tokens.specs.View.{token_of}
-use Rattle.cedar_grammar.specs.Tokens.{IsTokens}
-use Rattle.cedar_cst.specs.LeafView.{shown_ident, shown_name, shown_ref}
-use Rattle.cedar_cst.specs.View.{shown_policies, shown_policy, shown_expr, shown_primary, view_policies}
-use Rattle.cedar_cst.proofs.Views.{seen}
-use Rattle.cedar_loose_expressions.proofs.Loops.{first_fails, mapped_fails}
-use Rattle.cedar_loose_expressions.proofs.Cases.{fails_as}
-use Rattle.cedar_loose.proofs.Limits.{all_read, not_all_read, policies_within, policy_within, primary_within, policies_zero, policy_zero}
+use Rattle.cedar_grammar.specs.LooseReading.{whole, ref_of}
+use Rattle.cedar_cst.specs.LeafView.{shown_ref}
+use Rattle.cedar_loose_expressions.proofs.Loops.{first_fails}
+use Rattle.cedar_loose.proofs.Limits.{all_read, not_all_read}
 use Rattle.cedar_loose.proofs.parse.ref_of.Goals as goal
 
 pub returns-in_err-tree : goal.returns-in_err-tree

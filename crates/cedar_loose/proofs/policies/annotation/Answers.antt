@@ -1,14 +1,13 @@
 -- By its steps: the mark, the key and the value; it fails as the first of them that fails.
-use Rattle.std.proofs.Common.{◌+◌, Ok, map, sym, ap, ◌∙◌}
+use Rattle.std.proofs.Common.{Ok, sym, ap, ◌∙◌}
 use Rattle.std.proofs.lemmas.Result.{err_from_is_err_and}
 use Rattle.cedar_grammar.specs.Token as token
 use Rattle.cedar_grammar.specs.Reading.{eat}
-use Rattle.cedar_grammar.specs.ReadingPolicies.{begins_annotation}
 use Rattle.cedar_grammar.specs.Loose as loose
-use Rattle.cedar_grammar.specs.LooseReading.{needed, each_of, items_of, optional, compared_step, operator_at, rel_op, eat_is, name_of, add_of, expr_at, annotation_of, variable_def_of, cond_of, begins_cond, policy_of}
-use Rattle.cedar_cst.specs.View.{view_annotation, view_variable_def, view_cond, view_policy}
+use Rattle.cedar_grammar.specs.LooseReading.{needed, annotation_of}
+use Rattle.cedar_cst.specs.View.{view_annotation}
 use Rattle.cedar_cst.proofs.Views.{seen}
-use Rattle.cedar_loose.specs.Parts.{value_of, clause_of}
+use Rattle.cedar_loose.specs.Parts.{value_of}
 use Rattle.cedar_loose_expressions.proofs.Loops.{first_fails}
 use Rattle.cedar_loose_expressions.proofs.Cases.{fails_as}
 use Rattle.cedar_loose.proofs.Readings.{ident_of, annotation_is, annotation_steps}

@@ -1,12 +1,12 @@
 -- The annotations so far and those that follow are all, as long as the mark of one is next.
-use Rattle.std.proofs.Common.{◌+◌, map}
+use Rattle.std.proofs.Common.{map}
 use Rattle.std.proofs.lemmas.Result.{err_from_is_err_and}
 use Rattle.std.proofs.lemmas.List.{map_push}
-use Rattle.cedar_grammar.specs.ReadingPolicies.{begins_annotation, is_more}
-use Rattle.cedar_grammar.specs.LooseReading.{each_of, begins_cond, annotation_of, cond_of, policy_of}
-use Rattle.cedar_cst.specs.View.{shown_annotation, shown_cond, shown_policy}
+use Rattle.cedar_grammar.specs.ReadingPolicies.{begins_annotation}
+use Rattle.cedar_grammar.specs.LooseReading.{each_of, annotation_of}
+use Rattle.cedar_cst.specs.View.{shown_annotation}
 use Rattle.cedar_loose_expressions.proofs.Loops.{each_start, each_done, each_fail, each_more}
-use Rattle.cedar_loose.proofs.Fewer.{annotation_fewer, cond_fewer, policy_fewer}
+use Rattle.cedar_loose.proofs.Fewer.{annotation_fewer}
 use Rattle.cedar_loose.proofs.policies.annotations.Goals as goal
 
 pub each-init : goal.each-init

@@ -1,7 +1,7 @@
-use Rattle.std.proofs.Common.{◌+◌, map, length}
-use Rattle.cedar_grammar.specs.ReadingPolicies.{begins_annotation, is_more}
-use Rattle.cedar_grammar.specs.LooseReading.{each_of, begins_cond, annotation_of, cond_of, policy_of}
-use Rattle.cedar_cst.specs.View.{shown_annotation, shown_cond, shown_policy}
+use Rattle.std.proofs.Common.{map, length}
+use Rattle.cedar_grammar.specs.ReadingPolicies.{begins_annotation}
+use Rattle.cedar_grammar.specs.LooseReading.{each_of, annotation_of}
+use Rattle.cedar_cst.specs.View.{shown_annotation}
 use Rattle.cedar_loose_expressions.proofs.Loops.{Each}
 use Rattle.cedar_loose.proofs.policies.annotations.Given as goal
 

@@ -1,7 +1,6 @@
-use Rattle.std.proofs.Common.{◌+◌, map, length}
-use Rattle.cedar_grammar.specs.ReadingPolicies.{begins_annotation, is_more}
-use Rattle.cedar_grammar.specs.LooseReading.{each_of, begins_cond, annotation_of, cond_of, policy_of}
-use Rattle.cedar_cst.specs.View.{shown_annotation, shown_cond, shown_policy}
+use Rattle.std.proofs.Common.{map, length}
+use Rattle.cedar_grammar.specs.LooseReading.{each_of, begins_cond, cond_of}
+use Rattle.cedar_cst.specs.View.{shown_cond}
 use Rattle.cedar_loose_expressions.proofs.Loops.{Each}
 use Rattle.cedar_loose.proofs.policies.conds.Given as goal
 

@@ -5,10 +5,9 @@ use Rattle.cedar_grammar.specs.Token as token
 use Rattle.cedar_grammar.specs.Reading.{eat}
 use Rattle.cedar_grammar.specs.ReadingPolicies.{begins_annotation}
 use Rattle.cedar_grammar.specs.Loose as loose
-use Rattle.cedar_grammar.specs.LooseReading.{needed, each_of, items_of, optional, compared_step, operator_at, rel_op, eat_is, name_of, add_of, expr_at, annotation_of, variable_def_of, cond_of, begins_cond, policy_of}
-use Rattle.cedar_cst.specs.View.{view_annotation, view_variable_def, view_cond, view_policy}
+use Rattle.cedar_grammar.specs.LooseReading.{needed, each_of, items_of, annotation_of, variable_def_of, cond_of, begins_cond, policy_of}
+use Rattle.cedar_cst.specs.View.{view_policy}
 use Rattle.cedar_cst.proofs.Views.{seen}
-use Rattle.cedar_loose.specs.Parts.{value_of, clause_of}
 use Rattle.cedar_loose_expressions.proofs.Loops.{first_fails, made}
 use Rattle.cedar_loose_expressions.proofs.Cases.{fails_as}
 use Rattle.cedar_loose.proofs.Readings.{ident_of, policy_is, policy_steps}

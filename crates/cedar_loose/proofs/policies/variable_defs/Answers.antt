@@ -1,5 +1,5 @@
 -- The definitions so far and those up to the closing parenthesis are all, a comma between each two.
-use Rattle.std.proofs.Common.{◌+◌, map}
+use Rattle.std.proofs.Common.{map}
 use Rattle.std.proofs.lemmas.Result.{err_from_is_err_and}
 use Rattle.std.proofs.lemmas.List.{map_push}
 use Rattle.cedar_grammar.specs.Token as token

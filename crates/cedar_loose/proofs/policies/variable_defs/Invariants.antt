@@ -1,4 +1,4 @@
-use Rattle.std.proofs.Common.{◌+◌, map, length}
+use Rattle.std.proofs.Common.{map, length}
 use Rattle.cedar_grammar.specs.Token as token
 use Rattle.cedar_grammar.specs.LooseReading.{items_of, variable_def_of}
 use Rattle.cedar_cst.specs.View.{shown_variable_def}

@@ -1,11 +1,11 @@
 -- New ids are apart from one another, so each is inserted at the end.
-use Rattle.std.proofs.Common.{◌≡◌, sym, ap, subst, ◌∙◌, rules}
+use Rattle.std.proofs.Common.{sym, ap, subst, ◌∙◌, rules}
 use Rattle.std.specs.Map.{lookup}
 use Rattle.cedar_language.specs.Uid.{Text}
 use Rattle.cedar_language.specs.Order.{same_text}
 use Rattle.cedar_policy_set.specs.Entries.{Entry}
 use Rattle.cedar_policy_set.specs.Bounds.{bound_id, entry_of, seen}
-use Rattle.cedar_merging.proofs.Joins.{IsJoining, join_first, join_new, join_one}
+use Rattle.cedar_merging.proofs.Joins.{IsJoining, join_first, join_new}
 use Rattle.cedar_merging.proofs.joining.joining.Goals as goal
 
 pub loop-bound-init : goal.loop-bound-init

@@ -6,7 +6,8 @@ use Rattle.cedar_extensions.specs.Functions.{function_name, function_style, is_u
 use Rattle.cedar_extensions.specs.Holding.{are_named}
 use Rattle.cedar_extensions.specs.Tables.{functions_in, functions_left}
 use Rattle.cedar_parser.specs.Settings.{is_method}
-use Rattle.cedar_parser.proofs.Callers.{callers, rest_named, method_listed, pushed_next}
+use Rattle.cedar_extensions.proofs.Defined.{callers}
+use Rattle.cedar_parser.proofs.Callers.{rest_named, method_listed, pushed_next}
 use Rattle.cedar_parser.proofs.styles.methods.Goals as goal
 
 pub loop-function-preserved-then-is_method : goal.loop-function-preserved-then-is_method

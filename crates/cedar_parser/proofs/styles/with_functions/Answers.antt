@@ -4,7 +4,8 @@ use Rattle.cedar_world.specs.Functions.{as_function, function_names}
 use Rattle.cedar_extensions.specs.Functions.{function_name, function_style, is_unknown}
 use Rattle.cedar_extensions.specs.Holding.{are_named}
 use Rattle.cedar_extensions.specs.Tables.{functions_in, functions_left}
-use Rattle.cedar_parser.proofs.Callers.{callers, rest_named, function_listed, pushed_next}
+use Rattle.cedar_extensions.proofs.Defined.{callers}
+use Rattle.cedar_parser.proofs.Callers.{rest_named, function_listed, pushed_next}
 use Rattle.cedar_parser.proofs.styles.with_functions.Goals as goal
 
 pub loop-function-preserved-then-eq : goal.loop-function-preserved-then-eq

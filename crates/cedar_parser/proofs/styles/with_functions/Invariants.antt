@@ -3,7 +3,7 @@ use Rattle.std.proofs.Common.{◌≡◌, ◌++◌, true}
 use Rattle.cedar_world.specs.Functions.{function_names}
 use Rattle.cedar_extensions.specs.Holding.{are_named}
 use Rattle.cedar_extensions.specs.Tables.{functions_in, functions_left}
-use Rattle.cedar_parser.proofs.Callers.{callers}
+use Rattle.cedar_extensions.proofs.Defined.{callers}
 use Rattle.cedar_parser.proofs.styles.with_functions.Given as goal
 
 -- the names so far and those to come are all

@@ -1,5 +1,5 @@
 -- What is made of the annotations before a place, and then of the one there, is made of those before the next.
-use Rattle.std.proofs.Common.{◌⊎◌, inl, inr, ◌∷◌, [], ◌++◌, map, take, sym, ap, ◌∙◌, subst}
+use Rattle.std.proofs.Common.{◌⊎◌, ◌∷◌, [], ◌++◌, map, take, sym, ap, ◌∙◌, subst}
 use Rattle.std.proofs.lemmas.List.{take_more}
 use Rattle.cedar_grammar.specs.Build.{keys}
 use Rattle.cedar_cst.specs.View.{shown_annotation}

@@ -1,5 +1,5 @@
 -- A clause is what its word makes of its condition, and lacks where one of these does.
-use Rattle.std.proofs.Common.{◌≡◌, Some, Ok, Err, sym, ap, ◌∙◌, subst}
+use Rattle.std.proofs.Common.{Ok, Err, ap, ◌∙◌}
 use Rattle.std.specs.Option.{option_map}
 use Rattle.cedar_grammar.specs.Converting.{clause_by}
 use Rattle.cedar_cst.specs.LeafView.{shown_ident}

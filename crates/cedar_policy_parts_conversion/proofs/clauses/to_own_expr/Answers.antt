@@ -1,5 +1,4 @@
 -- What an expression shows is told of the clause that it stands in.
-use Rattle.std.proofs.Common.{Some}
 use Rattle.std.specs.Option.{option_map}
 use Rattle.cedar_cst.specs.View.{shown_expr}
 use Rattle.cedar_conversion.specs.Shows.{expr_shows}

@@ -1,5 +1,5 @@
 -- What follows the word is the number as it is written, which is read back.
-use Rattle.std.proofs.Common.{◌≡◌, ◌∙◌, sym, ap, codes, decimal, Ok, arith}
+use Rattle.std.proofs.Common.{◌∙◌, sym, ap, codes, decimal}
 use Rattle.std.specs.Result.{result_ok}
 use Rattle.std.proofs.lemmas.Fmt.{parse-decimal}
 use Rattle.std.proofs.lemmas.List.{append_cancel_left}

@@ -1,5 +1,5 @@
 use Rattle.std.proofs.Common.{rules, ◌≡◌, ◌∙◌, ap, sym, Some, ◌∷◌}
-use Rattle.cedar_language.specs.Value.{Extension, ExtensionOf}
+use Rattle.cedar_language.specs.Value.{ExtensionOf}
 use Rattle.cedar_language.specs.Constructing.{constructed, bytes_of}
 use Rattle.cedar_language.specs.Order.{all_of}
 use Rattle.cedar_restricted.specs.Constructing.{type_in}

@@ -1,5 +1,5 @@
 -- The parts are pushed in the order in which they are written.
-use Rattle.std.proofs.Common.{rules, ◌≡◌, ◌∙◌, ◌∷◌, [], map}
+use Rattle.std.proofs.Common.{rules, ◌≡◌, ◌∷◌, [], map}
 use Rattle.std.proofs.lemmas.Result.{IfOk-weaker}
 use Rattle.cedar_language.specs.Tree.{Boolean, Entity, Lit}
 use Rattle.cedar_trees.specs.Bare.{bare}

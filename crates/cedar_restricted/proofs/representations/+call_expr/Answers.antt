@@ -1,10 +1,7 @@
 -- Arguments are written one by one, each less deep than what holds it; of ground parts the whole is ground.
-use Rattle.std.proofs.Common.{◌≡◌, ◌≤◌, ◌+◌, ◌∙◌, ap, ◌∷◌, [], ◌++◌, map, drop, arith, rules, BTreeMap, Global}
-use Rattle.std.specs.Rc.{rc_str_bytes}
-use Rattle.std.specs.declared.rc.RcStr.{RcStr}
+use Rattle.std.proofs.Common.{◌≡◌, ◌≤◌, ◌+◌, ◌∙◌, ap, ◌∷◌, [], ◌++◌, map, drop, arith, rules}
 use Rattle.std.proofs.lemmas.List.{map-append}
 use Rattle.cedar_trees.specs.Bare.{bare, bare_entries}
-use Rattle.cedar_trees.specs.declared.expr.Expr.{Expr}
 use Rattle.cedar_values.specs.Representations.{written, written_all}
 use Rattle.cedar_restricted.proofs.Rising.{keys_are, texts_end, put_next, texts_next, trees_next}
 use Rattle.cedar_restricted.proofs.Writing.{depth, depths, cut_items, ground_more, part_is_deep, write_next, write_end, record_is_deep, record_is_written}

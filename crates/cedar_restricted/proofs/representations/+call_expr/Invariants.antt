@@ -1,6 +1,5 @@
 use Rattle.std.proofs.Common.{◌≡◌, ◌+◌, ◌*◌, ◌++◌, true, map, drop}
-use Rattle.std.specs.Rc.{rc_str_bytes}
-use Rattle.cedar_grammar.specs.Build.{trees, keys}
+use Rattle.cedar_grammar.specs.Build.{trees}
 use Rattle.cedar_trees.specs.Bare.{bare, bare_entries}
 use Rattle.cedar_values.specs.Representations.{written, written_all, written_call}
 use Rattle.cedar_restricted.specs.Expressing.{are_ground}

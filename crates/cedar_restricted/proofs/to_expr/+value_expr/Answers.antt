@@ -1,10 +1,9 @@
 -- Members are written one by one, each weighing less than what holds it; a record keeps the order of its keys.
-use Rattle.std.proofs.Common.{◌≡◌, ◌≤◌, ◌+◌, ◌∙◌, ap, ◌∷◌, [], ◌++◌, map, drop, arith, rules}
+use Rattle.std.proofs.Common.{◌≡◌, ◌∙◌, ap, [], map, drop, arith}
 use Rattle.std.proofs.lemmas.Grind.{common_steps}
 use Rattle.cedar_language.specs.Order.{all_of}
-use Rattle.cedar_trees.specs.Bare.{bare, bare_entries}
 use Rattle.cedar_values.specs.Kinds.{values_of}
-use Rattle.cedar_values.specs.Sizes.{weigh, weigh_all}
+use Rattle.cedar_values.specs.Sizes.{weigh_all}
 use Rattle.cedar_restricted.proofs.Rising.{keys_are, texts_end, put_next, texts_next, trees_next}
 use Rattle.cedar_restricted.proofs.Writing.{goes_on, all_written, member_weighs_less}
 use Rattle.cedar_restricted.proofs.to_expr.+value_expr.Goals as goal

@@ -8,7 +8,6 @@ use Rattle.std.proofs.lemmas.List.{map-append}
 use Rattle.std.proofs.lemmas.List.Elements.{All-push, All-take}
 use Rattle.std.proofs.lemmas.Grind.{common_steps}
 use denote.Ref.{Bor}
-use Rattle.cedar_language.specs.Tree as tree
 use Rattle.cedar_grammar.specs.Build.{trees, keys}
 use Rattle.cedar_trees.specs.Bare.{bare, bare_entries}
 use Rattle.cedar_trees.specs.declared.expr.Expr.{Expr, size-Expr}

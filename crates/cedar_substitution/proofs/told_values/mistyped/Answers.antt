@@ -1,6 +1,6 @@
 -- Unknowns come from the last to the first, so one that is mistyped takes the place of those found before it.
 use Rattle.std.proofs.Common.{◌≡◌, ◌∙◌, ap, rules}
-use Rattle.std.specs.Option.{option_map, option_copied}
+use Rattle.std.specs.Option.{option_copied}
 use Rattle.cedar_trees.specs.Unknowns.{unknown_name, unknown_type}
 use Rattle.cedar_substitution.specs.Told.{told_for}
 use Rattle.cedar_substitution.specs.Typed.{mistyped}

@@ -1,5 +1,5 @@
 -- One more policy among those that aren't satisfied, and its error.
-use Rattle.std.proofs.Common.{◌≡◌, Bool, true, List, [], ◌∷◌, ◌++◌, map, sym, ◌∙◌, ap}
+use Rattle.std.proofs.Common.{Bool, true, List, [], ◌∷◌, ◌++◌, map, sym, ◌∙◌, ap}
 use Rattle.std.proofs.lemmas.List.{map_push}
 use Rattle.cedar_language.specs.Uid.{Text}
 use Rattle.cedar_extensions.specs.Failures.{Failure, failure_of}

@@ -1,12 +1,8 @@
 -- One more policy in the group of its effect.
-use Rattle.std.proofs.Common.{◌≡◌, Bool, true, false, List, map, sym, ◌∙◌, ap}
-use Rattle.std.specs.Map.{keys_of}
+use Rattle.std.proofs.Common.{Bool, List, map, sym, ◌∙◌, ap}
 use Rattle.std.proofs.lemmas.List.{map_push}
-use Rattle.cedar_language.specs.Tree.{Tree}
 use Rattle.cedar_language.specs.Uid.{Text}
-use Rattle.cedar_extensions.specs.Failures.{failure_of}
 use Rattle.cedar_policy_parts.specs.Effects.{effect_of}
-use Rattle.cedar_trees.specs.Bare.{bare}
 use Rattle.cedar_evaluator.specs.Evaluations.{Unsatisfied}
 use Rattle.cedar_evaluator.specs.Grouping.{held_in, with_kept}
 use Rattle.cedar_evaluator.specs.Holding.{has_erred}

@@ -1,5 +1,5 @@
 -- The principal decides, or what stands behind it.
-use Rattle.std.proofs.Common.{Bool, true, false, Some, None, subst}
+use Rattle.std.proofs.Common.{Bool, false, Some, None, subst}
 use Rattle.cedar_language.specs.Tree.{Principal, Resource, PrincipalSlot, ResourceSlot}
 use Rattle.cedar_grammar.specs.Build.{conjunction}
 use Rattle.cedar_grammar.specs.Policy.{constraint_tree, action_tree}

@@ -1,5 +1,5 @@
 -- Where nothing may be renamed, an empty renaming says that nothing conflicts.
-use Rattle.std.proofs.Common.{◌≡◌, false, [], not, sym, ap, ◌∙◌, true≢false}
+use Rattle.std.proofs.Common.{◌≡◌, false, [], sym, ◌∙◌, true≢false}
 use Rattle.cedar_merging.specs.Renaming.{conflicting}
 use Rattle.cedar_merging.proofs.RenamingLaws.{numbers_keys}
 use Rattle.cedar_merging.proofs.merging.PolicySetMerging.merge_policyset.Goals.{then-not-rename_duplicates+in_ok-refuse_any, else-not-rename_duplicates}

@@ -1,5 +1,5 @@
 -- The map has a key exactly where the view has an entry at it.
-use Rattle.std.proofs.Common.{ap, sym, ◌∙◌, is_some}
+use Rattle.std.proofs.Common.{ap, sym, ◌∙◌}
 use Rattle.cedar_policy_set.specs.Entries.{is_bound}
 use Rattle.cedar_policy_set.proofs.Views.{found_some}
 use Rattle.cedar_policy_set.proofs.sets.PolicySet.is_bound.Goals as goal

@@ -1,5 +1,5 @@
 -- What counts as bound is bound.
-use Rattle.std.proofs.Common.{◌≡◌, true, ap, sym, ◌∙◌, subst}
+use Rattle.std.proofs.Common.{subst}
 use Rattle.cedar_policy_set.specs.Numbers.{BindsNumbers}
 use Rattle.cedar_policy_set.proofs.sets.PolicySet.skip_bound.Goals as goal
 

@@ -1,5 +1,5 @@
 -- What goes on from here answers the whole.
-use Rattle.std.proofs.Common.{◌≡◌, [], map, Result}
+use Rattle.std.proofs.Common.{[], map, Result}
 use Rattle.cedar_policy_set.specs.Entries.{Entries}
 use Rattle.cedar_policy_set.specs.Bounds.{policy_seen}
 use Rattle.cedar_policy_set.specs.Refused.{AddsAll}

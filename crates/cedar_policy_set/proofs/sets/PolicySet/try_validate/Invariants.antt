@@ -1,5 +1,5 @@
 -- What goes on from here answers the whole.
-use Rattle.std.proofs.Common.{◌≡◌, Result}
+use Rattle.std.proofs.Common.{Result}
 use Rattle.cedar_extensions.specs.Table.{as_table}
 use Rattle.cedar_policy_set.specs.Bounds.{seen}
 use Rattle.cedar_policy_set.specs.Validated.{ValidatesAll}

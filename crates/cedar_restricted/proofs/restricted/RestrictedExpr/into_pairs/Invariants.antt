@@ -1,4 +1,4 @@
-use Rattle.std.proofs.Common.{◌≡◌, ◌++◌, map}
+use Rattle.std.proofs.Common.{◌≡◌, ◌++◌}
 use Rattle.cedar_trees.specs.Bare.{bare_entries}
 use Rattle.cedar_restricted.specs.Views.{restricted_entries}
 use Rattle.cedar_restricted.proofs.restricted.RestrictedExpr.into_pairs.Given as goal

@@ -4,10 +4,12 @@ use Rattle.std.proofs.lemmas.Result.{err_from_is_err_and}
 use Rattle.cedar_extensions.specs.Table.{as_table}
 use Rattle.cedar_restricted.specs.Views.{restricted_tree}
 use Rattle.cedar_world.specs.NameLaws.{is_answered}
+use Rattle.cedar_telling.specs.Lookups.{IsAskedBy}
 use Rattle.cedar_replies.specs.Replies.{answer_of}
 use Rattle.cedar_asking.specs.Keeping.{IsNamed}
+use Rattle.cedar_session.specs.Open.{bare}
 use Rattle.cedar_session.specs.Sessions.{setting_of, world_of}
-use Rattle.cedar_session.proofs.Kept.{bare, begins}
+use Rattle.cedar_session.proofs.Kept.{begins}
 use Rattle.cedar_session.proofs.Texts.{read_tree, serves}
 use Rattle.cedar_session.proofs.Untyped.{question_untyped}
 use Rattle.cedar_session.proofs.Asking.{unread_ask, unasked, unanswered, answered}
@@ -91,7 +93,7 @@ returns-clause-ordinary g c = λ commands replies reached.
       whole = c.store-entities.ensures.whole;
       built = c.store-entities.ensures.built;
     }) asked.2.is_request named in
-    c.answers_name_no_lookup.ensures.first by commands replies (world_of self) reached asked.0 (c.args.text.now, tree, (self.depth, read.0), asked.1) (answer_of c.in_ok-first.answer) first.errors
+    c.answers_err_ordinarily.ensures.first by commands replies (world_of self) reached asked.0 (c.args.text.now, tree, (self.depth, read.0), asked.1) (answer_of c.in_ok-first.answer) first.errors
 
 pub invariant_of-self-2 : goal.invariant_of-self-2
 invariant_of-self-2 g c =
@@ -102,7 +104,7 @@ invariant_of-self-2 g c =
     let served = serves g.F.ExtensionFunctionObject.answers self.extensions.now self.depth tree tree refl c.names_are_defined.ensures c.in_ok-body.ensures.calls in
     let asked = c.in_ok-request.ensures by served in
     let named : IsNamed asked.0.context = record { well = asked.2.named; untyped = question_untyped (is_answered by.functions) tree asked.0 ((c.calls_are_found.ensures by).bodies c.args.text.now tree (self.depth, read.0)) asked.1 } in
-    let first = c.in_ok-first.ensures by (bare by self.policies self.entities) asked.0 (record {
+    let first = c.in_ok-first.ensures by (bare self.policies self.entities) asked.0 (record {
       setting = record { functions = served.functions; depth_is = refl };
       slots = c.set-policies.ensures.slots;
       names = c.set-policies.ensures.names;
@@ -112,7 +114,9 @@ invariant_of-self-2 g c =
       whole = c.store-entities.ensures.whole;
       built = c.store-entities.ensures.built;
     }) asked.2.is_request named in
+    let asks : IsAskedBy by asked.0 = (c.args.text.now, tree, (self.depth, read.0), asked.1) in
     record {
       steady = ∣ begins by self.policies self.entities (record { body = c.in_ok-body.body; first = c.in_ok-first.first; told = c.new.result; answer = c.in_ok-kept.kept })
-          asked.0 c.in_ok-first.answer asked.1 c.new.ensures.empty c.in_ok-kept.ensures.cases first.keeps ∣₁;
+          asked.0 c.in_ok-first.answer asked.1 asks c.new.ensures.empty c.in_ok-kept.ensures.cases first.keeps
+          (λ commands replies reached. c.answers_err_ordinarily.ensures.first by commands replies (bare self.policies self.entities) reached asked.0 asks (answer_of c.in_ok-first.answer) first.errors) ∣₁;
     }

@@ -1,6 +1,6 @@
 -- The own builder takes every call and the keys of records rise, so no repeated key is refused.
-use Rattle.std.proofs.Common.{◌≡◌, ◌∙◌, ap, sym}
-use Rattle.std.specs.Prelude.{None, Some}
+use Rattle.std.proofs.Common.{◌≡◌, ap}
+use Rattle.std.specs.Prelude.{None}
 use Rattle.cedar_trees.specs.Records.{refused_key}
 use Rattle.cedar_substitution.proofs.Typing.{own_calls}
 use Rattle.cedar_substitution.proofs.substitution.SubstituteExprs.substitute_exprs.Goals as goal
