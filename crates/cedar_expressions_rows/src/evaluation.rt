@@ -1,11 +1,11 @@
 // What restricted expressions are evaluated to.
+use crate::partial_values::told;
 use cedar_expressions::Extensions;
 use cedar_expressions::ast::{
     BorrowedRestrictedExpr, Expr, PartialValue, RestrictedExpressionError,
 };
 use cedar_expressions::evaluator::{EvaluationError, interpret_restricted};
 use cedar_expressions::extensions::ExtensionFunctionObject;
-use cedar_restricted_rows::partial_values::told;
 use cedar_rows::{Answer, no_case};
 use std::alloc::Global;
 

@@ -4,6 +4,7 @@ ghost use Rattle.std.specs.Iterator.{IsFinite};
 ghost use Rattle.std.specs.List.{flat_map};
 ghost use Rattle.cedar_extensions.specs.Holding.{extension_functions, are_named};
 
+use crate::partial_values::told;
 use cedar_expressions::ast::{
     CallStyle, Extension, ExtensionFunction, ExtensionOutputValue, FunctionTypes, Name,
     ParseNameError, PartialValue, Value,
@@ -15,7 +16,6 @@ use cedar_expressions::extensions::{
     FuncMultiplyDefinedError, MultipleConstructorsSameSignatureError, collect_no_duplicates,
 };
 use cedar_expressions::{Extensions, FromNormalizedStr};
-use cedar_restricted_rows::partial_values::told;
 use cedar_rows::{Answer, explain, no_case, refused, refused_for, said, separate, tell};
 use cedar_tree_rows::trees::type_of;
 use std::alloc::{AllocError, Global};

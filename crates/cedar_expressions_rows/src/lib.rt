@@ -2,20 +2,24 @@
 //! between. What a step makes is kept, or stands on a stack; a line's answer is that of its last step.
 #![tactic(auto)]
 
+mod bounded;
 mod callers;
 mod errors;
 mod evaluation;
 mod extensions;
 mod operators;
+pub mod partial_values;
 mod policies;
 mod registers;
+mod restricted;
 mod samples;
 mod sections;
+pub mod substitution;
 mod validation;
 
 use crate::policies::Policies;
 use crate::registers::Expressions;
-use cedar_restricted_rows::restricted::{self, Restricted};
+use crate::restricted::Restricted;
 use cedar_rows::{Answer, Step};
 use cedar_value_rows::literals::Literals;
 use cedar_value_rows::names::Names;

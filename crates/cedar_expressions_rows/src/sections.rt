@@ -1,7 +1,9 @@
 // Which section knows a step.
 use crate::registers::Expressions;
-use crate::{errors, evaluation, extensions, operators, samples, validation};
-use cedar_restricted_rows::{bounded, partial_values, substitution};
+use crate::{
+    bounded, errors, evaluation, extensions, operators, partial_values, samples, substitution,
+    validation,
+};
 use cedar_rows::Answer;
 use cedar_tree_rows::{builders, shapes, trees};
 use std::alloc::Global;
