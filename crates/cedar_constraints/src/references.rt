@@ -126,9 +126,8 @@ impl FromIn<EntityUID> for EntityReference {
     type Error = AllocError;
 
     ghost use Rattle.std.specs.Prelude.{◌≡◌, IfOk};
-    ghost use Rattle.std.specs.Option.{option_copied};
     ghost use Rattle.cedar_grammar.specs.Policy.{the_entity};
-    ghost use Rattle.cedar_constraints.specs.References.{target_of, target_bound};
+    ghost use Rattle.cedar_constraints.specs.References.{target_of};
 
     ghost from_in_gives = { λ uid result. IfOk result (λ made. target_of made ≡ the_entity uid) };
 
@@ -196,7 +195,7 @@ impl Ord for EntityReference {
 }
 
 impl Hash for EntityReference {
-    ghost use Rattle.cedar_constraints.specs.References.{target_of, target_bound};
+    ghost use Rattle.cedar_constraints.specs.References.{target_of};
     ghost use Rattle.cedar_constraints.specs.Sameness.{target_hash, references_alike};
 
     ghost hash_input = { λ e. target_hash (target_of e) };

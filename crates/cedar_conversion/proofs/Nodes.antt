@@ -228,12 +228,8 @@ two_of (x ∷ []) h = absurd (omega (arith, h))
 two_of (x ∷ y ∷ ys) h = (x, y, ys, refl)
 
 -- what is the one of a list, if any is
-module _ {A : Type 0} (xs : List A) (o : Option (Bor A)) where
-  pub none_lone : xs ≡ option_to_list (option_copied o) → o ≡ None → xs ≡ []
-  none_lone e is = e ∙ ap (λ (p : Option (Bor A)). option_to_list (option_copied p)) is
-
-  pub some_lone : (x : Bor A) → xs ≡ option_to_list (option_copied o) → o ≡ Some x → xs ≡ x.now ∷ []
-  some_lone x e is = e ∙ ap (λ (p : Option (Bor A)). option_to_list (option_copied p)) is
+pub lone_is : {A : Type 0} (xs : List A) (o p : Option (Bor A)) → xs ≡ option_to_list (option_copied o) → o ≡ p → xs ≡ option_to_list (option_copied p)
+lone_is xs o p e is = e ∙ ap (λ (r : Option (Bor _)). option_to_list (option_copied r)) is
 
 -- ---- the one variant of an expression
 

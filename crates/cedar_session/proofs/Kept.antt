@@ -18,10 +18,10 @@ use Rattle.cedar_world.specs.Bodies.{Fields, ask_body, is_restricted, tell_body}
 use Rattle.cedar_world.specs.Commands.{Tell, Answered, Refused}
 use Rattle.cedar_world.specs.InForce.{AnswersReadWhatIsInForce}
 use Rattle.cedar_world.specs.KnownKinds.{IsOrdinary}
-use Rattle.cedar_world.specs.Setting.{Setting, IsBodyWithin, BodiesAreOne}
+use Rattle.cedar_world.specs.Setting.{Setting, IsBodyWithin, IsBody, BodiesAreOne}
 use Rattle.cedar_world.specs.Step.{Step, IsLaterAnswer, opens}
 use Rattle.cedar_world.specs.World.{World, Policies, Entities}
-use Rattle.cedar_telling.specs.Lookups.{IsAskedBy, AnswersErrOrdinarily}
+use Rattle.cedar_telling.specs.Lookups.{AnswersErrOrdinarily}
 use Rattle.cedar_world.proofs.Parts.{not_none}
 use Rattle.cedar_asking.specs.Answering.{AreOf}
 use Rattle.cedar_asking.specs.Answers.{IsSettingOf}
@@ -84,13 +84,13 @@ module _ (by : Setting) (policies : Policies) (entities : Entities) where
   stays new same o h = subst (λ (e : Entities). ∥ KeepsOpen by policies e o ∥₁) (sym same) h
 
   -- what is kept of a question that was just asked
-  pub begins : (asked : Asked) (q : Question) (answer : Answer) → ask_body (restricted_tree asked.body) ≡ Some q → IsAskedBy by q → asked.told.entries ≡ [] → asked.answer ≡ answer
+  pub begins : (asked : Asked) (q : Question) (answer : Answer) → ask_body (restricted_tree asked.body) ≡ Some q → (text : uid.Text) × IsBody by text (restricted_tree asked.body) → asked.told.entries ≡ [] → asked.answer ≡ answer
       → KeepsQuestion by held q asked.first [] (answer_of answer) → AnswersOrdinarily by held (answer_of answer) → KeepsAsked by policies entities asked
-  begins asked q answer asks asked_by none same keeps ordinary =
+  begins asked q answer asks read none same keeps ordinary =
       let is : question_in (restricted_tree asked.body) ≡ q = ap (λ o. unwrap_or o nothing_given) asks in
       record {
         states = asks ∙ ap Some (sym is);
-        asked_by = subst (IsAskedBy by) (sym is) asked_by;
+        read = read;
         keeps =
             subst (λ (p : Question). KeepsQuestion by held p asked.first asked.told.entries (answer_of asked.answer)) (sym is)
             (subst (λ (es : List (RcStr Global × Value)). KeepsQuestion by held q asked.first es (answer_of asked.answer)) (sym none)
@@ -144,7 +144,7 @@ module _ (by : Setting) (policies : Policies) (entities : Entities) where
       ordinary_then : AnswersErrOrdinarily → (answer : Answer) → Says table all s (Ok answer) → KeepsAsked by policies entities asked → AnswersOrdinarily by held (answer_of answer)
       ordinary_then law answer says k commands replies reached =
           let joins = (answered (Ok answer) says k).joins in
-          law.later by commands replies held reached question k.asked_by (told_in all.entries) (answer_of asked.answer) joins.0 (answer_of answer) joins.1 joins.2 (k.ordinary commands replies reached)
+          law.later by commands replies held reached question (k.read.0, restricted_tree asked.body, k.read.1, k.states) (told_in all.entries) (answer_of asked.answer) joins.0 (answer_of answer) joins.1 joins.2 (k.ordinary commands replies reached)
 
       pub errs_ordinarily : AnswersErrOrdinarily → (answer : Answer) → Says table all s (Ok answer) → AnswersOrdinarily by (world_with o) (answer_of answer)
       errs_ordinarily law answer says commands replies reached id k e =
@@ -161,7 +161,7 @@ module _ (by : Setting) (policies : Policies) (entities : Entities) where
             subst (λ x. ∥ KeepsOpen by policies entities x ∥₁) (sym goes_on)
             (∥∥₁_map kept (λ k. record {
               states = k.states;
-              asked_by = k.asked_by;
+              read = k.read;
               keeps = subst (λ (a : Answer). KeepsQuestion by held question asked.first all.entries (answer_of a)) (sym same) (answered (Ok answer) says k).keeps;
               ordinary = subst (λ (a : Answer). AnswersOrdinarily by held (answer_of a)) (sym same) (ordinary_then law answer says k);
             }))

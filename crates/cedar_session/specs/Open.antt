@@ -2,11 +2,11 @@
 use Rattle.std.specs.Prelude.{◌≡◌, Option, Some, None}
 use Rattle.std.specs.Option.{unwrap_or}
 use Rattle.cedar_language.specs.Tree.{Tree}
+use Rattle.cedar_language.specs.Uid.{Text}
 use Rattle.cedar_world.specs.Asking.{Question, Missing, NoContext}
 use Rattle.cedar_world.specs.Bodies.{ask_body}
-use Rattle.cedar_world.specs.Setting.{Setting}
+use Rattle.cedar_world.specs.Setting.{Setting, IsBody}
 use Rattle.cedar_world.specs.World.{World, Policies, Entities}
-use Rattle.cedar_telling.specs.Lookups.{IsAskedBy}
 use Rattle.cedar_asking.specs.Keeping.{KeepsQuestion}
 use Rattle.cedar_replies.specs.Replies.{answer_of}
 use Rattle.cedar_restricted.specs.Views.{restricted_tree}
@@ -25,11 +25,11 @@ question_in tree = unwrap_or (ask_body tree) nothing_given
 abbrev pub bare : Policies → Entities → World
 bare policies entities = record { policies = policies; entities = entities; asked = None }
 
--- The body states a question that a text asks, whose first response, told values and last answer are those for these policies
--- and entities; and the last answer names ordinary errors alone.
+-- The body was read from a text, and states a question, whose first response, told values and last answer are those for these
+-- policies and entities; and the last answer names ordinary errors alone.
 pub record KeepsAsked (by : Setting) (policies : Policies) (entities : Entities) (asked : Asked) : Type 0 where
   pub states : ask_body (restricted_tree asked.body) ≡ Some (question_in (restricted_tree asked.body))
-  pub asked_by : IsAskedBy by (question_in (restricted_tree asked.body))
+  pub read : (text : Text) × IsBody by text (restricted_tree asked.body)
   pub keeps : KeepsQuestion by (bare policies entities) (question_in (restricted_tree asked.body)) asked.first asked.told.entries (answer_of asked.answer)
   pub ordinary : AnswersOrdinarily by (bare policies entities) (answer_of asked.answer)
 

@@ -35,7 +35,7 @@ use Rattle.cedar_telling.proofs.Both.{and_left, and_right}
 use Rattle.cedar_telling.proofs.CallsLeft.{AnyKind, IsKept, AreKeptLeaves, Keeps, kept}
 use Rattle.cedar_telling.proofs.Called.{ContextCalls, question_calls, fewer_pass, without_slots, bound_calls, of_each}
 use Rattle.cedar_telling.proofs.Members.{IsAmong, contained}
-use Rattle.cedar_telling.proofs.Scopes.{condition_free, scope_tests, condition_kept}
+use Rattle.cedar_telling.proofs.Scopes.{condition_free, condition_kept}
 
 -- ---- evaluations
 
@@ -186,7 +186,7 @@ module _ (facts : Facts) (constructs : IsSome (facts.function the_constructor)) 
       let resource = constraint_slots ResourceSlot (bound_constraint (b ResourceSlot) p.resource) in
       let first = partial_in facts (held_of facts q b finite.empty) (condition p) in
       let left : IsKept false (there facts) AnyKind first =
-      condition_kept (there facts) facts keeps q b p (scope_tests (there facts) facts keeps q b p (first_empty principal resource e) (second_empty principal resource e)) (λ c is.
+      condition_kept (there facts) facts keeps q b p (first_empty principal resource e) (second_empty principal resource e) (λ c is.
       let free = without_slots (there facts) c (ap body_slots (sym is) ∙ f) (clause_calls (there facts) (scope_tree p) c (ap (λ o. calls_among true (there facts) (with_body (scope_tree p) o)) (sym is) ∙ h)) in
       (free, any b finite.empty c free)) in
       ordinary told (condition_again first) (again_calls false AnyKind facts (λ k o. tt) first left)

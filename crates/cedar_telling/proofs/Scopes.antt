@@ -185,7 +185,7 @@ module _ (passes : Name → Bool) where
       untold : (part : Part) (n : Text) → part_held part (finite.get {R = text_cmp} finite.empty n) n ≡ part_held part None n
       untold part n = ap (λ (o : Option Value). part_held part o n) (finite.get-empty text_cmp n)
 
-      pub scope_tests : (p : Policy) → constraint_slots PrincipalSlot (bound_constraint (b PrincipalSlot) p.principal) ≡ [] → constraint_slots ResourceSlot (bound_constraint (b ResourceSlot) p.resource) ≡ []
+      scope_tests : (p : Policy) → constraint_slots PrincipalSlot (bound_constraint (b PrincipalSlot) p.principal) ≡ [] → constraint_slots ResourceSlot (bound_constraint (b ResourceSlot) p.resource) ≡ []
           → IsTested (partial_in facts holds (scope_tree p))
       scope_tests p e f =
           let principal = constraint_tree Principal PrincipalSlot p.principal in
@@ -196,20 +196,23 @@ module _ (passes : Name → Bool) where
           (constraint_tests holds Resource q.resource _ (untold q.resource _) ResourceSlot (b ResourceSlot) refl p.resource f)
 
       -- with clauses in which no slot stands
-      pub condition_kept : (p : Policy) → IsTested (partial_in facts holds (scope_tree p))
+      pub condition_kept : (p : Policy) → constraint_slots PrincipalSlot (bound_constraint (b PrincipalSlot) p.principal) ≡ [] → constraint_slots ResourceSlot (bound_constraint (b ResourceSlot) p.resource) ≡ []
           → ((c : Tree) → p.body ≡ Some c → (calls_among false passes c ≡ true) × IsKept false passes AnyKind (partial_in facts holds c))
           → IsKept false passes AnyKind (partial_in facts holds (condition p))
-      condition_kept p scope clauses = with_clauses p.body clauses
+      condition_kept p e f clauses = with_clauses p.body clauses
         where
           tested_kept : (a : Answer) → IsTested a → IsKept false passes AnyKind a
           tested_kept (Evaluated v) h = tt
           tested_kept (ResidualTree t) h = h
           tested_kept (Failed k) h = tt
 
+          scope : IsKept false passes AnyKind (partial_in facts holds (scope_tree p))
+          scope = tested_kept (partial_in facts holds (scope_tree p)) (scope_tests p e f)
+
           with_clauses : (o : Option Tree) → ((c : Tree) → o ≡ Some c → (calls_among false passes c ≡ true) × IsKept false passes AnyKind (partial_in facts holds c))
               → IsKept false passes AnyKind (partial_in facts holds (with_body (scope_tree p) o))
-          with_clauses None h = tested_kept (partial_in facts holds (scope_tree p)) scope
+          with_clauses None h = scope
           with_clauses (Some c) h =
               let (calls, kept) = h c refl in
               subst (IsKept false passes AnyKind) (sym (conjoined facts holds (scope_tree p) c))
-              (and_kept false passes AnyKind facts keeps (partial_in facts holds (scope_tree p)) (partial_in facts holds c) c (tested_kept (partial_in facts holds (scope_tree p)) scope) kept calls)
+              (and_kept false passes AnyKind facts keeps (partial_in facts holds (scope_tree p)) (partial_in facts holds c) c scope kept calls)

@@ -16,7 +16,7 @@ use Rattle.cedar_conversion.specs.Heads.{IsHead, IsHeadRefused, head_shows, call
 use Rattle.cedar_conversion.proofs.Converting.{same_as, faulty, found, flat_pair}
 use Rattle.cedar_conversion.proofs.Made.{built_none}
 use Rattle.cedar_conversion.proofs.Trees.{empty, cut_at, or_start, or_more, or_end, and_start, and_more, and_end, add_start, add_more, add_end, mult_start, mult_more, mult_end, member_start, member_more, member_end, items_start, items_more, items_end, entries_start, entries_more, entries_end}
-use Rattle.cedar_conversion.proofs.Nodes.{expr_or, expr_if, relation_alone, relation_joined, relation_chain, relation_has, relation_like, relation_is, relation_is_in, unary_plain, unary_bangs, unary_over_bang, unary_over_dash, unary_dashes, unary_no_dash, unary_number, two_of, none_lone, some_lone, one_variant, access_none, access_field, access_call, access_index, primary_literal, primary_ref, primary_name, primary_slot, primary_expr, primary_list, primary_record, entry_seen}
+use Rattle.cedar_conversion.proofs.Nodes.{expr_or, expr_if, relation_alone, relation_joined, relation_chain, relation_has, relation_like, relation_is, relation_is_in, unary_plain, unary_bangs, unary_over_bang, unary_over_dash, unary_dashes, unary_no_dash, unary_number, two_of, lone_is, one_variant, access_none, access_field, access_call, access_index, primary_literal, primary_ref, primary_name, primary_slot, primary_expr, primary_list, primary_record, entry_seen}
 use borrow.Enum.Total.{values_d}
 use Rattle.cedar_cst.specs.contracts.cst.Expr.{enum}
 use Rattle.cedar_cst.specs.declared.leaves.NegOp.TheVariants as signs
@@ -149,13 +149,13 @@ expr_to_expr-returns-in-If-clause-tree g t c =
 
 pub relation_to_expr-returns-in-None-comparison-clause-tree : goal.relation_to_expr-returns-in-None-comparison-clause-tree
 relation_to_expr-returns-in-None-comparison-clause-tree g t c =
-    let none = sym c.as_slice.ensures.value ∙ none_lone _ _ c.in-Ok.ensures.lone c.in-None-comparison.is in
+    let none = sym c.as_slice.ensures.value ∙ lone_is _ _ None c.in-Ok.ensures.lone c.in-None-comparison.is in
     same_as g.B.ExprBuilder.refusal (IsBuilt g.B.ExprBuilder.operations g.B.ExprBuilder.meaning) (IsRefused g.B.ExprBuilder.operations) c.add_to_expr-first.result _ _ (relation_alone c.args.styles.now c.args.node.now c.in-Some.relation c.in-Common.initial c.in-Common.extended c.deref-operand.result.now c.in-Some.is c.in-Common.is none c.deref-operand.ensures) c.add_to_expr-first.ensures.tree
 
 pub relation_to_expr-returns-in-Some-comparison-clause-tree : goal.relation_to_expr-returns-in-Some-comparison-clause-tree
 relation_to_expr-returns-in-Some-comparison-clause-tree g t c =
     let x = c.in-Some-comparison.link.now in
-    let cut = sym c.as_slice.ensures.value ∙ some_lone _ _ c.in-Some-comparison.link c.in-Ok.ensures.lone c.in-Some-comparison.is in
+    let cut = sym c.as_slice.ensures.value ∙ lone_is _ _ (Some c.in-Some-comparison.link) c.in-Ok.ensures.lone c.in-Some-comparison.is in
     same_as g.B.ExprBuilder.refusal (IsBuilt g.B.ExprBuilder.operations g.B.ExprBuilder.meaning) (IsRefused g.B.ExprBuilder.operations) c.join.result _ _ (relation_joined c.args.styles.now c.args.node.now c.in-Some.relation c.in-Common.initial c.in-Common.extended x c.deref-operand.result.now c.in-Some.is c.in-Common.is cut c.deref-operand.ensures) (c.join.ensures.tree _ _ c.add_to_expr-first.ensures.tree c.add_to_expr-second.ensures.tree)
 
 pub relation_to_expr-returns-in-Err-clause-tree : goal.relation_to_expr-returns-in-Err-clause-tree
@@ -351,14 +351,14 @@ member_to_expr-returns-after-accesses-clause-shown g t c =
 pub relation_to_expr-returns-in-None-comparison-clause-shown : goal.relation_to_expr-returns-in-None-comparison-clause-shown
 unfolding relation_shows
 relation_to_expr-returns-in-None-comparison-clause-shown g t c =
-    let none = sym c.as_slice.ensures.value ∙ none_lone _ _ c.in-Ok.ensures.lone c.in-None-comparison.is in
+    let none = sym c.as_slice.ensures.value ∙ lone_is _ _ None c.in-Ok.ensures.lone c.in-None-comparison.is in
     seen_as c.add_to_expr-first.result (relation_shows c.args.styles.now) _ _ _ (common_seen c.args.node.now c.in-Some.relation c.in-Common.initial c.in-Common.extended [] c.deref-operand.result.now c.in-Some.is c.in-Common.is none c.deref-operand.ensures) (λ k s. s) c.add_to_expr-first.ensures.shown
 
 pub relation_to_expr-returns-in-Some-comparison-clause-shown : goal.relation_to_expr-returns-in-Some-comparison-clause-shown
 unfolding relation_shows
 relation_to_expr-returns-in-Some-comparison-clause-shown g t c =
     let x = c.in-Some-comparison.link.now in
-    let cut = sym c.as_slice.ensures.value ∙ some_lone _ _ c.in-Some-comparison.link c.in-Ok.ensures.lone c.in-Some-comparison.is in
+    let cut = sym c.as_slice.ensures.value ∙ lone_is _ _ (Some c.in-Some-comparison.link) c.in-Ok.ensures.lone c.in-Some-comparison.is in
     seen_as c.join.result (relation_shows c.args.styles.now) _ _ _ (common_seen c.args.node.now c.in-Some.relation c.in-Common.initial c.in-Common.extended (x ∷ []) c.deref-operand.result.now c.in-Some.is c.in-Common.is cut c.deref-operand.ensures)
     (of_two_and c.add_to_expr-first.result c.add_to_expr-second.result (joint_shows (joint.Relation x.0)) _ _ _ c.add_to_expr-first.ensures.shown c.add_to_expr-second.ensures.shown (λ k s. inl s) (λ k s. inr (inl s)) (λ k s. inr (inr s))) c.join.ensures.shown
 

@@ -117,6 +117,6 @@ invariant_of-self-2 g c =
     let asks : IsAskedBy by asked.0 = (c.args.text.now, tree, (self.depth, read.0), asked.1) in
     record {
       steady = ∣ begins by self.policies self.entities (record { body = c.in_ok-body.body; first = c.in_ok-first.first; told = c.new.result; answer = c.in_ok-kept.kept })
-          asked.0 c.in_ok-first.answer asked.1 asks c.new.ensures.empty c.in_ok-kept.ensures.cases first.keeps
+          asked.0 c.in_ok-first.answer asked.1 (c.args.text.now, (self.depth, read.0)) c.new.ensures.empty c.in_ok-kept.ensures.cases first.keeps
           (λ commands replies reached. c.answers_err_ordinarily.ensures.first by commands replies (bare self.policies self.entities) reached asked.0 asks (answer_of c.in_ok-first.answer) first.errors) ∣₁;
     }
