@@ -3,15 +3,16 @@ ghost use Rattle.std.specs.Prelude.{◌≡◌, IfOk};
 ghost use Rattle.std.specs.Option.{option_copied};
 
 use cedar_names::places::Loc;
+use cedar_names::shared::Shared;
 use std::alloc::{AllocError, Global};
 use std::error::Error;
 use std::fmt;
 use thiserror::Error;
 
 /// An error of one kind, and where it stands in a text, if that is known. `==` compares places too.
-#[derive(Clone, Debug, PartialEq, Eq)]
+#[derive(Debug, PartialEq, Eq)]
 pub struct PlacedError<K> {
-    pub kind: K,
+    pub kind: Shared<K>,
     pub loc: Option<Loc>,
 }
 
@@ -22,33 +23,31 @@ impl<K: Drop> Drop for PlacedError<K> {
     }
 }
 
-impl<K> PlacedError<K> {
-    /// The error of this kind at this place.
-    pub fn new(kind: K, loc: Option<Loc>) -> PlacedError<K>
-        ensures kind { result.kind ≡ kind }
-        ensures place { result.loc ≡ loc }
+impl<K: Drop> PlacedError<K> {
+    /// The error of this kind at this place; refused for memory alone.
+    pub fn new(alloc: Global, kind: K, loc: Option<Loc>) -> Result<PlacedError<K>, AllocError>
+        ensures kind { IfOk result (λ error. error.kind ≡ kind) }
+        ensures place { IfOk result (λ error. error.loc ≡ loc) }
     {
-        PlacedError { kind, loc }
+        let kind = Shared::new(alloc, kind)?;
+        Ok(PlacedError { kind, loc })
     }
 
     /// The error of this kind at a copy of this place; refused for memory alone.
-    pub fn at(_alloc: Global, kind: K, loc: Option<&Loc>) -> Result<PlacedError<K>, AllocError>
-    where
-        K: Drop,
+    pub fn at(alloc: Global, kind: K, loc: Option<&Loc>) -> Result<PlacedError<K>, AllocError>
         ensures kind { IfOk result (λ error. error.kind ≡ kind) }
         ensures place { IfOk result (λ error. error.loc ≡ option_copied loc.entry) }
     {
-        Ok(PlacedError {
-            kind,
-            loc: loc.cloned()?,
-        })
+        PlacedError::new(alloc, kind, loc.cloned()?)
     }
+}
 
+impl<K> PlacedError<K> {
     /// The kind.
     pub fn kind(&self) -> &K
         ensures { result.now ≡ self.now.kind }
     {
-        &self.kind
+        self.kind.get()
     }
 }
 

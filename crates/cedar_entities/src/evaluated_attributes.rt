@@ -12,6 +12,7 @@ use cedar_extensions::evaluation_error::EvaluationError;
 use cedar_extensions::extensions::Extensions;
 use cedar_extensions::objects::ExtensionFunctionObject;
 use cedar_literals::uids::EntityUID;
+use cedar_names::shared::Shared;
 use cedar_restricted::partial_values::PartialValue;
 use cedar_restricted::restricted::RestrictedExpr;
 use cedar_restricted_evaluation::interpret_restricted;
@@ -40,7 +41,7 @@ pub fn evaluate_all<F: ExtensionFunctionObject>(
             Ok(value) => {
                 values.insert(name, value)?;
             }
-            Err(err) => return Err(refusal(uid, name, was_attr, err)),
+            Err(err) => return Err(refusal(alloc, uid, name, was_attr, err)),
         }
     }
     Ok(values)
@@ -48,6 +49,7 @@ pub fn evaluate_all<F: ExtensionFunctionObject>(
 
 // The refusal of an attribute or tag that has no value. Want of memory is none of its own.
 fn refusal(
+    alloc: Global,
     uid: EntityUID,
     attr_or_tag: RcStr,
     was_attr: bool,
@@ -55,13 +57,16 @@ fn refusal(
 ) -> EntityCreationError
     ensures { IfNoValue result (λ e. (e.uid ≡ uid) × (e.was_attr ≡ was_attr) × (e.attr_or_tag ≡ attr_or_tag) × (e.err ≡ err)) }
 {
-    match &err {
-        EvaluationError::Memory => EntityCreationError::Memory(AllocError),
-        _ => EntityCreationError::Evaluation(EntityAttrEvaluationError {
+    if let EvaluationError::Memory = &err {
+        return EntityCreationError::Memory(AllocError);
+    }
+    match Shared::new(alloc, err) {
+        Ok(err) => EntityCreationError::Evaluation(EntityAttrEvaluationError {
             uid,
             attr_or_tag,
             was_attr,
             err,
         }),
+        Err(error) => EntityCreationError::Memory(error),
     }
 }

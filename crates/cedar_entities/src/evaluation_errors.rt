@@ -2,6 +2,7 @@
 
 use cedar_extensions::evaluation_error::EvaluationError;
 use cedar_literals::uids::EntityUID;
+use cedar_names::shared::Shared;
 use std::alloc::{AllocError, AllocFailed};
 use std::error::Error;
 use std::fmt;
@@ -18,7 +19,7 @@ pub struct EntityAttrEvaluationError {
     /// Whether it is an attribute, and else a tag.
     pub was_attr: bool,
     /// Why it has no value.
-    pub err: EvaluationError,
+    pub err: Shared<EvaluationError>,
 }
 
 impl fmt::Display for EntityAttrEvaluationError {

@@ -105,18 +105,23 @@ fn long(text: &str) -> Value {
     Value::from(Literal::Long(text.parse::<i64>().unwrap_or(0)))
 }
 
-fn overflow(verb: &str, numbers: &str, loc: Option<Loc>) -> IntegerOverflowError {
-    match numbers.split_once(',') {
+fn overflow(
+    alloc: Global,
+    verb: &str,
+    numbers: &str,
+    loc: Option<Loc>,
+) -> Result<IntegerOverflowError, AllocError> {
+    Ok(match numbers.split_once(',') {
         Some((a, b)) => {
             let op = binary_op(verb);
-            let error = BinaryOpOverflowError::new(op, long(a), long(b), loc);
+            let error = BinaryOpOverflowError::new(alloc, op, long(a), long(b), loc)?;
             IntegerOverflowError::from(error)
         }
         None => {
-            let error = UnaryOpOverflowError::new(unary_op(verb), long(numbers), loc);
+            let error = UnaryOpOverflowError::new(alloc, unary_op(verb), long(numbers), loc)?;
             IntegerOverflowError::from(error)
         }
-    }
+    })
 }
 
 /// The operator of one number, or of two, has no long.
@@ -128,7 +133,7 @@ pub(crate) fn overflown(
     errors: &mut Errors,
 ) -> Answer {
     let loc = place(alloc, word)?;
-    let error = overflow(verb, numbers, loc);
+    let error = overflow(alloc, verb, numbers, loc)?;
     hold(alloc, EvaluationError::from(error), errors)
 }
 

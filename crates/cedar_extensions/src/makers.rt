@@ -22,6 +22,7 @@ use cedar_literals::types::{StaticallyTyped, Type};
 use cedar_literals::uids::EntityUID;
 use cedar_names::names::Name;
 use cedar_names::places::Loc;
+use cedar_names::shared::Shared;
 use cedar_trees::expr::Expr;
 use cedar_trees::unknowns::NonEmpty;
 use cedar_values::values::Value;
@@ -99,8 +100,8 @@ impl EvaluationError {
             Some(loc) => Some(loc.clone(alloc)?),
         };
         Ok(EvaluationError::from(TypeError {
-            expected,
-            actual: actual.type_of(alloc)?,
+            expected: Shared::new(alloc, expected)?,
+            actual: Shared::new(alloc, actual.type_of(alloc)?)?,
             source_loc,
         }))
     }
@@ -176,7 +177,7 @@ impl EvaluationError {
             Some(loc) => Some(loc.clone(alloc)?),
         };
         Ok(EvaluationError::from(NonValueError {
-            expr: Residual { expr },
+            expr: Shared::new(alloc, Residual { expr })?,
             source_loc,
         }))
     }

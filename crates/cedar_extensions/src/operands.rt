@@ -1,5 +1,5 @@
 // Operands that don't fit their operator.
-ghost use Rattle.std.specs.Prelude.{◌≡◌, [], ◌∷◌};
+ghost use Rattle.std.specs.Prelude.{◌≡◌, [], ◌∷◌, IfOk};
 ghost use Rattle.cedar_extensions.specs.Causes as causes;
 ghost use Rattle.cedar_extensions.specs.Causes.{overflow_of_two, place_of_two, overflow_of_one, place_of_one, overflow_cause, overflow_place};
 ghost use Rattle.std.specs.Option.{option_copied};
@@ -8,8 +8,10 @@ ghost use Rattle.cedar_literals.specs.Operators.{unary_operator_of, binary_opera
 use cedar_literals::operators::{BinaryOp, UnaryOp};
 use cedar_literals::types::Type;
 use cedar_names::places::Loc;
+use cedar_names::shared::Shared;
 use cedar_trees::unknowns::NonEmpty;
 use cedar_values::values::Value;
+use std::alloc::{AllocError, Global};
 use std::error::Error;
 use std::fmt;
 use thiserror::Error;
@@ -17,20 +19,21 @@ use thiserror::Error;
 /// A value is of another type than the operation takes.
 #[derive(Debug, PartialEq, Eq, Drop)]
 pub struct TypeError {
-    pub(crate) expected: NonEmpty<Type>,
-    pub(crate) actual: Type,
+    pub(crate) expected: Shared<NonEmpty<Type>>,
+    pub(crate) actual: Shared<Type>,
     pub(crate) source_loc: Option<Loc>,
 }
 
 impl fmt::Display for TypeError {
     fn fmt<W: fmt::Write>(&self, f: &mut fmt::Formatter<W>) -> fmt::Result {
-        let first = &self.expected.head;
+        let expected = self.expected.get();
+        let first = &expected.head;
         let actual = &self.actual;
-        if self.expected.tail.is_empty() {
+        if expected.tail.is_empty() {
             return write!(f, "type error: expected {first}, got {actual}");
         }
         write!(f, "type error: expected one of [{first}")?;
-        for other in &self.expected.tail {
+        for other in &expected.tail {
             write!(f, ", {other}")?;
         }
         write!(f, "], got {actual}")
@@ -53,28 +56,29 @@ impl TypeError {
 #[error("integer overflow while attempting to {verb} the values `{arg1}` and `{arg2}`", verb = verb_of_two(.op))]
 pub struct BinaryOpOverflowError {
     pub(crate) op: BinaryOp,
-    pub(crate) arg1: Value,
-    pub(crate) arg2: Value,
+    pub(crate) arg1: Shared<Value>,
+    pub(crate) arg2: Shared<Value>,
     pub(crate) source_loc: Option<Loc>,
 }
 
 impl BinaryOpOverflowError {
-    /// The error of `op` at these operands.
+    /// The error of `op` at these operands; refused for memory alone.
     pub fn new(
+        alloc: Global,
         op: BinaryOp,
         arg1: Value,
         arg2: Value,
         source_loc: Option<Loc>,
-    ) -> BinaryOpOverflowError
-        ensures cause { overflow_of_two result ≡ causes.Overflow (binary_operator_of op) (arg1 ∷ arg2 ∷ []) }
-        ensures place { place_of_two result ≡ source_loc }
+    ) -> Result<BinaryOpOverflowError, AllocError>
+        ensures cause { IfOk result (λ error. overflow_of_two error ≡ causes.Overflow (binary_operator_of op) (arg1 ∷ arg2 ∷ [])) }
+        ensures place { IfOk result (λ error. place_of_two error ≡ source_loc) }
     {
-        BinaryOpOverflowError {
+        Ok(BinaryOpOverflowError {
             op,
-            arg1,
-            arg2,
+            arg1: Shared::new(alloc, arg1)?,
+            arg2: Shared::new(alloc, arg2)?,
             source_loc,
-        }
+        })
     }
 }
 
@@ -92,21 +96,26 @@ fn verb_of_two(op: &BinaryOp) -> &'static str {
 #[error("integer overflow while attempting to {verb} the value `{arg}`", verb = verb_of_one(.op))]
 pub struct UnaryOpOverflowError {
     pub(crate) op: UnaryOp,
-    pub(crate) arg: Value,
+    pub(crate) arg: Shared<Value>,
     pub(crate) source_loc: Option<Loc>,
 }
 
 impl UnaryOpOverflowError {
-    /// The error of `op` at this operand.
-    pub fn new(op: UnaryOp, arg: Value, source_loc: Option<Loc>) -> UnaryOpOverflowError
-        ensures cause { overflow_of_one result ≡ causes.Overflow (unary_operator_of op) (arg ∷ []) }
-        ensures place { place_of_one result ≡ source_loc }
+    /// The error of `op` at this operand; refused for memory alone.
+    pub fn new(
+        alloc: Global,
+        op: UnaryOp,
+        arg: Value,
+        source_loc: Option<Loc>,
+    ) -> Result<UnaryOpOverflowError, AllocError>
+        ensures cause { IfOk result (λ error. overflow_of_one error ≡ causes.Overflow (unary_operator_of op) (arg ∷ [])) }
+        ensures place { IfOk result (λ error. place_of_one error ≡ source_loc) }
     {
-        UnaryOpOverflowError {
+        Ok(UnaryOpOverflowError {
             op,
-            arg,
+            arg: Shared::new(alloc, arg)?,
             source_loc,
-        }
+        })
     }
 }
 

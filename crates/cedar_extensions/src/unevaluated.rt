@@ -3,6 +3,7 @@ ghost use Rattle.std.specs.Prelude.{◌≡◌};
 
 use cedar_literals::slots::SlotId;
 use cedar_names::places::Loc;
+use cedar_names::shared::Shared;
 use cedar_shapes::shapes::ExprShape;
 use cedar_trees::expr::Expr;
 use std::fmt;
@@ -53,7 +54,7 @@ impl fmt::Display for Residual {
 #[derive(Debug, PartialEq, Eq, Drop, Error)]
 #[error("the expression contains unknown(s): `{expr}`")]
 pub struct NonValueError {
-    pub(crate) expr: Residual,
+    pub(crate) expr: Shared<Residual>,
     pub(crate) source_loc: Option<Loc>,
 }
 

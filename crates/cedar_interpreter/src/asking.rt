@@ -21,6 +21,7 @@ use cedar_extensions::evaluation_error::EvaluationError;
 use cedar_extensions::extensions::Extensions;
 use cedar_extensions::objects::ExtensionFunctionObject;
 use cedar_literals::variables::Var;
+use cedar_names::shared::Shared;
 use cedar_partial_evaluation::{known_is_meaning, leaves_dont_matter};
 use cedar_requests::{Context, Request};
 use cedar_restricted::partial_values::PartialValue;
@@ -44,8 +45,9 @@ impl<'s, 'e, 'f, F: ExtensionFunctionObject> Evaluator<'s, 'e, 'f, F> {
     ) -> Result<Evaluator<'s, 'e, 'f, F>, AllocError>
         ensures { IfOk result (λ ev. IsEvaluatorOf F.answers (untold (request_parts request.now)) entities.now (as_table F.answers extensions.now) depth ev) }
     {
-        let variables = variables_of(alloc, request)?;
-        let seen = Seen::of(entities, &variables);
+        let stands = variables_of(alloc, request)?;
+        let seen = Shared::new(alloc, Seen::of(entities, &stands))?;
+        let variables = Shared::new(alloc, stands)?;
         Ok(Evaluator {
             variables,
             entities,

@@ -5,6 +5,7 @@ use cedar_entities::entity::Entity;
 use cedar_entities::store::Entities;
 use cedar_extensions::extensions::Extensions;
 use cedar_extensions::objects::NoFunction;
+use cedar_names::shared::Shared;
 use cedar_restricted::partial_values::PartialValue;
 use cedar_values::values::Value;
 use std::collections::HashMap;
@@ -35,9 +36,9 @@ pub(crate) struct Seen<'s> {
 /// facts and trees that it serves, and by `depth_of`, its limit.
 #[derive(Drop)]
 pub struct Evaluator<'s, 'e, 'f, F = NoFunction> {
-    pub(crate) variables: Variables,
+    pub(crate) variables: Shared<Variables>,
     pub(crate) entities: &'s Entities,
-    pub(crate) seen: Seen<'s>,
+    pub(crate) seen: Shared<Seen<'s>>,
     pub(crate) extensions: &'e Extensions<'f, F>,
     pub(crate) depth: u32,
     pub(crate) told: Option<&'s HashMap<RcStr, Value>>,

@@ -264,11 +264,12 @@ impl<'s, 'e, 'f, F> Evaluator<'s, 'e, 'f, F> {
     fn glance_variable(&self, var: Var) -> Option<Lent<'_>>
         ensures { IfSome result (λ lent. variable_held self.now (variable_of var) ≡ Evaluated (value_lent lent)) }
     {
+        let variables = self.variables.get();
         let part = match var {
-            Var::Principal => &self.variables.principal,
-            Var::Action => &self.variables.action,
-            Var::Resource => &self.variables.resource,
-            Var::Context => &self.variables.context,
+            Var::Principal => &variables.principal,
+            Var::Action => &variables.action,
+            Var::Resource => &variables.resource,
+            Var::Context => &variables.context,
         };
         let lent = Lent::of_partial(part)?;
         Some(lent)

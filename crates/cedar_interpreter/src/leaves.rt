@@ -43,7 +43,7 @@ impl<'s, 'e, 'f, F> Evaluator<'s, 'e, 'f, F> {
     {
         match &expr.expr_kind {
             ExprKind::Lit(literal) => Ok(PartialValue::from(Value::from(literal.clone()?))),
-            ExprKind::Var(var) => Ok(variable(alloc, &self.variables, *var)?),
+            ExprKind::Var(var) => Ok(variable(alloc, self.variables.get(), *var)?),
             ExprKind::Slot(slot) => bound(alloc, slots, slot),
             ExprKind::Unknown(name) => unknown(alloc, self.told, name),
             ExprKind::If { .. } => unreachable!(),

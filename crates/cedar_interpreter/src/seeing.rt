@@ -85,10 +85,11 @@ impl<'s, 'e, 'f, F> Evaluator<'s, 'e, 'f, F> {
     pub(crate) fn given(&self, var: Var) -> Option<(&Rc<EntityUID>, Option<&'s Entity>)>
         ensures { IfSome result (λ given. (variable_held self.now (variable_of var) ≡ Evaluated (Plain (tree.Entity given.0.now.value))) × IsSeen self.now.entities.now given.0.now.value (option_copied given.1)) }
     {
+        let (variables, seen) = (self.variables.get(), self.seen.get());
         match var {
-            Var::Principal => given_as(&self.variables.principal, self.seen.principal),
-            Var::Action => given_as(&self.variables.action, self.seen.action),
-            Var::Resource => given_as(&self.variables.resource, self.seen.resource),
+            Var::Principal => given_as(&variables.principal, seen.principal),
+            Var::Action => given_as(&variables.action, seen.action),
+            Var::Resource => given_as(&variables.resource, seen.resource),
             Var::Context => None,
         }
     }

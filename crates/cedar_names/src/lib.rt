@@ -1,5 +1,5 @@
-//! Names of Cedar: identifiers, names, places in texts, shared texts, and the names of a schema before they
-//! are resolved.
+//! Names of Cedar: identifiers, names, places in texts, shared texts and values, and the names of a schema
+//! before they are resolved.
 #![tactic(auto)]
 
 pub mod comparing;
@@ -11,5 +11,5 @@ pub mod names;
 pub mod places;
 pub mod raw_names;
 pub mod reading;
-pub(crate) mod shared;
+pub mod shared;
 pub mod texts;

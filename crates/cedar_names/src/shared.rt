@@ -3,13 +3,15 @@ ghost use Rattle.std.specs.Prelude.{◌≡◌, IfOk};
 
 use std::alloc::{AllocError, Global};
 use std::cmp::Ordering;
+use std::fmt;
 use std::hash::{Hash, Hasher};
 use std::marker::Model;
 use std::rc::Rc;
 
-/// A value that is shared, seen as the value.
+/// A value that is shared, seen as the value. Its owner takes the room of a handle, however large the value is: so
+/// errors hold what they tell by one, and what may be an error stays small.
 #[derive(Debug, Drop)]
-pub(crate) struct Shared<T> {
+pub struct Shared<T> {
     held: Rc<T>,
 }
 
@@ -21,7 +23,7 @@ impl<T> Model for Shared<T> {
 
 impl<T: Drop> Shared<T> {
     /// The value, shared; refused for memory alone.
-    pub(crate) fn new(alloc: Global, value: T) -> Result<Shared<T>, AllocError>
+    pub fn new(alloc: Global, value: T) -> Result<Shared<T>, AllocError>
         ensures { IfOk result (λ shared. shared ≡ value) }
     {
         Ok(Shared {
@@ -32,10 +34,16 @@ impl<T: Drop> Shared<T> {
 
 impl<T> Shared<T> {
     /// The value.
-    pub(crate) fn get(&self) -> &T
+    pub fn get(&self) -> &T
         ensures { result.now ≡ self.now }
     {
         &self.held
+    }
+}
+
+impl<T: fmt::Display> fmt::Display for Shared<T> {
+    fn fmt<W: fmt::Write>(&self, f: &mut fmt::Formatter<W>) -> fmt::Result {
+        self.held.fmt(f)
     }
 }
 

@@ -101,6 +101,6 @@ fn overflow(
 ) -> Result<EvaluationError, AllocError>
     ensures { IfOk result (λ error. failure_of error ≡ OfKind IntegerOverflow) }
 {
-    let error = BinaryOpOverflowError::new(op, left, right, copied(alloc, loc)?);
+    let error = BinaryOpOverflowError::new(alloc, op, left, right, copied(alloc, loc)?)?;
     Ok(EvaluationError::from(IntegerOverflowError::from(error)))
 }

@@ -50,7 +50,7 @@ fn negate(alloc: Global, arg: Value, loc: Option<&Loc>) -> Result<Value, Evaluat
     match n.checked_neg() {
         Some(negative) => Ok(Value::from(Literal::Long(negative))),
         None => {
-            let error = UnaryOpOverflowError::new(UnaryOp::Neg, arg, copied(alloc, loc)?);
+            let error = UnaryOpOverflowError::new(alloc, UnaryOp::Neg, arg, copied(alloc, loc)?)?;
             Err(EvaluationError::from(IntegerOverflowError::from(error)))
         }
     }

@@ -150,7 +150,7 @@ pub(crate) fn of_fault(alloc: Global, verb: &str, start: &str, held: &Nodes) -> 
         "shown" => fault.to_string(alloc),
         "kind" => tell(alloc, *fault.kind()),
         _ => {
-            let other = PlacedError::new("odd", maybe_place(alloc, start)?);
+            let other = PlacedError::new(alloc, "odd", maybe_place(alloc, start)?)?;
             said(alloc, *fault == other)
         }
     }

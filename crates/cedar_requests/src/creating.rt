@@ -12,6 +12,7 @@ use crate::errors::{ContextCreationError, NotARecord};
 use crate::evaluating::evaluated;
 use cedar_extensions::extensions::Extensions;
 use cedar_extensions::objects::ExtensionFunctionObject;
+use cedar_names::shared::Shared;
 use cedar_restricted::borrowed::BorrowedRestrictedExpr;
 use cedar_restricted::restricted::RestrictedExpr;
 use cedar_trees::errors::ExpressionConstructionError;
@@ -36,7 +37,7 @@ impl Context {
     {
         if !is_record(expr.as_expr()) {
             return Err(ContextCreationError::NotARecord(NotARecord {
-                expr: expr.as_expr().clone(alloc)?,
+                expr: Shared::new(alloc, expr.as_expr().clone(alloc)?)?,
             }));
         }
         Ok(evaluated(alloc, expr, extensions, depth)?)

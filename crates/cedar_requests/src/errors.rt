@@ -2,6 +2,7 @@
 ghost use Rattle.std.specs.Prelude.{◌≡◌};
 
 use cedar_extensions::evaluation_error::EvaluationError;
+use cedar_names::shared::Shared;
 use cedar_trees::errors::ExpressionConstructionError;
 use cedar_trees::expr::Expr;
 use std::alloc::{AllocError, AllocFailed};
@@ -13,7 +14,7 @@ use thiserror::Error;
 #[error("expression is not a record: {expr}")]
 pub struct NotARecord {
     /// The expression.
-    pub expr: Expr,
+    pub expr: Shared<Expr>,
 }
 
 /// Why no context is made.
