@@ -12,9 +12,9 @@ use Rattle.cedar_world.specs.Syntax.{PolicySyntax, Bindings, is_template, condit
 use Rattle.cedar_policy_set.specs.Entries.{Entry, static_policy, template, link, Entries, bound_at, without}
 use Rattle.cedar_policy_set.specs.Texts.{text_entries, syntax_in}
 use Rattle.cedar_policy_set.proofs.Finding.{same_id, some_apart, found_first, found_later}
-use Rattle.cedar_merging.proofs.Wholes.{of_all}
-use Rattle.cedar_merging.specs.Merged.{renamed_entry, is_more, joining, joined}
-use Rattle.cedar_merging.specs.Renaming.{NewIds, renamed}
+use Rattle.cedar_store.proofs.Wholes.{of_all}
+use Rattle.cedar_store.specs.Merged.{renamed_entry, is_more, joining, joined}
+use Rattle.cedar_store.specs.Renaming.{NewIds, renamed}
 use Rattle.cedar_held.specs.HoldingPolicies.{IsHeld}
 
 -- the condition of a policy names no unknown

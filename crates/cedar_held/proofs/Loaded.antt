@@ -7,9 +7,9 @@ use Rattle.cedar_world.specs.Syntax.{PolicySyntax}
 use Rattle.cedar_policy_set.specs.Entries.{Entries, IsWhole}
 use Rattle.cedar_policy_set.specs.Texts.{text_entries}
 use Rattle.cedar_policy_set.specs.Worlds.{policies_in}
-use Rattle.cedar_merging.specs.Loading.{LoadsAsWorlds}
-use Rattle.cedar_merging.specs.Merged.{joined}
-use Rattle.cedar_merging.specs.Renaming.{NewIds, IsRenaming, new_id}
+use Rattle.cedar_store.specs.Loading.{LoadsAsWorlds}
+use Rattle.cedar_store.specs.Merged.{joined}
+use Rattle.cedar_store.specs.Renaming.{NewIds, IsRenaming, new_id}
 use Rattle.cedar_held.specs.HoldingPolicies.{IsHeld, IsText}
 use Rattle.cedar_held.proofs.Keeping.{held_joined}
 

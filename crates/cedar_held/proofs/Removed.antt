@@ -19,7 +19,7 @@ use Rattle.cedar_policy_set.specs.declared.errors.PolicySetPolicyRemovalError.Th
 use Rattle.cedar_policy_set.specs.Worlds.{world_bound, policies_in, FindsAsWorlds, RemovesAsWorlds}
 use Rattle.cedar_policy_set.proofs.Finding.{same_id, id_itself, any_found}
 use Rattle.cedar_replies.specs.declared.refusal.Refusal.TheVariants as replies
-use Rattle.cedar_merging.proofs.Wholes.{all_of}
+use Rattle.cedar_store.proofs.Wholes.{all_of}
 use Rattle.cedar_held.specs.PolicyEdits.{UnlinksId, RemovesStatic, RemovesTemplate}
 use Rattle.cedar_held.specs.HoldingPolicies.{IsHeld}
 use Rattle.cedar_held.proofs.Keeping.{held_without}

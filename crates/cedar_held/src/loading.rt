@@ -5,14 +5,13 @@ ghost use Rattle.cedar_world.specs.PolicyEdits.{Loads};
 ghost use Rattle.cedar_world.specs.Syntax.{PolicySyntax};
 ghost use Rattle.cedar_policy_set.specs.Texts.{text_entries};
 ghost use Rattle.cedar_policy_set.specs.Worlds.{policies_in};
-ghost use Rattle.cedar_merging.specs.Renaming.{new_id};
+ghost use Rattle.cedar_store.specs.Renaming.{new_id};
 ghost use Rattle.cedar_held.specs.HoldingPolicies.{IsHeld, IsText};
 
-use cedar_merging::laws::texts_are_loaded;
-use cedar_merging::merging::Merging;
-use cedar_merging::renaming::{Renaming, renamed_id, renaming_of};
 use cedar_policy_parts::PolicyID;
 use cedar_policy_set::sets::PolicySet;
+use cedar_store::ast::{Merging, Renaming, renamed_id, renaming_of};
+use cedar_store::laws::merging::texts_are_loaded;
 use std::alloc::{AllocError, Global};
 
 // Puts the policies of a text to those of the set; answers the ids under which they now stand.

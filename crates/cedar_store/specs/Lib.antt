@@ -29,6 +29,8 @@ pub use Rattle.cedar_policy_set.specs.Entries
 pub use Rattle.cedar_policy_set.specs.Texts
 pub use Rattle.cedar_policy_set.specs.Validated
 pub use Rattle.cedar_policy_set.specs.Worlds
-pub use Rattle.cedar_merging.specs.Loading
-pub use Rattle.cedar_merging.specs.Merged
-pub use Rattle.cedar_merging.specs.Renaming
+pub mod Renaming
+pub mod Room
+pub mod Merged
+pub mod Laws
+pub mod Loading

@@ -3,6 +3,8 @@
 //! their merging. The uids and types of entities are handed on from below. What stands above its type is a
 //! method of a trait: `prelude` has them all.
 
+pub use crate::merging::Merging;
+pub use crate::renaming::{Renaming, renamed_id, renaming_of};
 pub use cedar_constraints::actions::{ActionConstraint, EntityTypeNames as ActionEntityTypeNames};
 pub use cedar_constraints::bindings::SlotEnv;
 pub use cedar_constraints::constraints::{
@@ -20,8 +22,6 @@ pub use cedar_entities::{
 };
 pub use cedar_literals::slots::{Slot, SlotId};
 pub use cedar_literals::uids::{ACTION_ENTITY_TYPE, Eid, EntityType, EntityUID, EntityUIDImpl};
-pub use cedar_merging::merging::Merging;
-pub use cedar_merging::renaming::{Renaming, renamed_id, renaming_of};
 pub use cedar_policies::errors::LinkingError;
 pub use cedar_policies::linking::TemplateLinks;
 pub use cedar_policies::policies::Policy;

@@ -2,8 +2,8 @@
 //! a caller's proof can cite it by a call. They say that `==` is sameness, places aside, that edits are those
 //! of a session's world, and what a merge renames.
 
+pub use crate::merging_laws as merging;
 pub use cedar_constraints::laws as constraints;
-pub use cedar_merging::laws as merging;
 pub use cedar_policy_parts::laws as annotations;
 pub use cedar_policy_set::{laws as sets, worlds as policy_set};
 pub use cedar_templates::laws as templates;

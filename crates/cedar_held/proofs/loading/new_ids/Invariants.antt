@@ -1,7 +1,7 @@
 -- The ids so far, and the new ones of the policies to come, are the new ids of all.
 use Rattle.std.proofs.Common.{◌≡◌, ◌++◌, map}
 use Rattle.std.specs.Map.{keys_of}
-use Rattle.cedar_merging.specs.Renaming.{new_id}
+use Rattle.cedar_store.specs.Renaming.{new_id}
 use Rattle.cedar_policy_set.specs.Bounds.{seen}
 use Rattle.cedar_held.proofs.loading.new_ids.Given as goal
 

@@ -1,7 +1,0 @@
--- What was joined so far, and what is left, are the whole rest.
-use Rattle.cedar_policy_set.specs.Bounds.{seen}
-use Rattle.cedar_merging.proofs.Joins.{IsJoining}
-use Rattle.cedar_merging.proofs.joining.joining.Given as goal
-
-abbrev pub invariant-loop-bound : goal.invariant-loop-bound
-invariant-loop-bound l = IsJoining l.mine l.theirs l.renaming.entries (seen l.bound-iterator) l.more.entries
