@@ -18,6 +18,7 @@ use cedar_extensions::extensions::Extensions;
 use cedar_extensions::objects::ExtensionFunctionObject;
 use cedar_literals::literals::Literal;
 use cedar_literals::uids::{EntityType, EntityUID};
+use cedar_names::shared::Shared;
 use cedar_requests::{Context, EntityUIDEntry, Request};
 use cedar_restricted::partial_values::PartialValue;
 use cedar_values::values::{Value, ValueKind};
@@ -163,7 +164,7 @@ fn not_of_kind(
     Ok(ConcretizationError::ValueError {
         id: RcStr::from_str(alloc, name)?,
         expected_type: kind,
-        given_value: value.clone(alloc)?,
+        given_value: Shared::new(alloc, value.clone(alloc)?)?,
     })
 }
 
@@ -177,8 +178,8 @@ fn already_given(
 {
     Ok(ConcretizationError::VarConfictError {
         id: RcStr::from_str(alloc, name)?,
-        existing_value: existing,
-        given_value: value.clone(alloc)?,
+        existing_value: Shared::new(alloc, existing)?,
+        given_value: Shared::new(alloc, value.clone(alloc)?)?,
     })
 }
 
@@ -193,6 +194,6 @@ fn of_other_type(
     Ok(ConcretizationError::EntityTypeConfictError {
         id: RcStr::from_str(alloc, name)?,
         existing_value: ty.clone(alloc)?,
-        given_value: value.clone(alloc)?,
+        given_value: Shared::new(alloc, value.clone(alloc)?)?,
     })
 }

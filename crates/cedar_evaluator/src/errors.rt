@@ -2,6 +2,7 @@
 //! values are told for unknowns. Begin with `ReauthorizationError`, which `reauthorize` gives.
 use cedar_extensions::evaluation_error::EvaluationError;
 use cedar_literals::uids::EntityType;
+use cedar_names::shared::Shared;
 use cedar_policy_parts::PolicyID;
 use cedar_policy_set::errors::PolicySetError;
 use cedar_restricted::partial_values::PartialValue;
@@ -46,7 +47,7 @@ pub enum ConcretizationError {
         /// What was expected: `entity` or `record`.
         expected_type: &'static str,
         /// The value that is told.
-        given_value: Value,
+        given_value: Shared<Value>,
     },
     /// The request gives the variable already.
     #[error("concretizing existing value {existing_value} of {id} with value {given_value}")]
@@ -54,9 +55,9 @@ pub enum ConcretizationError {
         /// The variable's name.
         id: RcStr,
         /// What the request gives.
-        existing_value: PartialValue,
+        existing_value: Shared<PartialValue>,
         /// The value that is told.
-        given_value: Value,
+        given_value: Shared<Value>,
     },
     /// The request states another type of the entity.
     #[error("concretizing existing but unknown entity value of type {existing_value} of {id} with value {given_value}")]
@@ -66,7 +67,7 @@ pub enum ConcretizationError {
         /// The type that the request states.
         existing_value: EntityType,
         /// The value that is told.
-        given_value: Value,
+        given_value: Shared<Value>,
     },
     /// The context errs with the values that are told.
     #[error(transparent)]
