@@ -16,6 +16,7 @@ pub use cedar_literals::variables::Var;
 pub use cedar_names::errors::{ConvertNameError, ParseNameError, ReservedNameError};
 pub use cedar_names::identifiers::{AnyId, Id, UnreservedId, is_normalized_ident};
 pub use cedar_names::names::{InternalName, Name};
+pub use cedar_names::shared::Shared;
 pub use cedar_names::texts::SharedText;
 pub use cedar_restricted::borrowed::BorrowedRestrictedExpr;
 pub use cedar_restricted::conversions::PartialValueToRestrictedExprError;
