@@ -1,52 +1,66 @@
 //! Answers lines of steps, layer by layer: behind a line `layer NAME` stand lines of that layer. Each is printed
-//! again with its answer.
+//! again with its answer, but a blank one, which is printed alone.
 #![tactic(auto)]
 
 use cedar_rows::{Answer, no_case};
+use cedar_session_rows::Tables;
 use std::alloc::{AllocError, Global};
 use std::io;
 
 /// What earlier lines of each layer left.
-struct Held {
+struct Held<'e, 'f> {
     expressions: cedar_expressions_rows::Held,
     parser: cedar_parser_rows::Held,
     store: cedar_store_rows::Held,
     evaluation: cedar_evaluation_rows::Held,
+    session: cedar_session_rows::Held<'e, 'f>,
 }
 
-impl Drop for Held {
+impl Drop for Held<'_, '_> {
     fn drop(self) {
         let Held {
             expressions: _,
             parser: _,
             store: _,
             evaluation: _,
+            session: _,
         } = self;
     }
 }
 
-fn nothing(alloc: Global) -> Result<Held, AllocError> {
+fn beside<'e, 'f>(
+    alloc: Global,
+    session: cedar_session_rows::Held<'e, 'f>,
+) -> Result<Held<'e, 'f>, AllocError> {
     Ok(Held {
         expressions: cedar_expressions_rows::none(alloc),
         parser: cedar_parser_rows::none(alloc),
         store: cedar_store_rows::none(alloc)?,
         evaluation: cedar_evaluation_rows::none(alloc)?,
+        session,
     })
 }
 
 /// What the layer of this name answers.
-fn answered(alloc: Global, layer: &str, line: &str, held: &mut Held) -> Answer {
+fn answered(alloc: Global, layer: &str, line: &str, held: &mut Held<'_, '_>) -> Answer {
     match layer {
         "expressions" => cedar_expressions_rows::answer(alloc, line, &mut held.expressions),
         "parser" => cedar_parser_rows::answer(alloc, line, &mut held.parser),
         "store" => cedar_store_rows::answer(alloc, line, &mut held.store),
         "evaluation" => cedar_evaluation_rows::answer(alloc, line, &mut held.evaluation),
+        "session" => cedar_session_rows::answer(alloc, line, &mut held.session),
         _ => no_case(alloc),
     }
 }
 
 fn main(rt: HostRuntime) -> io::Result<()> {
-    let mut held = nothing(rt.alloc())?;
+    let Ok(tables) = Tables::new(rt.alloc()) else {
+        return println!(rt; "no tables");
+    };
+    let Ok(session) = cedar_session_rows::none(rt.alloc(), &tables) else {
+        return println!(rt; "no session");
+    };
+    let mut held = beside(rt.alloc(), session)?;
     let mut layer = String::new(rt.alloc());
     for line in rt.lines(rt.alloc()) {
         let line = line?;
@@ -54,7 +68,11 @@ fn main(rt: HostRuntime) -> io::Result<()> {
             Some(name) => layer = String::from_str(rt.alloc(), name)?,
             None => {
                 let answer = answered(rt.alloc(), layer.as_str(), line.as_str(), &mut held)?;
-                println!(rt; "{line} => {answer}")?;
+                if line.is_empty() {
+                    println!(rt; "")?;
+                } else {
+                    println!(rt; "{line} => {answer}")?;
+                }
             }
         }
     }

@@ -1,6 +1,5 @@
 // Trees that are put on a stack, and what the one on its top says as the body of a command.
 use crate::ranks::Ranks;
-use crate::words::{Answer, no_case, number, parted, push, taken, tell};
 use cedar_bodies::{AskBody, EntityBody, ask_body, entity_bodies, listed_entities, uids_of};
 use cedar_entities::entity::Entity;
 use cedar_extensions::extensions::Extensions;
@@ -11,6 +10,7 @@ use cedar_names::names::Name;
 use cedar_replies::Refusal;
 use cedar_restricted::partial_values::PartialValue;
 use cedar_restricted::restricted::RestrictedExpr;
+use cedar_rows::{Answer, cut, no_case, number, push, taken, tell};
 use cedar_trees::expr::Expr;
 use std::alloc::{AllocError, Global};
 use std::rc::{Rc, RcStr};
@@ -51,7 +51,7 @@ fn keyed(
 }
 
 pub(crate) fn made(alloc: Global, text: &str, stack: &mut Vec<Expr>) -> Answer {
-    let (verb, text) = parted(text);
+    let (verb, text) = cut(text);
     match verb {
         "long" => push(alloc, stack, Ok::<_, AllocError>(long(text))),
         "string" => push(alloc, stack, string(alloc, text)),
@@ -78,7 +78,7 @@ pub(crate) fn read(
     extensions: &Extensions<'_, Ranks>,
     stack: &mut Vec<Expr>,
 ) -> Answer {
-    let (verb, text) = parted(text);
+    let (verb, text) = cut(text);
     let Some(tree) = stack.pop() else {
         return no_case(alloc);
     };

@@ -1,12 +1,13 @@
 // Frames that are read, texts that are put, and the names of verbs.
 use crate::devices::{Broken, Drip, Narrow};
-use crate::words::{Answer, bytes, number, one_line, parted, plain, tell};
+use crate::words::{bytes, one_line, plain};
 use cedar_frames::{Next, ReadFailed, Verb, Watched, next_frame, put, put_quoted, read_byte};
+use cedar_rows::{Answer, cut, number, tell};
 use std::alloc::Global;
 use std::io::{Read, Write};
 
 pub(crate) fn answer(alloc: Global, text: &str) -> Answer {
-    let (verb, text) = parted(text);
+    let (verb, text) = cut(text);
     match verb {
         "quoted" => quoted(alloc, text),
         "put" => put_twice(alloc, number(text)),
@@ -18,7 +19,7 @@ pub(crate) fn answer(alloc: Global, text: &str) -> Answer {
 
 /// What a device gives for bytes by some steps.
 fn given(alloc: Global, device: &str, text: &str) -> Answer {
-    let (steps, text) = parted(text);
+    let (steps, text) = cut(text);
     let given = bytes(alloc, text)?;
     match device {
         "whole" => by_steps(alloc, given.as_slice(), steps),

@@ -220,18 +220,37 @@ fn name_of(level: Level) -> &'static str
     }
 }
 
-/// The table of the built-in function alone.
-pub(crate) fn bare_table<'a>(
-    alloc: Global,
-) -> Result<Extensions<'a, Ranks>, ExtensionInitializationError> {
-    Extensions::specific_extensions(alloc, bare_extensions(alloc)?)
+/// A table of the built-in function alone, and one with the functions on ranks.
+pub struct Tables<'f> {
+    bare: Extensions<'f, Ranks>,
+    with_ranks: Extensions<'f, Ranks>,
 }
 
-/// The table of the built-in function and of those on ranks.
-pub(crate) fn table<'a>(
-    alloc: Global,
-) -> Result<Extensions<'a, Ranks>, ExtensionInitializationError> {
-    Extensions::specific_extensions(alloc, extensions(alloc)?)
+impl Drop for Tables<'_> {
+    fn drop(self) {
+        let Tables {
+            bare: _,
+            with_ranks: _,
+        } = self;
+    }
+}
+
+impl<'f> Tables<'f> {
+    /// The two tables. Refused for memory alone.
+    pub fn new(alloc: Global) -> Result<Tables<'f>, ExtensionInitializationError> {
+        Ok(Tables {
+            bare: Extensions::specific_extensions(alloc, bare_extensions(alloc)?)?,
+            with_ranks: Extensions::specific_extensions(alloc, extensions(alloc)?)?,
+        })
+    }
+
+    pub(crate) fn bare(&self) -> &Extensions<'f, Ranks> {
+        &self.bare
+    }
+
+    pub(crate) fn with_ranks(&self) -> &Extensions<'f, Ranks> {
+        &self.with_ranks
+    }
 }
 
 fn bare_extensions(alloc: Global) -> Result<Vec<Extension<Ranks>>, AllocError>

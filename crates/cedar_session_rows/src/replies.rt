@@ -1,13 +1,14 @@
 // Lines that say what a command is answered.
-use crate::words::{Answer as Line, one_line, parted, plain};
+use crate::words::{one_line, plain};
 use cedar_replies::put_line;
+use cedar_rows::{Answer as Line, cut};
 use cedar_session::{
     Answer, Decision, Erring, ErrorKind, PolicyID, PolicyIds, Refusal, Reply, Watched,
 };
 use std::alloc::{AllocError, Global};
 
 pub(crate) fn answer(alloc: Global, text: &str) -> Line {
-    let (verb, text) = parted(text);
+    let (verb, text) = cut(text);
     match verb {
         "done" => line(alloc, Ok(Reply::Done)),
         "ids" => line(alloc, listed(alloc, text)),

@@ -1,7 +1,8 @@
 // Runs of a session over memory, and of the program's work, at devices of each kind.
 use crate::devices::{Asking, Broken, Drip, Hearing, Narrow};
 use crate::ranks::Ranks;
-use crate::words::{Answer, bytes, number, one_line, parted};
+use crate::words::{bytes, one_line};
+use cedar_rows::{Answer, cut, number};
 use cedar_session::{End, RunError, Session, Watched, program, run};
 use std::alloc::{AllocError, Global};
 use std::cell::Cell;
@@ -51,7 +52,7 @@ pub(crate) fn of_command(verb: &str, body: &str, session: &mut Session<'_, '_, R
 /// has room for so many bytes, or at a client that waits for a line at each NUL.
 pub(crate) fn at_devices(text: &str, session: &mut Session<'_, '_, Ranks>) -> Answer {
     let alloc = session.allocator();
-    let (device, text) = parted(text);
+    let (device, text) = cut(text);
     match device {
         "narrow" => return at_narrow(text, session),
         "client" => return at_client(text, session),
@@ -69,7 +70,7 @@ pub(crate) fn at_devices(text: &str, session: &mut Session<'_, '_, Ranks>) -> An
 
 fn at_narrow(text: &str, session: &mut Session<'_, '_, Ranks>) -> Answer {
     let alloc = session.allocator();
-    let (room, text) = parted(text);
+    let (room, text) = cut(text);
     let given = bytes(alloc, text)?;
     let mut narrow = Narrow::with_room(alloc, number(room));
     let end = ended(session, given.as_slice(), &mut narrow);
@@ -120,8 +121,8 @@ fn status_told(alloc: Global, status: u8, written: &[u8], errors: &[u8]) -> Answ
 /// The program's work with so many arguments; or with none, at a writer that has room for so many bytes,
 /// and at a reader that breaks behind its bytes or does not.
 pub(crate) fn of_program(alloc: Global, text: &str) -> Answer {
-    let (device, text) = parted(text);
-    let (count, text) = parted(text);
+    let (device, text) = cut(text);
+    let (count, text) = cut(text);
     let given = bytes(alloc, text)?;
     let mut errors = Vec::new(alloc);
     if device == "whole" {

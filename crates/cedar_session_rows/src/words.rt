@@ -1,18 +1,6 @@
-// A line's words, the bytes that they write, and how an answer is told. What is made by a call goes to a
-// generic function, by value, so that no function which makes the call lets go of anything.
+// The bytes that a line's words write, and how bytes are told.
+use cedar_rows::{Answer, number};
 use std::alloc::{AllocError, Global};
-use std::fmt::{Debug, Display};
-
-pub(crate) type Answer = Result<String, AllocError>;
-
-/// The first word, and what stands behind it.
-pub(crate) fn parted(line: &str) -> (&str, &str) {
-    line.split_once(' ').unwrap_or((line, ""))
-}
-
-pub(crate) fn number(text: &str) -> usize {
-    text.parse::<usize>().unwrap_or(0)
-}
 
 /// The bytes that a text writes: `\n` is a line feed, `\xff` the byte of this number, and `\{9*ab}` as
 /// many copies of a text; before anything else a backslash is itself.
@@ -68,45 +56,4 @@ pub(crate) fn one_line(alloc: Global, bytes: &[u8]) -> Answer {
         Ok(text) => text.replace(alloc, '\n', "\\n"),
         Err(_) => String::from_str(alloc, "no text"),
     }
-}
-
-pub(crate) fn no_case(alloc: Global) -> Answer {
-    String::from_str(alloc, "no case")
-}
-
-/// What has a text for programmers alone.
-pub(crate) fn tell<T: Debug + Drop>(alloc: Global, found: T) -> Answer {
-    format!(in alloc; "{found:?}")
-}
-
-/// Puts what was made on the stack.
-pub(crate) fn push<T: Display + Drop, E: Debug + Drop>(
-    alloc: Global,
-    stack: &mut Vec<T>,
-    found: Result<T, E>,
-) -> Answer {
-    match found {
-        Ok(value) => {
-            let text = value.to_string(alloc)?;
-            stack.push(value)?;
-            Ok(text)
-        }
-        Err(error) => format!(in alloc; "refused {error:?}"),
-    }
-}
-
-/// As many as are wanted, from the top of the stack.
-pub(crate) fn taken<T: Drop>(
-    alloc: Global,
-    count: usize,
-    stack: &mut Vec<T>,
-) -> Result<Vec<T>, AllocError> {
-    let mut values = Vec::new(alloc);
-    for _ in 0..count {
-        if let Some(value) = stack.pop() {
-            values.push(value)?;
-        }
-    }
-    values.reverse();
-    Ok(values)
 }
