@@ -4,3 +4,4 @@ pub mod Search
 pub mod Finding
 pub mod Refusal
 pub mod Resetting
+pub mod Written

@@ -70,10 +70,10 @@ fn add_reached<K: Eq + Hash + Drop, V: TCNode<K>>(
     ensures same { SameNodes K.eq V.is_same nodes.old nodes.new }
 {
     let Reached { from, keys } = reached;
-    if let Some(node) = nodes.get_mut(&from) {
-        node.add_edges_to(keys)?;
+    match nodes.get_mut(&from) {
+        Some(node) => node.add_edges_to(keys),
+        None => Ok(()),
     }
-    Ok(())
 }
 
 // Adds what was found at each node.
