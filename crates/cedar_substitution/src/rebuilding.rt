@@ -125,16 +125,7 @@ fn rebuilt_end<T, B: ExprBuilder, U: Replacement>(
             let pairs = rebuilt_entries::<T, B, U>(alloc, unknowns, entries)?;
             builder.record(pairs)
         }
-        ExprKind::If { .. } => unreachable!(),
-        ExprKind::And { .. } => unreachable!(),
-        ExprKind::Or { .. } => unreachable!(),
-        ExprKind::UnaryApp { .. } => unreachable!(),
-        ExprKind::BinaryApp { .. } => unreachable!(),
-        ExprKind::GetAttr { .. } => unreachable!(),
-        ExprKind::HasAttr { .. } => unreachable!(),
-        ExprKind::ExtHasAttr { .. } => unreachable!(),
-        ExprKind::Like { .. } => unreachable!(),
-        ExprKind::Is { .. } => unreachable!(),
+        _ => unreachable!(),
     }
 }
 
