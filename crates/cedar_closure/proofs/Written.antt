@@ -1,6 +1,6 @@
 -- A map of nodes of which the one at a key was written, or none.
-use Rattle.std.proofs.Common.{◌≡◌, Bool, true, false, cond, ◌||◌, ◌&&◌, List, [], ◌++◌, Option, None, Some, MatchOption, IsTrue, refl, sym, ap, ◌∙◌, subst}
-use Rattle.std.specs.Option.{option_map_or, IsSomeAnd, is_some}
+use Rattle.std.proofs.Common.{◌≡◌, Bool, true, false, cond, ◌||◌, ◌&&◌, List, [], ◌++◌, Option, None, Some, IsTrue, refl, sym, ap, ◌∙◌, subst}
+use Rattle.std.specs.Option.{option_map_or, is_some}
 use Rattle.std.specs.Cmp.{IsEquivalence}
 use Rattle.std.specs.Set.{is_member}
 use Rattle.std.specs.HashMap.{HashMap, get, WritesThrough}
@@ -9,9 +9,10 @@ use Rattle.std.proofs.Math.Bool.{and-false, or_comm}
 use Rattle.std.proofs.lemmas.List.Folds.{list_any-append}
 use Rattle.cedar_closure.specs.Graph.{HasEdge, IsBetween, SameKeys, SameNodes, edges_at}
 use Rattle.cedar_closure.proofs.Members.{or_more, or_none}
+use Rattle.cedar_closure.proofs.Resetting.{IsSameIn}
 
 -- a node that isn't written stays the same
-same_still : {V : Type 0} (Same : V → V → Type 0) → ((v : V) → Same v v) → (o : Option V) → MatchOption o (o ≡ None) (λ v. IsSomeAnd o (Same v))
+same_still : {V : Type 0} (Same : V → V → Type 0) → ((v : V) → Same v v) → (o : Option V) → IsSameIn Same o o
 same_still Same itself None = refl
 same_still Same itself (Some v) = itself v
 
@@ -40,7 +41,7 @@ module _ {K V S : Type 0} {eq : K → K → Bool} (laws : IsEquivalence eq) (m n
     ] refl
 
     pub same_written : (Same : V → V → Type 0) → ((v : V) → Same v v) → Same v w → SameNodes eq Same m n
-    same_written Same itself same = by_key (λ o p b. MatchOption o (p ≡ None) (λ u. IsSomeAnd p (Same u))) same (same_still Same itself)
+    same_written Same itself same = by_key (λ o p b. IsSameIn Same o p) same (same_still Same itself)
 
     module _ (edges : V → List K) (keys : List K) where
       -- where the keys were added to what v has
