@@ -14,15 +14,21 @@ use Rattle.cedar_grammar.specs.Policy as grammar
 use Rattle.cedar_partial_evaluation.specs.Early.{standing_of_answer}
 use Rattle.cedar_partial_evaluation.specs.Leaves.{is_left}
 use Rattle.cedar_partial_evaluation.specs.Mentions.{mentions_only}
-use Rattle.cedar_partial_evaluation.specs.Partial.{Answer, LeafAnswers}
-use Rattle.cedar_policies.specs.Policies.{policy_syntax}
+use Rattle.cedar_partial_evaluation.specs.Partial.{Answer, LeafAnswers, partial_in}
+use Rattle.cedar_policies.specs.Policies.{bindings_of, policy_syntax}
 use Rattle.cedar_policies.specs.declared.policies.Policy.{Policy}
 use Rattle.cedar_trees.specs.Bare.{bare}
 use Rattle.cedar_trees.specs.declared.expr.Expr.{Expr}
+use Rattle.cedar_entities.specs.declared.store.Entities.{Entities}
+use Rattle.cedar_extensions.specs.Answering.{FunctionAnswers}
 use Rattle.cedar_extensions.specs.Giving.{GivesBy}
+use Rattle.cedar_extensions.specs.Table.{Table}
 use Rattle.cedar_extensions.specs.declared.evaluation_error.EvaluationError.{EvaluationError}
-use Rattle.cedar_interpreter.specs.Asking.{is_known_in, IsHeldOf}
-use Rattle.cedar_evaluator.specs.Evaluations.{Found, Satisfied, Unsatisfied, Open, Finds}
+use Rattle.cedar_interpreter.specs.Asking.{Inquiry, request_held, is_known_in, IsEvaluatorOf, IsHeldOf}
+use Rattle.cedar_interpreter.specs.declared.evaluator.Evaluator.{Evaluator}
+use Rattle.cedar_evaluator.specs.Evaluations.{Found, Satisfied, Unsatisfied, Open, Finds, IsServed}
+use Rattle.cedar_evaluator.specs.Scopes.{AreScopesOf}
+use Rattle.cedar_evaluator.specs.declared.scopes.Scopes.{Scopes}
 
 -- the condition of a policy, its template's; slots stand there unbound
 abbrev pub condition_of : Policy → Tree
@@ -37,6 +43,12 @@ found_by (Right rest) = Open (bare rest)
 -- the answer b to the condition: a Boolean, what is left of one, or an error, another value being a TypeError; the limit may be met
 abbrev pub JudgesAt : Answer → Result (Either Bool (Expr (Unit {0}))) EvaluationError → Type 0
 JudgesAt b result = GivesBy (λ e. Finds b (found_by e)) (λ k. standing_of_answer b ≡ Erring k) ⊤ result
+
+-- the answer to a policy's condition by an evaluator and what is decided of scopes, for each inquiry that these answer for
+abbrev pub JudgesBy : {F : Type 0} → (F → FunctionAnswers) → Evaluator F → Scopes → Policy → Result (Either Bool (Expr (Unit {0}))) EvaluationError → Type 0
+JudgesBy answers ev scopes p result =
+    (i : Inquiry) (store : Entities) (table : Table) (depth : ℕ) → IsEvaluatorOf answers i store table depth ev → AreScopesOf i store scopes →
+    (facts : Facts) → IsServed i store table depth facts (condition_of p) → JudgesAt (partial_in facts (request_held i (bindings_of p)) (condition_of p)) result
 
 -- ---- where nothing may be left
 

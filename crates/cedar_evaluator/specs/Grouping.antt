@@ -6,12 +6,15 @@ use Rattle.either.specs.declared.Either.{Either}
 use Rattle.cedar_language.specs.Answering.{Permit, Forbid}
 use Rattle.cedar_language.specs.Order.{same_text}
 use Rattle.cedar_entities.specs.declared.store.Entities.{Entities}
+use Rattle.cedar_extensions.specs.Answering.{FunctionAnswers}
 use Rattle.cedar_extensions.specs.Failures.{Failure, OfKind, LimitMet, MemoryRanOut, failure_of}
 use Rattle.cedar_extensions.specs.declared.evaluation_error.EvaluationError.{EvaluationError}
 use Rattle.cedar_extensions.specs.Table.{Table}
-use Rattle.cedar_interpreter.specs.Asking.{Inquiry}
+use Rattle.cedar_interpreter.specs.Asking.{Inquiry, IsEvaluatorOf}
+use Rattle.cedar_interpreter.specs.declared.evaluator.Evaluator.{Evaluator}
 use Rattle.cedar_policies.specs.Policies.{policy_id, policy_syntax}
 use Rattle.cedar_policies.specs.declared.policies.Policy.{Policy}
+use Rattle.cedar_policy_set.specs.Bounds.{policy_seen}
 use Rattle.cedar_policy_set.specs.Entries.{Entries}
 use Rattle.cedar_trees.specs.Bare.{bare}
 use Rattle.cedar_trees.specs.declared.expr.Expr.{Expr}
@@ -19,7 +22,9 @@ use Rattle.cedar_evaluator.specs.Evaluating.{found_by}
 use Rattle.cedar_evaluator.specs.Evaluations.{Found, Erred, Kept, AreKept}
 use Rattle.cedar_evaluator.specs.Holding.{has_erred, error_seen}
 use Rattle.cedar_evaluator.specs.Responses.{Holding, if_effect, satisfied_id, false_id, open_id, error_id, holding_of, without_false}
+use Rattle.cedar_evaluator.specs.Scopes.{AreScopesOf}
 use Rattle.cedar_evaluator.specs.declared.groups.Groups.{Groups}
+use Rattle.cedar_evaluator.specs.declared.scopes.Scopes.{Scopes}
 
 -- the policies of each group and the errors, in their order
 abbrev pub held_in : Groups → Holding
@@ -79,6 +84,16 @@ pub record Keeps (with_false : Bool) (i : Inquiry) (store : Entities) (table : T
   pub kept : List Kept
   pub each : AreKept i store table depth es kept
   pub holds : held_in g ≡ held_with with_false (holding_of kept)
+
+-- by an evaluator and what is decided of scopes, for each inquiry that these answer for
+abbrev pub KeepsBy : {F : Type 0} → (F → FunctionAnswers) → Bool → Evaluator F → Scopes → Entries → Groups → Type 0
+KeepsBy answers with_false ev scopes es g = (i : Inquiry) (store : Entities) (table : Table) (depth : ℕ) → IsEvaluatorOf answers i store table depth ev → AreScopesOf i store scopes → Keeps with_false i store table depth es g
+
+-- groups that kept what was found of some policies keep then what was found of one more besides
+abbrev pub KeepsOneMore : {F : Type 0} → (F → FunctionAnswers) → Bool → Evaluator F → Scopes → Policy → Groups → Groups → Type 0
+KeepsOneMore answers with_false ev scopes p before after =
+    (i : Inquiry) (store : Entities) (table : Table) (depth : ℕ) → IsEvaluatorOf answers i store table depth ev → AreScopesOf i store scopes →
+    (es : Entries) → Keeps with_false i store table depth es before → Keeps with_false i store table depth (es ++ policy_seen p ∷ []) after
 
 -- of no group an id stands twice
 pub record AreApart (g : Groups) : Type 0 where

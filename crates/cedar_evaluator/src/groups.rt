@@ -1,21 +1,16 @@
 // Policies in groups, by their effects and by what was found of them.
-ghost use Rattle.std.specs.Prelude.{◌≡◌, ℕ, false, [], ◌∷◌, ◌++◌, IfOk, OnOk};
-ghost use Rattle.cedar_entities.specs.declared.store.Entities.{Entities as Store};
+ghost use Rattle.std.specs.Prelude.{◌≡◌, false, [], ◌∷◌, ◌++◌, IfOk, OnOk};
 ghost use Rattle.cedar_extensions.specs.Failures.{failure_of};
-ghost use Rattle.cedar_extensions.specs.Table.{Table};
-ghost use Rattle.cedar_interpreter.specs.Asking.{Inquiry, IsEvaluatorOf};
 ghost use Rattle.cedar_policies.specs.Policies.{policy_id};
 ghost use Rattle.cedar_policy_parts.specs.Effects.{effect_of};
-ghost use Rattle.cedar_policy_set.specs.Bounds.{policy_seen};
-ghost use Rattle.cedar_policy_set.specs.Entries.{Entries, policies_of};
+ghost use Rattle.cedar_policy_set.specs.Entries.{policies_of};
 ghost use Rattle.cedar_requests.specs.Holding.{request_parts};
 ghost use Rattle.cedar_trees.specs.Bare.{bare};
 ghost use Rattle.cedar_evaluator.specs.Candidates.{policies_at};
 ghost use Rattle.cedar_evaluator.specs.Evaluations.{Satisfied, Unsatisfied, Erred, Open};
-ghost use Rattle.cedar_evaluator.specs.Grouping.{held_in, with_kept, kept_of, is_want, IsKeepable, Keeps, AreApart};
+ghost use Rattle.cedar_evaluator.specs.Grouping.{held_in, with_kept, kept_of, is_want, IsKeepable, KeepsBy, KeepsOneMore, AreApart};
 ghost use Rattle.cedar_evaluator.specs.Holding.{holding_in, request_asked};
 ghost use Rattle.cedar_evaluator.specs.Responses.{Holding, without_false};
-ghost use Rattle.cedar_evaluator.specs.Scopes.{AreScopesOf};
 
 use crate::candidates::candidates;
 use crate::errors::AuthorizationError;
@@ -125,8 +120,7 @@ impl Groups {
         policies: &PolicySet,
         with_false: bool,
     ) -> Result<Groups, AllocError>
-        ensures { IfOk result (λ groups. (i : Inquiry) (store : Store) (table : Table) (depth : ℕ) →
-            IsEvaluatorOf F.answers i store table depth evaluator.now → AreScopesOf i store scopes.now → Keeps with_false i store table depth (policies_of policies.now) groups) }
+        ensures { IfOk result (KeepsBy F.answers with_false evaluator.now scopes.now (policies_of policies.now)) }
     {
         if with_false {
             return Groups::of_all(alloc, evaluator, scopes, policies, with_false);
@@ -145,8 +139,7 @@ impl Groups {
         policies: &PolicySet,
         with_false: bool,
     ) -> Result<Groups, AllocError>
-        ensures { IfOk result (λ groups. (i : Inquiry) (store : Store) (table : Table) (depth : ℕ) →
-            IsEvaluatorOf F.answers i store table depth evaluator.now → AreScopesOf i store scopes.now → Keeps with_false i store table depth (policies_of policies.now) groups) }
+        ensures { IfOk result (KeepsBy F.answers with_false evaluator.now scopes.now (policies_of policies.now)) }
     {
         let mut groups = Groups::new(alloc);
         for policy in policies.policies() {
@@ -163,8 +156,7 @@ impl Groups {
         policies: &PolicySet,
         positions: &[usize],
     ) -> Result<Groups, AllocError>
-        ensures { IfOk result (λ groups. (i : Inquiry) (store : Store) (table : Table) (depth : ℕ) →
-            IsEvaluatorOf F.answers i store table depth evaluator.now → AreScopesOf i store scopes.now → Keeps false i store table depth (policies_at policies.now positions.now) groups) }
+        ensures { IfOk result (KeepsBy F.answers false evaluator.now scopes.now (policies_at policies.now positions.now)) }
     {
         let mut groups = Groups::new(alloc);
         for position in positions {
@@ -184,9 +176,7 @@ impl Groups {
         policy: &Policy,
         with_false: bool,
     ) -> Result<(), AllocError>
-        ensures { OnOk result ((i : Inquiry) (store : Store) (table : Table) (depth : ℕ) →
-            IsEvaluatorOf F.answers i store table depth evaluator.now → AreScopesOf i store scopes.now → (es : Entries) →
-            Keeps with_false i store table depth es self.old → Keeps with_false i store table depth (es ++ policy_seen policy.now ∷ []) self.new) }
+        ensures { OnOk result (KeepsOneMore F.answers with_false evaluator.now scopes.now policy.now self.old self.new) }
     {
         if with_false {
             let answer = evaluated(alloc, evaluator, scopes, policy);
@@ -205,9 +195,7 @@ impl Groups {
         scopes: &Scopes<'_>,
         policy: &Policy,
     ) -> Result<(), AllocError>
-        ensures { OnOk result ((i : Inquiry) (store : Store) (table : Table) (depth : ℕ) →
-            IsEvaluatorOf F.answers i store table depth evaluator.now → AreScopesOf i store scopes.now → (es : Entries) →
-            Keeps false i store table depth es self.old → Keeps false i store table depth (es ++ policy_seen policy.now ∷ []) self.new) }
+        ensures { OnOk result (KeepsOneMore F.answers false evaluator.now scopes.now policy.now self.old self.new) }
     {
         match told(evaluator, scopes, policy) {
             Some(false) => Ok(()),
@@ -229,9 +217,7 @@ impl Groups {
         scopes: &Scopes<'_>,
         policy: &Policy,
     ) -> Result<(), AllocError>
-        ensures { OnOk result ((i : Inquiry) (store : Store) (table : Table) (depth : ℕ) →
-            IsEvaluatorOf F.answers i store table depth evaluator.now → AreScopesOf i store scopes.now → (es : Entries) →
-            Keeps false i store table depth es self.old → Keeps false i store table depth (es ++ policy_seen policy.now ∷ []) self.new) }
+        ensures { OnOk result (KeepsOneMore F.answers false evaluator.now scopes.now policy.now self.old self.new) }
     {
         let answer = evaluated_in_full(alloc, evaluator, scopes, policy);
         self.keep_without_false(alloc, policy, answer)

@@ -13,8 +13,7 @@ ghost use Rattle.cedar_interpreter.specs.Asking.{Inquiry, request_held, IsEvalua
 ghost use Rattle.cedar_interpreter.specs.Holding.{held_by, Serves, Deep, depth_of};
 ghost use Rattle.cedar_interpreter.specs.Meeting.{IsLimit};
 ghost use Rattle.cedar_policies.specs.Policies.{bindings_of, policy_syntax};
-ghost use Rattle.cedar_evaluator.specs.Evaluating.{condition_of, JudgesAt};
-ghost use Rattle.cedar_evaluator.specs.Evaluations.{IsServed};
+ghost use Rattle.cedar_evaluator.specs.Evaluating.{condition_of, JudgesAt, JudgesBy};
 ghost use Rattle.cedar_evaluator.specs.Scopes.{IsDecided, AreScopesOf};
 
 use crate::evaluation::{EvaluatePolicy, judged};
@@ -57,8 +56,7 @@ pub(crate) fn evaluated<F: ExtensionFunctionObject>(
     scopes: &Scopes<'_>,
     policy: &Policy,
 ) -> Result<Either<bool, Expr>, EvaluationError>
-    ensures found { (i : Inquiry) (store : Store) (table : Table) (depth : ℕ) → IsEvaluatorOf F.answers i store table depth evaluator.now → AreScopesOf i store scopes.now →
-        (facts : Facts) → IsServed i store table depth facts (condition_of policy.now) → JudgesAt (partial_in facts (request_held i (bindings_of policy.now)) (condition_of policy.now)) result }
+    ensures found { JudgesBy F.answers evaluator.now scopes.now policy.now result }
     ensures limit { IsLimit result → Deep F.answers evaluator.now (depth_of evaluator.now) (condition_of policy.now) }
 {
     match told(evaluator, scopes, policy) {
@@ -75,8 +73,7 @@ pub(crate) fn evaluated_in_full<F: ExtensionFunctionObject>(
     scopes: &Scopes<'_>,
     policy: &Policy,
 ) -> Result<Either<bool, Expr>, EvaluationError>
-    ensures found { (i : Inquiry) (store : Store) (table : Table) (depth : ℕ) → IsEvaluatorOf F.answers i store table depth evaluator.now → AreScopesOf i store scopes.now →
-        (facts : Facts) → IsServed i store table depth facts (condition_of policy.now) → JudgesAt (partial_in facts (request_held i (bindings_of policy.now)) (condition_of policy.now)) result }
+    ensures found { JudgesBy F.answers evaluator.now scopes.now policy.now result }
     ensures limit { IsLimit result → Deep F.answers evaluator.now (depth_of evaluator.now) (condition_of policy.now) }
 {
     match scopes.hold(policy) {
