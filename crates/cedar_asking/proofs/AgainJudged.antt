@@ -21,7 +21,7 @@ use Rattle.cedar_world.specs.Setting.{Setting}
 use Rattle.cedar_world.specs.Standing.{IsJudged, Judges, Says, ErrOnce, UnsatisfiedSayNothing}
 use Rattle.cedar_world.specs.World.{World, in_force_at}
 use Rattle.cedar_world.specs.WorldFacts.{AreFactsOf}
-use Rattle.cedar_constraints.specs.Bindings.{binding_of, unbound}
+use Rattle.cedar_policy_parts.specs.Bindings.{binding_of, unbound}
 use Rattle.cedar_entities.specs.declared.store.Entities.{Entities}
 use Rattle.cedar_extensions.specs.Table.{Table}
 use Rattle.cedar_interpreter.specs.Asking.{Inquiry, untold, request_held}

@@ -21,7 +21,7 @@ use Rattle.cedar_world.specs.Asking.{Entries, NoContext, WithEntries, Question, 
 use Rattle.cedar_world.specs.First.{IsData}
 use Rattle.cedar_world.specs.Setting.{Setting}
 use Rattle.cedar_world.specs.Values.{holds_bad_unknown}
-use Rattle.cedar_constraints.specs.Bindings.{Bindings, binding_of}
+use Rattle.cedar_policy_parts.specs.Bindings.{Bindings, binding_of}
 use Rattle.cedar_extensions.specs.Failures.{OfKind, LimitMet, MemoryRanOut}
 use Rattle.cedar_extensions.specs.Table.{Table}
 use Rattle.cedar_interpreter.specs.Asking.{untold, request_held}

@@ -33,7 +33,7 @@ use Rattle.cedar_world.specs.Standing.{Says, AnswersAreMade, UnsatisfiedSayNothi
 use Rattle.cedar_world.specs.Values.{variable_names, context_errs}
 use Rattle.cedar_world.specs.World.{World}
 use Rattle.cedar_world.specs.WorldFacts.{AreFactsOf, facts_of, WorldsHaveFacts}
-use Rattle.cedar_constraints.specs.Bindings.{unbound}
+use Rattle.cedar_policy_parts.specs.Bindings.{unbound}
 use Rattle.cedar_entities.specs.declared.store.Entities.{Entities}
 use Rattle.cedar_extensions.specs.Failures.{Failure, OfKind, LimitMet, MemoryRanOut, failure_of}
 use Rattle.cedar_extensions.specs.declared.evaluation_error.EvaluationError.{EvaluationError}

@@ -22,7 +22,7 @@ use Rattle.cedar_world.specs.Orders.{text_eq}
 use Rattle.cedar_world.specs.Question.{has_name, fits_part, fits_context}
 use Rattle.cedar_world.specs.Setting.{Setting}
 use Rattle.cedar_world.specs.Values.{variable_names}
-use Rattle.cedar_constraints.specs.Bindings.{unbound}
+use Rattle.cedar_policy_parts.specs.Bindings.{unbound}
 use Rattle.cedar_extensions.specs.Table.{Table}
 use Rattle.cedar_interpreter.specs.Asking.{context_asked, variable_asked, request_held}
 use Rattle.cedar_interpreter.specs.Operating.{HasFunctions}

@@ -1,10 +1,10 @@
 // What evaluators answer of an expression.
 use crate::requests::{Requests, word_depth};
-use cedar_constraints::bindings::SlotEnv;
 use cedar_entities::store::Entities;
 use cedar_expressions::Extensions;
 use cedar_expressions::ast::{BorrowedRestrictedExpr, EntityUID, Expr};
 use cedar_interpreter::{Evaluator, RestrictedEvaluator};
+use cedar_policy_parts::bindings::SlotEnv;
 use cedar_requests::{Context, EntityUIDEntry, Request};
 use cedar_rows::{Answer, explain, no_case, refused_for};
 use std::alloc::{AllocError, Global};

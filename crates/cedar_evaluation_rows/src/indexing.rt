@@ -1,8 +1,8 @@
 // The policies at hand are linked, taken away, and listed by what their scopes name.
 use crate::stores::user;
-use cedar_constraints::bindings::SlotEnv;
 use cedar_literals::slots::SlotId;
 use cedar_policy_parts::PolicyID;
+use cedar_policy_parts::bindings::SlotEnv;
 use cedar_policy_set::sets::PolicySet;
 use cedar_rows::{Answer, no_case, refused_for, tell};
 use std::alloc::Global;

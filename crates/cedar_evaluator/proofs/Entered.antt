@@ -8,7 +8,7 @@ use Rattle.cedar_grammar.specs.Policy.{slots}
 use Rattle.cedar_language.specs.Tree.{PrincipalSlot, ResourceSlot}
 use Rattle.cedar_world.specs.Syntax.{Bindings, is_slot}
 use Rattle.cedar_world.specs.Refusals.{same_flag, binds_exactly}
-use Rattle.cedar_constraints.specs.Bindings.{unbound}
+use Rattle.cedar_policy_parts.specs.Bindings.{unbound}
 use Rattle.cedar_policy_set.specs.Bounds.{entry_by}
 use Rattle.cedar_policy_set.specs.Texts.{syntax_in}
 use Rattle.cedar_evaluator.specs.Evaluations.{bindings_in}

@@ -8,7 +8,7 @@ use Rattle.cedar_language.specs.Meaning.{meaning}
 use Rattle.cedar_language.specs.Tree.{Tree}
 use Rattle.cedar_language.specs.Value.{Value, Outcome}
 use Rattle.cedar_partial_evaluation.specs.Partial.{Answer, partial_in}
-use Rattle.cedar_constraints.specs.Bindings.{Bindings}
+use Rattle.cedar_policy_parts.specs.Bindings.{Bindings}
 use Rattle.cedar_trees.specs.declared.expr.Expr.{Expr}
 use Rattle.cedar_restricted.specs.declared.partial_values.PartialValue.{PartialValue}
 use Rattle.cedar_extensions.specs.Giving.{Gives}

@@ -11,7 +11,7 @@ use Rattle.cedar_grammar.specs.Build.{conjunction}
 use Rattle.cedar_grammar.specs.Policy as grammar
 use Rattle.cedar_grammar.specs.Policy.{scope_tree, with_body, condition}
 use Rattle.cedar_partial_evaluation.specs.Partial.{Answer, Evaluated, LeafAnswers, last_answer, partial_in}
-use Rattle.cedar_constraints.specs.Bindings.{Bindings}
+use Rattle.cedar_policy_parts.specs.Bindings.{Bindings}
 use Rattle.cedar_extensions.specs.Answering.{FunctionAnswers}
 use Rattle.cedar_extensions.specs.declared.evaluation_error.EvaluationError.{EvaluationError}
 use Rattle.cedar_interpreter.specs.Holding.{held_by, Serves, Deep}

@@ -24,7 +24,7 @@ use Rattle.cedar_policies.specs.Policies.{policy_template, policy_syntax, link_o
 use Rattle.cedar_policies.specs.declared.policies.Policy.{Policy}
 use Rattle.cedar_policy_set.specs.Bounds.{policy_entry, policy_seen}
 use Rattle.cedar_policy_set.specs.Texts.{syntax_in}
-use Rattle.cedar_templates.specs.Templates.{template_id}
+use Rattle.cedar_policies.specs.Templates.{template_id}
 use Rattle.cedar_trees.specs.declared.expr.Expr.{Expr}
 use Rattle.cedar_evaluator.specs.Evaluating.{condition_of, JudgesAt}
 use Rattle.cedar_evaluator.specs.Evaluations.{Finds, bindings_in, condition_in, is_given, IsServed, policy_answer, IsKept}

@@ -13,7 +13,7 @@ use Rattle.std.proofs.lemmas.List.Sorted.{list_any-IsPermutation}
 use Rattle.std.proofs.lemmas.Map.Made.{is_member-Decides}
 use Rattle.cedar_language.specs.Uid.{Uid}
 use Rattle.cedar_language.specs.Order.{same_uid}
-use Rattle.cedar_constraints.specs.Sameness.{uids_decide}
+use Rattle.cedar_policy_parts.specs.SameScopes.{uids_decide}
 use Rattle.cedar_entities.specs.Data.{EntityData, UidSet, ancestors_of}
 use Rattle.cedar_operators.specs.Hierarchy.{is_within_entity}
 use Rattle.cedar_scope_index.specs.Finding.{positions_at, is_listed}

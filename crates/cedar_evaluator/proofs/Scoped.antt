@@ -14,7 +14,7 @@ use Rattle.cedar_grammar.specs.Policy.{Target, the_entity, the_slot, Constraint,
 use Rattle.cedar_partial_evaluation.specs.Partial.{Evaluated, AllEvaluated, and_answer, and_next, last_answer, answer_of, apply_answer, LeafAnswers, partial_in}
 use Rattle.cedar_world.specs.Scope.{and_then_met, action_meets}
 use Rattle.cedar_world.proofs.Scope.{entity_equal, conjoined, entities, all_listed, rising_uids}
-use Rattle.cedar_constraints.specs.References.{target_bound}
+use Rattle.cedar_policy_parts.specs.References.{target_bound}
 use Rattle.cedar_entities.specs.Data.{EntityData}
 use Rattle.cedar_entities.specs.declared.store.Entities.{Entities}
 use Rattle.cedar_operators.specs.Operands.{two}

@@ -9,7 +9,7 @@ use Rattle.cedar_language.specs.Answering.{Effect, Erring}
 use Rattle.cedar_partial_evaluation.specs.Early.{standing_of_answer}
 use Rattle.cedar_partial_evaluation.specs.Mentions.{mentions_only}
 use Rattle.cedar_partial_evaluation.specs.Partial.{Answer, Evaluated, ResidualTree, partial_in}
-use Rattle.cedar_constraints.specs.Bindings.{Bindings, unbound}
+use Rattle.cedar_policy_parts.specs.Bindings.{Bindings, unbound}
 use Rattle.cedar_extensions.specs.Failures.{Failure, OfKind, LimitMet, MemoryRanOut}
 use Rattle.cedar_extensions.specs.Table.{Table}
 use Rattle.cedar_entities.specs.declared.store.Entities.{Entities}

@@ -12,7 +12,7 @@ use Rattle.cedar_partial_evaluation.specs.Partial.{Answer, Evaluated, LeafAnswer
 use Rattle.cedar_entities.specs.declared.store.Entities.{Entities}
 use Rattle.cedar_interpreter.specs.Asking.{Inquiry, variable_asked}
 use Rattle.cedar_interpreter.specs.Seen.{IsSeen}
-use Rattle.cedar_constraints.specs.References.{target_bound}
+use Rattle.cedar_policy_parts.specs.References.{target_bound}
 use Rattle.cedar_evaluator.specs.declared.scopes.GivenEntity.{GivenEntity}
 use Rattle.cedar_evaluator.specs.declared.scopes.Scopes.{Scopes}
 

@@ -12,8 +12,8 @@ ghost use Rattle.cedar_grammar.specs.Policy.{constraint_tree, action_tree, scope
 ghost use Rattle.cedar_partial_evaluation.specs.Partial.{LeafAnswers, answer_of};
 ghost use Rattle.cedar_world.specs.Scope.{action_meets};
 ghost use Rattle.cedar_literals.specs.Variables.{variable_of};
-ghost use Rattle.cedar_constraints.specs.Actions.{action_of, held_uids};
-ghost use Rattle.cedar_constraints.specs.Asked.{constraint_of};
+ghost use Rattle.cedar_policy_parts.specs.Actions.{action_of, held_uids};
+ghost use Rattle.cedar_policy_parts.specs.Asked.{constraint_of};
 ghost use Rattle.cedar_entities.specs.Data.{ancestors_of};
 ghost use Rattle.cedar_entities.specs.declared.store.Entities.{Entities as Store};
 ghost use Rattle.cedar_extensions.specs.Table.{Table};
@@ -23,8 +23,6 @@ ghost use Rattle.cedar_interpreter.specs.Asking.{Inquiry, variable_asked, reques
 ghost use Rattle.cedar_policies.specs.Policies.{bindings_of, policy_syntax};
 ghost use Rattle.cedar_evaluator.specs.Scopes.{IsDecided, IsGivenAs, AreScopesOf, constraint_met, unasked};
 
-use cedar_constraints::actions::ActionConstraint;
-use cedar_constraints::constraints::PrincipalOrResourceConstraint;
 use cedar_entities::entity::Entity;
 use cedar_entities::store::Entities;
 use cedar_extensions::objects::ExtensionFunctionObject;
@@ -33,6 +31,8 @@ use cedar_literals::slots::SlotId;
 use cedar_literals::uids::{EntityType, EntityUID};
 use cedar_literals::variables::Var;
 use cedar_policies::policies::Policy;
+use cedar_policy_parts::actions::ActionConstraint;
+use cedar_policy_parts::constraints::PrincipalOrResourceConstraint;
 use std::alloc::AllocError;
 use std::rc::Rc;
 

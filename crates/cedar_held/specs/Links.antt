@@ -6,8 +6,8 @@ use Rattle.cedar_language.specs.Uid.{Text}
 use Rattle.cedar_world.specs.Bodies.{LinkBody}
 use Rattle.cedar_world.specs.Refusals.{binds_exactly}
 use Rattle.cedar_world.specs.Syntax.{PolicySyntax}
-use Rattle.cedar_templates.specs.Templates.{template_id, syntax_of}
-use Rattle.cedar_templates.specs.declared.templates.Template.{Template}
+use Rattle.cedar_policies.specs.Templates.{template_id, syntax_of}
+use Rattle.cedar_policies.specs.declared.templates.Template.{Template}
 use Rattle.cedar_policies.specs.Policies.{policy_id}
 use Rattle.cedar_policies.specs.declared.policies.Policy.{Policy}
 use Rattle.cedar_policy_set.specs.Entries.{template, link, Entries, bound_at}

@@ -8,18 +8,18 @@ ghost use Rattle.cedar_held.specs.HoldingPolicies.{IsHeld};
 ghost use Rattle.cedar_held.specs.Links.{FindsTemplate, MakesLink};
 
 use cedar_bodies::LinkBody;
-use cedar_constraints::bindings::SlotEnv;
 use cedar_literals::slots::SlotId;
 use cedar_policies::errors::LinkingError;
 use cedar_policies::linking::TemplateLinks;
 use cedar_policies::policies::Policy;
+use cedar_policies::templates::Template;
 use cedar_policy_parts::PolicyID;
+use cedar_policy_parts::bindings::SlotEnv;
 use cedar_policy_set::bounds::Bound;
 use cedar_policy_set::errors::PolicySetError;
 use cedar_policy_set::sets::PolicySet;
 use cedar_policy_set::worlds::policy_sets_are_worlds;
 use cedar_replies::Refusal;
-use cedar_templates::templates::Template;
 use std::alloc::{AllocError, Global};
 use std::rc::{Rc, RcStr};
 

@@ -9,7 +9,7 @@ use Rattle.cedar_language.specs.Value.{Value}
 use Rattle.cedar_language.specs.Meaning.{slot_outcome}
 use Rattle.cedar_partial_evaluation.specs.Partial.{Answer, answer_of, LeafAnswers}
 use Rattle.cedar_partial_evaluation.specs.Question.{name_held}
-use Rattle.cedar_constraints.specs.Bindings.{Bindings, binding_of}
+use Rattle.cedar_policy_parts.specs.Bindings.{Bindings, binding_of}
 use Rattle.cedar_entities.specs.declared.store.Entities.{Entities}
 use Rattle.cedar_extensions.specs.Answering.{FunctionAnswers}
 use Rattle.cedar_extensions.specs.Table.{Table, as_table}

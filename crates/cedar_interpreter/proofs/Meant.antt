@@ -9,7 +9,7 @@ use Rattle.cedar_language.specs.Meaning.{Request, slot_outcome, meaning}
 use Rattle.cedar_partial_evaluation.specs.Leaves.{is_left, AreKnown, AnswerAlike, LeavesDontMatter}
 use Rattle.cedar_partial_evaluation.specs.Mentions.{mentions_only}
 use Rattle.cedar_partial_evaluation.specs.Partial.{Answer, Evaluated, ResidualTree, Failed, answer_of, LeafAnswers, leaf_answers_of, partial_in, KnownIsMeaning}
-use Rattle.cedar_constraints.specs.Bindings.{Bindings}
+use Rattle.cedar_policy_parts.specs.Bindings.{Bindings}
 use Rattle.cedar_extensions.specs.Answering.{FunctionAnswers}
 use Rattle.cedar_extensions.specs.Failures.{Failure, OfKind, LimitMet, MemoryRanOut, failure_of}
 use Rattle.cedar_extensions.specs.Giving.{FailsBy}

@@ -6,7 +6,7 @@ use Rattle.cedar_language.specs.Uid.{Uid}
 use Rattle.cedar_language.specs.Tree.{Entity, Variable}
 use Rattle.cedar_language.specs.Value.{Plain}
 use Rattle.cedar_partial_evaluation.specs.Partial.{Evaluated, LeafAnswers}
-use Rattle.cedar_constraints.specs.Bindings.{unbound}
+use Rattle.cedar_policy_parts.specs.Bindings.{unbound}
 use Rattle.cedar_entities.specs.Data.{EntityData}
 use Rattle.cedar_entities.specs.Held.{held_of}
 use Rattle.cedar_entities.specs.Store.{held_at}

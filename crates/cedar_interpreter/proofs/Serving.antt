@@ -18,7 +18,7 @@ use Rattle.cedar_language.specs.Meaning.{slot_outcome}
 use Rattle.std.specs.Prelude.{Option, Some, None}
 use Rattle.cedar_language.specs.Uid.{Uid}
 use Rattle.cedar_partial_evaluation.specs.ReadUnknowns.{calls_unknown, some_calls_unknown, is_unknown_call}
-use Rattle.cedar_constraints.specs.Bindings.{Bindings, binding_of}
+use Rattle.cedar_policy_parts.specs.Bindings.{Bindings, binding_of}
 use Rattle.cedar_grammar.specs.Build.{trees}
 use Rattle.cedar_shapes.specs.Parts.{listed, parts}
 use Rattle.cedar_restricted.specs.Splitting.{is_residual}

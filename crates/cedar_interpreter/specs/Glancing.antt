@@ -5,7 +5,7 @@ use Rattle.cedar_language.specs.Tree.{Boolean, Long, String, Entity, Tree, If, A
 use Rattle.cedar_language.specs.Value.{Value, Plain}
 use Rattle.cedar_language.specs.Facts.{Facts}
 use Rattle.cedar_partial_evaluation.specs.Partial.{Evaluated, partial_in}
-use Rattle.cedar_constraints.specs.Bindings.{Bindings}
+use Rattle.cedar_policy_parts.specs.Bindings.{Bindings}
 use Rattle.cedar_operators.specs.Store.{HasFacts}
 use Rattle.cedar_interpreter.specs.Holding.{held_by}
 use Rattle.cedar_interpreter.specs.declared.evaluator.Evaluator.{Evaluator}

@@ -14,7 +14,7 @@ use Rattle.cedar_partial_evaluation.specs.Mentions.{mentions_only, all_mention_o
 use Rattle.cedar_partial_evaluation.specs.Partial.{Answer, Evaluated, answer_of, LeafAnswers}
 use Rattle.cedar_partial_evaluation.specs.Question.{name_held}
 use Rattle.cedar_grammar.specs.Build.{trees}
-use Rattle.cedar_constraints.specs.Bindings.{Bindings, binding_of}
+use Rattle.cedar_policy_parts.specs.Bindings.{Bindings, binding_of}
 use Rattle.cedar_operators.specs.Store.{HasFacts}
 use Rattle.cedar_restricted.specs.PartialValues.{partial_of}
 use Rattle.cedar_restricted.specs.declared.partial_values.PartialValue.{PartialValue}

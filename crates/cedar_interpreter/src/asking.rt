@@ -15,7 +15,6 @@ ghost use Rattle.cedar_interpreter.specs.Holding.{held_by, Serves, Deep, depth_o
 ghost use Rattle.cedar_interpreter.specs.Meeting.{MeetsAt, ValueAt, IsLimit};
 
 use crate::evaluator::{Evaluator, Seen, Variables};
-use cedar_constraints::bindings::SlotEnv;
 use cedar_entities::store::Entities;
 use cedar_extensions::evaluation_error::EvaluationError;
 use cedar_extensions::extensions::Extensions;
@@ -23,6 +22,7 @@ use cedar_extensions::objects::ExtensionFunctionObject;
 use cedar_literals::variables::Var;
 use cedar_names::shared::Shared;
 use cedar_partial_evaluation::{known_is_meaning, leaves_dont_matter};
+use cedar_policy_parts::bindings::SlotEnv;
 use cedar_requests::{Context, Request};
 use cedar_restricted::partial_values::PartialValue;
 use cedar_trees::expr::Expr;

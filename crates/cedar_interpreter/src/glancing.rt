@@ -2,7 +2,7 @@
 // isn't told so is left to the full evaluation.
 ghost use Rattle.std.specs.Prelude.{◌≡◌, ◌≤◌, ◌+◌, IfSome};
 ghost use Rattle.std.specs.Rc.{rc_str_bytes};
-ghost use Rattle.cedar_constraints.specs.Bindings.{Bindings};
+ghost use Rattle.cedar_policy_parts.specs.Bindings.{Bindings};
 ghost use Rattle.cedar_grammar.specs.Build.{unary, binary};
 ghost use Rattle.cedar_language.specs.Facts.{Facts};
 ghost use Rattle.cedar_language.specs.Tree as tree;

@@ -7,7 +7,7 @@ ghost use Rattle.cedar_literals.specs.Variables.{variable_of};
 ghost use Rattle.cedar_partial_evaluation.specs.Partial.{answer_of, partial_in};
 ghost use Rattle.cedar_partial_evaluation.specs.Question.{name_held, value_held};
 ghost use Rattle.cedar_partial_evaluation.specs.Unknowns.{fits};
-ghost use Rattle.cedar_constraints.specs.Bindings.{binding_of};
+ghost use Rattle.cedar_policy_parts.specs.Bindings.{binding_of};
 ghost use Rattle.cedar_trees.specs.Bare.{bare};
 ghost use Rattle.cedar_trees.specs.Unknowns.{unknown_name, unknown_type};
 ghost use Rattle.cedar_restricted.specs.PartialValues.{partial_of};
@@ -16,12 +16,12 @@ ghost use Rattle.cedar_interpreter.specs.Holding.{held_by, value_told, variable_
 ghost use Rattle.cedar_interpreter.specs.Meeting.{MeetsAt};
 
 use crate::evaluator::{Evaluator, Variables};
-use cedar_constraints::bindings::SlotEnv;
 use cedar_extensions::evaluation_error::EvaluationError;
 use cedar_literals::literals::Literal;
 use cedar_literals::slots::SlotId;
 use cedar_literals::types::StaticallyTyped;
 use cedar_literals::variables::Var;
+use cedar_policy_parts::bindings::SlotEnv;
 use cedar_restricted::partial_values::PartialValue;
 use cedar_trees::expr::{Expr, ExprKind};
 use cedar_trees::unknowns::Unknown;

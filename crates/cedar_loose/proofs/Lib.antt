@@ -1,3 +1,8 @@
+mod Spelled
+pub mod Loops
+pub mod Cases
+pub mod Signs
+pub mod NameLoop
 pub mod Limits
 pub mod Fewer
 pub mod Readings

@@ -14,14 +14,14 @@ use Rattle.cedar_grammar.proofs.TokensComplete.{one_list}
 use Rattle.cedar_grammar.specs.Loose as loose
 use Rattle.cedar_grammar.specs.LooseReading.{Fault, syntax, depth, Reading, ◌>>◌, mapped, needed, whole, openers, each_of, name_of, ref_of, ref_rest, primary_of, expr_at, policy_of, policy_at, policies_at, read_policies, read_policy, read_primary, read_ref, read_name, read_ident}
 use Rattle.cedar_grammar.proofs.Deep.{name-never, ref_rest-never, bind-deep, needed-deep}
-use Rattle.cedar_loose_expressions.specs.declared.error.ReadError.{ReadError}
-use Rattle.cedar_loose_expressions.specs.declared.error.ReadError.TheVariants.{Syntax, Depth, Memory}
+use Rattle.cedar_loose.specs.declared.error.ReadError.{ReadError}
+use Rattle.cedar_loose.specs.declared.error.ReadError.TheVariants.{Syntax, Depth, Memory}
 use Rattle.cedar_tokens.specs.Refusal as tokens
 use Rattle.cedar_tokens.specs.declared.error.TokenError.{TokenError}
 use Rattle.cedar_tokens.specs.declared.error.TokenError.TheVariants as unread
-use Rattle.cedar_loose_expressions.specs.Gives.{Fails, TellsTokenError}
-use Rattle.cedar_loose_expressions.specs.Steps.{ended}
-use Rattle.cedar_loose_expressions.proofs.Loops.{fails_by}
+use Rattle.cedar_loose.specs.Gives.{Fails, TellsTokenError}
+use Rattle.cedar_loose.specs.Steps.{ended}
+use Rattle.cedar_loose.proofs.Loops.{fails_by}
 use Rattle.cedar_loose.specs.Texts.{IsRead, IsRefused, IsOutside, GivesAll, flat, stop_cause}
 
 module _ {A : Type 0} (read : ℕ → List Token → Result A Fault) (bytes : Text) (ts : List Token) (are : IsTokens bytes ts) where

@@ -2,7 +2,7 @@
 
 use Rattle.cedar_names.specs.declared.places.Span.{Span}
 use Rattle.cedar_tokens.specs.declared.expected_kinds.Kinds.{Kinds}
-use Rattle.cedar_loose_expressions.specs.declared.error.Met.{Met}
+use Rattle.cedar_loose.specs.declared.error.Met.{Met}
 use Rattle.cedar_loose.specs.declared.errors.ToCSTError.{ToCSTError}
 use Rattle.cedar_loose.specs.declared.errors.ParseError.{ParseError}
 use Rattle.cedar_loose.specs.declared.errors.ParseError.TheVariants as error

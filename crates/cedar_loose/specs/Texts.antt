@@ -5,9 +5,9 @@ use Rattle.cedar_grammar.specs.Token.{Token}
 use Rattle.cedar_grammar.specs.Tokens.{IsTokens}
 use Rattle.cedar_grammar.specs.Nesting.{loose_nesting}
 use Rattle.cedar_grammar.specs.LooseReading.{Fault}
-use Rattle.cedar_loose_expressions.specs.declared.error.ReadError.{ReadError}
-use Rattle.cedar_loose_expressions.specs.declared.error.ReadError.TheVariants as stop
-use Rattle.cedar_loose_expressions.specs.Gives.{Fails}
+use Rattle.cedar_loose.specs.declared.error.ReadError.{ReadError}
+use Rattle.cedar_loose.specs.declared.error.ReadError.TheVariants as stop
+use Rattle.cedar_loose.specs.Gives.{Fails}
 use Rattle.cedar_loose.specs.Errors.{Cause, outside_the_grammar, means_nothing, nested_too_deep, out_of_memory, cause_of}
 use Rattle.cedar_loose.specs.declared.errors.ParseErrors.{ParseErrors}
 

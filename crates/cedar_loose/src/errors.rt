@@ -4,8 +4,8 @@ ghost use Rattle.cedar_tokens.specs.Kinds.{names_of};
 ghost use Rattle.cedar_tokens.specs.Shown.{shows};
 ghost use Rattle.cedar_loose.specs.Errors.{met_of, span_of, expected_of};
 
+use crate::Met;
 use cedar_conversion_leaves::ToASTError;
-use cedar_loose_expressions::Met;
 use cedar_names::places::{Loc, Span};
 use cedar_tokens::{ExpectedTokenConfig, Kinds, expected_to_string};
 use cedar_trees::unknowns::NonEmpty;

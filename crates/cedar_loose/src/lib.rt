@@ -1,12 +1,23 @@
-//! The loose parser: policies, expressions, names and whole texts read into trees of the loose syntax.
+//! The loose parser: policies, expressions, names and whole texts read into trees of the loose syntax. Begin
+//! with `parse_policies`; `Cursor` is where its readers stand.
 #![tactic(auto)]
 
+pub mod cursor;
+pub mod error;
 mod errors;
+mod expressions;
 mod iteration;
+mod kinds;
+mod leaves;
+mod names;
+mod nodes;
+mod operators;
 mod parse;
 mod policies;
 mod refusal;
 
+pub use cursor::Cursor;
+pub use error::{Met, ReadError, Unexpected};
 pub use errors::{ParseError, ParseErrors, ToCSTError};
 pub use iteration::{IntoIter, Iter};
 pub use parse::{

@@ -7,11 +7,10 @@ ghost use Rattle.cedar_loose.specs.Texts.{IsRead, IsRefused, IsOutside, Refuses,
 
 use crate::policies::{policies, policy};
 use crate::refusal::refusal;
-use crate::{ParseError, ParseErrors};
+use crate::{Cursor, ParseError, ParseErrors, ReadError};
 use cedar_cst::cst::{Expr, Ident, Name, Policies, Policy, Primary, Ref};
 use cedar_cst::node::Node;
 use cedar_grammar::{limits_are_met_where_constructs_open, wider_limits_change_nothing};
-use cedar_loose_expressions::{Cursor, ReadError};
 use cedar_tokens::Tokens;
 use std::alloc::Global;
 use std::rc::RcStr;

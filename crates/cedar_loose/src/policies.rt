@@ -7,14 +7,14 @@ ghost use Rattle.cedar_grammar.specs.Token as token;
 ghost use Rattle.cedar_grammar.specs.LooseReading.{each_of, items_of, optional, eat_is, operator_at, rel_op, compared_step, name_of, add_of, expr_at, begins_cond, annotation_of, variable_def_of, cond_of, policy_of};
 ghost use Rattle.cedar_cst.specs.LeafView.{shown_str, shown_name, view_rel_op};
 ghost use Rattle.cedar_cst.specs.View.{shown_add, shown_expr, shown_annotation, shown_variable_def, shown_cond, shown_policy};
-ghost use Rattle.cedar_loose_expressions.specs.Gives.{Gives};
+ghost use Rattle.cedar_loose.specs.Gives.{Gives};
 ghost use Rattle.cedar_loose.specs.Parts.{value_of, clause_of, compared_expr};
 
+use crate::{Cursor, ReadError};
 use cedar_cst::cst::{
     Add, Annotation, Cond, Expr, Name, Policy, PolicyImpl, RelOp, Str, VariableDef,
 };
 use cedar_cst::node::Node;
-use cedar_loose_expressions::{Cursor, ReadError};
 use cedar_tokens::Mark;
 use std::alloc::Global;
 

@@ -3,8 +3,7 @@ ghost use Rattle.std.specs.Prelude.{◌≡◌, []};
 ghost use Rattle.cedar_loose.specs.Errors.{cause_of};
 ghost use Rattle.cedar_loose.specs.Texts.{IsTold, stop_cause};
 
-use crate::{ParseError, ParseErrors, ToCSTError};
-use cedar_loose_expressions::{Met, ReadError};
+use crate::{Met, ParseError, ParseErrors, ReadError, ToCSTError};
 use cedar_names::places::Loc;
 use std::alloc::Global;
 use std::rc::RcStr;

@@ -8,9 +8,7 @@ pub use cedar_conversion_leaves::{
     to_string_literal, to_valid_ident,
 };
 pub use cedar_policy_conversion::{
-    NumberedPolicies, to_policy, to_policy_or_template, to_policy_template, to_policyset,
-    to_template, with_generated_policyids,
-};
-pub use cedar_policy_parts_conversion::{
-    OneOrMultipleRefs, extract_scope, get_ast_annotations, to_kv_pair, to_ref_or_slot, to_refs,
+    NumberedPolicies, OneOrMultipleRefs, extract_scope, get_ast_annotations, to_kv_pair, to_policy,
+    to_policy_or_template, to_policy_template, to_policyset, to_ref_or_slot, to_refs, to_template,
+    with_generated_policyids,
 };

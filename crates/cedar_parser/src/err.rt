@@ -7,11 +7,11 @@ pub use crate::restricted::RestrictedExpressionParseError;
 pub use cedar_conversion_leaves::{ConversionError, ToASTError, ToASTErrorKind};
 pub use cedar_cst::errors::{EmptyNodeError, PlacedError};
 pub use cedar_loose::{IntoIter, Iter, ParseError, ParseErrors, ToCSTError};
+pub use cedar_policy_conversion::PolicyError;
 pub use cedar_policy_parts::{
     ExpectedStaticPolicy, ExpectedTemplate, InvalidActionType, Ref, SlotsInConditionClause,
     WrongEntityArgument,
 };
-pub use cedar_policy_parts_conversion::PolicyError;
 pub use cedar_tokens::{
     ExpectedTokenConfig, Kinds, POLICY_TOKEN_CONFIG, UnescapeError, expected_to_string,
 };

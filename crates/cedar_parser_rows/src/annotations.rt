@@ -5,7 +5,7 @@ use cedar_cst::node::Node;
 use cedar_loose::parse_policy;
 use cedar_names::identifiers::AnyId;
 use cedar_names::places::Loc;
-use cedar_policy_parts_conversion::{PolicyError, get_ast_annotations, to_kv_pair};
+use cedar_policy_conversion::{PolicyError, get_ast_annotations, to_kv_pair};
 use cedar_rows::{Answer, no_case};
 use std::alloc::Global;
 use std::collections::BTreeMap;

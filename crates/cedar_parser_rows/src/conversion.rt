@@ -11,15 +11,15 @@ use cedar_cst::node::Node;
 use cedar_loose::{parse_expr, parse_ident, parse_policies, parse_policy};
 use cedar_names::errors::ParseNameError;
 use cedar_names::reading::FromNormalizedStr;
+use cedar_policies::static_policies::StaticPolicy;
+use cedar_policies::templates::Template;
 use cedar_policy_conversion::{
-    to_policy, to_policy_or_template, to_policy_template, to_policyset, with_generated_policyids,
+    PolicyError, to_policy, to_policy_or_template, to_policy_template, to_policyset,
+    with_generated_policyids,
 };
 use cedar_policy_parts::PolicyID;
-use cedar_policy_parts_conversion::PolicyError;
 use cedar_policy_set::sets::PolicySet;
 use cedar_rows::{Answer, tell};
-use cedar_templates::static_policies::StaticPolicy;
-use cedar_templates::templates::Template;
 use cedar_trees::errors::ExpressionConstructionError;
 use either::Either;
 use std::alloc::Global;

@@ -7,7 +7,7 @@ use Rattle.cedar_language.specs.Tree.{SlotId, PrincipalSlot, ResourceSlot}
 use Rattle.cedar_grammar.specs.Policy.{Policy, Target, the_entity, the_slot, Constraint, anything, equals, within, of_type, of_type_within, target_slots, constraint_slots}
 use Rattle.cedar_world.specs.Syntax.{Bindings, binding_of, is_slot}
 use Rattle.cedar_world.specs.Refusals.{same_flag, binds_exactly}
-use Rattle.cedar_constraints.specs.Bindings.{bound_slots}
+use Rattle.cedar_policy_parts.specs.Bindings.{bound_slots}
 use Rattle.cedar_policies.specs.Linking.{lacking, extra}
 use Rattle.cedar_policies.specs.Linking.{IsArityRefusal, are_none, ChecksArity}
 use Rattle.cedar_policies.specs.declared.errors.LinkingError.{LinkingError}

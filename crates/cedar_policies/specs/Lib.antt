@@ -1,3 +1,9 @@
+pub mod Bodies
+pub mod Same
+pub mod Slots
+pub mod Templates
+pub mod StaticPolicies
+pub mod Validation
 pub mod Policies
 pub mod SamePolicies
 pub mod Linking

@@ -3,12 +3,12 @@ use Rattle.std.specs.Prelude.{◌≡◌, ⊤, [], Option, Some, None, unwrap_or,
 use Rattle.cedar_language.specs.Uid.{Text}
 use Rattle.cedar_grammar.specs.Policy as grammar
 use Rattle.cedar_world.specs.Syntax.{Bindings, linked}
-use Rattle.cedar_constraints.specs.Bindings.{unbound}
-use Rattle.cedar_constraints.specs.declared.errors.UnexpectedSlotError.{UnexpectedSlotError}
-use Rattle.cedar_constraints.specs.declared.errors.UnexpectedSlotError.TheVariants.{FoundSlot, Memory}
-use Rattle.cedar_templates.specs.Templates.{template_id, syntax_of}
-use Rattle.cedar_templates.specs.StaticPolicies.{IsFirstSlot}
-use Rattle.cedar_templates.specs.declared.templates.Template.{Template}
+use Rattle.cedar_policy_parts.specs.Bindings.{unbound}
+use Rattle.cedar_policy_parts.specs.declared.errors.UnexpectedSlotError.{UnexpectedSlotError}
+use Rattle.cedar_policy_parts.specs.declared.errors.UnexpectedSlotError.TheVariants.{FoundSlot, Memory}
+use Rattle.cedar_policies.specs.Templates.{template_id, syntax_of}
+use Rattle.cedar_policies.specs.StaticPolicies.{IsFirstSlot}
+use Rattle.cedar_policies.specs.declared.templates.Template.{Template}
 use Rattle.cedar_policies.specs.declared.policies.Policy.{Policy}
 
 -- the template that it is a link of; a static policy is its own

@@ -5,9 +5,9 @@ use Rattle.std.specs.Cmp.{IsEquivalence, on_equiv, and_equiv}
 use Rattle.std.specs.Cmp.Lexicographic.{options_equiv, nat_list_eq_equiv}
 use Rattle.cedar_language.specs.Uid.{Text}
 use Rattle.cedar_language.specs.Order.{same_text}
-use Rattle.cedar_constraints.specs.Sameness.{same_bindings, same_bindings_equiv}
-use Rattle.cedar_templates.specs.Same.{same_policy, same_policy_equiv}
-use Rattle.cedar_templates.specs.Templates.{template_id}
+use Rattle.cedar_policy_parts.specs.SameScopes.{same_bindings, same_bindings_equiv}
+use Rattle.cedar_policies.specs.Same.{same_policy, same_policy_equiv}
+use Rattle.cedar_policies.specs.Templates.{template_id}
 use Rattle.cedar_policies.specs.Policies.{policy_template, policy_syntax, link_of, bindings_of}
 use Rattle.cedar_policies.specs.declared.policies.Policy.{Policy}
 

@@ -3,22 +3,22 @@ ghost use Rattle.std.specs.Prelude.{◌≡◌, ◌++◌, IfOk, IfErr, OnOk, filt
 ghost use Rattle.std.specs.List.{list_any};
 ghost use Rattle.cedar_world.specs.Syntax.{binding_of, is_slot};
 ghost use Rattle.cedar_world.specs.Refusals.{binds_exactly};
-ghost use Rattle.cedar_constraints.specs.Bindings.{where_bound, bound_slots};
-ghost use Rattle.cedar_templates.specs.Slots.{slot_ids};
-ghost use Rattle.cedar_templates.specs.Templates.{syntax_of};
-ghost use Rattle.cedar_templates.specs.StaticPolicies.{static_id, static_syntax};
+ghost use Rattle.cedar_policy_parts.specs.Bindings.{where_bound, bound_slots};
+ghost use Rattle.cedar_policies.specs.Slots.{slot_ids};
+ghost use Rattle.cedar_policies.specs.Templates.{syntax_of};
+ghost use Rattle.cedar_policies.specs.StaticPolicies.{static_id, static_syntax};
 ghost use Rattle.cedar_policies.specs.Policies.{IsLink, IsOwn, TakesOwn, policy_template};
 ghost use Rattle.cedar_policies.specs.Linking.{IsArityRefusal, ChecksArity};
 
 use crate::errors::LinkingError;
 use crate::policies::Policy;
-use cedar_constraints::bindings::SlotEnv;
-use cedar_constraints::errors::UnexpectedSlotError;
+use crate::static_policies::StaticPolicy;
+use crate::templates::Template;
 use cedar_literals::slots::{Slot, SlotId};
 use cedar_names::conversions::FromIn;
 use cedar_policy_parts::PolicyID;
-use cedar_templates::static_policies::StaticPolicy;
-use cedar_templates::templates::Template;
+use cedar_policy_parts::bindings::SlotEnv;
+use cedar_policy_parts::errors::UnexpectedSlotError;
 use std::alloc::{AllocError, Global};
 use std::rc::Rc;
 
@@ -178,7 +178,7 @@ impl FromIn<StaticPolicy> for Policy {
     type Error = AllocError;
 
     ghost use Rattle.std.specs.Prelude.{IfOk};
-    ghost use Rattle.cedar_templates.specs.StaticPolicies.{static_id, static_syntax};
+    ghost use Rattle.cedar_policies.specs.StaticPolicies.{static_id, static_syntax};
     ghost use Rattle.cedar_policies.specs.Policies.{IsOwn};
 
     ghost from_in_gives = { λ policy result. IfOk result (IsOwn (static_id policy) (static_syntax policy)) };

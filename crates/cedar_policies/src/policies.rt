@@ -7,20 +7,20 @@ ghost use Rattle.cedar_grammar.specs.Policy.{condition, anything, any_action, sl
 ghost use Rattle.cedar_world.specs.Refusals.{binds_exactly};
 ghost use Rattle.cedar_trees.specs.Bare.{bare};
 ghost use Rattle.cedar_policy_parts.specs.Effects.{effect_of};
-ghost use Rattle.cedar_constraints.specs.Actions.{action_of};
-ghost use Rattle.cedar_templates.specs.Bodies.{shared_tree};
-ghost use Rattle.cedar_templates.specs.Templates.{syntax_of};
+ghost use Rattle.cedar_policy_parts.specs.Actions.{action_of};
+ghost use Rattle.cedar_policies.specs.Bodies.{shared_tree};
+ghost use Rattle.cedar_policies.specs.Templates.{syntax_of};
 
-use cedar_constraints::actions::ActionConstraint;
-use cedar_constraints::bindings::SlotEnv;
-use cedar_constraints::principals::PrincipalConstraint;
-use cedar_constraints::resources::ResourceConstraint;
+use crate::templates::Template;
 use cedar_literals::slots::SlotId;
 use cedar_names::identifiers::AnyId;
 use cedar_names::places::Loc;
+use cedar_policy_parts::actions::ActionConstraint;
 use cedar_policy_parts::annotations::{Annotation, Annotations};
+use cedar_policy_parts::bindings::SlotEnv;
+use cedar_policy_parts::principals::PrincipalConstraint;
+use cedar_policy_parts::resources::ResourceConstraint;
 use cedar_policy_parts::{Effect, PolicyID};
-use cedar_templates::templates::Template;
 use cedar_trees::expr::Expr;
 use std::alloc::{AllocError, Global};
 use std::rc::Rc;

@@ -14,7 +14,7 @@ use Rattle.cedar_grammar.specs.Loose as loose
 use Rattle.cedar_world.specs.PolicyEdits.{numbered}
 use Rattle.cedar_conversion_leaves.specs.declared.errors.ConversionError.{ConversionError}
 use Rattle.cedar_conversion_leaves.specs.Converts.{Finds}
-use Rattle.cedar_policy_parts_conversion.proofs.Joining.{each_last}
+use Rattle.cedar_policy_conversion.proofs.Joining.{each_last}
 use Rattle.cedar_policy_set.specs.Entries.{Entries, bound_at}
 use Rattle.cedar_policy_set.specs.Refused.{taken}
 use Rattle.cedar_policy_set.specs.Texts.{text_entry, text_entries}

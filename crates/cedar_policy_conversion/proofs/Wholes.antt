@@ -11,9 +11,9 @@ use Rattle.cedar_grammar.specs.Policy.{Constraint, ActionConstraint, Policy}
 use Rattle.cedar_grammar.specs.Reading.{◌>>=◌}
 use Rattle.cedar_grammar.specs.Converting.{each, annotation_syntax, clause, distinct_keys, effect, policy_syntax, scope_syntax}
 use Rattle.cedar_grammar.specs.Loose as loose
-use Rattle.cedar_policy_parts_conversion.specs.Clauses.{clauses_of}
-use Rattle.cedar_policy_parts_conversion.specs.Notes.{notes_of}
-use Rattle.cedar_policy_parts_conversion.proofs.Gathering.{paired}
+use Rattle.cedar_policy_conversion.specs.Clauses.{clauses_of}
+use Rattle.cedar_policy_conversion.specs.Notes.{notes_of}
+use Rattle.cedar_policy_conversion.proofs.Gathering.{paired}
 
 -- the effect and the annotations, and the scope and the clauses
 abbrev pub Parts : Type 0

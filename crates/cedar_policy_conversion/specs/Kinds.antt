@@ -6,10 +6,10 @@ use Rattle.cedar_language.specs.Uid.{Text}
 use Rattle.cedar_grammar.specs.Policy.{Policy}
 use Rattle.cedar_world.specs.Syntax.{is_template}
 use Rattle.cedar_policy_set.specs.Entries.{Entry, static_policy, template}
-use Rattle.cedar_templates.specs.StaticPolicies.{static_id, static_syntax}
-use Rattle.cedar_templates.specs.Templates.{template_id, syntax_of}
-use Rattle.cedar_templates.specs.declared.static_policies.StaticPolicy.{StaticPolicy}
-use Rattle.cedar_templates.specs.declared.templates.Template.{Template}
+use Rattle.cedar_policies.specs.StaticPolicies.{static_id, static_syntax}
+use Rattle.cedar_policies.specs.Templates.{template_id, syntax_of}
+use Rattle.cedar_policies.specs.declared.static_policies.StaticPolicy.{StaticPolicy}
+use Rattle.cedar_policies.specs.declared.templates.Template.{Template}
 
 abbrev pub without_slots : Policy → Option Policy
 without_slots s = if is_template s then None else Some s

@@ -1,3 +1,10 @@
+pub mod Notes
+pub mod Clauses
+pub mod Own
+pub mod Entities
+pub mod Scopes
+pub mod PartsShow
+pub mod ClausesShow
 pub mod Kinds
 pub mod Numbered
 pub mod Parts

@@ -3,7 +3,7 @@ use Rattle.std.specs.Option.{option_map}
 use Rattle.cedar_grammar.specs.Policy.{Policy}
 use Rattle.cedar_trees.specs.Bare.{bare}
 use Rattle.cedar_policy_parts.specs.Effects.{effect_of}
-use Rattle.cedar_constraints.specs.Actions.{action_of}
+use Rattle.cedar_policy_parts.specs.Actions.{action_of}
 use Rattle.cedar_policy_conversion.specs.declared.templates.Parts.{Parts}
 
 abbrev pub parts_syntax : Parts → Policy

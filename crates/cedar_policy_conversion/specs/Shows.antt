@@ -5,12 +5,12 @@ use Rattle.cedar_grammar.specs.Loose as loose
 use Rattle.cedar_grammar.specs.Policy.{Policy, slots}
 use Rattle.cedar_grammar.specs.Converting.{policy_syntax}
 use Rattle.cedar_world.specs.Syntax.{is_template}
-use Rattle.cedar_templates.specs.StaticPolicies.{IsFirstSlot}
+use Rattle.cedar_policies.specs.StaticPolicies.{IsFirstSlot}
 use Rattle.cedar_conversion_leaves.specs.declared.kinds.ToASTErrorKind.{ToASTErrorKind}
 use Rattle.cedar_conversion_leaves.specs.declared.kinds.ToASTErrorKind.TheVariants as kinds
 use Rattle.cedar_conversion_leaves.specs.Shown.{missing_shows}
-use Rattle.cedar_policy_parts_conversion.specs.Shows.{effect_shows, annotations_show, scope_shows}
-use Rattle.cedar_policy_parts_conversion.specs.ClausesShow.{clauses_show}
+use Rattle.cedar_policy_conversion.specs.PartsShow.{effect_shows, annotations_show, scope_shows}
+use Rattle.cedar_policy_conversion.specs.ClausesShow.{clauses_show}
 
 abbrev pub policy_shows : Names → loose.Policy → ToASTErrorKind → Type 0
 policy_shows names loose.missing_policy kind = missing_shows kind

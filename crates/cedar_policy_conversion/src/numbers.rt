@@ -5,11 +5,11 @@ ghost use Rattle.cedar_conversion_leaves.specs.Telling.{TellsOnly};
 ghost use Rattle.cedar_conversion_leaves.specs.Shown.{missing_shows};
 ghost use Rattle.cedar_policy_conversion.specs.Numbered.{number_next, policies_left, HoldsPolicies};
 
+use crate::PolicyError;
 use cedar_conversion_leaves::ConversionError;
 use cedar_cst::cst;
 use cedar_cst::node::Node;
 use cedar_policy_parts::PolicyID;
-use cedar_policy_parts_conversion::PolicyError;
 use std::alloc::{AllocError, Global};
 
 /// The id of the policy with this number in its text.

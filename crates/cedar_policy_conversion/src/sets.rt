@@ -12,16 +12,16 @@ ghost use Rattle.cedar_conversion_leaves.specs.Telling.{Told, TellsOnly};
 ghost use Rattle.cedar_policy_conversion.specs.Kinds.{entry_made, id_made};
 ghost use Rattle.cedar_policy_conversion.specs.Shows.{policy_shows, each_policy_shows, policies_show};
 
+use crate::PolicyError;
 use crate::numbers::numbered_id;
 use crate::policies::to_policy_or_template;
 use cedar_conversion_leaves::{ConversionError, ExtStyles, flatten_tuple_2};
 use cedar_cst::cst;
 use cedar_cst::node::Node;
-use cedar_policy_parts_conversion::PolicyError;
+use cedar_policies::static_policies::StaticPolicy;
+use cedar_policies::templates::Template;
 use cedar_policy_set::errors::PolicySetError;
 use cedar_policy_set::sets::PolicySet;
-use cedar_templates::static_policies::StaticPolicy;
-use cedar_templates::templates::Template;
 use either::Either;
 use std::alloc::Global;
 

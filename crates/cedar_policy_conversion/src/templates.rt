@@ -2,26 +2,24 @@
 ghost use Rattle.std.specs.Prelude.{◌≡◌, IfOk, IfErr};
 ghost use Rattle.cedar_grammar.specs.Converting.{policy_syntax};
 ghost use Rattle.cedar_cst.specs.View.{shown_policy, view_policy_impl};
-ghost use Rattle.cedar_templates.specs.Templates.{template_id, syntax_of};
+ghost use Rattle.cedar_policies.specs.Templates.{template_id, syntax_of};
 ghost use Rattle.cedar_conversion_leaves.specs.Converts.{Finds};
 ghost use Rattle.cedar_conversion_leaves.specs.Telling.{TellsOnly};
 ghost use Rattle.cedar_policy_conversion.specs.Parts.{parts_syntax};
 ghost use Rattle.cedar_policy_conversion.specs.Shows.{policy_shows};
 
-use cedar_constraints::actions::ActionConstraint;
-use cedar_constraints::principals::PrincipalConstraint;
-use cedar_constraints::resources::ResourceConstraint;
+use crate::{PolicyError, extract_scope, to_annotations, to_clauses, to_effect};
 use cedar_conversion_leaves::{ConversionError, ExtStyles, flatten_tuple_2};
 use cedar_cst::cst;
 use cedar_cst::cst::PolicyImpl;
 use cedar_cst::node::Node;
 use cedar_names::places::Loc;
+use cedar_policies::templates::Template;
+use cedar_policy_parts::actions::ActionConstraint;
 use cedar_policy_parts::annotations::Annotations;
+use cedar_policy_parts::principals::PrincipalConstraint;
+use cedar_policy_parts::resources::ResourceConstraint;
 use cedar_policy_parts::{Effect, PolicyID};
-use cedar_policy_parts_conversion::{
-    PolicyError, extract_scope, to_annotations, to_clauses, to_effect,
-};
-use cedar_templates::templates::Template;
 use cedar_trees::expr::Expr;
 use std::alloc::{AllocError, Global};
 

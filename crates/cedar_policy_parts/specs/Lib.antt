@@ -2,3 +2,10 @@ pub mod Effects
 pub mod Decisions
 pub mod Annotations
 pub mod Sameness
+pub mod Bindings
+pub mod References
+pub mod Asked
+pub mod TypesLeft
+pub mod Actions
+pub mod ActionsLeft
+pub mod SameScopes

@@ -11,10 +11,10 @@ use Rattle.cedar_grammar.specs.Policy as grammar
 use Rattle.cedar_grammar.specs.Policy.{slots}
 use Rattle.cedar_world.specs.Syntax.{Bindings, is_slot}
 use Rattle.cedar_world.specs.Refusals.{same_flag, binds_exactly}
-use Rattle.cedar_constraints.specs.Bindings.{unbound}
+use Rattle.cedar_policy_parts.specs.Bindings.{unbound}
 use Rattle.cedar_policies.specs.Policies.{policy_template, policy_syntax, link_of, bindings_of}
 use Rattle.cedar_policies.specs.declared.policies.Policy.{Policy}
-use Rattle.cedar_templates.specs.Templates.{template_id}
+use Rattle.cedar_policies.specs.Templates.{template_id}
 use Rattle.cedar_scope_index.specs.Finding.{IsFound, KeepsFound, covered}
 use Rattle.cedar_scope_index.specs.declared.index.ScopeIndex.{ScopeIndex}
 use Rattle.cedar_policy_set.specs.Entries.{Entry, static_policy, template, link, Entries}

@@ -4,9 +4,9 @@ use Rattle.std.specs.Map.{keys_of}
 use Rattle.cedar_language.specs.Uid.{Text}
 use Rattle.cedar_grammar.specs.Policy as grammar
 use Rattle.cedar_world.specs.Syntax.{Bindings}
-use Rattle.cedar_templates.specs.Templates.{template_id, syntax_of}
+use Rattle.cedar_policies.specs.Templates.{template_id, syntax_of}
 use Rattle.cedar_policies.specs.Policies.{policy_template, policy_syntax, link_of, bindings_of, policy_id}
-use Rattle.cedar_templates.specs.declared.templates.Template.{Template as ATemplate}
+use Rattle.cedar_policies.specs.declared.templates.Template.{Template as ATemplate}
 use Rattle.cedar_policies.specs.declared.policies.Policy.{Policy as APolicy}
 use Rattle.cedar_policy_set.specs.Entries.{Entry, static_policy, template, link, Entries, IsWhole}
 use Rattle.cedar_policy_set.specs.declared.bounds.Bound.{Bound}

@@ -1,7 +1,7 @@
 -- What an index of scopes knows of a policy set.
 use Rattle.std.specs.Prelude.{◌≡◌, ⊤, ℕ, ◌<◌, ◌≤◌, List, length, slice_get, Option, Some, None, if◌then◌else◌}
 use Rattle.cedar_language.specs.Uid.{Text}
-use Rattle.cedar_constraints.specs.Bindings.{unbound}
+use Rattle.cedar_policy_parts.specs.Bindings.{unbound}
 use Rattle.cedar_scope_index.specs.Finding.{IsFound, covered}
 use Rattle.cedar_scope_index.specs.declared.index.ScopeIndex.{ScopeIndex}
 use Rattle.cedar_policy_set.specs.Entries.{Entry, static_policy, template, link, Entries, is_policy}

@@ -3,8 +3,8 @@ use Rattle.std.specs.Prelude.{◌≡◌, ◌≢◌, ◌⊎◌, ⊤, [], ◌∷�
 use Rattle.cedar_language.specs.Uid.{Text}
 use Rattle.cedar_grammar.specs.Policy.{Policy, slots}
 use Rattle.cedar_extensions.specs.Table.{Table}
-use Rattle.cedar_templates.specs.Validation.{Validates}
-use Rattle.cedar_templates.specs.declared.errors.TemplateValidationError.{TemplateValidationError}
+use Rattle.cedar_policies.specs.Validation.{Validates}
+use Rattle.cedar_policies.specs.declared.errors.TemplateValidationError.{TemplateValidationError}
 use Rattle.cedar_policy_set.specs.Entries.{Entry, static_policy, template, link, Entries}
 use Rattle.cedar_policy_set.specs.declared.errors.PolicySetValidationError.{PolicySetValidationError}
 use Rattle.cedar_policy_set.specs.declared.errors.PolicySetValidationError.TheVariants.{InvalidTemplate, LinkToSlotlessTemplate, Memory}

@@ -1,8 +1,8 @@
 // Why a policy set refuses an edit or a question.
 ghost use Rattle.std.specs.Prelude.{◌≡◌};
 
+use cedar_policies::errors::TemplateValidationError;
 use cedar_policy_parts::PolicyID;
-use cedar_templates::errors::TemplateValidationError;
 use std::alloc::{AllocError, AllocFailed};
 use thiserror::Error;
 

@@ -4,11 +4,11 @@ ghost use Rattle.cedar_policy_set.specs.Refused.{IsLinked, IsLinkRefusal};
 
 use crate::bounds::Bound;
 use crate::sets::PolicySet;
-use cedar_constraints::bindings::SlotEnv;
 use cedar_policies::errors::LinkingError;
 use cedar_policies::linking::TemplateLinks;
+use cedar_policies::templates::Template;
 use cedar_policy_parts::PolicyID;
-use cedar_templates::templates::Template;
+use cedar_policy_parts::bindings::SlotEnv;
 use std::alloc::Global;
 
 impl PolicySet {

@@ -7,8 +7,8 @@ use crate::bounds::Bound;
 use crate::errors::PolicySetGetLinksError;
 use crate::sets::PolicySet;
 use cedar_policies::policies::Policy;
+use cedar_policies::templates::Template;
 use cedar_policy_parts::PolicyID;
-use cedar_templates::templates::Template;
 use indexmap::map::{IntoValues, Values};
 
 /// The static policies and links of a set.

@@ -1,7 +1,7 @@
 // What a policy set binds, by kinds.
 ghost use Rattle.std.specs.Prelude.{◌≡◌, IfSome, option_map};
 ghost use Rattle.std.specs.Option.{option_copied};
-ghost use Rattle.cedar_templates.specs.Templates.{template_id, syntax_of};
+ghost use Rattle.cedar_policies.specs.Templates.{template_id, syntax_of};
 ghost use Rattle.cedar_policies.specs.Policies.{policy_id};
 ghost use Rattle.cedar_policy_set.specs.Entries.{bound_at, policy_only, own_template_at};
 ghost use Rattle.cedar_policy_set.specs.Bounds.{policy_entry};
@@ -9,8 +9,8 @@ ghost use Rattle.cedar_policy_set.specs.Bounds.{policy_entry};
 use crate::bounds::Bound;
 use crate::sets::PolicySet;
 use cedar_policies::policies::Policy;
+use cedar_policies::templates::Template;
 use cedar_policy_parts::PolicyID;
-use cedar_templates::templates::Template;
 use std::rc::Rc;
 
 impl PolicySet {

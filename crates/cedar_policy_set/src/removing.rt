@@ -1,6 +1,6 @@
 // Taking policies and templates away.
 ghost use Rattle.std.specs.Prelude.{◌≡◌, IfOk, IfErr, OnOk, OnErr, Some, true, false};
-ghost use Rattle.cedar_templates.specs.Templates.{template_id, syntax_of};
+ghost use Rattle.cedar_policies.specs.Templates.{template_id, syntax_of};
 ghost use Rattle.cedar_policies.specs.Policies.{policy_id};
 ghost use Rattle.cedar_policy_set.specs.Entries.{bound_at, without, has_links, is_link, is_static, template as a_template};
 ghost use Rattle.cedar_policy_set.specs.Bounds.{policy_entry, entry_of};
@@ -12,8 +12,8 @@ use crate::errors::{
 };
 use crate::sets::PolicySet;
 use cedar_policies::policies::Policy;
+use cedar_policies::templates::Template;
 use cedar_policy_parts::PolicyID;
-use cedar_templates::templates::Template;
 use std::rc::Rc;
 
 impl PolicySet {

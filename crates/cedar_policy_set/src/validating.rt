@@ -1,7 +1,7 @@
 // Whether what a policy set binds is valid.
 ghost use Rattle.std.specs.Prelude.{◌≡◌, true};
 ghost use Rattle.cedar_extensions.specs.Table.{Table, as_table};
-ghost use Rattle.cedar_templates.specs.Templates.{template_id, syntax_of};
+ghost use Rattle.cedar_policies.specs.Templates.{template_id, syntax_of};
 ghost use Rattle.cedar_policies.specs.Policies.{policy_id};
 ghost use Rattle.cedar_policy_set.specs.Entries.{is_link};
 ghost use Rattle.cedar_policy_set.specs.Bounds.{bound_id, entry_of, policy_entry};
@@ -12,9 +12,9 @@ use crate::errors::PolicySetValidationError;
 use crate::sets::PolicySet;
 use cedar_extensions::extensions::Extensions;
 use cedar_extensions::objects::ExtensionFunctionObject;
+use cedar_policies::errors::TemplateValidationError;
 use cedar_policies::policies::Policy;
-use cedar_templates::errors::TemplateValidationError;
-use cedar_templates::templates::Template;
+use cedar_policies::templates::Template;
 use std::alloc::Global;
 
 impl PolicySet {

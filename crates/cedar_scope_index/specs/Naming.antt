@@ -2,8 +2,8 @@
 use Rattle.std.specs.Prelude.{Bool, true, List, [], ◌∷◌, Option, Some, None, is_some}
 use Rattle.cedar_language.specs.Uid.{Uid}
 use Rattle.cedar_grammar.specs.Policy.{Target, the_entity, the_slot, Constraint, anything, equals, within, of_type, of_type_within, ActionConstraint}
-use Rattle.cedar_constraints.specs.Actions.{uids_of}
-use Rattle.cedar_constraints.specs.References.{target_bound}
+use Rattle.cedar_policy_parts.specs.Actions.{uids_of}
+use Rattle.cedar_policy_parts.specs.References.{target_bound}
 
 -- the entity that a constraint names, with == or in; none where its slot isn't bound
 abbrev pub named : Option Uid → Constraint → Option Uid

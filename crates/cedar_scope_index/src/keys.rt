@@ -1,17 +1,17 @@
 // By which entity of its scope a policy is found.
 ghost use Rattle.std.specs.Prelude.{◌≡◌};
 ghost use Rattle.std.specs.Option.{option_copied};
-ghost use Rattle.cedar_constraints.specs.Actions.{action_of};
-ghost use Rattle.cedar_constraints.specs.Asked.{constraint_of};
+ghost use Rattle.cedar_policy_parts.specs.Actions.{action_of};
+ghost use Rattle.cedar_policy_parts.specs.Asked.{constraint_of};
 ghost use Rattle.cedar_policies.specs.Policies.{bindings_of, policy_syntax};
 ghost use Rattle.cedar_scope_index.specs.Naming.{named_action};
 ghost use Rattle.cedar_scope_index.specs.Keys.{IsAskedAs, IsKey};
 
-use cedar_constraints::actions::ActionConstraint;
-use cedar_constraints::constraints::PrincipalOrResourceConstraint;
 use cedar_literals::slots::SlotId;
 use cedar_literals::uids::EntityUID;
 use cedar_policies::policies::Policy;
+use cedar_policy_parts::actions::ActionConstraint;
+use cedar_policy_parts::constraints::PrincipalOrResourceConstraint;
 
 // What a scope asks of the principal, or of the resource.
 #[derive(Drop)]

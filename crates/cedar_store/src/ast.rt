@@ -5,15 +5,6 @@
 
 pub use crate::merging::Merging;
 pub use crate::renaming::{Renaming, renamed_id, renaming_of};
-pub use cedar_constraints::actions::{ActionConstraint, EntityTypeNames as ActionEntityTypeNames};
-pub use cedar_constraints::bindings::SlotEnv;
-pub use cedar_constraints::constraints::{
-    EntityTypeNames, PrincipalOrResource, PrincipalOrResourceConstraint,
-};
-pub use cedar_constraints::errors::{ActionTypeError, InvalidActionType, UnexpectedSlotError};
-pub use cedar_constraints::principals::PrincipalConstraint;
-pub use cedar_constraints::references::EntityReference;
-pub use cedar_constraints::resources::ResourceConstraint;
 pub use cedar_entities::attributes::Attributes;
 pub use cedar_entities::entity::{Ancestors, Entity};
 pub use cedar_entities::{
@@ -22,10 +13,22 @@ pub use cedar_entities::{
 };
 pub use cedar_literals::slots::{Slot, SlotId};
 pub use cedar_literals::uids::{ACTION_ENTITY_TYPE, Eid, EntityType, EntityUID, EntityUIDImpl};
-pub use cedar_policies::errors::LinkingError;
+pub use cedar_policies::bodies::{TemplateBody, TemplateBodyImpl};
+pub use cedar_policies::errors::{LinkingError, SlotsInConditionClause, TemplateValidationError};
 pub use cedar_policies::linking::TemplateLinks;
 pub use cedar_policies::policies::Policy;
+pub use cedar_policies::static_policies::StaticPolicy;
+pub use cedar_policies::templates::Template;
+pub use cedar_policy_parts::actions::{ActionConstraint, EntityTypeNames as ActionEntityTypeNames};
 pub use cedar_policy_parts::annotations::{Annotation, Annotations, IntoIter};
+pub use cedar_policy_parts::bindings::SlotEnv;
+pub use cedar_policy_parts::constraints::{
+    EntityTypeNames, PrincipalOrResource, PrincipalOrResourceConstraint,
+};
+pub use cedar_policy_parts::errors::{ActionTypeError, InvalidActionType, UnexpectedSlotError};
+pub use cedar_policy_parts::principals::PrincipalConstraint;
+pub use cedar_policy_parts::references::EntityReference;
+pub use cedar_policy_parts::resources::ResourceConstraint;
 pub use cedar_policy_parts::{Effect, PolicyID};
 pub use cedar_policy_set::bounds::Bound;
 pub use cedar_policy_set::errors::{
@@ -36,7 +39,3 @@ pub use cedar_policy_set::listing::{
     AllTemplates, IntoPolicies, LinkedPolicies, Policies, StaticPolicies, Templates,
 };
 pub use cedar_policy_set::sets::PolicySet;
-pub use cedar_templates::bodies::{TemplateBody, TemplateBodyImpl};
-pub use cedar_templates::errors::{SlotsInConditionClause, TemplateValidationError};
-pub use cedar_templates::static_policies::StaticPolicy;
-pub use cedar_templates::templates::Template;

@@ -1,6 +1,6 @@
 // The policies that another set has more.
 ghost use Rattle.std.specs.Prelude.{◌≡◌, IfOk, true, false};
-ghost use Rattle.cedar_templates.specs.Templates.{template_id, syntax_of};
+ghost use Rattle.cedar_policies.specs.Templates.{template_id, syntax_of};
 ghost use Rattle.cedar_policies.specs.Policies.{policy_id};
 ghost use Rattle.cedar_policy_set.specs.Entries.{is_link};
 ghost use Rattle.cedar_policy_set.specs.Bounds.{bound_id, entry_of, entries_of, policy_entry, IsNamed};
@@ -9,10 +9,10 @@ ghost use Rattle.cedar_store.specs.Merged.{is_more, joining};
 
 use crate::renaming::{Renaming, conflicts, copied, given_id, renamed_id};
 use cedar_policies::policies::Policy;
+use cedar_policies::templates::Template;
 use cedar_policy_parts::PolicyID;
 use cedar_policy_set::bounds::Bound;
 use cedar_policy_set::sets::PolicySet;
-use cedar_templates::templates::Template;
 use indexmap::IndexMap;
 use std::alloc::{AllocError, Global};
 use std::rc::Rc;

@@ -3,10 +3,9 @@
 //! of a session's world, and what a merge renames.
 
 pub use crate::merging_laws as merging;
-pub use cedar_constraints::laws as constraints;
-pub use cedar_policy_parts::laws as annotations;
+pub use cedar_policies::laws as templates;
+pub use cedar_policy_parts::{laws as annotations, scope_laws as constraints};
 pub use cedar_policy_set::{laws as sets, worlds as policy_set};
-pub use cedar_templates::laws as templates;
 
 /// Edits of the store are the world's.
 pub mod entities {

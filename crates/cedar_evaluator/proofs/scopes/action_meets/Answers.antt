@@ -2,7 +2,7 @@
 use Rattle.std.proofs.Common.{Bool, Some, subst, sym}
 use Rattle.cedar_language.specs.Tree.{Action}
 use Rattle.cedar_grammar.specs.Policy.{action_tree}
-use Rattle.cedar_constraints.specs.Actions.{action_of}
+use Rattle.cedar_policy_parts.specs.Actions.{action_of}
 use Rattle.cedar_evaluator.specs.Scopes.{IsDecided, IsGivenAs}
 use Rattle.cedar_evaluator.proofs.Scoped.{action_held}
 use Rattle.cedar_evaluator.proofs.scopes.action_meets.Goals as goal

@@ -2,7 +2,7 @@
 use Rattle.std.proofs.Common.{subst, sym}
 use Rattle.std.specs.Option.{option_copied}
 use Rattle.cedar_grammar.specs.Policy.{constraint_tree}
-use Rattle.cedar_constraints.specs.Asked.{constraint_of}
+use Rattle.cedar_policy_parts.specs.Asked.{constraint_of}
 use Rattle.cedar_evaluator.specs.Scopes.{IsDecided, IsGivenAs}
 use Rattle.cedar_evaluator.proofs.Scoped.{constraint_held}
 use Rattle.cedar_evaluator.proofs.scopes.part_meets.Goals as goal

@@ -1,7 +1,7 @@
 -- What the set binds to the id the world does, and a link that names the template is one there too.
 use Rattle.std.proofs.Common.{◌∙◌, sym, subst, Ok, Err}
 use Rattle.std.specs.Rc.{rc_str_bytes}
-use Rattle.cedar_templates.specs.Templates.{syntax_of}
+use Rattle.cedar_policies.specs.Templates.{syntax_of}
 use Rattle.cedar_policy_set.specs.Entries.{without}
 use Rattle.cedar_policy_set.specs.Worlds.{policies_in}
 use Rattle.cedar_replies.specs.declared.refusal.Refusal.TheVariants as replies

@@ -3,7 +3,7 @@ use Rattle.std.proofs.Common.{◌-◌, sym}
 use Rattle.std.proofs.lemmas.Result.{err_from_is_err_and}
 use Rattle.cedar_grammar.specs.LooseReading.{whole, expr_at}
 use Rattle.cedar_cst.specs.View.{shown_expr}
-use Rattle.cedar_loose_expressions.proofs.Loops.{first_fails}
+use Rattle.cedar_loose.proofs.Loops.{first_fails}
 use Rattle.cedar_loose.proofs.Limits.{all_read, not_all_read}
 use Rattle.cedar_loose.proofs.parse.expr_of.Goals as goal
 

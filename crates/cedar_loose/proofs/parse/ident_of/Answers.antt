@@ -5,7 +5,7 @@ use Rattle.cedar_grammar.specs.ReadingPolicies.{word_read}
 use Rattle.cedar_grammar.specs.Loose as loose
 use Rattle.cedar_grammar.specs.LooseReading.{mapped, needed, whole}
 use Rattle.cedar_cst.specs.LeafView.{shown_ident}
-use Rattle.cedar_loose_expressions.proofs.Loops.{first_fails}
+use Rattle.cedar_loose.proofs.Loops.{first_fails}
 use Rattle.cedar_loose.proofs.Limits.{all_read, not_all_read}
 use Rattle.cedar_loose.proofs.parse.ident_of.Goals as goal
 

@@ -3,7 +3,7 @@ use Rattle.std.proofs.Common.{◌-◌, sym}
 use Rattle.std.proofs.lemmas.Result.{err_from_is_err_and}
 use Rattle.cedar_grammar.specs.LooseReading.{whole, name_of}
 use Rattle.cedar_cst.specs.LeafView.{shown_name}
-use Rattle.cedar_loose_expressions.proofs.Loops.{first_fails}
+use Rattle.cedar_loose.proofs.Loops.{first_fails}
 use Rattle.cedar_loose.proofs.Limits.{all_read, not_all_read}
 use Rattle.cedar_loose.proofs.parse.name_of.Goals as goal
 

@@ -6,8 +6,8 @@ use Rattle.cedar_grammar.specs.Loose as loose
 use Rattle.cedar_grammar.specs.LooseReading.{◌>>◌, mapped, whole, each_of, policy_of, read_policies}
 use Rattle.cedar_cst.specs.View.{shown_policy, view_policies}
 use Rattle.cedar_cst.proofs.Views.{seen}
-use Rattle.cedar_loose_expressions.proofs.Loops.{first_fails, mapped_fails}
-use Rattle.cedar_loose_expressions.proofs.Cases.{fails_as}
+use Rattle.cedar_loose.proofs.Loops.{first_fails, mapped_fails}
+use Rattle.cedar_loose.proofs.Cases.{fails_as}
 use Rattle.cedar_loose.proofs.Limits.{all_read, not_all_read, policies_within, policies_zero}
 use Rattle.cedar_loose.proofs.parse.policies_of.Goals as goal
 

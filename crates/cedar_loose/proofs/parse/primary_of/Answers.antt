@@ -3,8 +3,8 @@ use Rattle.std.proofs.Common.{◌-◌, sym, ◌∙◌}
 use Rattle.std.proofs.lemmas.Result.{err_from_is_err_and}
 use Rattle.cedar_grammar.specs.LooseReading.{◌>>◌, whole, expr_at, primary_of, read_primary}
 use Rattle.cedar_cst.specs.View.{shown_primary}
-use Rattle.cedar_loose_expressions.proofs.Loops.{first_fails}
-use Rattle.cedar_loose_expressions.proofs.Cases.{fails_as}
+use Rattle.cedar_loose.proofs.Loops.{first_fails}
+use Rattle.cedar_loose.proofs.Cases.{fails_as}
 use Rattle.cedar_loose.proofs.Limits.{all_read, not_all_read, primary_within}
 use Rattle.cedar_loose.proofs.parse.primary_of.Goals as goal
 

@@ -8,8 +8,8 @@ use Rattle.cedar_grammar.specs.LooseReading.{needed, annotation_of}
 use Rattle.cedar_cst.specs.View.{view_annotation}
 use Rattle.cedar_cst.proofs.Views.{seen}
 use Rattle.cedar_loose.specs.Parts.{value_of}
-use Rattle.cedar_loose_expressions.proofs.Loops.{first_fails}
-use Rattle.cedar_loose_expressions.proofs.Cases.{fails_as}
+use Rattle.cedar_loose.proofs.Loops.{first_fails}
+use Rattle.cedar_loose.proofs.Cases.{fails_as}
 use Rattle.cedar_loose.proofs.Readings.{ident_of, annotation_is, annotation_steps}
 use Rattle.cedar_loose.proofs.policies.annotation.Goals as goal
 

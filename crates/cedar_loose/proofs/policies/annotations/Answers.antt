@@ -5,7 +5,7 @@ use Rattle.std.proofs.lemmas.List.{map_push}
 use Rattle.cedar_grammar.specs.ReadingPolicies.{begins_annotation}
 use Rattle.cedar_grammar.specs.LooseReading.{each_of, annotation_of}
 use Rattle.cedar_cst.specs.View.{shown_annotation}
-use Rattle.cedar_loose_expressions.proofs.Loops.{each_start, each_done, each_fail, each_more}
+use Rattle.cedar_loose.proofs.Loops.{each_start, each_done, each_fail, each_more}
 use Rattle.cedar_loose.proofs.Fewer.{annotation_fewer}
 use Rattle.cedar_loose.proofs.policies.annotations.Goals as goal
 

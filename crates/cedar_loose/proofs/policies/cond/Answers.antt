@@ -8,8 +8,8 @@ use Rattle.cedar_grammar.specs.LooseReading.{needed, expr_at, cond_of}
 use Rattle.cedar_cst.specs.View.{view_cond}
 use Rattle.cedar_cst.proofs.Views.{seen}
 use Rattle.cedar_loose.specs.Parts.{clause_of}
-use Rattle.cedar_loose_expressions.proofs.Loops.{first_fails}
-use Rattle.cedar_loose_expressions.proofs.Cases.{fails_as}
+use Rattle.cedar_loose.proofs.Loops.{first_fails}
+use Rattle.cedar_loose.proofs.Cases.{fails_as}
 use Rattle.cedar_loose.proofs.Readings.{ident_of, cond_is, cond_steps}
 use Rattle.cedar_loose.proofs.policies.cond.Goals as goal
 

@@ -4,7 +4,7 @@ use Rattle.std.proofs.lemmas.Result.{err_from_is_err_and}
 use Rattle.std.proofs.lemmas.List.{map_push}
 use Rattle.cedar_grammar.specs.LooseReading.{each_of, begins_cond, cond_of}
 use Rattle.cedar_cst.specs.View.{shown_cond}
-use Rattle.cedar_loose_expressions.proofs.Loops.{each_start, each_done, each_fail, each_more}
+use Rattle.cedar_loose.proofs.Loops.{each_start, each_done, each_fail, each_more}
 use Rattle.cedar_loose.proofs.Fewer.{cond_fewer}
 use Rattle.cedar_loose.proofs.policies.conds.Goals as goal
 

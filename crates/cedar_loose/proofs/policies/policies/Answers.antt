@@ -5,7 +5,7 @@ use Rattle.std.proofs.lemmas.List.{map_push}
 use Rattle.cedar_grammar.specs.ReadingPolicies.{is_more}
 use Rattle.cedar_grammar.specs.LooseReading.{each_of, policy_of}
 use Rattle.cedar_cst.specs.View.{shown_policy}
-use Rattle.cedar_loose_expressions.proofs.Loops.{each_start, each_done, each_fail, each_more}
+use Rattle.cedar_loose.proofs.Loops.{each_start, each_done, each_fail, each_more}
 use Rattle.cedar_loose.proofs.Fewer.{policy_fewer}
 use Rattle.cedar_loose.proofs.policies.policies.Goals as goal
 

@@ -8,8 +8,8 @@ use Rattle.cedar_grammar.specs.Loose as loose
 use Rattle.cedar_grammar.specs.LooseReading.{needed, each_of, items_of, annotation_of, variable_def_of, cond_of, begins_cond, policy_of}
 use Rattle.cedar_cst.specs.View.{view_policy}
 use Rattle.cedar_cst.proofs.Views.{seen}
-use Rattle.cedar_loose_expressions.proofs.Loops.{first_fails, made}
-use Rattle.cedar_loose_expressions.proofs.Cases.{fails_as}
+use Rattle.cedar_loose.proofs.Loops.{first_fails, made}
+use Rattle.cedar_loose.proofs.Cases.{fails_as}
 use Rattle.cedar_loose.proofs.Readings.{ident_of, policy_is, policy_steps}
 use Rattle.cedar_loose.proofs.policies.policy.Goals as goal
 

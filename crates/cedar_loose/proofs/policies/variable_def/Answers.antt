@@ -7,8 +7,8 @@ use Rattle.cedar_grammar.specs.Loose as loose
 use Rattle.cedar_grammar.specs.LooseReading.{optional, compared_step, operator_at, rel_op, eat_is, name_of, add_of, expr_at, variable_def_of}
 use Rattle.cedar_cst.specs.View.{view_variable_def}
 use Rattle.cedar_cst.proofs.Views.{seen}
-use Rattle.cedar_loose_expressions.proofs.Loops.{first_fails, made}
-use Rattle.cedar_loose_expressions.proofs.Cases.{fails_as}
+use Rattle.cedar_loose.proofs.Loops.{first_fails, made}
+use Rattle.cedar_loose.proofs.Cases.{fails_as}
 use Rattle.cedar_loose.proofs.Readings.{ident_of, variable_def_is, variable_def_steps}
 use Rattle.cedar_loose.proofs.policies.variable_def.Goals as goal
 

@@ -6,7 +6,7 @@ use Rattle.cedar_grammar.specs.Token as token
 use Rattle.cedar_grammar.specs.LooseReading.{items_of, variable_def_of}
 use Rattle.cedar_cst.specs.View.{shown_variable_def}
 use Rattle.cedar_grammar.proofs.PolicyRests.{variable_def-leaves}
-use Rattle.cedar_loose_expressions.proofs.Loops.{items_start, items_closed, items_fail, items_last, items_comma_fails, items_fewer, items_more}
+use Rattle.cedar_loose.proofs.Loops.{items_start, items_closed, items_fail, items_last, items_comma_fails, items_fewer, items_more}
 use Rattle.cedar_loose.proofs.policies.variable_defs.Goals as goal
 
 pub items-init : goal.items-init

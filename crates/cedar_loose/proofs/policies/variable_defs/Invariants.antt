@@ -2,7 +2,7 @@ use Rattle.std.proofs.Common.{map, length}
 use Rattle.cedar_grammar.specs.Token as token
 use Rattle.cedar_grammar.specs.LooseReading.{items_of, variable_def_of}
 use Rattle.cedar_cst.specs.View.{shown_variable_def}
-use Rattle.cedar_loose_expressions.proofs.Loops.{Items}
+use Rattle.cedar_loose.proofs.Loops.{Items}
 use Rattle.cedar_loose.proofs.policies.variable_defs.Given as goal
 
 abbrev pub invariant-items : goal.invariant-items

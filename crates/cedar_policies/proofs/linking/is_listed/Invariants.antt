@@ -2,7 +2,7 @@
 use Rattle.std.proofs.Common.{◌≡◌, drop}
 use Rattle.std.specs.List.{list_any}
 use Rattle.cedar_world.specs.Syntax.{is_slot}
-use Rattle.cedar_templates.specs.Slots.{slot_ids}
+use Rattle.cedar_policies.specs.Slots.{slot_ids}
 use Rattle.cedar_policies.proofs.linking.is_listed.Given as goal
 
 abbrev pub invariant-loop-listed : goal.invariant-loop-listed

@@ -2,7 +2,7 @@
 use Rattle.std.proofs.Common.{◌≡◌, take}
 use Rattle.std.specs.Prelude.{filter, is_some, not}
 use Rattle.cedar_world.specs.Syntax.{binding_of}
-use Rattle.cedar_templates.specs.Slots.{slot_ids}
+use Rattle.cedar_policies.specs.Slots.{slot_ids}
 use Rattle.cedar_policies.proofs.linking.unbound_slots.Given as goal
 
 abbrev pub invariant-loop-slot : goal.invariant-loop-slot

@@ -4,8 +4,8 @@ use Rattle.std.proofs.lemmas.List.{length-map, length-take-le}
 use Rattle.cedar_cst.specs.View.{shown_policy}
 use Rattle.cedar_conversion_leaves.specs.Converts.{Finds}
 use Rattle.cedar_conversion_leaves.proofs.Telling.{at_item}
-use Rattle.cedar_policy_parts_conversion.proofs.Gathering.{seen_more}
-use Rattle.cedar_policy_parts_conversion.proofs.Showing.{told_or}
+use Rattle.cedar_policy_conversion.proofs.Gathering.{seen_more}
+use Rattle.cedar_policy_conversion.proofs.Showing.{told_or}
 use Rattle.cedar_policy_conversion.specs.Shows.{policy_shows, each_policy_shows}
 use Rattle.cedar_policy_conversion.proofs.Numbering.{entries_more, entries_of, free_in}
 use Rattle.cedar_policy_conversion.proofs.sets.set_of.Goals as goal

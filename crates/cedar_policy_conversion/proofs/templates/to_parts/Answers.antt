@@ -11,14 +11,14 @@ use Rattle.cedar_policy_conversion.specs.Shows.{policy_shows}
 use Rattle.cedar_trees.specs.Bare.{bare}
 use Rattle.cedar_policy_parts.specs.Effects.{effect_of}
 use Rattle.cedar_conversion_leaves.specs.Reasons.{reason}
-use Rattle.cedar_policy_parts_conversion.specs.Scopes.{scope_of}
-use Rattle.cedar_policy_parts_conversion.specs.Clauses.{clauses_of}
-use Rattle.cedar_policy_parts_conversion.specs.Notes.{notes_of}
-use Rattle.cedar_policy_parts_conversion.proofs.Gathering.{both_found, lacks_more, paired, passed}
-use Rattle.cedar_policy_parts_conversion.specs.Shows.{effect_shows, annotations_show, scope_shows}
-use Rattle.cedar_policy_parts_conversion.specs.ClausesShow.{clauses_show}
+use Rattle.cedar_policy_conversion.specs.Scopes.{scope_of}
+use Rattle.cedar_policy_conversion.specs.Clauses.{clauses_of}
+use Rattle.cedar_policy_conversion.specs.Notes.{notes_of}
+use Rattle.cedar_policy_conversion.proofs.Gathering.{both_found, lacks_more, paired, passed}
+use Rattle.cedar_policy_conversion.specs.PartsShow.{effect_shows, annotations_show, scope_shows}
+use Rattle.cedar_policy_conversion.specs.ClausesShow.{clauses_show}
 use Rattle.cedar_conversion_leaves.proofs.Telling.{flat_shows, handed_on}
-use Rattle.cedar_policy_parts_conversion.proofs.Showing.{flat_both}
+use Rattle.cedar_policy_conversion.proofs.Showing.{flat_both}
 use Rattle.cedar_policy_conversion.specs.Parts.{parts_syntax}
 use Rattle.cedar_policy_conversion.proofs.Wholes.{a_policy, loose_parts, no_policy}
 use Rattle.cedar_policy_conversion.proofs.templates.to_parts.Goals as goal

@@ -1,8 +1,8 @@
 -- Links are one entry exactly where the names, the syntax and the entities are the same; each case has one of them.
 use Rattle.std.proofs.Common.{ap, ◌∙◌}
 use Rattle.cedar_language.specs.Order.{same_text}
-use Rattle.cedar_constraints.specs.Sameness.{same_bindings}
-use Rattle.cedar_templates.specs.Templates.{template_id, syntax_of}
+use Rattle.cedar_policy_parts.specs.SameScopes.{same_bindings}
+use Rattle.cedar_policies.specs.Templates.{template_id, syntax_of}
 use Rattle.cedar_policies.specs.Policies.{policy_template, policy_syntax, bindings_of}
 use Rattle.cedar_policy_set.proofs.Sameness.{links_all, links_syntax, links_name, decides_between}
 use Rattle.cedar_policy_set.proofs.bounds.is_same_link.Goals as goal

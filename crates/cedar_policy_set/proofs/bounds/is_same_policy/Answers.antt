@@ -1,6 +1,6 @@
 -- A policy without the id of a link is the entry of a static one.
 use Rattle.std.proofs.Common.{ap, sym, refl, ◌∙◌}
-use Rattle.cedar_templates.specs.Templates.{template_id, syntax_of}
+use Rattle.cedar_policies.specs.Templates.{template_id, syntax_of}
 use Rattle.cedar_policies.specs.Policies.{policy_template, policy_syntax, link_of, bindings_of}
 use Rattle.cedar_policy_set.specs.EntryNodes.{same_entry}
 use Rattle.cedar_policy_set.proofs.Sameness.{same_static, entry_static, decides_between}

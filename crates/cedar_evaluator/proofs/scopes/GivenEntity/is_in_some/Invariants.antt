@@ -2,7 +2,7 @@
 use Rattle.std.proofs.Common.{◌≡◌, drop}
 use Rattle.std.specs.List.{list_any}
 use Rattle.std.specs.Option.{option_copied}
-use Rattle.cedar_constraints.specs.Actions.{held_uids}
+use Rattle.cedar_policy_parts.specs.Actions.{held_uids}
 use Rattle.cedar_operators.specs.Hierarchy.{is_within_entity}
 use Rattle.cedar_evaluator.proofs.scopes.GivenEntity.is_in_some.Given as goal
 

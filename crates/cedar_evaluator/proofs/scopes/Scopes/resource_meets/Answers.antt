@@ -4,12 +4,12 @@ use Rattle.cedar_language.specs.Meaning.{slot_outcome}
 use Rattle.cedar_language.specs.Tree.{Resource, ResourceSlot}
 use Rattle.cedar_grammar.specs.Policy.{Constraint, constraint_tree}
 use Rattle.cedar_partial_evaluation.specs.Partial.{answer_of}
-use Rattle.cedar_constraints.specs.Asked.{constraint_of}
-use Rattle.cedar_constraints.specs.Bindings.{Bindings, binding_of}
+use Rattle.cedar_policy_parts.specs.Asked.{constraint_of}
+use Rattle.cedar_policy_parts.specs.Bindings.{Bindings, binding_of}
 use Rattle.cedar_interpreter.specs.Asking.{request_held}
 use Rattle.cedar_policies.specs.Policies.{bindings_of, policy_syntax}
-use Rattle.cedar_templates.specs.Templates.{syntax_of}
-use Rattle.cedar_templates.specs.declared.templates.Template.{Template}
+use Rattle.cedar_policies.specs.Templates.{syntax_of}
+use Rattle.cedar_policies.specs.declared.templates.Template.{Template}
 use Rattle.cedar_evaluator.specs.Scopes.{IsDecided}
 use Rattle.cedar_evaluator.proofs.scopes.Scopes.resource_meets.Goals as goal
 

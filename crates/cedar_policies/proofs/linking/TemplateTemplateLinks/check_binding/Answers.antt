@@ -4,8 +4,8 @@ use Rattle.std.specs.Prelude.{filter, is_some, not}
 use Rattle.std.specs.List.{list_any}
 use Rattle.cedar_language.specs.Tree.{SlotId}
 use Rattle.cedar_world.specs.Syntax.{binding_of, is_slot}
-use Rattle.cedar_constraints.specs.Bindings.{bound_slots}
-use Rattle.cedar_templates.specs.Templates.{syntax_of}
+use Rattle.cedar_policy_parts.specs.Bindings.{bound_slots}
+use Rattle.cedar_policies.specs.Templates.{syntax_of}
 use Rattle.cedar_policies.specs.Linking.{lacking, extra}
 use Rattle.cedar_policies.proofs.Arity.{checked_fits, checked_refusal}
 use Rattle.cedar_policies.proofs.linking.TemplateTemplateLinks.check_binding.Goals as goal

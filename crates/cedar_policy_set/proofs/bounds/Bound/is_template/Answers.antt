@@ -1,6 +1,6 @@
 -- Two templates are one entry exactly where their syntax is the same.
 use Rattle.std.proofs.Common.{ap, sym, refl, ◌∙◌}
-use Rattle.cedar_templates.specs.Templates.{syntax_of}
+use Rattle.cedar_policies.specs.Templates.{syntax_of}
 use Rattle.cedar_policy_set.specs.Entries.{template}
 use Rattle.cedar_policy_set.specs.Bounds.{entry_of}
 use Rattle.cedar_policy_set.specs.EntryNodes.{same_entry}

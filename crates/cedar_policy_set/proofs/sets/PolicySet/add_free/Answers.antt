@@ -1,7 +1,7 @@
 -- What is appended is the policy, and before it its template where that lacks; either way the set stays whole.
 use Rattle.std.proofs.Common.{◌≡◌, ◌++◌, sym, subst, ◌∙◌}
 use Rattle.std.specs.Prelude.{OnOk}
-use Rattle.cedar_templates.specs.Templates.{template_id}
+use Rattle.cedar_policies.specs.Templates.{template_id}
 use Rattle.cedar_policies.specs.Policies.{policy_id, policy_template, policy_syntax, link_of, bindings_of}
 use Rattle.cedar_policy_set.specs.Bounds.{policy_entry}
 use Rattle.cedar_policy_set.specs.Entries.{Entries, IsWhole}

@@ -1,0 +1,10 @@
+-- As add_node does: a record is shown by its entries.
+use Rattle.std.proofs.Common.{◌∙◌, refl}
+use Rattle.std.proofs.lemmas.Result.{IfOk-weaker}
+use Rattle.cedar_grammar.specs.Loose as loose
+use Rattle.cedar_cst.specs.View.{view_primary}
+use Rattle.cedar_cst.proofs.Views.{seen, view_primary_r_inits}
+use Rattle.cedar_loose.proofs.cursor.Cursor.record_primary.Goals as goal
+
+pub returns : goal.returns
+returns c = IfOk-weaker c.node.result _ _ (λ n h. seen loose.missing_primary view_primary n _ h ∙ view_primary_r_inits _ c.args.entries refl) c.node.ensures
