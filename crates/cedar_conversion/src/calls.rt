@@ -132,8 +132,7 @@ fn call_function<B: ExprBuilder>(
 fn only<E: Drop>(mut args: Vec<E>) -> Option<E>
     ensures { MatchOption result (length args.items ≡ 1 → ⊥) (λ arg. args.items ≡ arg ∷ []) }
 {
-    let arg = args.pop()?;
-    if args.is_empty() { Some(arg) } else { None }
+    if args.len() == 1 { args.pop() } else { None }
 }
 
 // The call of a method with one argument.

@@ -69,12 +69,16 @@ string_shows (loose.literal l) kind = text_shows l kind
 string_shows p (kinds.InvalidAttribute text) = ⊤
 string_shows p kind = ⊥
 
+-- a path stands where an identifier should
+abbrev pub IsPath : ToASTErrorKind → Type 0
+IsPath (kinds.PathAsAttribute text) = ⊤
+IsPath kind = ⊥
+
 -- of a name that should be one identifier
 abbrev pub word_shows : loose.Name → ToASTErrorKind → Type 0
 word_shows loose.missing_name kind = missing_shows kind
 word_shows (loose.name [] i) kind = ident_shows i kind
-word_shows (loose.name (j ∷ js) i) (kinds.PathAsAttribute text) = ⊤
-word_shows (loose.name (j ∷ js) i) kind = ⊥
+word_shows (loose.name (j ∷ js) i) kind = IsPath kind
 
 abbrev pub word_or_string_shows : loose.Primary → ToASTErrorKind → Type 0
 word_or_string_shows (loose.named n) kind = word_shows n kind

@@ -13,7 +13,7 @@ ghost use Rattle.cedar_conversion_leaves.specs.Converts.{and_then, Finds};
 ghost use Rattle.cedar_conversion_leaves.specs.Fields.{path_texts};
 ghost use Rattle.cedar_conversion_leaves.specs.Alone.{access_word};
 ghost use Rattle.cedar_conversion_leaves.specs.Telling.{TellsOnly};
-ghost use Rattle.cedar_conversion_leaves.specs.Shown.{IsNoKey, IsNoAttributes, text_shows, string_shows, word_shows, word_or_string_shows, key_shows, index_shows, path_shows, type_shows, elems_show, pattern_shows, field_shows, fields_show, member_attributes_show, attributes_show};
+ghost use Rattle.cedar_conversion_leaves.specs.Shown.{IsNoKey, IsNoAttributes, IsPath, text_shows, string_shows, word_shows, word_or_string_shows, key_shows, index_shows, path_shows, type_shows, elems_show, pattern_shows, field_shows, fields_show, member_attributes_show, attributes_show};
 
 use crate::lookahead::{only_literal, only_name};
 use crate::{
@@ -79,6 +79,21 @@ pub fn to_string_literal<E: Drop>(
     }
 }
 
+// The fault of a path where an identifier should stand.
+fn no_word<E: Drop>(
+    alloc: Global,
+    name: &Node<Option<Name>>,
+    loc: Option<&Loc>,
+) -> ConversionError<E>
+    ensures fault { IsFault result }
+    ensures kind { TellsOnly result IsPath }
+{
+    match printed(alloc, name) {
+        Ok(text) => ConversionError::fault(alloc, ToASTErrorKind::PathAsAttribute(text), loc),
+        Err(_) => ConversionError::Memory,
+    }
+}
+
 // The identifier that a name is.
 fn name_to_key<E: Drop>(
     alloc: Global,
@@ -92,9 +107,7 @@ fn name_to_key<E: Drop>(
         return Err(ConversionError::missing(alloc, loc));
     };
     if !inner.path.is_empty() {
-        let text = printed(alloc, name)?;
-        let kind = ToASTErrorKind::PathAsAttribute(text);
-        return Err(ConversionError::fault(alloc, kind, loc));
+        return Err(no_word(alloc, name, loc));
     }
     let id = to_unreserved_ident(alloc, &inner.name)?;
     Ok(id.into_smolstr())
