@@ -1,5 +1,6 @@
 #!/usr/bin/env python3
-"""try_edits.py [CRATE..], at the top of the repository: tries the must-fail edits that the gate passes over.
+"""try_edits.py [CRATE|CRATE/EDIT..], at the top of the repository: tries the must-fail edits that the gate passes over, all or
+those of a crate, or the one that stands in the file EDIT.edit.md.
 
 Each edit of crates/CRATE/must-fail/ whose first line is 'only: PATH' is made in a copy of the crate, and the prover checks
 the functions of PATH there: it must refuse one of them, and must prove all of them without the edit. Nothing else is
@@ -46,10 +47,16 @@ def check(crate, texts, path):
     return ran.returncode == 0 and last[1] == last[2], next((it for it in said if "is not proved" in it), "")
 
 
-def tried(crate):
-    """Tries each edit of the crate, prints a line for each, and returns how many weren't refused as they should be."""
+def named(crate, names):
+    """The files of the crate's edits that are named, or of all where no name is given."""
+    found = [it for it in sorted(os.listdir(f"{crate.folder}/must-fail")) if it.endswith(".md")]
+    return [it for it in found if not names or not names.isdisjoint((crate.name, f"{crate.name}/{it.partition('.')[0]}"))]
+
+
+def tried(crate, files):
+    """Tries these edits of the crate, prints a line for each, and returns how many weren't refused as they should be."""
     folder, stands, failed = f"{crate.folder}/must-fail", {}, 0
-    for name in sorted(os.listdir(folder)):
+    for name in files:
         with open(f"{folder}/{name}", encoding="utf-8") as it:
             path = re.search(r"(?m)^only: (\S+)$", it.read())
         if not path:
@@ -67,10 +74,13 @@ def tried(crate):
 
 
 def main():
-    root, names = os.getcwd(), sys.argv[1:]
+    root, names = os.getcwd(), set(sys.argv[1:])
     rt.Crate.cuts_libraries = True
-    crates = [it for it in lib.crates_below(root) if not names or it.name in names]
-    failed = sum(tried(it) for it in crates if os.path.isdir(f"{it.folder}/must-fail"))
+    crates = [it for it in lib.crates_below(root) if os.path.isdir(f"{it.folder}/must-fail")]
+    known = {name for it in crates for name in (it.name, *(f"{it.name}/{file.partition('.')[0]}" for file in named(it, set())))}
+    if names - known:
+        sys.exit(f"no such crate, or edit that the gate passes over: {' '.join(sorted(names - known))}")
+    failed = sum(tried(it, named(it, names)) for it in crates)
     used = resource.getrusage(resource.RUSAGE_CHILDREN)
     print(f"{failed} failed; {used.ru_utime + used.ru_stime:.0f} processor seconds")
     return 1 if failed else 0
