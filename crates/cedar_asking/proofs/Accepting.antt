@@ -50,6 +50,8 @@ names_shown facts told = record {
   slot = λ s. tt;
   in_context = λ a. tt;
   has_in_context = λ a. ((λ e. open_stays e), tt);
+  variable_type = λ v ty h. (let k : ◌≡◌ {A = Option Name} None (Some ty) = h in cc);
+  untold = λ n ty h. (let k : false ≡ true = h in cc);
 }
 
 value_made : (facts : Facts) (b : Bool) (v : Value) → IsMadeAgain facts v → IsMadeAnswer facts (value_held b v)

@@ -35,7 +35,7 @@ use Rattle.cedar_requests.specs.Holding.{RequestParts}
 use Rattle.cedar_interpreter.specs.Asking.{Inquiry, untold}
 use Rattle.cedar_interpreter.specs.Operating.{HasFunctions, NamesNothing}
 use Rattle.cedar_policy_set.specs.Entries.{Entry, static_policy, template, link, Entries, bound_at, IsWhole, policies_of}
-use Rattle.cedar_policy_set.specs.Texts.{HaveSlots, syntax_in}
+use Rattle.cedar_policy_set.specs.Texts.{AreToldBySlots, syntax_in}
 use Rattle.cedar_policy_set.specs.Worlds.{policies_in, FindsAsWorlds}
 use Rattle.cedar_replies.specs.Erring.{have_kinds, with_kinds}
 use Rattle.cedar_replies.specs.declared.error_kind.ErrorKind.{ErrorKind}
@@ -95,7 +95,7 @@ module _ (i : Inquiry) (store : Entities) (table : Table) (depth : ℕ) where
   of_kept (f ∷ es) (l ∷ ks) (first, rest) e (inr a) = let (k, among, is) = of_kept es ks rest e a in (k, inr among, is)
 
 module _ (r : RequestParts) (store : Entities) (table : Table) (depth : ℕ) where
-  module _ (early : LinkingIsWritingEarly) (conditions : LinkConditions) (es : Entries) (whole : IsWhole es) (slots : HaveSlots es) (names : NamesNone es) (finds : FindsAsWorlds)
+  module _ (early : LinkingIsWritingEarly) (conditions : LinkConditions) (es : Entries) (whole : IsWhole es) (slots : AreToldBySlots es) (names : NamesNone es) (finds : FindsAsWorlds)
       (ks : List Kept) (kept : AreKept (untold r) store table depth (policies_of es) ks)
       (by : Setting) (world : World) (held : world.policies ≡ policies_in es) (facts : Facts) (has : HasFacts store facts) (served : HasFunctions table facts) (q : Question) (asked : IsRequestOf by table q r) where
     names_nothing : (e : Entry) → calls_only is_other (condition_in e) ≡ true → NamesNothing table (condition_in e)

@@ -6,11 +6,11 @@ use Rattle.std.specs.Cmp.Lexicographic.{bytes_decides, nat_list_eq_equiv}
 use Rattle.std.proofs.lemmas.Map.Entries.{option_filter}
 use Rattle.std.proofs.lemmas.Map.Views.{lookup-from_Contains, Contains-from_lookup}
 use Rattle.cedar_language.specs.Uid.{Text}
-use Rattle.cedar_world.specs.Syntax.{PolicySyntax, are_some, linked}
+use Rattle.cedar_world.specs.Syntax.{PolicySyntax, linked}
 use Rattle.cedar_world.specs.World.{World, Policy, template_of, template_at, standing_for, in_force_as, in_force_at}
 use Rattle.cedar_asking.proofs.Lists.{IsAmong, contained, contains}
 use Rattle.cedar_policy_set.specs.Entries.{Entry, static_policy, template, link, Entries, bound_at, HasItsTemplate, IsFull, IsWhole, is_policy, policies_of}
-use Rattle.cedar_policy_set.specs.Texts.{HaveSlots, syntax_in}
+use Rattle.cedar_policy_set.specs.Texts.{AreToldBySlots, syntax_in}
 use Rattle.cedar_policy_set.specs.Worlds.{world_bound, policies_in, FindsAsWorlds}
 use Rattle.cedar_asking.proofs.Members.{filtered, unfiltered}
 
@@ -37,16 +37,16 @@ module _ (es : Entries) (whole : IsWhole es) where
   is_there id e at is =
       filtered (λ (x : Text × Entry). is_policy x.1) (id, e) es (contained es (id, e) (Contains-from_lookup (λ a b. (bytes_decides a b).0) id e es at)) is
 
-  module _ (slots : HaveSlots es) (finds : FindsAsWorlds) (world : World) (held : world.policies ≡ policies_in es) where
+  module _ (slots : AreToldBySlots es) (finds : FindsAsWorlds) (world : World) (held : world.policies ≡ policies_in es) where
     found : (id : Text) (o : Option Entry) → bound_at es id ≡ o → finite.get world.policies id ≡ option_map world_bound o
     found id o at = ap (λ m. finite.get m id) held ∙ finds es id ∙ ap (option_map world_bound) at
 
     template_found : (id : Text) (s : PolicySyntax) → bound_at es id ≡ Some (template s) → template_at world.policies id ≡ Some s
-    template_found id s at = ap template_of (found id (Some (template s)) at) ∙ ap (λ b. if b then Some s else None) (slots id s at)
+    template_found id s at = ap template_of (found id (Some (template s)) at) ∙ ap (λ b. if b then Some s else None) (slots.templates id s at)
 
     stands_for : (id : Text) (e : Entry) → bound_at es id ≡ Some e → IsFull e → HasItsTemplate es e → standing_for world.policies (world_bound e) ≡ option_map written_entry (option_filter is_policy (Some e))
-    stands_for id (static_policy s) at full has = ap (λ ss. if are_some ss then None else Some s) full
-    stands_for id (template s) at full has = ap (λ b. if b then None else Some s) (slots id s at)
+    stands_for id (static_policy s) at full has = ap (λ b. if b then None else Some s) (slots.policies id s at)
+    stands_for id (template s) at full has = ap (λ b. if b then None else Some s) (slots.templates id s at)
     stands_for id (link t s b) at full has = ap (option_map (linked b)) (template_found t s has)
 
     in_force : (id : Text) (o : Option Entry) → bound_at es id ≡ o → in_force_at world.policies id ≡ option_map written_entry (option_filter is_policy o)

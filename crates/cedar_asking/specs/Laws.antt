@@ -23,7 +23,7 @@ use Rattle.cedar_interpreter.specs.Asking.{untold}
 use Rattle.cedar_interpreter.specs.Operating.{HasFunctions}
 use Rattle.cedar_operators.specs.Store.{HasFacts}
 use Rattle.cedar_policy_set.specs.Entries.{Entries, IsWhole, policies_of}
-use Rattle.cedar_policy_set.specs.Texts.{HaveSlots, NameNoUnknown}
+use Rattle.cedar_policy_set.specs.Texts.{AreToldBySlots, NameNoUnknown}
 use Rattle.cedar_policy_set.specs.Worlds.{policies_in}
 use Rattle.cedar_replies.specs.Erring.{have_kinds, with_kinds}
 use Rattle.cedar_replies.specs.declared.error_kind.ErrorKind.{ErrorKind}
@@ -54,7 +54,7 @@ WorldsAreMade = (by : Setting) (world : World) (facts : Facts) (table : Table) â
 -- a world has the policies of a whole set, and its facts are those of a store and a table
 pub record IsHeldBy (by : Setting) (world : World) (facts : Facts) (es : Entries) (s : Entities) (table : Table) : Type 0 where
   pub whole : IsWhole es
-  pub slots : HaveSlots es
+  pub slots : AreToldBySlots es
   pub names : NameNoUnknown es
   pub policies : world.policies â‰¡ policies_in es
   pub are_facts : AreFactsOf by world facts

@@ -1,20 +1,20 @@
 // The request that a body states.
-ghost use Rattle.std.specs.Prelude.{◌≡◌, IfOk, option_map};
+ghost use Rattle.std.specs.Prelude.{◌≡◌, IfOk};
 ghost use Rattle.cedar_bodies.specs.Fields.{Serves};
+ghost use Rattle.cedar_bodies.specs.Questions.{part_asked};
 ghost use Rattle.cedar_extensions.specs.Table.{as_table};
 ghost use Rattle.cedar_requests.specs.Parts as requests;
 ghost use Rattle.cedar_restricted.specs.Views.{restricted_tree};
-ghost use Rattle.cedar_world.specs.Bodies.{part_of, holds_call};
+ghost use Rattle.cedar_world.specs.Bodies.{holds_call};
 ghost use Rattle.cedar_world.specs.Setting.{Setting};
 ghost use Rattle.cedar_asking.specs.Bodies.{IsWrittenAsData, holds_call_in, IsWhyNone, EvaluatesContext, AsksBody};
 
 use crate::questions_are_asked;
 use crate::unknowns::is_badly_named;
 use cedar_bodies::version_laws::trees_are_read;
-use cedar_bodies::{ask_body, refusal};
+use cedar_bodies::{AskedPart, ask_body, refusal};
 use cedar_extensions::extensions::Extensions;
 use cedar_extensions::objects::ExtensionFunctionObject;
-use cedar_literals::uids::EntityUID;
 use cedar_replies::Refusal;
 use cedar_requests::{Context, ContextCreationError, EntityUIDEntry, Request};
 use cedar_restricted::borrowed::BorrowedRestrictedExpr;
@@ -22,13 +22,16 @@ use cedar_restricted::restricted::RestrictedExpr;
 use cedar_trees::expr::Expr;
 use std::alloc::{AllocError, Global};
 
-// A principal, an action or a resource that is given, or of which nothing is known.
-fn entry_of(alloc: Global, uid: Option<&EntityUID>) -> Result<EntityUIDEntry, AllocError>
-    ensures { IfOk result (λ entry. requests.part_of entry ≡ part_of (option_map (λ uid. uid.now) uid.entry)) }
+// A principal, an action or a resource that is given, or of which at most the type is known.
+fn entry_of(alloc: Global, part: AskedPart<'_>) -> Result<EntityUIDEntry, AllocError>
+    ensures { IfOk result (λ entry. requests.part_of entry ≡ part_asked part.entry) }
 {
-    match uid {
-        Some(uid) => EntityUIDEntry::known(alloc, uid.clone(alloc)?, None),
-        None => Ok(EntityUIDEntry::unknown()),
+    match part {
+        AskedPart::Given(uid) => EntityUIDEntry::known(alloc, uid.clone(alloc)?, None),
+        AskedPart::Missing(None) => Ok(EntityUIDEntry::unknown()),
+        AskedPart::Missing(Some(entity_type)) => {
+            Ok(EntityUIDEntry::unknown_with_type(entity_type, None))
+        }
     }
 }
 
@@ -67,11 +70,13 @@ fn context_of<F: ExtensionFunctionObject>(
     }
 }
 
-/// The request of the question that a body states: its entities, what is left out being unknown, and its
-/// context evaluated, where `unknown("n")` names an unknown. (Cedar language reference, "Request".)
+/// The request of the question that a body states: its entities, what is left out being unknown, perhaps
+/// with its type, and its context evaluated, where `unknown("n")` names an unknown. (Cedar language
+/// reference, "Request".)
 ///
 /// It is refused `Shape` where the body is no record of entities for some of `principal`, `action` and
-/// `resource` and a record for `context` or none; `Evaluation` where some part of the context that holds no
+/// `resource`, names of types for `principal_type` and `resource_type` at most where the entity isn't given,
+/// and a record for `context` or none; `Evaluation` where some part of the context that holds no
 /// unknown errs; `BadUnknown` where `unknown` is called there on what is no text, or on the name of a
 /// variable; `Depth` only where the body is higher than `depth`; and `Memory`.
 pub fn request_of<F: ExtensionFunctionObject>(
@@ -83,7 +88,7 @@ pub fn request_of<F: ExtensionFunctionObject>(
     ensures { (by : Setting) → Serves (as_table F.answers extensions.now) by (holds_call (restricted_tree body.now)) → AsksBody by (as_table F.answers extensions.now) depth (restricted_tree body.now) result }
 {
     questions_are_asked();
-    let Some(asked) = ask_body(body.as_ref()) else {
+    let Some(asked) = ask_body(alloc, body.as_ref())? else {
         return Err(Refusal::Shape);
     };
     let principal = entry_of(alloc, asked.principal)?;

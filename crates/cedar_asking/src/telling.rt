@@ -117,8 +117,8 @@ fn with_values(
 /// It is refused `Shape` where the body is no record; `Evaluation` where some part of a value errs that
 /// holds no unknown; `NotAValue` where none does and a value holds an unknown; `NoSuchUnknown` where a key
 /// is no unknown of the question; `AlreadyTold` where one was told before; `WrongKind` where the principal,
-/// the action or the resource is told what is no entity, or the context what is no record; `Depth` only
-/// where the body is higher than `depth`; and `Memory`.
+/// the action or the resource is told what is no entity, or one of another type than the question states,
+/// or the context what is no record; `Depth` only where the body is higher than `depth`; and `Memory`.
 pub fn told_by<F: ExtensionFunctionObject>(
     alloc: Global,
     body: &RestrictedExpr,
@@ -135,7 +135,7 @@ pub fn told_by<F: ExtensionFunctionObject>(
     let Some(values) = all_evaluated(alloc, entries, extensions, depth)? else {
         return Err(Refusal::NotAValue);
     };
-    let Some(asked) = ask_body(question.as_ref()) else {
+    let Some(asked) = ask_body(alloc, question.as_ref())? else {
         return Err(Refusal::Shape);
     };
     if names_no_unknown(&asked, entries) {

@@ -1,35 +1,34 @@
 // What a question asks for: its unknowns, and the kinds of their values.
 ghost use Rattle.std.specs.Prelude.{◌≡◌, ◌&&◌, true, false, codes, IfSome, option_map, if◌then◌else◌};
-ghost use Rattle.std.specs.Option.{unwrap_or};
+ghost use Rattle.std.specs.Option.{option_copied, unwrap_or};
 ghost use Rattle.cedar_language.specs.Tree.{RecordType};
 ghost use Rattle.cedar_partial_evaluation.specs.Unknowns.{is_of_type};
 ghost use Rattle.cedar_world.specs.Asking.{Missing, NoContext};
-ghost use Rattle.cedar_world.specs.Bodies.{part_of};
 ghost use Rattle.cedar_world.specs.Orders.{text_eq};
 ghost use Rattle.cedar_world.specs.Question as world;
 ghost use Rattle.cedar_world.specs.Values.{some_field};
 ghost use Rattle.cedar_bodies.specs.Fields.{unrestricted};
 ghost use Rattle.cedar_bodies.specs.Lent.{fields_in};
-ghost use Rattle.cedar_bodies.specs.Questions.{question_of, given_context};
+ghost use Rattle.cedar_bodies.specs.Questions.{part_asked, question_of, given_context};
 ghost use Rattle.cedar_asking.specs.TellSteps.{IsGivenRestricted, entries_as};
 
 use crate::unknown_names::some_entry_holds_name;
 use crate::unknowns::is_same;
-use cedar_bodies::{AskBody, entries_of};
+use cedar_bodies::{AskBody, AskedPart, entries_of};
 use cedar_literals::literals::Literal;
-use cedar_literals::uids::EntityUID;
+use cedar_literals::uids::EntityType;
 use cedar_trees::expr::Expr;
 use cedar_values::values::{Value, ValueKind};
 use std::collections::BTreeMap;
 use std::rc::RcStr;
 
 // Whether this is the name of the variable, for which nothing is given.
-fn is_missing(part: Option<&EntityUID>, variable: &str, name: &str) -> bool
-    ensures { result ≡ (world.is_missing (part_of (option_map (λ uid. uid.now) part.entry)) && text_eq name.now variable.now) }
+fn is_missing(part: &AskedPart<'_>, variable: &str, name: &str) -> bool
+    ensures { result ≡ (world.is_missing (part_asked part.now) && text_eq name.now variable.now) }
 {
     match part {
-        Some(_) => false,
-        None => is_same(name, variable),
+        AskedPart::Given(_) => false,
+        AskedPart::Missing(_) => is_same(name, variable),
     }
 }
 
@@ -61,17 +60,21 @@ pub(crate) fn asks_for(asked: &AskBody<'_>, name: &str) -> bool
     requires { IsGivenRestricted asked.now.context }
     ensures { result ≡ world.is_unknown (question_of asked.now) name.now }
 {
-    is_missing(asked.principal, "principal", name)
-        || is_missing(asked.action, "action", name)
-        || is_missing(asked.resource, "resource", name)
+    is_missing(&asked.principal, "principal", name)
+        || is_missing(&asked.action, "action", name)
+        || is_missing(&asked.resource, "resource", name)
         || is_in_context(asked.context, name)
 }
 
-fn is_entity(value: &Value) -> bool
-    ensures { result ≡ world.fits_part (Missing None) value.now }
+// Whether the value is an entity, of this type where one is stated.
+fn is_entity(entity_type: Option<&EntityType>, value: &Value) -> bool
+    ensures { result ≡ world.fits_part (Missing (option_copied entity_type.entry)) value.now }
 {
     match value.value_kind() {
-        ValueKind::Lit(Literal::EntityUID(_)) => true,
+        ValueKind::Lit(Literal::EntityUID(uid)) => match entity_type {
+            None => true,
+            Some(entity_type) => uid.entity_type() == entity_type,
+        },
         _ => false,
     }
 }
@@ -85,13 +88,16 @@ fn is_record(value: &Value) -> bool
     }
 }
 
-// Whether a variable takes the value that is told for this name: an entity, where it is its own name.
-fn part_takes(part: Option<&EntityUID>, variable: &str, name: &str, value: &Value) -> bool
-    ensures { result ≡ (if text_eq name.now variable.now then world.fits_part (part_of (option_map (λ uid. uid.now) part.entry)) value.now else true) }
+// Whether a variable takes the value that is told for this name: an entity, of the stated type where one is
+// stated, where it is its own name.
+fn part_takes(part: &AskedPart<'_>, variable: &str, name: &str, value: &Value) -> bool
+    ensures { result ≡ (if text_eq name.now variable.now then world.fits_part (part_asked part.now) value.now else true) }
 {
     match part {
-        Some(_) => true,
-        None => !is_same(name, variable) || is_entity(value),
+        AskedPart::Given(_) => true,
+        AskedPart::Missing(entity_type) => {
+            !is_same(name, variable) || is_entity(entity_type.as_ref(), value)
+        }
     }
 }
 
@@ -111,8 +117,8 @@ pub(crate) fn takes(asked: &AskBody<'_>, name: &str, value: &Value) -> bool
     requires { IsGivenRestricted asked.now.context }
     ensures { result ≡ world.fits (question_of asked.now) name.now value.now }
 {
-    part_takes(asked.principal, "principal", name, value)
-        && part_takes(asked.action, "action", name, value)
-        && part_takes(asked.resource, "resource", name, value)
+    part_takes(&asked.principal, "principal", name, value)
+        && part_takes(&asked.action, "action", name, value)
+        && part_takes(&asked.resource, "resource", name, value)
         && context_takes(asked.context, name, value)
 }

@@ -1,4 +1,5 @@
 pub mod Keyed
+pub mod Types
 pub mod ItemByItem
 pub mod Naming
 pub mod Wholes

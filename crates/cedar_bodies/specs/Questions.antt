@@ -6,19 +6,26 @@ use Rattle.cedar_language.specs.Tree.{MakeRecord, Tree, Apply, Trees}
 use Rattle.cedar_language.specs.Uid.{Text}
 use Rattle.cedar_trees.specs.Bare.{bare}
 use Rattle.cedar_trees.specs.declared.expr.Expr.{Expr}
-use Rattle.cedar_world.specs.Asking.{Question, Entries, NoContext}
-use Rattle.cedar_world.specs.Bodies.{Fields, fields_of, found, part_of, entries_of}
+use Rattle.cedar_world.specs.Asking as world
+use Rattle.cedar_world.specs.Asking.{Part, Question, Entries, NoContext}
+use Rattle.cedar_world.specs.Bodies.{Fields, fields_of, found, entries_of}
 use Rattle.cedar_bodies.specs.declared.questions.AskBody.{AskBody}
+use Rattle.cedar_bodies.specs.declared.questions.AskedPart.{AskedPart}
+use Rattle.cedar_bodies.specs.declared.questions.AskedPart.TheVariants.{Given, Missing}
 
 -- the context that a record is; a call that names an unknown is that unknown
 abbrev pub given_context : Bor (Expr (Unit {0})) → Entries
 given_context e = unwrap_or (entries_of (bare e.now)) NoContext
 
+abbrev pub part_asked : AskedPart → Part
+part_asked (Given uid) = world.Given uid.now
+part_asked (Missing entity_type) = world.Missing entity_type
+
 abbrev pub question_of : AskBody → Question
 question_of b = record {
-  principal = part_of (option_map (λ uid. uid.now) b.principal);
-  action = part_of (option_map (λ uid. uid.now) b.action);
-  resource = part_of (option_map (λ uid. uid.now) b.resource);
+  principal = part_asked b.principal;
+  action = part_asked b.action;
+  resource = part_asked b.resource;
   context = unwrap_or (option_map given_context b.context) NoContext;
 }
 

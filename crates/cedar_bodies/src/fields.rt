@@ -1,14 +1,15 @@
 // The fields of a record, by their keys.
-ghost use Rattle.std.specs.Prelude.{◌≡◌, map, option_map};
+ghost use Rattle.std.specs.Prelude.{◌≡◌, IfOk, map, option_map};
 ghost use Rattle.std.specs.Rc.{rc_str_bytes};
 ghost use Rattle.cedar_world.specs.Orders.{text_eq};
 ghost use Rattle.cedar_trees.specs.Bare.{bare};
 ghost use Rattle.cedar_world.specs.Bodies as world;
 ghost use Rattle.cedar_bodies.specs.Lent.{fields_in};
 
-use crate::literals::{entity_of, entries_of, string_of};
-use cedar_literals::uids::EntityUID;
+use crate::literals::{entity_of, entries_of, string_of, type_named};
+use cedar_literals::uids::{EntityType, EntityUID};
 use cedar_trees::expr::Expr;
+use std::alloc::{AllocError, Global};
 use std::collections::BTreeMap;
 use std::rc::RcStr;
 
@@ -72,6 +73,23 @@ pub fn optional_entity<'e>(
     match field(entries, key) {
         None => Some(None),
         Some(value) => Some(Some(entity_of(value)?)),
+    }
+}
+
+// The type that is named beside a key, where the key stands there; none where something else stands beside it.
+pub fn optional_type(
+    alloc: Global,
+    entries: &BTreeMap<RcStr, Expr>,
+    key: &str,
+) -> Result<Option<Option<EntityType>>, AllocError>
+    ensures { IfOk result (λ found. found ≡ world.optional world.type_named key.now (fields_in entries.now)) }
+{
+    match field(entries, key) {
+        None => Ok(Some(None)),
+        Some(value) => match type_named(alloc, value)? {
+            None => Ok(None),
+            Some(entity_type) => Ok(Some(Some(entity_type))),
+        },
     }
 }
 

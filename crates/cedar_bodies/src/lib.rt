@@ -19,5 +19,5 @@ pub use links::{LinkBody, link_body};
 pub use listing::listed_entities;
 pub use literals::{entity_of, entries_of, items_of, string_of};
 pub use making::set_of;
-pub use questions::{AskBody, ask_body};
+pub use questions::{AskBody, AskedPart, ask_body};
 pub use values::refusal;

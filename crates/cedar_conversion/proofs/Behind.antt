@@ -11,7 +11,7 @@ use Rattle.cedar_grammar.specs.Build.{Keyed, keys, trees, unary}
 use Rattle.cedar_grammar.specs.Reading.{◌>>=◌}
 use Rattle.cedar_grammar.specs.Loose as loose
 use Rattle.cedar_grammar.specs.Converting as converting
-use Rattle.cedar_grammar.specs.Converting.{expr_tree, primary_head, access_head, exprs_trees, rec_inits_trees, rec_init_tree, head_tree, literal_tree, ref_entity, record_tree, ident_text, alone, primary_key, primary_text, called}
+use Rattle.cedar_grammar.specs.Converting.{named_slot, expr_tree, primary_head, access_head, exprs_trees, rec_inits_trees, rec_init_tree, head_tree, literal_tree, ref_entity, record_tree, ident_text, alone, primary_key, primary_text, called}
 use Rattle.cedar_builders.specs.Operations.{Operations}
 use Rattle.cedar_conversion_leaves.specs.declared.kinds.ToASTErrorKind.{ToASTErrorKind}
 use Rattle.cedar_conversion_leaves.specs.declared.errors.ConversionError.{ConversionError}
@@ -76,7 +76,7 @@ module _ {E M R : Type 0} (o : Operations M R) (meaning : E → M) where
     first_before h (loose.literal l) g is stands = let t = tree_of (literal_tree l) (λ t. t) g is in tree_before h g t.0 t.1 stands
     first_before h (loose.entity r) g is stands = let t = tree_of (ref_entity r) (λ u. tree.Lit (tree.Entity u)) g is in tree_before h g t.0 t.1 stands
     first_before h (loose.named n) g is stands = name_before h g n (cc is) stands
-    first_before h (loose.slot s) g is stands = absurd (cc is)
+    first_before h (loose.slot s) g is stands = let t = tree_of (named_slot s) tree.Slot g is in tree_before h g t.0 t.1 stands
     first_before h (loose.expr e) g is stands = let t = tree_of (expr_tree names e) (λ t. t) g is in tree_before h g t.0 t.1 stands
     first_before h (loose.e_list es) g is stands = let t = tree_of (exprs_trees names es) (λ xs. tree.Apply tree.MakeSet (trees xs)) g is in tree_before h g t.0 t.1 stands
     first_before h (loose.r_inits rs) g is stands = let t = tree_of_both (rec_inits_trees names rs) record_tree (λ es t. t) g is in tree_before h g t.0 t.1 stands

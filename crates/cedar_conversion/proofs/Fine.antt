@@ -3,7 +3,7 @@ use Rattle.std.proofs.Common.{◌≡◌, refl, sym, ap, ◌∙◌, List, [], ◌
 use Rattle.std.specs.Prelude.{⊤, ◌&&◌, ◌||◌, Result, Ok}
 use Rattle.std.specs.Cmp.Lexicographic.{pointwise_decides, bytes_decides}
 use Rattle.cedar_language.specs.Uid.{Text, Name}
-use Rattle.cedar_language.specs.Tree.{Tree, Lit, Var, If, And, Or, Apply, Literal, Boolean, Variable, Operator}
+use Rattle.cedar_language.specs.Tree.{SlotId, Tree, Lit, Var, Slot, If, And, Or, Apply, Literal, Boolean, Variable, Operator}
 use Rattle.cedar_grammar.specs.Names.{Names, is_among, is_function}
 use Rattle.cedar_grammar.specs.Build.{trees, unary, binary, conjunction, disjunction}
 use Rattle.cedar_builders.specs.Operations.{◌>>=◌, operated, made, built, built_all}
@@ -88,6 +88,10 @@ module _ (names : Names) where
   pub fine_variable : (v : Variable) → Fine names (Var v)
   unfolding made
   fine_variable v = record { is_built = refl; is_named = λ lacks. refl }
+
+  pub fine_slot : (s : SlotId) → Fine names (Slot s)
+  unfolding made
+  fine_slot s = record { is_built = refl; is_named = λ lacks. refl }
 
   pub fine_if : (x y z : Tree) → Fine names x → Fine names y → Fine names z → Fine names (If x y z)
   fine_if x y z f g h = record { is_built = if_built x y z f.is_built g.is_built h.is_built; is_named = λ lacks. refl }

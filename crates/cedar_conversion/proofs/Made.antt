@@ -95,6 +95,10 @@ module _ {M R : Type 0} (o : Operations M R) where
       ap (λ r. r >>= λ p. built o y >>= λ q. let t : Result M R = Ok (o.and p q) in t) e
       ∙ ap (λ r. r >>= λ q. let t : Result M R = Ok (o.and a q) in t) f
 
+  pub built_slot : (s : tree.SlotId) → built o (tree.Slot s) ≡ Ok (o.slot s)
+  unfolding made
+  built_slot s = refl
+
   pub built_literal : (l : tree.Literal) → built o (Lit l) ≡ Ok (o.val l)
   unfolding made
   built_literal l = refl

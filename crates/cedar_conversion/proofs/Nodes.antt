@@ -12,7 +12,7 @@ use Rattle.cedar_grammar.specs.Reading.{◌>>=◌}
 use Rattle.cedar_grammar.specs.Escape.{pattern_of}
 use Rattle.cedar_grammar.specs.Loose as loose
 use Rattle.cedar_grammar.specs.Converting as converting
-use Rattle.cedar_grammar.specs.Converting.{expr_tree, or_tree, relation_tree, adds_tree, add_tree, unary_tree, member_tree, access_head, primary_head, exprs_trees, rec_inits_trees, rec_init_tree, head_tree, comparison_of, lone_member, member_fields, lone_primary, primary_raw, primary_path, primary_text, primary_key, lone_number, alone, ident_text, called, literal_tree, ref_entity, record_tree, negated}
+use Rattle.cedar_grammar.specs.Converting.{named_slot, expr_tree, or_tree, relation_tree, adds_tree, add_tree, unary_tree, member_tree, access_head, primary_head, exprs_trees, rec_inits_trees, rec_init_tree, head_tree, comparison_of, lone_member, member_fields, lone_primary, primary_raw, primary_path, primary_text, primary_key, lone_number, alone, ident_text, called, literal_tree, ref_entity, record_tree, negated}
 use Rattle.cedar_cst.specs.declared.node.Node.{Node}
 use Rattle.cedar_cst.specs.declared.leaves.Ident.{Ident}
 use Rattle.cedar_cst.specs.declared.leaves.Literal.{Literal}
@@ -21,7 +21,7 @@ use Rattle.cedar_cst.specs.declared.leaves.Name.{Name}
 use Rattle.cedar_cst.specs.declared.leaves.Slot.{Slot}
 use Rattle.cedar_cst.specs.declared.leaves.RelOp.{RelOp}
 use Rattle.cedar_cst.specs.declared.leaves.NegOp.TheVariants as signs
-use Rattle.cedar_cst.specs.LeafView.{shown_ident, shown_literal, shown_ref, shown_name, view_rel_op}
+use Rattle.cedar_cst.specs.LeafView.{shown_ident, shown_literal, shown_ref, shown_name, view_rel_op, shown_slot}
 use Rattle.cedar_cst.specs.declared.cst.Expr.{Expr, out-Expr, roll-Expr, roll-out-Expr}
 use Rattle.cedar_cst.specs.declared.cst.Expr.TheOpen.{Expr-F}
 use Rattle.cedar_cst.specs.declared.cst.Expr.TheOpen as layer
@@ -198,7 +198,7 @@ module _ (names : Names) where
   unfolding primary_head
   primary_name n t a r is at same = ap (primary_head names) (name_seen n t a r is at same)
 
-  pub primary_slot : (n : Node (Option Primary)) (t : Primary) (a : Node (Option Slot)) → n.node ≡ Some t → t ≡ primary.Slot a → primary_head names (shown_primary n) ≡ None
+  pub primary_slot : (n : Node (Option Primary)) (t : Primary) (a : Node (Option Slot)) → n.node ≡ Some t → t ≡ primary.Slot a → primary_head names (shown_primary n) ≡ (named_slot (shown_slot a) >>= λ s. Some (converting.a_tree (tree.Slot s)))
   unfolding primary_head
   primary_slot n t a is at = ap (primary_head names) (slot_seen n t a is at)
 

@@ -7,10 +7,10 @@ use Rattle.cedar_grammar.specs.Names.{Names}
 use Rattle.cedar_grammar.specs.Build.{conjunction, disjunction, Keyed}
 use Rattle.cedar_grammar.specs.Reading.{◌>>=◌}
 use Rattle.cedar_grammar.specs.Loose as loose
-use Rattle.cedar_grammar.specs.Converting.{ident_text, ref_entity, literal_tree, alone, lone_member, lone_primary, primary_text, primary_key, primary_path, primary_raw, member_fields, lone_number, comparison_of, sum, product, Head, head_tree, called, record_tree, expr_tree, or_tree, ands_tree, and_tree, relations_tree, relation_tree, adds_tree, add_tree, mults_tree, mult_tree, unaries_tree, unary_tree, member_tree, accesses_tree, access_head, primary_head, exprs_trees, rec_inits_trees, rec_init_tree}
+use Rattle.cedar_grammar.specs.Converting.{named_slot, ident_text, ref_entity, literal_tree, alone, lone_member, lone_primary, primary_text, primary_key, primary_path, primary_raw, member_fields, lone_number, comparison_of, sum, product, Head, head_tree, called, record_tree, expr_tree, or_tree, ands_tree, and_tree, relations_tree, relation_tree, adds_tree, add_tree, mults_tree, mult_tree, unaries_tree, unary_tree, member_tree, accesses_tree, access_head, primary_head, exprs_trees, rec_inits_trees, rec_init_tree}
 use Rattle.cedar_conversion.specs.Laws.{TreesAreBuilt, CallsAreNamed}
 use Rattle.cedar_conversion.proofs.Holding.{Holds, given, then_holds, after_any}
-use Rattle.cedar_conversion.proofs.Fine.{Fine, AllFine, fine_literal, fine_if, fine_conjunction, fine_disjunction, fine_unary}
+use Rattle.cedar_conversion.proofs.Fine.{Fine, AllFine, fine_literal, fine_slot, fine_if, fine_conjunction, fine_disjunction, fine_unary}
 use Rattle.cedar_conversion.proofs.Constructs.{SomeFine, FineHead, fine_literal_tree, fine_compared, fine_sum, fine_product, fine_has, fine_is_in, fine_signed, fine_head, fine_called, fine_set, fine_record}
 
 module _ (names : Names) where
@@ -120,7 +120,7 @@ module _ (names : Names) where
     fine_primary (loose.literal l) = fine_then (FineHead names) (literal_tree l) _ (fine_literal_tree names l) (λ t f. f)
     fine_primary (loose.entity r) = after_any (FineHead names) (ref_entity r) _ (λ u. fine_literal names (tree.Entity u))
     fine_primary (loose.named n) = tt
-    fine_primary (loose.slot s) = tt
+    fine_primary (loose.slot s) = after_any (FineHead names) (named_slot s) _ (λ i. fine_slot names i)
     fine_primary (loose.expr e) = fine_then (FineHead names) (expr_tree names e) _ (fine_expr e) (λ t f. f)
     fine_primary (loose.e_list es) = then_holds (AllFine names) (FineHead names) (exprs_trees names es) _ (fine_exprs es) (λ ts f. fine_set names ts f)
     fine_primary (loose.r_inits rs) =

@@ -10,7 +10,7 @@ use Rattle.cedar_literals.specs.declared.operators.UnaryOp.TheVariants as signs
 use Rattle.cedar_cst.specs.LeafView.{view_rel_op, view_mult_op}
 use Rattle.cedar_conversion_leaves.specs.declared.kinds.ToASTErrorKind.{ToASTErrorKind}
 use Rattle.cedar_conversion_leaves.specs.declared.kinds.ToASTErrorKind.TheVariants as kinds
-use Rattle.cedar_conversion_leaves.specs.Shown.{missing_shows, ident_shows, literal_shows, ref_shows, key_shows, index_shows, type_shows, pattern_shows, attributes_show}
+use Rattle.cedar_conversion_leaves.specs.Shown.{missing_shows, ident_shows, literal_shows, ref_shows, slot_shows, key_shows, index_shows, type_shows, pattern_shows, attributes_show}
 use Rattle.cedar_conversion.specs.declared.applying.Joint.{Joint}
 use Rattle.cedar_conversion.specs.declared.applying.Joint.TheVariants as joint
 use Rattle.cedar_conversion.specs.Choices.{Used, by_itself, by_attribute, by_method, by_text, misuse_shows, function_shows, method_shows}
@@ -120,11 +120,6 @@ count (loose.an_expr e es) = suc (count es)
 
 -- ---- expressions
 
--- a slot may stand in a scope alone
-abbrev pub IsNoOperand : ToASTErrorKind → Type 0
-IsNoOperand (kinds.InvalidSlot text) = ⊤
-IsNoOperand kind = ⊥
-
 -- a key that stands twice
 abbrev pub repeated_show : loose.RecInits → ToASTErrorKind → Type 0
 repeated_show rs kind = MatchOption (record_keys rs) ⊥ (λ ss. IsRepeated ss kind)
@@ -209,7 +204,7 @@ module _ (names : Names) where
     primary_shows (loose.literal l) kind = literal_shows l kind
     primary_shows (loose.entity r) kind = ref_shows r kind
     primary_shows (loose.named n) kind = ⊥
-    primary_shows (loose.slot s) kind = IsNoOperand kind
+    primary_shows (loose.slot s) kind = slot_shows s kind
     primary_shows (loose.expr e) kind = expr_shows e kind
     primary_shows (loose.e_list es) kind = exprs_show es kind
     primary_shows (loose.r_inits rs) kind = rec_inits_show rs kind ⊎ repeated_show rs kind

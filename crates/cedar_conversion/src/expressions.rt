@@ -4,33 +4,31 @@ ghost use Rattle.cedar_grammar.specs.Loose as loose;
 ghost use Rattle.cedar_grammar.specs.Converting as converting;
 ghost use Rattle.cedar_grammar.specs.Converting.{expr_tree, or_tree, and_tree, relation_tree, add_tree, mult_tree, unary_tree, member_tree, access_head, primary_head, rec_init_tree};
 ghost use Rattle.cedar_cst.specs.View.{shown_expr, shown_or, shown_and, shown_relation, shown_add, shown_mult, shown_unary, shown_member, shown_mem_access, shown_primary, shown_rec_init};
-ghost use Rattle.cedar_conversion_leaves.specs.Reasons.{IsFault};
 ghost use Rattle.cedar_conversion_leaves.specs.Converts.{and_then};
 ghost use Rattle.cedar_conversion_leaves.specs.Telling.{Told, TellsOnly};
 ghost use Rattle.cedar_conversion.specs.Building.{MakesTree};
 ghost use Rattle.cedar_conversion.specs.Entries.{MakesEntry};
 ghost use Rattle.cedar_conversion.specs.Heads.{MakesHead, IsBefore};
-ghost use Rattle.cedar_conversion.specs.Shows.{Before, IsNoOperand, is_call, calls_method, expr_shows, or_shows, and_shows, relation_shows, add_shows, mult_shows, unary_shows, member_shows, access_shows, primary_shows, rec_init_shows};
+ghost use Rattle.cedar_conversion.specs.Shows.{Before, is_call, calls_method, expr_shows, or_shows, and_shows, relation_shows, add_shows, mult_shows, unary_shows, member_shows, access_shows, primary_shows, rec_init_shows};
 
 use crate::{
     Head, Joint, Sign, attribute, call, entity_to_head, expr_to_head, has, head_to_expr, index,
     is_type, is_type_in, ite, join, like, literal_to_head, negative, pushed, pushed_entry,
-    record_to_head, set_to_head, signed,
+    record_to_head, set_to_head, signed, slot_to_head,
 };
 use cedar_builders::expr_builder::ExprBuilder;
 use cedar_conversion_leaves::{
     ConversionError, ExtStyles, ToASTErrorKind, flatten_tuple_2, lone_comparison, lone_number,
-    to_entity_type, to_fields, to_index, to_key, to_like_pattern, to_literal, to_ref,
+    to_entity_type, to_fields, to_index, to_key, to_like_pattern, to_literal, to_ref, to_slot,
     to_unreserved_ident,
 };
 use cedar_cst::cst::{
-    Add, And, Expr, ExprData, MemAccess, Member, Mult, NegOp, Or, Primary, RecInit, Relation, Slot,
-    Unary,
+    Add, And, Expr, ExprData, MemAccess, Member, Mult, NegOp, Or, Primary, RecInit, Relation, Unary,
 };
 use cedar_cst::node::Node;
 use cedar_literals::operators::UnaryOp;
 use cedar_names::places::Loc;
-use std::alloc::{AllocError, Global};
+use std::alloc::Global;
 use std::rc::RcStr;
 
 /// The expression; what the builder refuses of its parts is answered also where it has faults behind them.
@@ -292,28 +290,6 @@ fn member_to_expr<B: ExprBuilder>(
     }
 }
 
-// The fault of a slot, which may stand in a scope alone.
-fn no_slots<E: Drop>(
-    alloc: Global,
-    slot: &Node<Option<Slot>>,
-    loc: Option<&Loc>,
-) -> ConversionError<E>
-    ensures fault { IsFault result }
-    ensures kind { TellsOnly result IsNoOperand }
-{
-    match printed(alloc, slot) {
-        Ok(text) => ConversionError::fault(alloc, ToASTErrorKind::InvalidSlot(text), loc),
-        Err(_) => ConversionError::Memory,
-    }
-}
-
-fn printed(alloc: Global, slot: &Node<Option<Slot>>) -> Result<RcStr, AllocError> {
-    match &slot.node {
-        Some(slot) => RcStr::from_string(slot.to_string(alloc)?),
-        None => RcStr::from_str(alloc, ""),
-    }
-}
-
 // Whether the second access is a call, so that the first one names a method.
 fn calls_method(accesses: &Vec<Node<Option<MemAccess>>>) -> bool
     ensures { result ≡ calls_method (loose.accesses (map shown_mem_access accesses.now.items)) }
@@ -400,7 +376,10 @@ pub(crate) fn primary_to_head<'a, B: ExprBuilder>(
                 let inner = &**name;
                 Ok(Head::Name(inner))
             }
-            Primary::Slot(slot) => Err(no_slots(alloc, slot, node.loc())),
+            Primary::Slot(slot) => {
+                let id = to_slot(alloc, slot, node.loc());
+                slot_to_head::<B>(alloc, node.loc(), id)
+            }
             Primary::Expr(expr) => {
                 let inner = expr_to_expr::<B>(alloc, styles, expr);
                 expr_to_head::<B>(inner)

@@ -3,7 +3,7 @@ ghost use Rattle.std.specs.Prelude.{◌≡◌, ◌⊎◌, List, Option, Some, If
 ghost use Rattle.std.specs.Option.{option_map};
 ghost use Rattle.std.specs.Rc.{rc_str_bytes};
 ghost use Rattle.cedar_language.specs.Tree as tree;
-ghost use Rattle.cedar_language.specs.Tree.{Tree};
+ghost use Rattle.cedar_language.specs.Tree.{SlotId, Tree};
 ghost use Rattle.cedar_language.specs.Uid.{Text, Uid};
 ghost use Rattle.cedar_literals.specs.Literals.{literal_of};
 ghost use Rattle.cedar_grammar.specs.Build.{trees, unary};
@@ -26,6 +26,7 @@ use cedar_conversion_leaves::{
 use cedar_cst::cst::Name;
 use cedar_cst::node::Node;
 use cedar_literals::literals::Literal;
+use cedar_literals::slots;
 use cedar_literals::uids::EntityUID;
 use cedar_names::identifiers::UnreservedId;
 use cedar_names::names;
@@ -73,6 +74,21 @@ pub fn entity_to_head<'a, B: ExprBuilder>(
     let shared = Rc::new(alloc, uid)?;
     let builder = builder_at::<B>(alloc, loc)?;
     expr_to_head::<B>(taken::<B>(builder.val(Literal::EntityUID(shared))))
+}
+
+/// A slot of templates, or the fault of how it is written.
+pub fn slot_to_head<'a, B: ExprBuilder>(
+    alloc: Global,
+    loc: Option<&Loc>,
+    id: Result<slots::SlotId, ConversionError<B::BuildError>>,
+) -> Result<Head<'a, B::Expr>, ConversionError<B::BuildError>>
+    ensures head { (v : Option SlotId) → Finds (λ s. s) id v →
+        MakesHead B.operations B.meaning B.refusal result (and_then v (λ s. Some (converting.a_tree (tree.Slot s)))) }
+    ensures shown { IfErr result (λ error. TellsOnly error (Told id)) }
+{
+    let id = id?;
+    let builder = builder_at::<B>(alloc, loc)?;
+    expr_to_head::<B>(taken::<B>(builder.slot(id)))
 }
 
 /// An expression that stands alone.

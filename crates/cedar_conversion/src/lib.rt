@@ -17,7 +17,7 @@ pub use building::pushed;
 pub use calls::call;
 pub use heads::{
     Head, attribute, entity_to_head, expr_to_head, head_to_expr, index, literal_to_head,
-    set_to_head,
+    set_to_head, slot_to_head,
 };
 pub use laws::{calls_are_named, trees_are_built};
 pub use meanings::{primary_to_expr, to_expr};

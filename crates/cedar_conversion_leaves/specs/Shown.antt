@@ -56,6 +56,12 @@ ref_shows (loose.uid n s) kind = name_shows n kind ⊎ str_shows s kind
 ref_shows (loose.ref n inits) kinds.UnsupportedEntityLiterals = ⊤
 ref_shows (loose.ref n inits) kind = ⊥
 
+-- of a slot: none is so called
+abbrev pub slot_shows : loose.Slot → ToASTErrorKind → Type 0
+slot_shows loose.missing_slot (kinds.InvalidSlot text) = ⊤
+slot_shows (loose.other_slot word) (kinds.InvalidSlot text) = ⊤
+slot_shows s kind = ⊥
+
 -- ---- what should stand alone
 
 -- of a literal that should be a string

@@ -32,7 +32,7 @@ pub enum ToASTErrorKind {
     ExpectedTemplate(ExpectedTemplate),
     /// A key of an annotation stands twice.
     DuplicateAnnotation(AnyId),
-    /// A slot stands in a clause.
+    /// A slot stands in a clause. It may, so nothing tells this; callers may match on it still.
     SlotsInConditionClause(SlotsInConditionClause),
     /// The scope lacks this variable.
     MissingScopeVariable(Var),
@@ -161,7 +161,7 @@ pub enum ToASTErrorKind {
     },
     /// A string holds an escape that there is none of.
     Unescape(UnescapeError),
-    /// A slot stands in an expression, or there is none so called.
+    /// There is no slot so called, or one stands in an expression that is no policy's.
     InvalidSlot(RcStr),
     /// A name holds `__cedar`.
     ReservedNamespace(ReservedNameError),

@@ -23,7 +23,7 @@ pub use lookahead::{
 };
 pub use names::{spelling, to_any_ident, to_name, to_unreserved_ident, to_valid_ident};
 pub use primaries::{
-    to_entity_type, to_fields, to_index, to_key, to_like_pattern, to_string_literal,
+    to_entity_type, to_fields, to_index, to_key, to_like_pattern, to_slot, to_string_literal,
 };
 pub use strings::{to_pattern, to_text};
 pub use styles::ExtStyles;

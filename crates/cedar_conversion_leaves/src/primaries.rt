@@ -1,27 +1,28 @@
-// What is asked of a primary that stands alone: a string, a key, a name, a pattern, or attributes.
+// What is asked of a primary that stands alone: a string, a key, a name, a pattern, attributes, or a slot.
 ghost use Rattle.std.specs.Prelude.{◌≡◌, ◌⊎◌, [], ◌∷◌, Some, map, IfErr};
 ghost use Rattle.std.specs.Option.{option_map};
 ghost use Rattle.std.specs.Str.{chars};
 ghost use Rattle.std.specs.Rc.{rc_str_bytes};
 ghost use Rattle.cedar_grammar.specs.Escape.{pattern_of};
 ghost use Rattle.cedar_grammar.specs.Loose as loose;
-ghost use Rattle.cedar_grammar.specs.Converting.{alone, lone_primary, lone_member, member_fields, fields, primary_text, primary_key, primary_path, primary_raw};
-ghost use Rattle.cedar_cst.specs.LeafView.{shown_literal, shown_name};
+ghost use Rattle.cedar_grammar.specs.Converting.{alone, named_slot, lone_primary, lone_member, member_fields, fields, primary_text, primary_key, primary_path, primary_raw};
+ghost use Rattle.cedar_cst.specs.LeafView.{shown_literal, shown_name, shown_slot};
 ghost use Rattle.cedar_cst.specs.View.{shown_expr, shown_add, shown_member, shown_mem_access, shown_primary};
 ghost use Rattle.cedar_conversion_leaves.specs.Reasons.{IsFault};
 ghost use Rattle.cedar_conversion_leaves.specs.Converts.{and_then, Finds};
 ghost use Rattle.cedar_conversion_leaves.specs.Fields.{path_texts};
 ghost use Rattle.cedar_conversion_leaves.specs.Alone.{access_word};
 ghost use Rattle.cedar_conversion_leaves.specs.Telling.{TellsOnly};
-ghost use Rattle.cedar_conversion_leaves.specs.Shown.{IsNoKey, IsNoAttributes, IsPath, text_shows, string_shows, word_shows, word_or_string_shows, key_shows, index_shows, path_shows, type_shows, elems_show, pattern_shows, field_shows, fields_show, member_attributes_show, attributes_show};
+ghost use Rattle.cedar_conversion_leaves.specs.Shown.{IsNoKey, IsNoAttributes, IsPath, slot_shows, text_shows, string_shows, word_shows, word_or_string_shows, key_shows, index_shows, path_shows, type_shows, elems_show, pattern_shows, field_shows, fields_show, member_attributes_show, attributes_show};
 
 use crate::lookahead::{only_literal, only_name};
 use crate::{
     ConversionError, ToASTErrorKind, lookahead, to_name, to_pattern, to_text, to_unreserved_ident,
 };
-use cedar_cst::cst::{Add, Expr, Literal, MemAccess, Member, Name, Primary, Str};
+use cedar_cst::cst::{Add, Expr, Literal, MemAccess, Member, Name, Primary, Slot, Str};
 use cedar_cst::node::Node;
 use cedar_literals::patterns::Pattern;
+use cedar_literals::slots::SlotId;
 use cedar_names::names;
 use cedar_names::places::Loc;
 use cedar_trees::unknowns::NonEmpty;
@@ -192,6 +193,29 @@ pub fn to_entity_type<E: Drop>(
         None => {
             let kind = ToASTErrorKind::InvalidIsType(printed(alloc, node)?);
             Err(ConversionError::fault(alloc, kind, node.loc()))
+        }
+    }
+}
+
+/// The slot of templates that is so written; a fault at `loc` where there is none so called.
+pub fn to_slot<E: Drop>(
+    alloc: Global,
+    node: &Node<Option<Slot>>,
+    loc: Option<&Loc>,
+) -> Result<SlotId, ConversionError<E>>
+    ensures slot { Finds (λ slot. slot) result (named_slot (shown_slot node.now)) }
+    ensures shown { IfErr result (λ error. TellsOnly error (slot_shows (shown_slot node.now))) }
+{
+    match &node.node {
+        Some(Slot::Principal) => Ok(SlotId::principal()),
+        Some(Slot::Resource) => Ok(SlotId::resource()),
+        Some(Slot::Other(_)) => {
+            let kind = ToASTErrorKind::InvalidSlot(printed(alloc, node)?);
+            Err(ConversionError::fault(alloc, kind, loc))
+        }
+        None => {
+            let kind = ToASTErrorKind::InvalidSlot(printed(alloc, node)?);
+            Err(ConversionError::fault(alloc, kind, loc))
         }
     }
 }

@@ -5,4 +5,5 @@ pub mod Cuts
 pub mod Words
 pub mod Rules
 pub mod Lists
+pub mod NoSlots
 pub mod Whole

@@ -12,6 +12,7 @@ use Rattle.cedar_trees.specs.Bare.{bare}
 use Rattle.cedar_trees.specs.declared.expr.Expr as code
 use Rattle.cedar_data.specs.Takes.{Skips, Reads}
 use Rattle.cedar_data.specs.Data.{ReadsData, IsDataText}
+use Rattle.cedar_data.proofs.NoSlots.{no_slots}
 
 no_tokens : IsTokens [] []
 no_tokens = subst (λ cs. AreTokens cs []) (sym chars-nil) (none nothing)
@@ -21,6 +22,6 @@ data_text names n bs start rest e body skipped data_ end is =
     let read = subst (λ x. Reads (Within names n) start (bare e) x) end data_.reads in
     let x = read.tokens [] no_tokens in
     record {
-      reads = (x.0, skipped.tokens x.0 x.1, subst (λ t. Within names n x.0 t []) (sym is) x.2);
+      reads = (x.0, skipped.tokens x.0 x.1, (subst (λ t. Within names n x.0 t []) (sym is) x.2, no_slots (restricted_tree body) body.restricted));
       low = subst (λ t. height t ≤ n) (sym is) data_.is_data.low;
     }

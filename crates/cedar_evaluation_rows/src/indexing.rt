@@ -1,8 +1,10 @@
-// The policies at hand are linked, taken away, and listed by what their scopes name.
+// The policies at hand are linked, made of clauses, taken away, and listed by what their scopes name.
 use crate::stores::user;
+use cedar_expressions::ast::Expr;
 use cedar_literals::slots::SlotId;
-use cedar_policy_parts::PolicyID;
+use cedar_policies::policies::Policy;
 use cedar_policy_parts::bindings::SlotEnv;
+use cedar_policy_parts::{Effect, PolicyID};
 use cedar_policy_set::sets::PolicySet;
 use cedar_rows::{Answer, no_case, refused_for, tell};
 use std::alloc::Global;
@@ -27,6 +29,19 @@ fn linked(alloc: Global, template: &str, id: &str, set: &mut PolicySet) -> Answe
     }
 }
 
+/// Adds the permit whose one clause is the expression on top.
+fn made(alloc: Global, id: &str, exprs: &mut Vec<Expr>, set: &mut PolicySet) -> Answer {
+    let Some(when) = exprs.pop() else {
+        return no_case(alloc);
+    };
+    let id = PolicyID::from_string(alloc, id)?;
+    let policy = Policy::from_when_clause(alloc, Effect::Permit, when, id, None)?;
+    match set.add(alloc, policy) {
+        Ok(()) => tell(alloc, set.len()),
+        Err(error) => refused_for(alloc, error),
+    }
+}
+
 /// Takes a static policy away.
 fn removed(alloc: Global, id: &str, set: &mut PolicySet) -> Answer {
     match set.remove_static(&PolicyID::from_string(alloc, id)?) {
@@ -41,10 +56,12 @@ pub(crate) fn edit(
     verb: &str,
     one: &str,
     other: &str,
+    exprs: &mut Vec<Expr>,
     set: &mut PolicySet,
 ) -> Answer {
     match verb {
         "index" => indexed(alloc, set),
+        "clause" => made(alloc, one, exprs, set),
         "link" => linked(alloc, one, other, set),
         _ => removed(alloc, one, set),
     }

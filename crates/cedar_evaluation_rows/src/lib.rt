@@ -114,7 +114,7 @@ fn requested(alloc: Global, section: &str, step: &Step<'_>, held: &mut Held) -> 
     let (verb, one, other) = (step.verb, step.one.as_str(), step.other.as_str());
     let exprs = &mut held.exprs;
     match section {
-        "edit" => indexing::edit(alloc, verb, one, other, &mut held.policies),
+        "edit" => indexing::edit(alloc, verb, one, other, exprs, &mut held.policies),
         "given" => partial_values::value(alloc, verb, one, &mut held.values),
         "tell" => substitution::tell_value(alloc, verb, &mut held.values, &mut held.told),
         "told" => {

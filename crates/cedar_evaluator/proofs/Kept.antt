@@ -44,7 +44,7 @@ module _
   syntax_is = syntax_entered (link_of p) (template_id (policy_template p)) (policy_syntax p) (bindings_of p)
 
   bindings_are : bindings_in (policy_entry p) ≡ bindings_of p
-  bindings_are = bindings_entered (link_of p) (template_id (policy_template p)) (policy_syntax p) (bindings_of p) p.own p.fills
+  bindings_are = bindings_entered (link_of p) (template_id (policy_template p)) (policy_syntax p) (bindings_of p) (λ none. (p.own none).1)
 
   condition_is : condition_in (policy_entry p) ≡ condition_of p
   condition_is = ap grammar.condition syntax_is

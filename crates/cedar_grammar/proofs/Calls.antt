@@ -44,6 +44,7 @@ module _ (names : Names) where
   calls-kept = record {
     literal = λ l. refl;
     variable = λ v. refl;
+    slot = λ s. refl;
     if_ = λ a b c e f g. rw (e, f, g) refl;
     and = λ a b e f. both (calls_only (is_in_table names) a) (calls_only (is_in_table names) b) e f;
     or = λ a b e f. both (calls_only (is_in_table names) a) (calls_only (is_in_table names) b) e f;
@@ -86,7 +87,7 @@ module _ (names : Names) where
   with_body_calls scope e (a ∷ xs) h = joins scope _ e (joined-kept names Calls calls-kept a xs h.0 h.1)
 
 pub exprs_call_the_table : ExprsCallTheTable
-exprs_call_the_table names n ts t d = within-kept names (Calls names) (calls-kept names) n ts t [] d
+exprs_call_the_table names n ts t d = within-kept names (Calls names) (calls-kept names) n ts t [] d.0
 
 policy_calls : (names : Names) (n : ℕ) (ts : List Token) (p : Policy) (rest : List Token) → PolicyWithin names n ts p rest → Calls names (condition p)
 policy_calls names zero ts p rest d = absurd d

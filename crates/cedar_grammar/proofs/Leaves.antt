@@ -1,5 +1,5 @@
 -- An entity nests as a leaf, and so does a text without policies.
-use Rattle.std.proofs.Common.{ℕ, zero, suc, ◌≤◌, List, [], arith}
+use Rattle.std.proofs.Common.{ℕ, zero, suc, ◌≤◌, List, [], refl, arith}
 use Rattle.cedar_language.specs.Uid.{Uid}
 use Rattle.cedar_language.specs.Tree.{Tree, Lit, Entity}
 use Rattle.cedar_grammar.specs.Token.{Token}
@@ -11,10 +11,10 @@ use Rattle.cedar_grammar.specs.Laws.{EntitiesNestOnce, NoPoliciesNestOnce}
 
 entity-expr : (names : Names) (ts : List Token) (u : Uid) → IsEntity ts u → IsExpr names 1 ts (Lit (Entity u))
 entity-expr names ts u d =
-    let t = Lit (Entity u) in or_is (chain t [] (chain t [] (alone (chain t [] (chain t [] (plain (member t [] (entity_is d) no_access)) stop) stop)) stop) stop)
+    let t = Lit (Entity u) in (or_is (chain t [] (chain t [] (alone (chain t [] (chain t [] (plain (member t [] (entity_is d) no_access)) stop) stop)) stop) stop), refl)
 
 some-nesting : (names : Names) (ts : List Token) (m : ℕ) (t : Tree) → IsExpr names m ts t → 1 ≤ m
-some-nesting names ts zero t d = absurd d
+some-nesting names ts zero t d = absurd d.0
 some-nesting names ts (suc m) t d = omega arith
 
 pub entities_nest_once : EntitiesNestOnce

@@ -3,20 +3,20 @@ use Rattle.std.proofs.Common.{◌≡◌, ℕ, zero, suc, ◌<◌, ◌^◌, Bool,
 use Rattle.std.specs.Prelude.{map}
 use Rattle.std.proofs.lemmas.Bool.{lt-ltb, le-leb}
 use Rattle.cedar_language.specs.Uid.{Text, Name, Uid}
-use Rattle.cedar_language.specs.Tree.{Tree, Variable}
+use Rattle.cedar_language.specs.Tree.{Tree, SlotId, Variable}
 use Rattle.cedar_grammar.specs.Token as token
 use Rattle.cedar_grammar.specs.Token.{Word, Mark, Token, word, number, text, slot, mark, id_of}
 use Rattle.cedar_grammar.specs.Escape.{string_of}
-use Rattle.cedar_grammar.specs.Names.{Names, variable_of, is_function}
+use Rattle.cedar_grammar.specs.Names.{Names, variable_of, slot_id, is_function}
 use Rattle.cedar_grammar.specs.Build.{Keyed}
-use Rattle.cedar_grammar.specs.Grammar.{Rule, Inner, Ids, one_id, more_ids, EntityRule, entity, Items, Entry, id_entry, text_entry, Primary, true_is, false_is, number_is, text_is, variable_is, entity_is, call_is, group_is, list_is, record_is, attribute, call, index, Accesses, no_access, an_access, Member, member, Signs, no_sign, a_sign, IsNumber, Unary, plain, not_is, neg_is, negative_is, Chain, Mul, Relation, alone, compare, has_text, has_ids, like_is, is_type, is_type_in, And, Expr, or_is, if_is, Within}
+use Rattle.cedar_grammar.specs.Grammar.{Rule, Inner, Ids, one_id, more_ids, EntityRule, entity, Items, Entry, id_entry, text_entry, Primary, true_is, false_is, number_is, text_is, variable_is, slot_is, entity_is, call_is, group_is, list_is, record_is, attribute, call, index, Accesses, no_access, an_access, Member, member, Signs, no_sign, a_sign, IsNumber, Unary, plain, not_is, neg_is, negative_is, Chain, Mul, Relation, alone, compare, has_text, has_ids, like_is, is_type, is_type_in, And, Expr, or_is, if_is, Within}
 use Rattle.cedar_grammar.specs.Reading.{◌>>=◌, is_mark, eat, signs_of}
 use Rattle.cedar_grammar.proofs.Follow.{is_mark-same}
 use Rattle.cedar_grammar.proofs.Eats.{Eats, items-eats, entry-eats, unary-eats, chain-eats, relation-eats, within-eats, Front, Begins, begins_primary, begins_unary, begins_expr, begins_key, front-eat, expr-paren, expr-bracket, key-brace, primary-bang, primary-minus, entry-begins, member-begins, ids-begin, signs-begin, or-begins, within-begins}
 use Rattle.cedar_grammar.specs.Loose as loose
 use Rattle.cedar_grammar.specs.Loose.{ands, relations, adds, mults, unaries, accesses, exprs, rec_inits}
-use Rattle.cedar_grammar.specs.LooseReading.{Reader, mapped, each_at, each_of, items_of, chain_of, or_op, and_op, rel_op, add_op, mult_op, next_word, qualified, name_at, name_of, literal_of, ref_rest, ref_of, named_of, rec_init_of, primary_of, begins_access, access_of, member_of, unary_of, mult_of, add_of, relation_step, relation_of, and_of, or_of, choice_of, expr_of, expr_at}
-use Rattle.cedar_grammar.specs.Converting.{each, ident_text, name_path, ref_entity, fields, member_fields, lone_number, product, Head, a_tree, a_name, an_attribute, head_tree, called, expr_tree, or_tree, and_tree, relation_tree, add_tree, mult_tree, unary_tree, member_tree, accesses_tree, primary_head, rec_init_tree}
+use Rattle.cedar_grammar.specs.LooseReading.{Reader, slot_of, mapped, each_at, each_of, items_of, chain_of, or_op, and_op, rel_op, add_op, mult_op, next_word, qualified, name_at, name_of, literal_of, ref_rest, ref_of, named_of, rec_init_of, primary_of, begins_access, access_of, member_of, unary_of, mult_of, add_of, relation_step, relation_of, and_of, or_of, choice_of, expr_of, expr_at}
+use Rattle.cedar_grammar.specs.Converting.{each, named_slot, ident_text, name_path, ref_entity, fields, member_fields, lone_number, product, Head, a_tree, a_name, an_attribute, head_tree, called, expr_tree, or_tree, and_tree, relation_tree, add_tree, mult_tree, unary_tree, member_tree, accesses_tree, primary_head, rec_init_tree}
 use Rattle.cedar_grammar.proofs.Basics.{level_of, Below, below-more, eat-colons, eat_in-below, next_word-below, access-below, or-silent, and-silent, add-silent, mult-silent, or_join, and_join, add_join, or-links, and-links, add-links, mult-links, rel-forward, rel-silent}
 use Rattle.cedar_grammar.proofs.Loops.{Reads, Completes, wrapped-complete, each_at-stop, items-complete, chain_tree, chain-complete, links-one}
 use Rattle.cedar_grammar.proofs.Equations.{or-chain, and-chain, add-chain, mult-chain, exprs-each, rec_inits-each}
@@ -157,6 +157,12 @@ variable-id token.Resource v e = (_, refl)
 variable-id token.Context v e = (_, refl)
 variable-id w v e = absurd (cc e)
 
+-- the slot of a word is read as it
+slot-read : (w : Word) (s : SlotId) → slot_id w ≡ Some s → named_slot (slot_of w) ≡ Some s
+slot-read token.Principal s e = e
+slot-read token.Resource s e = e
+slot-read w s e = absurd (cc e)
+
 module _ (names : Names) (levels : ℕ) (expr : Rule Tree) (rd : Reader loose.Expr) (c : Completes 1 expr rd (expr_tree names)) (eats : Eats expr) (front : Begins begins_expr expr)
     (live : (ts : List Token) (t : Tree) (rest : List Token) → expr ts t rest → 0 < levels) (lones : 0 < levels → Lones rd) where
   abbrev i : Inner
@@ -205,6 +211,7 @@ module _ (names : Names) (levels : ℕ) (expr : Rule Tree) (rd : Reader loose.Ex
   primary-complete ts t rest (variable_is {w} {v} e) q b =
       let s = variable-id w v e in
       record { p = loose.named (loose.name [] (loose.ident w)); h = a_name (loose.name [] (loose.ident w)); read = id-complete rd w s.0 rest s.1 (next_word-below rest b) (eat-colons rest b); head = refl; tree = rw e }
+  primary-complete ts t rest (slot_is {w} {s} e) q b = record { p = loose.slot (slot_of w); h = a_tree t; read = refl; head = rw (slot-read w s e); tree = refl }
   primary-complete ts t rest (entity_is {u} d) q b =
       let r = entity-complete rd ts u rest d in
       record { p = loose.entity r.0; h = a_tree t; read = r.1; head = rw r.2; tree = refl }

@@ -1,19 +1,21 @@
 -- The laws of the loose grammar.
-use Rattle.std.proofs.Common.{◌≡◌, ℕ, zero, suc, ◌<◌, ◌≤◌, ◌⊎◌, inl, inr, List, [], ◌∷◌, Option, Some, Result, Ok, Err, refl, sym, ap, ◌∙◌, arith}
+use Rattle.std.proofs.Common.{◌≡◌, ℕ, zero, suc, ◌<◌, ◌≤◌, ◌⊎◌, inl, inr, List, [], ◌∷◌, Option, Some, Result, Ok, Err, refl, sym, ap, subst, ◌∙◌, arith}
 use Rattle.std.proofs.lemmas.Bool.{cases_lt}
 use Rattle.cedar_language.specs.Tree.{Tree, Literal, Lit}
 use Rattle.cedar_grammar.specs.Token.{Token}
 use Rattle.cedar_grammar.specs.Names.{Names}
 use Rattle.cedar_grammar.specs.Grammar.{Primary, call_is, Within, inner}
-use Rattle.cedar_grammar.specs.Reading.{◌>>=◌}
+use Rattle.cedar_grammar.specs.Reading.{◌>>=◌, without_slots}
 use Rattle.cedar_grammar.specs.ReadingPolicies.{is_more}
 use Rattle.cedar_grammar.proofs.Eats.{within-eats, within-begins}
 use Rattle.cedar_grammar.specs.Loose as loose
 use Rattle.cedar_grammar.specs.LooseReading.{Fault, depth, read_expr, read_primary, read_policy, read_policies, Reading, ◌>>◌, mapped, each_of, name_of, ref_of, primary_of, expr_at, policy_of, policy_at, policies_at, whole}
-use Rattle.cedar_grammar.specs.Converting.{converted, expr_tree, name_path, ref_entity, head_tree, primary_tree, policy_syntax, policies_syntax}
+use Rattle.cedar_grammar.specs.Converting.{converted, expr_tree, free_tree, name_path, ref_entity, head_tree, primary_tree, policy_syntax, policies_syntax}
 use Rattle.cedar_grammar.specs.LooseLaws.{ExprsConvert, EntitiesConvert, NamesConvert, LiteralsConvert, PolicyConverts, PoliciesConvert, ExprsStand, LiteralsStand, PolicyStands, PoliciesStand}
 use Rattle.cedar_grammar.proofs.Stays.{exprs_stay, primaries_stay, policy_stays, policies_stay}
 use Rattle.cedar_grammar.proofs.Basics.{mapped_ok}
+use Rattle.cedar_grammar.proofs.Laws.{free-is, free-from}
+use Rattle.cedar_grammar.proofs.Parts.{bind_some}
 use Rattle.cedar_grammar.proofs.Loops.{Reads}
 use Rattle.cedar_grammar.proofs.LooseComplete.{name-complete, ref-complete, primary-complete, NoCall, within-live, lones-at, within-complete}
 use Rattle.cedar_grammar.proofs.LooseSound.{name-sound, ref-sound, primary-sound, at-live, at-tells, within-sound}
@@ -32,8 +34,14 @@ read-converted f r a t e g = ap (λ x. converted f (x >> whole)) e ∙ g
 
 pub exprs_convert : ExprsConvert
 exprs_convert names n ts t = (
-  λ d. let r = within-complete names n ts t [] d tt in read-converted (expr_tree names) (expr_at n ts) r.0 t r.1 r.2,
-  λ e. let r = converted-read (expr_tree names) (expr_at n ts) t e in within-sound names n ts r.0 t [] r.1 r.2,
+  λ d.
+      let r = within-complete names n ts t [] d.0 tt in
+      read-converted (free_tree names) (expr_at n ts) r.0 t r.1 (ap (λ o. o >>= without_slots) r.2 ∙ free-is t d.1),
+  λ e.
+      let r = converted-read (free_tree names) (expr_at n ts) t e in
+      let one = bind_some (expr_tree names r.0) without_slots r.2 in
+      let free = free-from one.0 t one.2 in
+      (subst (λ u. Within names n ts u []) free.0 (within-sound names n ts r.0 one.0 [] r.1 one.1), free.1),
 )
 
 pub entities_convert : EntitiesConvert
@@ -95,7 +103,7 @@ stands read conv stay m n ts t h e = by (cases_lt m n)
     by (inr le) = ap (converted conv) (stay n m ts le (λ k. cc (sym (ap (converted conv) k) ∙ e))) ∙ e
 
 pub exprs_stand : ExprsStand
-exprs_stand names m n ts t h d = (exprs_convert names m ts t).1 (stands read_expr (expr_tree names) exprs_stay m n ts t h ((exprs_convert names n ts t).0 d))
+exprs_stand names m n ts t h d = (exprs_convert names m ts t).1 (stands read_expr (free_tree names) exprs_stay m n ts t h ((exprs_convert names n ts t).0 d))
 
 pub literals_stand : LiteralsStand
 literals_stand names m n ts l h d = (literals_convert names m ts l).1 (stands read_primary (primary_tree names) primaries_stay m n ts (Lit l) h ((literals_convert names n ts l).0 d))

@@ -3,22 +3,22 @@ use Rattle.std.proofs.Common.{◌≡◌, ℕ, zero, suc, ◌<◌, ◌^◌, ◌�
 use Rattle.std.specs.Prelude.{map, nat_lt, nat_le, pos, neg_ℤ}
 use Rattle.std.proofs.lemmas.Bool.{ltb-true, leb-true}
 use Rattle.cedar_language.specs.Uid.{Text, Name, Uid}
-use Rattle.cedar_language.specs.Tree.{Tree, Lit, Var, If, Apply, String, Entity, Variable, GetAttr, Like, Is, Call, MakeSet}
+use Rattle.cedar_language.specs.Tree.{Tree, Lit, Var, Slot, SlotId, If, Apply, String, Entity, Variable, GetAttr, Like, Is, Call, MakeSet}
 use Rattle.cedar_grammar.specs.Token as token
 use Rattle.cedar_grammar.specs.Token.{Word, Mark, Token, word, number, text, slot, mark, id_of}
 use Rattle.cedar_grammar.specs.Escape.{string_of, pattern_of}
-use Rattle.cedar_grammar.specs.Names.{Names, variable_of, is_function, are_distinct}
+use Rattle.cedar_grammar.specs.Names.{Names, variable_of, slot_id, is_function, are_distinct}
 use Rattle.cedar_grammar.specs.Build.{truth, long, trees, Keyed, keys, record_of, unary, compared, is_in, nots, negs, has}
-use Rattle.cedar_grammar.specs.Grammar.{Rule, Inner, Ids, one_id, more_ids, EntityRule, entity, Items, Entry, id_entry, text_entry, Primary, true_is, false_is, number_is, text_is, variable_is, entity_is, call_is, group_is, list_is, record_is, attribute, call, index, Accesses, no_access, an_access, Member, member, Signs, no_sign, a_sign, IsNumber, Unary, plain, not_is, neg_is, negative_is, Chain, Mul, Relation, alone, compare, has_text, has_ids, like_is, is_type, is_type_in, And, Expr, or_is, if_is, Within}
+use Rattle.cedar_grammar.specs.Grammar.{Rule, Inner, Ids, one_id, more_ids, EntityRule, entity, Items, Entry, id_entry, text_entry, Primary, true_is, false_is, number_is, text_is, variable_is, slot_is, entity_is, call_is, group_is, list_is, record_is, attribute, call, index, Accesses, no_access, an_access, Member, member, Signs, no_sign, a_sign, IsNumber, Unary, plain, not_is, neg_is, negative_is, Chain, Mul, Relation, alone, compare, has_text, has_ids, like_is, is_type, is_type_in, And, Expr, or_is, if_is, Within}
 use Rattle.cedar_grammar.specs.Grammar as grammar
 use Rattle.cedar_grammar.specs.Reading.{◌>>=◌, is_mark, eat, eat_in, signs_of}
 use Rattle.cedar_grammar.specs.ReadingPolicies.{word_read}
 use Rattle.cedar_grammar.proofs.Parts.{bind_some, cond_some, is_mark-is, eat-is, eat_in-is}
 use Rattle.cedar_grammar.specs.Loose as loose
 use Rattle.cedar_grammar.specs.Loose.{ands, relations, adds, mults, unaries, accesses, exprs, rec_inits}
-use Rattle.cedar_grammar.specs.LooseReading.{syntax, literal_of, Reading, Reader, ◌>>◌, mapped, needed, each_step, each_at, each_of, items_of, links_of, chain_of, or_op, and_op, rel_op, add_op, mult_op, next_word, qualified, name_next, name_at, name_of, ref_init_of, ref_rest, ref_of, rec_init_of, primary_of, begins_access, access_of, member_of, bangs, dashes, after_dashes, after_bangs, unary_of, mult_of, add_of, is_step, relation_step, relation_of, and_of, or_of, choice_of, expr_of, expr_at}
+use Rattle.cedar_grammar.specs.LooseReading.{syntax, slot_of, literal_of, Reading, Reader, ◌>>◌, mapped, needed, each_step, each_at, each_of, items_of, links_of, chain_of, or_op, and_op, rel_op, add_op, mult_op, next_word, qualified, name_next, name_at, name_of, ref_init_of, ref_rest, ref_of, rec_init_of, primary_of, begins_access, access_of, member_of, bangs, dashes, after_dashes, after_bangs, unary_of, mult_of, add_of, is_step, relation_step, relation_of, and_of, or_of, choice_of, expr_of, expr_at}
 use Rattle.cedar_grammar.specs.Converting as converting
-use Rattle.cedar_grammar.specs.Converting.{each, ident_text, name_path, str_text, ref_entity, literal_tree, name_variable, primary_path, primary_key, primary_text, primary_raw, lone_member, lone_primary, fields, member_fields, lone_number, product, negated, signed, Head, a_tree, a_name, an_attribute, head_tree, called, record_tree, expr_tree, or_tree, and_tree, relation_tree, adds_tree, add_tree, mult_tree, unary_tree, member_tree, accesses_tree, access_head, primary_head, exprs_trees, rec_inits_trees, rec_init_tree}
+use Rattle.cedar_grammar.specs.Converting.{each, named_slot, ident_text, name_path, str_text, ref_entity, literal_tree, name_variable, primary_path, primary_key, primary_text, primary_raw, lone_member, lone_primary, fields, member_fields, lone_number, product, negated, signed, Head, a_tree, a_name, an_attribute, head_tree, called, record_tree, expr_tree, or_tree, and_tree, relation_tree, adds_tree, add_tree, mult_tree, unary_tree, member_tree, accesses_tree, access_head, primary_head, exprs_trees, rec_inits_trees, rec_init_tree}
 use Rattle.cedar_grammar.proofs.Basics.{bind_ok, needed_ok, cond_ok, ok_pair, mapped_ok, word_read-is, next_word-is, or_join, and_join, add_join, or-joins, and-joins, add-joins, mult-joins, rel-back}
 use Rattle.cedar_grammar.proofs.Loops.{Sounds, moved, wrapped-sound, items-sound, chain_tree, chain-sound, links-lone, links-single}
 use Rattle.cedar_grammar.proofs.Equations.{or-chain, and-chain, add-chain, mult-chain, exprs-each, rec_inits-each}
@@ -143,6 +143,12 @@ lone_number-is : (m : loose.Member) (v : ℕ) → lone_number m ≡ Some v → m
 lone_number-is (loose.member (loose.literal (loose.num n)) loose.no_accesses) v e = let same : n ≡ v = cc e in ap (λ x. loose.member (loose.literal (loose.num x)) loose.no_accesses) same
 lone_number-is m v e = absurd (cc e)
 
+-- the word of a slot
+slot-at : (w : Word) (s : SlotId) → named_slot (slot_of w) ≡ Some s → slot_id w ≡ Some s
+slot-at token.Principal s e = e
+slot-at token.Resource s e = e
+slot-at w s e = absurd (cc e)
+
 -- ---- the rules over the expressions inside
 
 module _ (names : Names) (levels : ℕ) (expr : Rule Tree) (rd : Reader loose.Expr) (s : Sounds expr rd (expr_tree names)) (leaves : Leaves rd) (live : (ts : List Token) (x : loose.Expr × List Token) → rd ts ≡ Ok x → 0 < levels)
@@ -213,6 +219,9 @@ module _ (names : Names) (levels : ℕ) (expr : Rule Tree) (rd : Reader loose.Ex
       rw (d, ← same) (text_is one.1)
   literal-primary ts (loose.str x) a rest d e = absurd (cc e)
 
+  slot-primary : (ts : List Token) (x : loose.Slot) (s : SlotId) (rest : List Token) → Told rd (loose.slot x) ts rest → named_slot x ≡ Some s → Primary i ts (Slot s) rest
+  slot-primary ts x s rest d e = rw d.1 (slot_is (slot-at d.0 s (ap named_slot d.2 ∙ e)))
+
   primary-at : (ts : List Token) (p : loose.Primary) (h : Head) (rest : List Token) → Told rd p ts rest → primary_head names p ≡ Some h → At ts h rest
   unfolding primary_head
   primary-at ts loose.missing_primary h rest d e = absurd (cc e)
@@ -223,7 +232,9 @@ module _ (names : Names) (levels : ℕ) (expr : Rule Tree) (rd : Reader loose.Ex
       let one = bind_some (ref_entity r) (λ u. Some (a_tree (Lit (Entity u)))) e in
       tree-at ts rest (Lit (Entity one.0)) h one.2 (entity_is (ref-sound ts r one.0 rest d one.1))
   primary-at ts (loose.named n) h rest d e = let same : a_name n ≡ h = cc e in subst (λ g. At ts g rest) same d
-  primary-at ts (loose.slot x) h rest d e = absurd (cc e)
+  primary-at ts (loose.slot x) h rest d e =
+      let one = bind_some (named_slot x) (λ s. Some (a_tree (Slot s))) e in
+      tree-at ts rest (Slot one.0) h one.2 (slot-primary ts x one.0 rest d one.1)
   primary-at ts (loose.expr x) h rest d e =
       let one = bind_some (expr_tree names x) (λ t. Some (a_tree t)) e in
       tree-at ts rest one.0 h one.2 (rw d.1 (group_is (s d.0 x one.0 (mark token.RightParen ∷ rest) d.2 one.1)))

@@ -4,13 +4,13 @@ use Rattle.std.specs.Cmp.Lexicographic.{slice_cmp}
 use Rattle.std.specs.Ordering.{nat_cmp, is_lt}
 use Rattle.cedar_language.specs.Uid.{Text}
 use Rattle.cedar_language.specs.Tree as tree
-use Rattle.cedar_language.specs.Tree.{Literal, Variable, Tree, Trees, no_trees, a_tree, Lit, Var, If, Apply, Boolean, Operator, Call}
+use Rattle.cedar_language.specs.Tree.{Literal, Variable, SlotId, Tree, Trees, no_trees, a_tree, Lit, Var, Slot, If, Apply, Boolean, Operator, Call}
 use Rattle.cedar_grammar.specs.Token as token
 use Rattle.cedar_grammar.specs.Token.{Token, Mark, mark}
 use Rattle.cedar_grammar.specs.Names.{Names, is_among, is_function}
 use Rattle.cedar_grammar.specs.Build as build
 use Rattle.cedar_grammar.specs.Build.{trees, unary, conjunction, disjunction, Link, or_link, and_link, linked, Comparison, greater, greater_equal, not_equal, compared, has, nots, negs, without_argument, with_argument, method, Keyed, put, by_key}
-use Rattle.cedar_grammar.specs.Grammar.{Rule, Inner, Items, no_items, last_item, an_item, Entry, id_entry, text_entry, Primary, true_is, false_is, number_is, text_is, variable_is, entity_is, call_is, group_is, list_is, record_is, Access, attribute, call, index, Accesses, no_access, an_access, Member, member, Unary, plain, not_is, neg_is, negative_is, Tail, stop, go_on, Chain, chain, Mul, Relation, alone, compare, has_text, has_ids, like_is, is_type, is_type_in, And, Expr, or_is, if_is, Within}
+use Rattle.cedar_grammar.specs.Grammar.{Rule, Inner, Items, no_items, last_item, an_item, Entry, id_entry, text_entry, Primary, true_is, false_is, number_is, text_is, variable_is, slot_is, entity_is, call_is, group_is, list_is, record_is, Access, attribute, call, index, Accesses, no_access, an_access, Member, member, Unary, plain, not_is, neg_is, negative_is, Tail, stop, go_on, Chain, chain, Mul, Relation, alone, compare, has_text, has_ids, like_is, is_type, is_type_in, And, Expr, or_is, if_is, Within}
 use Rattle.cedar_grammar.specs.Policies.{Each, no_more, one_more, Clause, when_is, unless_is, joined}
 
 -- a call is of a function of the table, or of a method
@@ -26,6 +26,7 @@ AllHold P (a_tree t ts) = P t × AllHold P ts
 pub record IsKept (names : Names) (P : Tree → Type 0) : Type 0 where
   pub literal : (l : Literal) → P (Lit l)
   pub variable : (v : Variable) → P (Var v)
+  pub slot : (s : SlotId) → P (Slot s)
   pub if_ : (a b c : Tree) → P a → P b → P c → P (If a b c)
   pub and : (a b : Tree) → P a → P b → P (tree.And a b)
   pub or : (a b : Tree) → P a → P b → P (tree.Or a b)
@@ -171,6 +172,7 @@ module _ (names : Names) (P : Tree → Type 0) (kept : IsKept names P) where
     primary-kept ts t rest (number_is h) = kept.literal _
     primary-kept ts t rest (text_is e) = kept.literal _
     primary-kept ts t rest (variable_is e) = kept.variable _
+    primary-kept ts t rest (slot_is e) = kept.slot _
     primary-kept ts t rest (entity_is d) = kept.literal _
     primary-kept ts t rest (call_is {p} {xs} mid d e its) = kept.apply (Call p) (trees xs) (inl e) (items-kept token.RightParen expr inside mid xs rest its)
     primary-kept ts t rest (group_is {ts = us} d) = inside us t (mark token.RightParen ∷ rest) d

@@ -1,50 +1,18 @@
 -- A written link is read as its template with the bound entities in the place of the slots.
-use Rattle.std.proofs.Common.{◌≡◌, ℕ, zero, suc, List, [], ◌∷◌, ◌++◌, Option, Some, None, refl, sym, ap, ◌∙◌, subst, true, arith}
-use Rattle.cedar_language.specs.Uid.{Text, Name, Uid}
-use Rattle.cedar_language.specs.Tree.{Tree, Trees, Lit, Var, Slot, Unknown, If, And, Or, Apply, no_trees, a_tree, SlotId, PrincipalSlot, ResourceSlot}
+use Rattle.std.proofs.Common.{◌≡◌, ℕ, zero, suc, List, [], ◌∷◌, ◌++◌, map, Option, Some, None, refl, sym, ap, ◌∙◌, subst, true, arith}
+use Rattle.cedar_language.specs.Uid.{Text, Uid}
+use Rattle.cedar_language.specs.Tree.{Tree, SlotId, PrincipalSlot, ResourceSlot}
 use Rattle.cedar_grammar.specs.Token as token
 use Rattle.cedar_grammar.specs.Token.{Token, Mark, Word, word, text, slot, mark}
 use Rattle.cedar_grammar.specs.Names.{Names}
 use Rattle.cedar_grammar.specs.Build.{Keyed}
-use Rattle.cedar_grammar.specs.Grammar.{Rule, Ids, one_id, more_ids, EntityRule, entity, Within}
-use Rattle.cedar_grammar.specs.Policy.{Effect, ActionConstraint, Target, the_entity, the_slot, Constraint, anything, equals, within, of_type, of_type_within, Policy, tree_slots, trees_slots, body_slots, Slots, bound_target, bound_constraint, bound_tree, bound_trees, bound_body, bound}
-use Rattle.cedar_grammar.specs.Policies.{Annotation, key_alone, key_value, Each, no_more, one_more, TargetRule, entity_target, slot_target, in_parens, ConstraintRule, no_constraint, equals_target, in_target, is_type, is_type_in, ActionEntity, action_entity, action_in_parens, ListedAction, ActionRule, no_action, equals_action, in_action, in_actions, ScopeEnd, closed, comma_closed, Clause, when_is, unless_is, HeadRule, head, ScopeRule, scope, PolicyRule, policy, PolicyWithin, ArePolicies, body_of, slot_of, Filled, all_filled, kept, replaced}
+use Rattle.cedar_grammar.specs.Grammar.{Rule, Ids, Within}
+use Rattle.cedar_grammar.specs.Policy.{Effect, ActionConstraint, Target, the_entity, the_slot, Constraint, anything, equals, within, of_type, of_type_within, Policy, Slots, bound_target, bound_constraint, bound_tree, bound}
+use Rattle.cedar_grammar.specs.Policies.{Annotation, key_alone, key_value, Each, no_more, one_more, TargetRule, entity_target, slot_target, in_parens, ConstraintRule, no_constraint, equals_target, in_target, is_type, is_type_in, ActionEntity, action_entity, action_in_parens, ListedAction, ActionRule, no_action, equals_action, in_action, in_actions, ScopeEnd, closed, comma_closed, Clause, when_is, unless_is, HeadRule, head, ScopeRule, scope, PolicyRule, policy, PolicyWithin, ArePolicies, slot_of, Filled, all_filled, kept, replaced}
 use Rattle.cedar_grammar.specs.Laws.{LinksAreRead, LinksAreOne}
-use Rattle.cedar_grammar.proofs.Kept.{stay, keeps, Keeps, kept-as, ahead, ids-keep, entity-keeps, items-keep, within-keeps}
-use Rattle.cedar_grammar.proofs.NoSlots.{Free, first-empty, second-empty, bodies_hold_no_slot}
+use Rattle.cedar_grammar.proofs.BoundTrees.{body-bound}
+use Rattle.cedar_grammar.proofs.Kept.{stay, keeps, Keeps, Moves, kept-as, ahead, ids-keep, entity-keeps, entity-before, items-keep, within-moves}
 use Rattle.cedar_grammar.proofs.PoliciesGrow.{one_policies}
-
--- ---- a tree without slots stays as it is
-
-mutual
-  tree-stays : (b : Slots) (t : Tree) → Free t → bound_tree b t ≡ t
-  tree-stays b (Lit l) e = refl
-  tree-stays b (Var v) e = refl
-  tree-stays b (Slot s) e = absurd (cc e)
-  tree-stays b (Unknown n t) e = refl
-  tree-stays b (If t u v) e =
-      let more = second-empty (tree_slots t) (tree_slots u ++ tree_slots v) e in
-      rw (tree-stays b t (first-empty (tree_slots t) (tree_slots u ++ tree_slots v) e), tree-stays b u (first-empty (tree_slots u) (tree_slots v) more), tree-stays b v (second-empty (tree_slots u) (tree_slots v) more))
-  tree-stays b (And t u) e = rw (tree-stays b t (first-empty (tree_slots t) (tree_slots u) e), tree-stays b u (second-empty (tree_slots t) (tree_slots u) e))
-  tree-stays b (Or t u) e = rw (tree-stays b t (first-empty (tree_slots t) (tree_slots u) e), tree-stays b u (second-empty (tree_slots t) (tree_slots u) e))
-  tree-stays b (Apply op ts) e = ap (λ q. Apply op q) (trees-stay b ts e)
-
-  trees-stay : (b : Slots) (ts : Trees) → trees_slots ts ≡ [] → bound_trees b ts ≡ ts
-  trees-stay b no_trees e = refl
-  trees-stay b (a_tree t ts) e = rw (tree-stays b t (first-empty (tree_slots t) (trees_slots ts) e), trees-stay b ts (second-empty (tree_slots t) (trees_slots ts) e))
-
-body-stays : (b : Slots) (o : Option Tree) → body_slots o ≡ [] → bound_body b o ≡ o
-body-stays b None e = refl
-body-stays b (Some c) e = ap Some (tree-stays b c e)
-
--- ---- an entity before further tokens
-
-ids-before : (sep : Mark) (ts : List Token) (p : Name) (rest more : List Token) → Ids sep ts p rest → Ids sep (ts ++ more) p (rest ++ more)
-ids-before sep ts p rest more (one_id e) = one_id e
-ids-before sep ts p rest more (more_ids {p = q} {ts = vs} e d) = more_ids e (ids-before sep vs q rest more d)
-
-entity-before : (ts : List Token) (u : Uid) (rest more : List Token) → EntityRule ts u rest → EntityRule (ts ++ more) u (rest ++ more)
-entity-before ts u rest more (entity p raw d e) = entity p raw (ids-before token.ColonColon ts p (mark token.ColonColon ∷ text raw ∷ rest) more d) e
 
 entity-bound : (o : Option Uid) (u : Uid) → the_entity u ≡ bound_target o (the_entity u)
 entity-bound None u = refl
@@ -95,15 +63,23 @@ module _ (b : Slots) where
       let m = items-keep b token.RightBracket (ListedAction n) (listed-keeps n) vs xs rest k.0 its k.2 in
       let l = m.3 in kept-as b (ActionRule n) a ts rest us (word token.Action ∷ word token.In ∷ mark token.LeftBracket ∷ k.0) m.0 k.1 (in_actions m.1) m.2 (omega arith)
 
-  clause-keeps : (r : Rule Tree) → Keeps b r → Keeps b (Clause r)
-  clause-keeps r g ts t rest us (when_is {ts = vs} d) f =
+  clause-moves : (r : Rule Tree) → Moves b (bound_tree b) r → Moves b (bound_tree b) (Clause r)
+  clause-moves r g ts t rest us (when_is {ts = vs} d) f =
       let k = keeps b (word token.When ∷ mark token.LeftBrace ∷ []) refl vs us f in
-      let m = ahead b r t vs k.0 (mark token.RightBrace ∷ []) rest refl (g vs t (mark token.RightBrace ∷ rest) k.0 d k.2) in
-      let l = m.3 in kept-as b (Clause r) t ts rest us (word token.When ∷ mark token.LeftBrace ∷ k.0) m.0 k.1 (when_is m.1) m.2 (omega arith)
-  clause-keeps r g ts t rest us (unless_is {t = x} {ts = vs} d) f =
+      let m = ahead b r (bound_tree b t) vs k.0 (mark token.RightBrace ∷ []) rest refl (g vs t (mark token.RightBrace ∷ rest) k.0 d k.2) in
+      let l = m.3 in kept-as b (Clause r) (bound_tree b t) ts rest us (word token.When ∷ mark token.LeftBrace ∷ k.0) m.0 k.1 (when_is m.1) m.2 (omega arith)
+  clause-moves r g ts t rest us (unless_is {t = x} {ts = vs} d) f =
       let k = keeps b (word token.Unless ∷ mark token.LeftBrace ∷ []) refl vs us f in
-      let m = ahead b r x vs k.0 (mark token.RightBrace ∷ []) rest refl (g vs x (mark token.RightBrace ∷ rest) k.0 d k.2) in
-      let l = m.3 in kept-as b (Clause r) t ts rest us (word token.Unless ∷ mark token.LeftBrace ∷ k.0) m.0 k.1 (unless_is m.1) m.2 (omega arith)
+      let m = ahead b r (bound_tree b x) vs k.0 (mark token.RightBrace ∷ []) rest refl (g vs x (mark token.RightBrace ∷ rest) k.0 d k.2) in
+      let l = m.3 in kept-as b (Clause r) (bound_tree b t) ts rest us (word token.Unless ∷ mark token.LeftBrace ∷ k.0) m.0 k.1 (unless_is m.1) m.2 (omega arith)
+
+  each-moves : {A : Type 0} (h : A → A) (r : Rule A) → Moves b h r → Moves b (map h) (Each r)
+  each-moves h r g ts xs rest us no_more f = (us, no_more, f, omega arith)
+  each-moves h r g ts xs rest us (one_more {x} {xs = ys} mid d more) f =
+      let m = g ts x mid us d f in
+      let n = each-moves h r g mid ys rest m.0 more m.2 in
+      let k = m.3 in
+      let l = n.3 in (n.0, one_more m.0 m.1 n.1, n.2, omega arith)
 
   -- ---- the scope
 
@@ -180,9 +156,8 @@ module _ (b : Slots) where
       let one = head-moves ts xs e t1 us h f in
       let two = scope-moves n t1 p a r t2 one.0 s one.2 in
       let expr = Within names (suc n) in
-      let three = ahead b (Each (Clause expr)) cs t2 two.0 (mark token.Semicolon ∷ []) rest refl (each-keeps (Clause expr) (clause-keeps expr (within-keeps b names (suc n))) t2 cs (mark token.Semicolon ∷ rest) two.0 d two.2) in
-      let same = body-stays b (body_of cs) (bodies_hold_no_slot names (suc n) ts x rest (policy xs e p a r cs t1 t2 h s d)) in
-      (three.0, subst (λ o. PolicyRule names n us (record (bound b x) { body = o }) three.0) (sym same) (policy xs e (bound_constraint (b PrincipalSlot) p) a (bound_constraint (b ResourceSlot) r) cs one.0 two.0 one.1 two.1 three.1), three.2)
+      let three = ahead b (Each (Clause expr)) (map (bound_tree b) cs) t2 two.0 (mark token.Semicolon ∷ []) rest refl (each-moves (bound_tree b) (Clause expr) (clause-moves expr (within-moves b names (suc n))) t2 cs (mark token.Semicolon ∷ rest) two.0 d two.2) in
+      (three.0, subst (λ o. PolicyRule names n us (record (bound b x) { body = o }) three.0) (body-bound b cs) (policy xs e (bound_constraint (b PrincipalSlot) p) a (bound_constraint (b ResourceSlot) r) (map (bound_tree b) cs) one.0 two.0 one.1 two.1 three.1), three.2)
 
   policy_within-moves : (names : Names) (n : ℕ) (ts : List Token) (x : Policy) (rest us : List Token) → PolicyWithin names n ts x rest → Filled b ts us → Moved (PolicyWithin names n) (bound b x) rest us
   policy_within-moves names zero ts x rest us d f = absurd d

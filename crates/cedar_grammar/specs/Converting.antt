@@ -12,7 +12,7 @@ use Rattle.cedar_grammar.specs.Build.{truth, long, trees, unary, binary, conjunc
 use Rattle.cedar_grammar.specs.Build as build
 use Rattle.cedar_grammar.specs.Policy.{Effect, Target, the_entity, the_slot, Constraint, anything, equals, within, of_type, of_type_within, ActionConstraint, any_action, action_equals, action_within_any, Policy}
 use Rattle.cedar_grammar.specs.Policies.{ends_in_action, body_of, effect_of}
-use Rattle.cedar_grammar.specs.Reading.{◌>>=◌}
+use Rattle.cedar_grammar.specs.Reading.{◌>>=◌, without_slots}
 use Rattle.cedar_grammar.specs.ReadingPolicies.{owns}
 use Rattle.cedar_grammar.specs.Loose as loose
 use Rattle.cedar_grammar.specs.LooseReading.{Fault}
@@ -55,6 +55,12 @@ literal_tree (loose.str s) = str_text s >>= λ t. Some (Lit (tree.String t))
 abbrev pub name_variable : loose.Name → Option Variable
 name_variable (loose.name [] (loose.ident w)) = variable_of w
 name_variable n = None
+
+-- the slot of templates that is so written
+abbrev pub named_slot : loose.Slot → Option tree.SlotId
+named_slot loose.principal_slot = Some tree.PrincipalSlot
+named_slot loose.resource_slot = Some tree.ResourceSlot
+named_slot s = None
 
 -- ---- what stands alone: without operators, signs and accesses
 
@@ -248,7 +254,7 @@ module _ (names : Names) where
     primary_head (loose.literal l) = literal_tree l >>= λ t. Some (a_tree t)
     primary_head (loose.entity r) = ref_entity r >>= λ u. Some (a_tree (Lit (tree.Entity u)))
     primary_head (loose.named n) = Some (a_name n)
-    primary_head (loose.slot s) = None
+    primary_head (loose.slot s) = named_slot s >>= λ i. Some (a_tree (tree.Slot i))
     primary_head (loose.expr e) = expr_tree e >>= λ t. Some (a_tree t)
     primary_head (loose.e_list es) = exprs_trees es >>= λ xs. Some (a_tree (Apply MakeSet (trees xs)))
     primary_head (loose.r_inits rs) = rec_inits_trees rs >>= λ es. record_tree es >>= λ t. Some (a_tree t)
@@ -267,6 +273,10 @@ module _ (names : Names) where
 
   abbrev pub primary_tree : loose.Primary → Option Tree
   primary_tree p = primary_head p >>= head_tree
+
+  -- of an expression that is no policy's
+  abbrev pub free_tree : loose.Expr → Option Tree
+  free_tree e = expr_tree e >>= without_slots
 
 -- ---- the scope
 

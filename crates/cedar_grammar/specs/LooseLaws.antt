@@ -10,13 +10,13 @@ use Rattle.cedar_grammar.specs.Policy.{Policy}
 use Rattle.cedar_grammar.specs.Policies.{PolicyWithin, ArePolicies}
 use Rattle.cedar_grammar.specs.Nesting.{loose_nesting}
 use Rattle.cedar_grammar.specs.LooseReading.{depth, read_expr, read_ref, read_name, read_primary, read_policy, read_policies, openers}
-use Rattle.cedar_grammar.specs.Converting.{converted, expr_tree, ref_entity, name_path, primary_tree, policy_syntax, policies_syntax}
+use Rattle.cedar_grammar.specs.Converting.{converted, free_tree, ref_entity, name_path, primary_tree, policy_syntax, policies_syntax}
 
 -- ---- reading loosely and converting is the strict grammar
 
 -- tokens are an expression exactly where what is read of them converts to it
 abbrev pub ExprsConvert : Type 0
-ExprsConvert = (names : Names) (n : ℕ) (ts : List Token) (t : Tree) → IsExpr names n ts t ↔ (converted (expr_tree names) (read_expr n ts) ≡ Some t)
+ExprsConvert = (names : Names) (n : ℕ) (ts : List Token) (t : Tree) → IsExpr names n ts t ↔ (converted (free_tree names) (read_expr n ts) ≡ Some t)
 
 -- an entity, a path alone, and a literal
 abbrev pub EntitiesConvert : Type 0

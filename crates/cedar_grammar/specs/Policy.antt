@@ -1,5 +1,6 @@
 -- The syntax of a policy, its condition and its slots. (Cedar language reference, "Policy syntax" and "Policy templates".)
-use Rattle.std.specs.Prelude.{List, [], ◌∷◌, ◌++◌, Option, Some, None, true, map}
+use Rattle.std.specs.Prelude.{Bool, List, [], ◌∷◌, ◌++◌, Option, Some, None, true, false, map}
+use Rattle.std.specs.List.{list_any}
 use Rattle.cedar_language.specs.Uid.{Text, Name, Uid}
 pub use Rattle.cedar_language.specs.Slots.{Slots, tree_slots, trees_slots, bound_slot, bound_tree, bound_trees}
 use Rattle.cedar_language.specs.Tree as tree
@@ -81,13 +82,29 @@ constraint_slots s (of_type_within p e) = target_slots s e
 abbrev pub scope_slots : Policy → List SlotId
 scope_slots p = constraint_slots PrincipalSlot p.principal ++ constraint_slots ResourceSlot p.resource
 
--- the slots of a policy are those of its scope, since no clause holds a slot
-abbrev pub slots : Policy → List SlotId
-slots p = scope_slots p
-
 abbrev pub body_slots : Option Tree → List SlotId
 body_slots None = []
 body_slots (Some c) = tree_slots c
+
+-- at each place of the scope and of the clauses where one stands
+abbrev pub held_slots : Policy → List SlotId
+held_slots p = scope_slots p ++ body_slots p.body
+
+abbrev pub is_slot : SlotId → SlotId → Bool
+is_slot PrincipalSlot PrincipalSlot = true
+is_slot ResourceSlot ResourceSlot = true
+is_slot _ _ = false
+
+abbrev pub holds_slot : Policy → SlotId → Bool
+holds_slot p s = list_any (is_slot s) (held_slots p)
+
+abbrev pub where_held : Bool → SlotId → List SlotId
+where_held true s = s ∷ []
+where_held false s = []
+
+-- the slots of a policy, those of its scope and of its clauses: each once, the principal's first
+abbrev pub slots : Policy → List SlotId
+slots p = where_held (holds_slot p PrincipalSlot) PrincipalSlot ++ where_held (holds_slot p ResourceSlot) ResourceSlot
 
 -- ---- binding slots
 

@@ -23,25 +23,35 @@ names_none s = calls_only (λ name. not (is_the_unknown name)) (condition s)
 
 -- an entry that a held set may have
 abbrev IsFine : Entry → Type 0
-IsFine (static_policy s) = names_none s ≡ true
+IsFine (static_policy s) = (is_template s ≡ false) × (names_none s ≡ true)
 IsFine (template s) = (is_template s ≡ true) × (names_none s ≡ true)
 IsFine (link t s b) = names_none s ≡ true
 
-fine_from : (e : Entry) → ((s : PolicySyntax) → e ≡ template s → is_template s ≡ true) → names_none (syntax_in e) ≡ true → IsFine e
-fine_from (static_policy s) slots none = none
-fine_from (template s) slots none = (slots s refl, none)
+-- it is a template where its policy has slots, and a static policy where it has none
+abbrev pub IsToldBySlots : Entry → Type 0
+IsToldBySlots e = ((s : PolicySyntax) → e ≡ template s → is_template s ≡ true) × ((s : PolicySyntax) → e ≡ static_policy s → is_template s ≡ false)
+
+fine_from : (e : Entry) → IsToldBySlots e → names_none (syntax_in e) ≡ true → IsFine e
+fine_from (static_policy s) slots none = (slots.1 s refl, none)
+fine_from (template s) slots none = (slots.0 s refl, none)
 fine_from (link t s b) slots none = none
 
 no_names : (e : Entry) → IsFine e → names_none (syntax_in e) ≡ true
-no_names (static_policy s) h = h
+no_names (static_policy s) h = h.1
 no_names (template s) h = h.1
 no_names (link t s b) h = h
 
+pub told_by_slots : (es : Entries) → IsHeld es → (id : Text) (e : Entry) → bound_at es id ≡ Some e → IsToldBySlots e
+told_by_slots es held id e h = (λ s same. held.slots.templates id s (h ∙ ap Some same), λ s same. held.slots.policies id s (h ∙ ap Some same))
+
 fine_at : (es : Entries) → IsHeld es → (id : Text) (e : Entry) → bound_at es id ≡ Some e → IsFine e
-fine_at es held id e h = fine_from e (λ s same. held.slots id s (h ∙ ap Some same)) (held.names id e h)
+fine_at es held id e h = fine_from e (told_by_slots es held id e h) (held.names id e h)
 
 held_from : (es : Entries) → ((id : Text) (e : Entry) → bound_at es id ≡ Some e → IsFine e) → IsHeld es
-held_from es fine = record { slots = λ id s h. (fine id (template s) h).0; names = λ id e h. no_names e (fine id e h) }
+held_from es fine = record {
+  slots = record { templates = λ id s h. (fine id (template s) h).0; policies = λ id s h. (fine id (static_policy s) h).0 };
+  names = λ id e h. no_names e (fine id e h);
+}
 
 -- ---- the empty set, and one to which more comes
 
@@ -75,7 +85,7 @@ held_without es id distinct held = held_from (without id es) (λ k e h. fine_at 
 
 fine_text : (s : PolicySyntax) → names_none s ≡ true → (c : Bool) → is_template s ≡ c → IsFine (cond c (template s) (static_policy s))
 fine_text s none true slots = (slots, none)
-fine_text s none false slots = none
+fine_text s none false slots = (slots, none)
 
 both : (a b : Bool) → (a && b) ≡ true → (a ≡ true) × (b ≡ true)
 both true b h = (refl, h)

@@ -12,7 +12,7 @@ use Rattle.cedar_world.specs.Syntax.{PolicySyntax}
 use Rattle.cedar_world.specs.World.{template_at}
 use Rattle.cedar_policies.specs.Policies.{policy_id}
 use Rattle.cedar_policies.specs.declared.policies.Policy.{Policy}
-use Rattle.cedar_policy_set.specs.Entries.{Entry, template, link, Entries, bound_at, is_bound, IsWhole}
+use Rattle.cedar_policy_set.specs.Entries.{Entry, template, link, Entries, bound_at, is_bound}
 use Rattle.cedar_policy_set.specs.EntryNodes.{same_entry, entries_decide}
 use Rattle.cedar_policy_set.specs.Bounds.{policy_entry}
 use Rattle.cedar_policy_set.specs.Refused.{in_the_way, taken, clashes, added}
@@ -120,15 +120,15 @@ module _ (finds : FindsAsWorlds) (es : Entries) (held : IsHeld es) (b : LinkBody
   -- ---- what comes of it
 
   -- no link is made
-  pub link_refused : IsWhole es → (r : Refusal) → MakesLink es b (Err r) → LinksBody b (policies_in es) (Err r) (policies_in es)
-  link_refused whole replies.NoSuchTemplate h = (found finds es b.template None h, least (LinkCases (policies_in es) b) NoSuchTemplate missing_is_least, refl)
-  link_refused whole replies.NotTemplate h =
+  pub link_refused : (r : Refusal) → MakesLink es b (Err r) → LinksBody b (policies_in es) (Err r) (policies_in es)
+  link_refused replies.NoSuchTemplate h = (found finds es b.template None h, least (LinkCases (policies_in es) b) NoSuchTemplate missing_is_least, refl)
+  link_refused replies.NotTemplate h =
       let some = some_there finds es b.template _ refl h.0 in
-      ((some, no_template_there finds es b.template whole _ refl h.1), least (LinkCases (policies_in es) b) NotTemplate (other_is_least some), refl)
-  link_refused whole replies.Arity h =
+      ((some, no_template_there finds es b.template held _ refl h.1), least (LinkCases (policies_in es) b) NotTemplate (other_is_least some), refl)
+  link_refused replies.Arity h =
       ((h.0, template_there finds es b.template h.0 held h.1, h.2), least (LinkCases (policies_in es) b) Arity (arity_is_least h.0 h.1), refl)
-  link_refused whole replies.Memory h = refl
-  link_refused whole r h = absurd h
+  link_refused replies.Memory h = refl
+  link_refused r h = absurd h
 
   module _ (p : Policy) (is : IsLinkOf es b p) where
     -- its id is bound

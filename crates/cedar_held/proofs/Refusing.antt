@@ -4,11 +4,10 @@ use Rattle.std.specs.FinMap as finmap
 use Rattle.std.specs.Option.{option_map}
 use Rattle.std.specs.Prelude.{IsSome}
 use Rattle.cedar_language.specs.Uid.{Text}
-use Rattle.cedar_grammar.specs.Policy.{slots}
 use Rattle.cedar_world.specs.Commands.{Refusal, rank}
-use Rattle.cedar_world.specs.Syntax.{PolicySyntax, is_template, are_some}
+use Rattle.cedar_world.specs.Syntax.{PolicySyntax}
 use Rattle.cedar_world.specs.World.{template_of, template_at}
-use Rattle.cedar_policy_set.specs.Entries.{Entry, static_policy, template, link, Entries, bound_at, IsWhole}
+use Rattle.cedar_policy_set.specs.Entries.{Entry, static_policy, template, link, Entries, bound_at}
 use Rattle.cedar_policy_set.specs.Refused.{is_template_at}
 use Rattle.cedar_policy_set.specs.Worlds.{world_bound, policies_in, FindsAsWorlds}
 use Rattle.cedar_held.specs.PolicyEdits.{IsLeast}
@@ -30,25 +29,21 @@ some_missing o is none = true≢false (sym is ∙ ap is_some none)
 pub some_is : {A : Type 0} (x : A) (o : Option A) → o ≡ Some x → IsSome o
 some_is x o h = ap is_some h
 
--- a static policy has no slots in the world either
-pub no_slots : (s : PolicySyntax) → slots s ≡ [] → is_template s ≡ false
-no_slots s none = ap are_some none
-
 module _ (finds : FindsAsWorlds) (es : Entries) (id : Text) where
   pub found : (o : Option Entry) → bound_at es id ≡ o → finmap.get (policies_in es) id ≡ option_map world_bound o
   found o e = finds es id ∙ ap (option_map world_bound) e
 
   -- a template of a held set is one of the world
   pub template_there : (s : PolicySyntax) → IsHeld es → bound_at es id ≡ Some (template s) → template_at (policies_in es) id ≡ Some s
-  template_there s held names = ap template_of (found (Some (template s)) names) ∙ ap (λ c. cond c (Some s) None) (held.slots id s names)
+  template_there s held names = ap template_of (found (Some (template s)) names) ∙ ap (λ c. cond c (Some s) None) (held.slots.templates id s names)
 
   -- and what is none isn't one there
-  pub no_template_there : IsWhole es → (o : Option Entry) → bound_at es id ≡ o → is_template_at o ≡ false → template_at (policies_in es) id ≡ None
-  no_template_there whole None h other = ap template_of (found None h)
-  no_template_there whole (Some (static_policy s)) h other =
-      ap template_of (found (Some (static_policy s)) h) ∙ ap (λ c. cond c (Some s) None) (no_slots s (whole.full id (static_policy s) h))
-  no_template_there whole (Some (template s)) h other = absurd (true≢false other)
-  no_template_there whole (Some (link t s b)) h other = ap template_of (found (Some (link t s b)) h)
+  pub no_template_there : IsHeld es → (o : Option Entry) → bound_at es id ≡ o → is_template_at o ≡ false → template_at (policies_in es) id ≡ None
+  no_template_there held None h other = ap template_of (found None h)
+  no_template_there held (Some (static_policy s)) h other =
+      ap template_of (found (Some (static_policy s)) h) ∙ ap (λ c. cond c (Some s) None) (held.slots.policies id s h)
+  no_template_there held (Some (template s)) h other = absurd (true≢false other)
+  no_template_there held (Some (link t s b)) h other = ap template_of (found (Some (link t s b)) h)
 
   -- what is bound is bound there
   pub some_there : (o : Option Entry) → bound_at es id ≡ o → IsSome o → IsSome (finmap.get (policies_in es) id)

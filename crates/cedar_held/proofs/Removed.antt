@@ -9,10 +9,10 @@ use Rattle.cedar_world.specs.Commands as commands
 use Rattle.cedar_world.specs.Commands.{rank, NoSuchTemplate, NotTemplate, NotLink, NoSuchPolicy, HasLinks, NotStatic}
 use Rattle.cedar_world.specs.Refusals as refusals
 use Rattle.cedar_world.specs.Refusals.{UnlinkCases, RemoveStaticCases, RemoveTemplateCases}
-use Rattle.cedar_world.specs.Syntax.{PolicySyntax, Bindings, is_template}
+use Rattle.cedar_world.specs.Syntax.{PolicySyntax, Bindings}
 use Rattle.cedar_world.specs.World as world
 use Rattle.cedar_world.specs.World.{template_at}
-use Rattle.cedar_policy_set.specs.Entries.{Entry, static_policy, template, link, Entries, bound_at, without, IsFull, IsWhole, is_link_to, has_links}
+use Rattle.cedar_policy_set.specs.Entries.{Entry, static_policy, template, link, Entries, bound_at, without, IsWhole, is_link_to, has_links}
 use Rattle.cedar_policy_set.specs.Refused.{is_template_at, is_link_at, is_static_at, is_policy_at, IsPolicyRefusal}
 use Rattle.cedar_policy_set.specs.declared.errors.PolicySetPolicyRemovalError.{PolicySetPolicyRemovalError}
 use Rattle.cedar_policy_set.specs.declared.errors.PolicySetPolicyRemovalError.TheVariants.{RemovePolicyNoLinkError, RemovePolicyNoTemplateError, Memory}
@@ -22,8 +22,8 @@ use Rattle.cedar_replies.specs.declared.refusal.Refusal.TheVariants as replies
 use Rattle.cedar_store.proofs.Wholes.{all_of}
 use Rattle.cedar_held.specs.PolicyEdits.{UnlinksId, RemovesStatic, RemovesTemplate}
 use Rattle.cedar_held.specs.HoldingPolicies.{IsHeld}
-use Rattle.cedar_held.proofs.Keeping.{held_without}
-use Rattle.cedar_held.proofs.Refusing.{least, some_inj, some_none, found, template_there, no_template_there, some_there, some_missing, no_slots}
+use Rattle.cedar_held.proofs.Keeping.{held_without, IsToldBySlots, told_by_slots}
+use Rattle.cedar_held.proofs.Refusing.{least, some_inj, some_none, found, template_there, no_template_there, some_there, some_missing}
 
 -- ---- which entries are links and static policies in the world
 
@@ -32,10 +32,10 @@ link_there (static_policy s) = refl
 link_there (template s) = refl
 link_there (link t s b) = refl
 
-static_there : (e : Entry) → IsFull e → ((s : PolicySyntax) → e ≡ template s → is_template s ≡ true) → is_static_at (Some e) ≡ refusals.is_static (world_bound e)
-static_there (static_policy s) none slots = sym (ap not (no_slots s none))
-static_there (template s) none slots = sym (ap not (slots s refl))
-static_there (link t s b) none slots = refl
+static_there : (e : Entry) → IsToldBySlots e → is_static_at (Some e) ≡ refusals.is_static (world_bound e)
+static_there (static_policy s) slots = sym (ap not (slots.1 s refl))
+static_there (template s) slots = sym (ap not (slots.0 s refl))
+static_there (link t s b) slots = refl
 
 -- ---- what isn't removed as a static policy isn't one
 
@@ -128,7 +128,7 @@ module _ (finds : FindsAsWorlds) (es : Entries) (held : IsHeld es) (whole : IsWh
   -- ---- static policies
 
   is_static_there : (e : Entry) → bound_at es id ≡ Some e → is_static_at (Some e) ≡ refusals.is_static (world_bound e)
-  is_static_there e h = static_there e (whole.full id e h) (λ s same. held.slots id s (h ∙ ap Some same))
+  is_static_there e h = static_there e (told_by_slots es held id e h)
 
   static_bound : (o : Option Entry) → bound_at es id ≡ o → is_static_at o ≡ true → (b : world.Bound) → finmap.get (policies_in es) id ≡ Some b → refusals.is_static b ≡ true
   static_bound None h is b got = absurd (true≢false (sym is))
@@ -230,7 +230,7 @@ module _ (finds : FindsAsWorlds) (es : Entries) (held : IsHeld es) (whole : IsWh
   pub template_other : is_policy_at (bound_at es id) ≡ true → RemovesTemplate id (policies_in es) (Err replies.NotTemplate) (policies_in es)
   template_other is =
       let policy = a_policy _ is in
-      ((some_there finds es id _ refl policy.0, no_template_there finds es id whole _ refl policy.1), least (RemoveTemplateCases (policies_in es) id) NotTemplate (from policy.0), refl)
+      ((some_there finds es id _ refl policy.0, no_template_there finds es id held _ refl policy.1), least (RemoveTemplateCases (policies_in es) id) NotTemplate (from policy.0), refl)
     where
       from : IsSome (bound_at es id) → (r : commands.Refusal) → RemoveTemplateCases (policies_in es) id r → 12 ≤ rank r
       from some NoSuchTemplate h = absurd (there some h)

@@ -11,12 +11,12 @@ use Rattle.cedar_world.specs.Syntax.{PolicySyntax, condition}
 use Rattle.cedar_world.specs.World as world
 use Rattle.cedar_policy_set.specs.Entries.{Entry, static_policy, link, Entries}
 use Rattle.cedar_policy_set.specs.EntryNodes.{entry_code}
-use Rattle.cedar_policy_set.specs.Texts.{text_entries, HaveSlots, NameNoUnknown}
+use Rattle.cedar_policy_set.specs.Texts.{text_entries, AreToldBySlots, NameNoUnknown}
 use Rattle.cedar_policy_set.specs.Worlds.{world_bound}
 
--- each template has slots, and nothing names an unknown
+-- each template has slots, no static policy has any, and nothing names an unknown
 pub record IsHeld (es : Entries) : Type 0 where
-  pub slots : HaveSlots es
+  pub slots : AreToldBySlots es
   pub names : NameNoUnknown es
 
 -- these are the policies of a text under their own numbers, and none of them names an unknown

@@ -4,7 +4,7 @@ ghost use Rattle.std.specs.FinMap as finite;
 ghost use Rattle.std.specs.Rc.{rc_str_bytes};
 ghost use Rattle.cedar_world.specs.PolicyEdits.{Loads};
 ghost use Rattle.cedar_world.specs.Syntax.{PolicySyntax};
-ghost use Rattle.cedar_policy_set.specs.Texts.{text_entries, HaveSlots, NameNoUnknown};
+ghost use Rattle.cedar_policy_set.specs.Texts.{text_entries, AreToldBySlots, NameNoUnknown};
 ghost use Rattle.cedar_policy_set.specs.Worlds.{policies_in};
 ghost use Rattle.cedar_bodies.specs.Links.{link_of};
 ghost use Rattle.cedar_held.specs.PolicyEdits.{LinksBody, UnlinksId, RemovesStatic, RemovesTemplate};
@@ -22,9 +22,9 @@ use std::marker::Model;
 use std::rc::RcStr;
 
 /// The policies, templates and links that a session holds: no condition names an unknown, by a call or
-/// else, and each template has slots. Contracts see them as the world does: what each id is bound to, in
-/// no order, and of a link the id of its template. (Cedar language reference, "Policies" and "Policy
-/// templates".)
+/// else, each template has slots, and no static policy has any. Contracts see them as the world does: what
+/// each id is bound to, in no order, and of a link the id of its template. (Cedar language reference,
+/// "Policies" and "Policy templates".)
 #[derive(Drop)]
 pub struct HeldPolicies {
     set: PolicySet,
@@ -57,7 +57,7 @@ impl HeldPolicies {
     /// The set of these policies.
     pub fn set(&self) -> &PolicySet
         ensures policies { policies_in result.now ≡ self.now }
-        ensures slots { HaveSlots result.now }
+        ensures slots { AreToldBySlots result.now }
         ensures names { NameNoUnknown result.now }
     {
         &self.set

@@ -30,8 +30,6 @@ pub fn link(alloc: Global, set: &mut PolicySet, body: &LinkBody<'_>) -> Result<(
     ensures held { IsHeld set.new }
 {
     policy_sets_are_worlds();
-    // The contract of `len` is what says that a set is whole.
-    let _count = set.len();
     let link = linked(alloc, set, body)?;
     match set.add(alloc, link) {
         Ok(()) => Ok(()),

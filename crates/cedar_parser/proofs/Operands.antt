@@ -1,12 +1,12 @@
 -- Literals, by the operands that they are.
-use Rattle.std.proofs.Common.{◌≡◌, ◌∙◌, ◌↔◌, sym, ap, subst, ℕ, List, Option, Some, None, Result, Ok, Err}
+use Rattle.std.proofs.Common.{◌≡◌, ◌∙◌, ◌↔◌, refl, ap, subst, ℕ, List, Option, Some, None, Result, Ok, Err}
 use Rattle.cedar_language.specs.Uid.{Text}
 use Rattle.cedar_language.specs.Tree.{Tree, Literal, Lit, Var, Slot, Unknown, If, And, Or, Apply}
 use Rattle.cedar_grammar.specs.Grammar.{IsLiteral}
 use Rattle.cedar_grammar.specs.Laws.{OneList}
 use Rattle.cedar_grammar.specs.Names.{Names}
 use Rattle.cedar_grammar.specs.Token.{Token}
-use Rattle.cedar_grammar.specs.Reading.{◌>>=◌}
+use Rattle.cedar_grammar.specs.Reading.{◌>>=◌, without_slots}
 use Rattle.cedar_grammar.specs.Converting.{converted, expr_tree, and_tree, primary_tree}
 use Rattle.cedar_grammar.specs.Loose as loose
 use Rattle.cedar_grammar.specs.LooseLaws.{LiteralsConvert, LiteralsStand}
@@ -23,10 +23,12 @@ use Rattle.cedar_loose.specs.Texts.{IsRead, Refuses}
 use Rattle.cedar_loose.specs.declared.errors.ParseErrors.{ParseErrors}
 use Rattle.cedar_trees.specs.Bare.{bare}
 use Rattle.cedar_trees.specs.declared.expr.Expr.{Expr}
-use Rattle.cedar_parser.specs.Literals.{literal_in, ReadsLiteral, TakesLiteral, WritesLiteral}
+use Rattle.cedar_parser.specs.Literals.{literal_in, free_operand, ReadsLiteral, TakesLiteral, WritesLiteral}
 use Rattle.cedar_parser.specs.Strict.{WritesNot}
 use Rattle.cedar_parser.specs.declared.literals.LiteralParseError.{LiteralParseError}
 use Rattle.cedar_parser.specs.declared.literals.LiteralParseError.TheVariants.{Parse, InvalidLiteral}
+use Rattle.cedar_parser.proofs.Reading.{built_is}
+use Rattle.cedar_parser.proofs.NoSlots.{free_is}
 use Rattle.cedar_parser.proofs.Texts.{unread, is_meant, unmeant}
 
 bound : {A B : Type 0} (o : Option A) (f : A → Option B) (x : A) → o ≡ Some x → (o >>= f) ≡ f x
@@ -53,9 +55,7 @@ writes_expr names p t writes = ap (λ o. o >>= λ x. Some x) (writes_and names p
 pub operand_written : TreesAreBuilt → (names : Names) (p : loose.Primary) (e : Expr (Unit {0})) → Given (IsBuilt own_operations bare) e (primary_tree names p) → primary_tree names p ≡ Some (bare e)
 operand_written are_built names p e given =
     let whole = loose.or_expr (loose.or (lone_and p) loose.no_ands) in
-    let same = sym (are_built names whole given.value (writes_expr names p given.value given.is)) ∙ given.stands in
-    let one : given.value ≡ bare e = cc same in
-    given.is ∙ ap Some one
+    given.is ∙ ap Some (built_is are_built names whole given.value e (writes_expr names p given.value given.is) given.stands)
 
 -- ---- literals among trees
 
@@ -92,10 +92,20 @@ literals_convert convert names m ts l =
     let law = convert names m ts l in
     ((λ is. lit_read names (read_primary m ts) l (law.0 is)), (λ is. law.1 (read_lit names (read_primary m ts) l is)))
 
--- what isn't written is no literal
-no_literal : (o : Option Tree) (c : Cause) → WritesNot c o → WritesNot c (o >>= literal_in)
+-- what is no tree without slots is no literal, since no slot stands in one
+no_free_literal : (t : Tree) → without_slots t ≡ None → literal_in t ≡ None
+no_free_literal (Lit l) none = absurd (cc none)
+no_free_literal t none = refl
+
+operand_is : (o : Option Tree) (t : Tree) → (o >>= without_slots) ≡ Some t → o ≡ Some t
+operand_is (Some u) t is = ap Some (free_is u t is)
+operand_is None t is = absurd (cc is)
+
+-- nor is what isn't written without slots
+no_literal : (o : Option Tree) (c : Cause) → WritesNot c (o >>= without_slots) → WritesNot c (o >>= literal_in)
 no_literal o cause.outside_the_grammar writes = absurd writes
-no_literal o cause.means_nothing writes = ap (λ p. p >>= literal_in) writes
+no_literal (Some t) cause.means_nothing writes = no_free_literal t writes
+no_literal None cause.means_nothing writes = refl
 no_literal o cause.nested_too_deep writes = absurd writes
 no_literal o cause.out_of_memory writes = tt
 
@@ -111,14 +121,14 @@ module _ (convert : LiteralsConvert) (names : Names) (n : ℕ) (text : Text) whe
   pub literal_unread : (errors : ParseErrors) → Refuses read_primary n text errors → ReadsLiteral names n text (Err (Parse errors))
   literal_unread errors none = unread read_primary (primary_literal names) (IsLiteral names) (literals_convert convert names) n text (cause_of errors.0.head) none
 
-  pub literal_read : (x : loose.Primary) → IsRead read_primary n text x → OneList → LiteralsStand → (r : Result code.Literal LiteralParseError) → WritesLiteral r (primary_tree names x) → ReadsLiteral names n text r
+  pub literal_read : (x : loose.Primary) → IsRead read_primary n text x → OneList → LiteralsStand → (r : Result code.Literal LiteralParseError) → WritesLiteral r (free_operand names x) → ReadsLiteral names n text r
   literal_read x is_read one_list stand (Ok l) writes =
-      is_meant read_primary (primary_literal names) (IsLiteral names) (literals_convert convert names) n text x is_read (literal_of l) (bound (primary_tree names x) literal_in (Lit (literal_of l)) writes)
+      is_meant read_primary (primary_literal names) (IsLiteral names) (literals_convert convert names) n text x is_read (literal_of l) (bound (primary_tree names x) literal_in (Lit (literal_of l)) (operand_is (primary_tree names x) (Lit (literal_of l)) writes))
   literal_read x is_read one_list stand (Err (Parse errors)) writes =
       unmeant read_primary (primary_literal names) (IsLiteral names) (literals_convert convert names) n text x is_read one_list (stand names) (cause_of errors.0.head)
       (no_literal (primary_tree names x) (cause_of errors.0.head) writes)
   literal_read x is_read one_list stand (Err (InvalidLiteral e)) writes = (
-    (is_read.0, is_read.1, ap (converted (primary_tree names)) is_read.2 ∙ writes.0),
+    (is_read.0, is_read.1, ap (converted (free_operand names)) is_read.2 ∙ writes.0),
     unmeant read_primary (primary_literal names) (IsLiteral names) (literals_convert convert names) n text x is_read one_list (stand names) cause.means_nothing
-        (bound (primary_tree names x) literal_in (bare e) writes.0 ∙ writes.1),
+        (bound (primary_tree names x) literal_in (bare e) (operand_is (primary_tree names x) (bare e) writes.0) ∙ writes.1),
   )

@@ -1,17 +1,21 @@
 -- What texts are, by what their loose trees are converted to, and why others are refused.
-use Rattle.std.proofs.Common.{◌≡◌, refl, sym, subst, ℕ, inl, inr, Option, Some, None, option_map, Result, Ok, Err}
+use Rattle.std.proofs.Common.{◌≡◌, ◌∙◌, refl, sym, ap, subst, ℕ, inl, inr, Option, Some, None, option_map, Result, Ok, Err}
+use Rattle.cedar_language.specs.Tree.{Tree}
 use Rattle.cedar_language.specs.Uid.{Text, Uid}
 use Rattle.cedar_grammar.specs.Grammar.{IsExpr, IsEntity}
 use Rattle.cedar_grammar.specs.Laws.{OneList}
 use Rattle.cedar_grammar.specs.Names.{Names}
 use Rattle.cedar_grammar.specs.Policies.{ArePolicies}
-use Rattle.cedar_grammar.specs.Converting.{expr_tree, policies_syntax, ref_entity}
+use Rattle.cedar_grammar.specs.Converting.{expr_tree, free_tree, policies_syntax, ref_entity}
 use Rattle.cedar_grammar.specs.LooseLaws.{ExprsConvert, ExprsStand, PoliciesConvert, PoliciesStand, EntitiesConvert}
 use Rattle.cedar_grammar.specs.Loose as loose
 use Rattle.cedar_grammar.specs.LooseReading.{read_expr, read_policies, read_ref}
+use Rattle.cedar_builders.specs.Own.{own_operations}
+use Rattle.cedar_conversion.specs.Building.{IsBuilt}
+use Rattle.cedar_conversion.specs.Laws.{TreesAreBuilt}
 use Rattle.cedar_conversion_leaves.specs.Reasons as reasons
 use Rattle.cedar_conversion_leaves.specs.Reasons.{Reason}
-use Rattle.cedar_conversion_leaves.specs.Converts.{Lacks, Misses}
+use Rattle.cedar_conversion_leaves.specs.Converts.{Given, Lacks, Misses}
 use Rattle.cedar_loose.specs.Texts.{IsRead, Refuses, RefusesFlat, flat}
 use Rattle.cedar_loose.specs.Errors as cause
 use Rattle.cedar_loose.specs.Errors.{Cause, cause_of}
@@ -22,6 +26,16 @@ use Rattle.cedar_trees.specs.Bare.{bare}
 use Rattle.cedar_trees.specs.declared.expr.Expr.{Expr}
 use Rattle.cedar_parser.specs.Strict.{IsToldAs, Writes, WritesNot, ReadsTree, ReadsSet, ReadsUid}
 use Rattle.cedar_parser.proofs.Texts.{unread, unread_flat, is_meant, unmeant, unmeant_flat}
+
+-- ---- what a conversion gives
+
+-- what the own builder makes of a tree that a text writes is that tree
+module _ (are_built : TreesAreBuilt) (names : Names) (e : loose.Expr) where
+  pub built_is : (t : Tree) (x : Expr (Unit {0})) → expr_tree names e ≡ Some t → IsBuilt own_operations bare x t → t ≡ bare x
+  built_is t x is built = cc (sym (are_built names e t is) ∙ built)
+
+  pub expr_written : (x : Expr (Unit {0})) → Given (IsBuilt own_operations bare) x (expr_tree names e) → expr_tree names e ≡ Some (bare x)
+  expr_written x given = given.is ∙ ap Some (built_is given.value x given.is given.stands)
 
 -- ---- what a conversion is refused by
 
@@ -41,11 +55,11 @@ told_misses is_refused refusal reasons.out_of_memory told want same none = subst
 
 module _ (convert : ExprsConvert) (names : Names) (n : ℕ) (text : Text) where
   pub tree_unread : (errors : ParseErrors) → Refuses read_expr n text errors → ReadsTree names n text (Err errors)
-  tree_unread errors none = unread read_expr (expr_tree names) (IsExpr names) (convert names) n text (cause_of errors.0.head) none
+  tree_unread errors none = unread read_expr (free_tree names) (IsExpr names) (convert names) n text (cause_of errors.0.head) none
 
-  pub tree_read : (x : loose.Expr) → IsRead read_expr n text x → OneList → ExprsStand → (r : Result (Expr (Unit {0})) ParseErrors) → Writes bare r (expr_tree names x) → ReadsTree names n text r
-  tree_read x is_read one_list stand (Ok e) writes = is_meant read_expr (expr_tree names) (IsExpr names) (convert names) n text x is_read (bare e) writes
-  tree_read x is_read one_list stand (Err errors) writes = unmeant read_expr (expr_tree names) (IsExpr names) (convert names) n text x is_read one_list (stand names) (cause_of errors.0.head) writes
+  pub tree_read : (x : loose.Expr) → IsRead read_expr n text x → OneList → ExprsStand → (r : Result (Expr (Unit {0})) ParseErrors) → Writes bare r (free_tree names x) → ReadsTree names n text r
+  tree_read x is_read one_list stand (Ok e) writes = is_meant read_expr (free_tree names) (IsExpr names) (convert names) n text x is_read (bare e) writes
+  tree_read x is_read one_list stand (Err errors) writes = unmeant read_expr (free_tree names) (IsExpr names) (convert names) n text x is_read one_list (stand names) (cause_of errors.0.head) writes
 
 -- ---- policies
 

@@ -1,10 +1,21 @@
 -- Which kinds of faults the errors of a text tell: kinds that the loose tree of the text shows.
-use Rattle.std.specs.Prelude.{◌≡◌, ◌⊎◌, ⊤, ℕ, List, [], ◌∷◌, Result}
+use Rattle.std.specs.Prelude.{◌≡◌, ◌⊎◌, ⊤, ℕ, true, List, [], ◌∷◌, Option, Some, None, Result}
+use Rattle.std.specs.List.{list_any}
+use Rattle.std.specs.Rc.{rc_str_bytes}
+use Rattle.cedar_language.specs.Slots.{tree_slots}
+use Rattle.cedar_language.specs.Tree.{SlotId, Tree}
 use Rattle.cedar_language.specs.Uid.{Text}
+use Rattle.cedar_grammar.specs.Converting.{expr_tree, primary_tree}
+use Rattle.cedar_grammar.specs.Loose as loose
+use Rattle.cedar_grammar.specs.Names.{Names}
+use Rattle.cedar_grammar.specs.Policy.{is_slot}
 use Rattle.cedar_grammar.specs.Token.{Token}
 use Rattle.cedar_grammar.specs.LooseReading.{Fault}
+use Rattle.cedar_literals.specs.Slots.{slot_text}
 use Rattle.cedar_conversion_leaves.specs.Reasons.{listed}
 use Rattle.cedar_conversion_leaves.specs.declared.kinds.ToASTErrorKind.{ToASTErrorKind}
+use Rattle.cedar_conversion_leaves.specs.declared.kinds.ToASTErrorKind.TheVariants as kinds
+use Rattle.cedar_conversion.specs.Shows.{expr_shows, operand_shows}
 use Rattle.cedar_loose.specs.Texts.{IsRead}
 use Rattle.cedar_loose.specs.declared.errors.ParseError.{ParseError}
 use Rattle.cedar_loose.specs.declared.errors.ParseError.TheVariants as error
@@ -25,6 +36,23 @@ HoldFault (error.Memory ∷ es) kind = HoldFault es kind
 -- each kind that the errors tell is shown
 pub record TellOnly (errors : ParseErrors) (shown : ToASTErrorKind → Type 0) : Type 0 where
   pub each : (kind : ToASTErrorKind) → HoldFault (listed errors.0) kind → shown kind
+
+-- the fault of this slot of templates
+abbrev pub IsSlotFault : SlotId → ToASTErrorKind → Type 0
+IsSlotFault s (kinds.InvalidSlot text) = rc_str_bytes text ≡ slot_text s
+IsSlotFault s kind = ⊥
+
+-- of a tree where no slot may stand: one that it holds
+abbrev pub slots_show : Option Tree → ToASTErrorKind → Type 0
+slots_show None kind = ⊥
+slots_show (Some t) kind = (s : SlotId) × (list_any (is_slot s) (tree_slots t) ≡ true) × IsSlotFault s kind
+
+-- of an expression that is no policy's, and of an operand alone
+abbrev pub strict_shows : Names → loose.Expr → ToASTErrorKind → Type 0
+strict_shows names e kind = expr_shows names e kind ⊎ slots_show (expr_tree names e) kind
+
+abbrev pub strict_operand_shows : Names → loose.Primary → ToASTErrorKind → Type 0
+strict_operand_shows names p kind = operand_shows names p kind ⊎ slots_show (primary_tree names p) kind
 
 -- by the loose tree that the text's tokens read as, with a nesting of at most n
 abbrev pub text_shows : {A : Type 0} → (ℕ → List Token → Result A Fault) → ℕ → Text → (A → ToASTErrorKind → Type 0) → ToASTErrorKind → Type 0

@@ -5,7 +5,9 @@ use Rattle.cedar_language.specs.Tree as tree
 use Rattle.cedar_language.specs.Tree.{Tree, Lit}
 use Rattle.cedar_grammar.specs.Converting.{converted, primary_tree}
 use Rattle.cedar_grammar.specs.Grammar.{IsLiteral}
+use Rattle.cedar_grammar.specs.Loose as loose
 use Rattle.cedar_grammar.specs.LooseReading.{read_primary}
+use Rattle.cedar_grammar.specs.Reading.{◌>>=◌, without_slots}
 use Rattle.cedar_grammar.specs.Names.{Names}
 use Rattle.cedar_grammar.specs.Token.{Token}
 use Rattle.cedar_grammar.specs.Tokens.{IsTokens}
@@ -21,9 +23,13 @@ use Rattle.cedar_parser.specs.declared.literals.LiteralParseError.TheVariants.{P
 abbrev pub IsLiteralText : Names → ℕ → Text → tree.Literal → Type 0
 IsLiteralText names n text l = (ts : List Token) × IsTokens text ts × IsLiteral names n ts l
 
+-- what an operand writes, where no slot stands in it
+abbrev pub free_operand : Names → loose.Primary → Option Tree
+free_operand names p = primary_tree names p >>= without_slots
+
 -- the text is an operand alone that writes this tree, within this nesting
 abbrev pub IsOperandText : Names → ℕ → Text → Tree → Type 0
-IsOperandText names n text t = (ts : List Token) × IsTokens text ts × (converted (primary_tree names) (read_primary n ts) ≡ Some t)
+IsOperandText names n text t = (ts : List Token) × IsTokens text ts × (converted (free_operand names) (read_primary n ts) ≡ Some t)
 
 abbrev pub ReadsLiteral : Names → ℕ → Text → Result Literal LiteralParseError → Type 0
 ReadsLiteral names n text (Ok l) = IsLiteralText names n text (literal_of l)

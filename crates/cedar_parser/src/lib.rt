@@ -15,6 +15,7 @@ pub mod prelude;
 mod refusals;
 mod restricted;
 mod sets;
+mod slots;
 pub mod strict;
 mod styles;
 pub mod text_to_cst;

@@ -1,15 +1,14 @@
 // Literals.
 ghost use Rattle.std.specs.Prelude.{◌≡◌, IfErr};
-ghost use Rattle.cedar_grammar.specs.Converting.{primary_tree};
 ghost use Rattle.cedar_grammar.specs.LooseReading.{read_primary};
 ghost use Rattle.cedar_cst.specs.View.{shown_primary};
 ghost use Rattle.cedar_trees.specs.Bare.{bare};
-ghost use Rattle.cedar_conversion.specs.Shows.{operand_shows};
-ghost use Rattle.cedar_parser.specs.Faults.{TellOnly, LiteralTellsOnly, text_shows};
-ghost use Rattle.cedar_parser.specs.Literals.{ReadsLiteral, TakesLiteral, WritesLiteral};
+ghost use Rattle.cedar_parser.specs.Faults.{TellOnly, LiteralTellsOnly, strict_operand_shows, text_shows};
+ghost use Rattle.cedar_parser.specs.Literals.{free_operand, ReadsLiteral, TakesLiteral, WritesLiteral};
 ghost use Rattle.cedar_parser.specs.Strict.{Writes};
 
 use crate::refusals::refused;
+use crate::slots::without_slots;
 use cedar_builders::own_builder::ExprBuilder;
 use cedar_conversion::{primary_to_expr, trees_are_built};
 use cedar_conversion_leaves::ExtStyles;
@@ -26,7 +25,7 @@ use thiserror::Error;
 /// Why a text isn't read as a literal. `==` compares expressions by their shapes, and not by places.
 #[derive(Debug, Drop, Error)]
 pub enum LiteralParseError {
-    /// The text is no operand that stands alone.
+    /// The text is no operand that stands alone, or a slot stands in it.
     #[error(transparent)]
     Parse(ParseErrors),
     /// It is one, but no literal.
@@ -77,10 +76,11 @@ impl From<ParseErrors> for LiteralParseError {
 /// expression is a literal, where these names may be called. Parentheses may stand round it. (Cedar
 /// language reference, "Data types".)
 ///
-/// It is refused `InvalidLiteral` with its expression where it is such an operand, but no literal; else
-/// `Parse`. Of that the first error is `ToCST` or `ToAST`, with a place, where the text is none within any
-/// nesting; `Depth` where it is none within this one and more places in it open a construct; and `Memory`.
-/// With `ToAST` the errors are all faults of the text, in order.
+/// It is refused `InvalidLiteral` with its expression where it is such an operand without slots, but no
+/// literal; else `Parse`. Of that the first error is `ToCST` or `ToAST`, with a place, where the text is none
+/// within any nesting; `Depth` where it is none within this one and more places in it open a construct; and
+/// `Memory`. With `ToAST` the errors are all faults of the text, in order; where it has none of these, a slot
+/// that stands in it is told as `InvalidSlot`.
 pub fn parse_literal_strict(
     alloc: Global,
     text: &str,
@@ -88,7 +88,7 @@ pub fn parse_literal_strict(
     depth: u32,
 ) -> Result<Literal, LiteralParseError>
     ensures literal { ReadsLiteral styles.now depth text.now result }
-    ensures shown { IfErr result (λ error. LiteralTellsOnly error (text_shows read_primary depth text.now (operand_shows styles.now))) }
+    ensures shown { IfErr result (λ error. LiteralTellsOnly error (text_shows read_primary depth text.now (strict_operand_shows styles.now))) }
 {
     // These run no code: their contracts are laws of the grammars.
     at_most_one_meaning();
@@ -107,8 +107,8 @@ fn written(
     tree: &Node<Option<Primary>>,
     styles: &ExtStyles,
 ) -> Result<Literal, LiteralParseError>
-    ensures literal { WritesLiteral result (primary_tree styles.now (shown_primary tree.now)) }
-    ensures shown { IfErr result (λ error. LiteralTellsOnly error (operand_shows styles.now (shown_primary tree.now))) }
+    ensures literal { WritesLiteral result (free_operand styles.now (shown_primary tree.now)) }
+    ensures shown { IfErr result (λ error. LiteralTellsOnly error (strict_operand_shows styles.now (shown_primary tree.now))) }
 {
     match converted(alloc, tree, styles) {
         Ok(expr) => literal(expr),
@@ -116,21 +116,21 @@ fn written(
     }
 }
 
-// The expression that a loose tree writes. The builder refuses only a record with a key twice, and no
-// loose tree is converted to one.
+// The expression that a loose tree writes, where no slot stands in it. The builder refuses only a record with
+// a key twice, and no loose tree is converted to one.
 fn converted(
     alloc: Global,
     tree: &Node<Option<Primary>>,
     styles: &ExtStyles,
 ) -> Result<Expr, ParseErrors>
-    ensures tree { Writes bare result (primary_tree styles.now (shown_primary tree.now)) }
-    ensures shown { IfErr result (λ errors. TellOnly errors (operand_shows styles.now (shown_primary tree.now))) }
+    ensures tree { Writes bare result (free_operand styles.now (shown_primary tree.now)) }
+    ensures shown { IfErr result (λ errors. TellOnly errors (strict_operand_shows styles.now (shown_primary tree.now))) }
 {
     // This runs no code: its contract is a law of what a conversion gives.
     trees_are_built();
 
     match primary_to_expr::<ExprBuilder>(alloc, tree, styles) {
-        Ok(expr) => Ok(expr),
+        Ok(expr) => without_slots(alloc, expr),
         Err(error) => Err(refused(alloc, error)),
     }
 }

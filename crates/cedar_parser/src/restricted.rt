@@ -4,8 +4,7 @@ ghost use Rattle.cedar_restricted.specs.Views.{restricted_tree};
 ghost use Rattle.cedar_trees.specs.Bare.{bare};
 ghost use Rattle.cedar_world.specs.Bodies.{holds_call};
 ghost use Rattle.cedar_grammar.specs.LooseReading.{read_expr};
-ghost use Rattle.cedar_conversion.specs.Shows.{expr_shows};
-ghost use Rattle.cedar_parser.specs.Faults.{RestrictedTellsOnly, text_shows};
+ghost use Rattle.cedar_parser.specs.Faults.{RestrictedTellsOnly, strict_shows, text_shows};
 ghost use Rattle.cedar_parser.specs.Strict.{LacksUnknown, Keeps, ReadsRestricted};
 
 use crate::expressions::parse_expr_strict;
@@ -56,9 +55,9 @@ impl From<RestrictedExpressionError> for RestrictedExpressionParseError {
 /// names may be called: literals, sets, records and calls alone. No `unknown` is called in it where the
 /// names lack it.
 ///
-/// It is refused `Parse` as [`parse_expr_strict`] refuses it, and for `Depth` also where its tree is higher
-/// than `depth`; and `InvalidRestrictedExpression` with its first part that may not stand there, or for
-/// memory.
+/// It is refused `Parse` as [`parse_expr_strict`] refuses it, so for a slot too, and for `Depth` also where
+/// its tree is higher than `depth`; and `InvalidRestrictedExpression` with its first part that may not stand
+/// there, or for memory.
 pub fn parse_restrictedexpr(
     alloc: Global,
     text: &str,
@@ -67,7 +66,7 @@ pub fn parse_restrictedexpr(
 ) -> Result<RestrictedExpr, RestrictedExpressionParseError>
     ensures body { ReadsRestricted styles.now depth text.now result }
     ensures calls { IfOk result (λ body. LacksUnknown styles.now → holds_call (restricted_tree body) ≡ false) }
-    ensures shown { IfErr result (λ error. RestrictedTellsOnly error (text_shows read_expr depth text.now (expr_shows styles.now))) }
+    ensures shown { IfErr result (λ error. RestrictedTellsOnly error (text_shows read_expr depth text.now (strict_shows styles.now))) }
 {
     let expr = parse_expr_strict(alloc, text, styles, depth)?;
     if !is_low(&expr, depth) {

@@ -20,7 +20,8 @@ use cedar_policy_set::sets::PolicySet;
 use std::alloc::Global;
 
 /// The policies and templates that a text is within a nesting of `depth`, under `policy0`, `policy1`, ..
-/// in its order, where these names may be called. (Cedar language reference, "Policy syntax".)
+/// in its order, where these names may be called. One with a slot in its scope or in a clause is a template.
+/// (Cedar language reference, "Policy syntax" and "Policy templates".)
 ///
 /// The first error is `ToCST` or `ToAST`, with a place, where the text is none within any nesting; `Depth`
 /// where it is none within this one and more places in it open a construct; and `Memory`. With `ToAST` the

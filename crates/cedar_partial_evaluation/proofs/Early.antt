@@ -161,7 +161,7 @@ module _ (facts : Facts) (good : HoldsMade facts) (q : Question) (slots : Slots)
   pub seen_last : (r : Tree) → Below (settled_in facts (filled facts q slots filling) r) (without_kind (partial_in facts (held_of facts q slots filling) r))
   seen_last r =
       below_trans _ (settled_in facts (settled_of facts q slots filling) r) _
-      (settled_mono facts (filled facts q slots filling) (settled_of facts q slots filling) (λ v. below_refl _) (λ n ty. below_refl _) (λ s. below_refl _) (λ n. refl) (λ n. refl) r)
+      (settled_mono facts (filled facts q slots filling) (settled_of facts q slots filling) (λ v. below_refl _) (λ n ty. below_refl _) (λ s. below_refl _) (λ n. refl) (λ n. refl) (λ v. refl) (λ n. refl) r)
       (meets_below _ _ _ (answers_prompt facts good q slots filling all_made accepted r))
 
 pub all_told_is_known : AllToldIsKnown

@@ -1,5 +1,5 @@
 -- Rows of partial evaluation, each by computing.
-use Rattle.std.proofs.Common.{◌≡◌, pos, true, Some, [], ◌∷◌, refl, ap, ◌∙◌, subst}
+use Rattle.std.proofs.Common.{◌≡◌, pos, true, false, Some, [], ◌∷◌, refl, ap, ◌∙◌, subst}
 use Rattle.cedar_language.specs.WellFormed.{IsWellFormed}
 use Rattle.cedar_partial_evaluation.specs.Filling.{IsFilling}
 use Rattle.std.specs.FinMap as finite
@@ -7,15 +7,15 @@ use Rattle.cedar_partial_evaluation.specs.MadeAgain.{IsMadeAgain, AreMadeAgain, 
 use Rattle.cedar_language.specs.Facts.{Function}
 use Rattle.std.specs.Prelude.{codes}
 use Rattle.cedar_language.specs.Uid.{Text}
-use Rattle.cedar_language.specs.Tree.{Boolean, Long, String, Entity, Principal, Context, Equal, Add, HasAttr, Lit, Var}
+use Rattle.cedar_language.specs.Tree.{Boolean, Long, String, Entity, Principal, Resource, Context, Equal, Add, In, HasAttr, Lit, Var, And}
 use Rattle.cedar_language.specs.Tree as tree
-use Rattle.cedar_language.specs.Value.{Value, Plain, ExtensionOf, TypeError, RecordAttrDoesNotExist, Values, no_values, a_value, RecordOf}
+use Rattle.cedar_language.specs.Value.{Value, Plain, ExtensionOf, TypeError, EntityDoesNotExist, RecordAttrDoesNotExist, UnlinkedSlot, Values, no_values, a_value, RecordOf}
 use Rattle.cedar_partial_evaluation.specs.Settling.{Open, Is}
-use Rattle.cedar_partial_evaluation.specs.Partial.{Failed}
+use Rattle.cedar_partial_evaluation.specs.Partial.{ResidualTree, Failed}
 use Rattle.cedar_partial_evaluation.specs.Question.{Told}
 use Rattle.cedar_language.specs.Answering.{Residual}
 use Rattle.cedar_partial_evaluation.specs.Early.{standing_of_answer}
-use Rattle.cedar_partial_evaluation.specs.EarlyRows.{uid, user, one, two, long, context_dot, low, nothing_held, asked, answers, settles, IsUntold, IsToldAs, name_x, true_at, false_at, of_one, of_two, rank_low, typed_principal, a_long, no_entries, handed_back, hands_back, keeps_back, two_names, yes, with_k, k_zz, EarlyRows}
+use Rattle.cedar_partial_evaluation.specs.EarlyRows.{uid, user, one, two, long, context_dot, low, nothing_held, asked, answers, settles, IsUntold, IsToldAs, name_x, true_at, false_at, of_one, of_two, rank_low, typed_principal, typed_both, a_long, no_entries, handed_back, hands_back, keeps_back, two_names, yes, with_k, k_zz, EarlyRows, behind_x, answers_bound}
 
 beside_unknown : (told : Told) → IsUntold told (codes "x") → answers (asked (of_two (codes "a") name_x (codes "b") (long (pos 1)))) told (two Equal (context_dot (codes "b")) (long (pos 1))) ≡ true_at
 beside_unknown told h = rw h refl
@@ -55,6 +55,32 @@ same_type_told told h = rw h refl
 
 other_type_told : (told : Told) → IsToldAs told (codes "principal") (Plain (Entity (uid (codes "Bot") (codes "b")))) → answers typed_principal told (two Equal (Var Principal) (Lit (Entity user))) ≡ Failed TypeError
 other_type_told told h = rw h refl
+
+is_settles : (told : Told) → IsUntold told (codes "principal") → settles typed_principal told (one (tree.Is (codes "User" ∷ [])) (Var Principal)) ≡ Is (Plain (Boolean true))
+is_settles told h = rw h refl
+
+is_other_settles : (told : Told) → IsUntold told (codes "principal") →
+    settles typed_principal told (And (one (tree.Is (codes "Bot" ∷ [])) (Var Principal)) (two In (Var Principal) (Lit (Entity user)))) ≡ Is (Plain (Boolean false))
+is_other_settles told h = rw h refl
+
+other_type_settles : (told : Told) → IsUntold told (codes "principal") →
+    settles typed_principal told (two Equal (Var Principal) (Lit (Entity (uid (codes "Bot") (codes "b"))))) ≡ Is (Plain (Boolean false))
+other_type_settles told h = rw h refl
+
+turned_settles : (told : Told) → IsUntold told (codes "principal") →
+    settles typed_principal told (two Equal (Lit (Entity (uid (codes "Bot") (codes "b")))) (Var Principal)) ≡ Is (Plain (Boolean false))
+turned_settles told h = rw h refl
+
+two_types_settle : (told : Told) → IsUntold told (codes "principal") → IsUntold told (codes "resource") →
+    settles typed_both told (two Equal (Var Principal) (Var Resource)) ≡ Is (Plain (Boolean false))
+two_types_settle told h i = rw (h, i) refl
+
+same_type_settles_nothing : (told : Told) → IsUntold told (codes "principal") → settles typed_principal told (two Equal (Var Principal) (Lit (Entity user))) ≡ Open
+same_type_settles_nothing told h = rw h refl
+
+other_type_told_settles_nothing : (told : Told) → IsToldAs told (codes "principal") (Plain (Entity (uid (codes "Bot") (codes "b")))) →
+    settles typed_principal told (one (tree.Is (codes "User" ∷ [])) (Var Principal)) ≡ Open
+other_type_told_settles_nothing told h = rw h refl
 
 a_filling : (told : Told) → IsToldAs told (codes "principal") (Plain (Entity user)) → ((n : Text) (v : Value) → finite.get told n ≡ Some v → IsWellFormed v) →
     IsFilling nothing_held typed_principal told (record { principal = user; action = user; resource = user; context = RecordOf [] no_values })
@@ -101,6 +127,15 @@ decided_first told h i = rw (h, i) refl
 decided_less : (told : Told) → IsToldAs told (codes "x") (ExtensionOf low) → IsUntold told (codes "w") → standing_of_answer (answers with_k told k_zz) ≡ Residual
 decided_less told h i = rw (h, i) refl
 
+slot_kept : (told : Told) → IsUntold told (codes "x") → answers_bound no_entries told behind_x ≡ ResidualTree behind_x
+slot_kept told h = rw h refl
+
+slot_bound : (told : Told) → IsToldAs told (codes "x") yes → answers_bound no_entries told behind_x ≡ Failed EntityDoesNotExist
+slot_bound told h = rw h refl
+
+slot_unbound : (told : Told) → IsToldAs told (codes "x") yes → answers no_entries told behind_x ≡ Failed UnlinkedSlot
+slot_unbound told h = rw h refl
+
 pub early_rows : EarlyRows
 early_rows = record {
   beside_unknown = beside_unknown;
@@ -116,6 +151,13 @@ early_rows = record {
   same_type_open = same_type_open;
   same_type_told = same_type_told;
   other_type_told = other_type_told;
+  is_settles = is_settles;
+  is_other_settles = is_other_settles;
+  other_type_settles = other_type_settles;
+  turned_settles = turned_settles;
+  two_types_settle = two_types_settle;
+  same_type_settles_nothing = same_type_settles_nothing;
+  other_type_told_settles_nothing = other_type_told_settles_nothing;
   a_filling = a_filling;
   long_is_open = long_is_open;
   long_told = long_told;
@@ -127,4 +169,7 @@ early_rows = record {
   comes_out = comes_out;
   decided_first = decided_first;
   decided_less = decided_less;
+  slot_kept = slot_kept;
+  slot_bound = slot_bound;
+  slot_unbound = slot_unbound;
 }

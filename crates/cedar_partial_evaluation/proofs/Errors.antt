@@ -1,9 +1,10 @@
 -- Settling to an error, and to a kind of error.
-use Rattle.std.proofs.Common.{◌≡◌, ◌≢◌, Bool, true, false, ◌&&◌, Option, Some, None, List, refl, sym, ◌∙◌, ap}
+use Rattle.std.proofs.Common.{◌≡◌, ◌≢◌, Bool, true, false, ◌&&◌, Option, Some, None, List, [], ◌∷◌, refl, sym, ◌∙◌, ap}
 use Rattle.std.specs.FinMap as finite
 use Rattle.std.specs.Prelude.{codes}
-use Rattle.cedar_language.specs.Uid.{Text}
-use Rattle.cedar_language.specs.Tree.{Boolean, Variable, Principal, Action, Resource, Context, SlotId, Operator, GetAttr, HasAttr, MakeRecord, Tree, Lit, Var, Slot, Unknown, If, And, Or, Apply, Trees, no_trees, a_tree, ValueType}
+use Rattle.cedar_language.specs.Uid.{Text, Name}
+use Rattle.cedar_language.specs.Tree.{Boolean, Variable, Principal, Action, Resource, Context, SlotId, Operator, Equal, GetAttr, HasAttr, MakeRecord, Tree, Lit, Var, Slot, Unknown, If, And, Or, Apply, Trees, no_trees, a_tree, ValueType}
+use Rattle.cedar_language.specs.Tree as tree
 use Rattle.cedar_language.specs.Value.{Value, Plain, RecordOf, Values, Kind, TypeError, RecordAttrDoesNotExist, UnlinkedSlot, Outcome, Gives, Fails}
 use Rattle.cedar_language.specs.Facts.{Facts}
 use Rattle.cedar_language.specs.Operators.{attribute, or_fails, applied}
@@ -11,16 +12,16 @@ use Rattle.cedar_language.specs.Means.{IsNotBoolean}
 use Rattle.cedar_language.specs.Meaning.{Slots, GivesAll, OneFails, meaning, meanings}
 use Rattle.cedar_language.specs.Authorization as authorization
 use Rattle.cedar_language.specs.Authorization.{request_at}
-use Rattle.cedar_partial_evaluation.specs.Settling.{Settling, Open, Errs, Is, Settlings, SomeOpen, SomeErrs, AllAre, kindless, boolean, and_settled, or_settled, if_settled, and_more, apply_settled, LeafSettlings, or_entry, settled_in, all_settled_in}
+use Rattle.cedar_partial_evaluation.specs.Settling.{Settling, Open, Errs, Is, Settlings, SomeOpen, SomeErrs, AllAre, kindless, boolean, and_settled, or_settled, if_settled, and_more, apply_settled, LeafSettlings, or_entry, equal_by_types, or_type, settled_in, all_settled_in, types_in}
 use Rattle.cedar_partial_evaluation.specs.Partial.{found_tree}
 use Rattle.cedar_partial_evaluation.specs.Prompt.{ErrsAs, unbound, and_left, and_right, and_left_type, and_right_type, or_left, or_right, or_left_type, or_right_type, if_test, if_type, if_then, if_else, operands, operator, no_entry, FirstErrsAs, here, behind_value, behind_open, behind_erring}
 use Rattle.cedar_partial_evaluation.specs.Question.{Part, Given, Missing, Entries, NoContext, WithEntries, Question, Told, entity_type, value_settled, name_settled, settled_names, are_simple, only_value, entry_settled, has_settled, in_context, has_in_context, part_settled, context_settled, variable_settled, settled_of}
-use Rattle.cedar_partial_evaluation.specs.Unknowns.{fits}
+use Rattle.cedar_partial_evaluation.specs.Unknowns.{fits, types_differ}
 use Rattle.cedar_partial_evaluation.specs.Filling.{ErrsEverywhere}
 use Rattle.cedar_partial_evaluation.specs.Mentions.{mentions_only, all_mention_only, is_known}
 use Rattle.cedar_partial_evaluation.specs.Leaves.{HasGiven}
 use Rattle.cedar_partial_evaluation.specs.Errors.{SettlingIsOne}
-use Rattle.cedar_partial_evaluation.proofs.Sound.{and_true, errs_more, not_found_is_at}
+use Rattle.cedar_partial_evaluation.proofs.Sound.{and_true, errs_more, not_found_is_at, type_errs}
 use Rattle.cedar_partial_evaluation.proofs.Known.{and_not, or_not, if_not, boolean_not, never_open, is_value, are_values, unbound_is}
 use Rattle.cedar_partial_evaluation.proofs.Leaves.{mentioned_settles, all_mentioned_settle, variable_result}
 
@@ -47,6 +48,9 @@ entry_errs around (GetAttr a) (a_tree (Var Context) no_trees) = refl
 entry_errs around (HasAttr a) (a_tree (Var Context) no_trees) = refl
 entry_errs around op ts = refl
 
+applied_errs : (around : LeafSettlings) (op : Operator) (os : List (Option Name)) (ts : Trees) → or_type op os (or_entry around op ts Errs) ≡ Errs
+applied_errs around op os ts = ap (or_type op os) (entry_errs around op ts) ∙ type_errs op os
+
 abbrev context_entry : Text → Tree
 context_entry a = Apply (GetAttr a) (a_tree (Var Context) no_trees)
 
@@ -69,8 +73,8 @@ module _ (facts : Facts) (around : LeafSettlings) (everywhere : Tree → Type 0)
     errs (if_type {v = v} e n) = rw e (if_errs v _ _ n)
     errs (if_then e h) = rw e (errs h)
     errs (if_else e h) = rw e (errs h)
-    errs (operands {op = op} {ts = ts} h) = rw (first_errs h) (entry_errs around op ts)
-    errs (operator {op = op} {ts = ts} e f) = rw (e, f) (entry_errs around op ts)
+    errs (operands {op = op} {ts = ts} h) = rw (first_errs h) (applied_errs around op (types_in facts around ts) ts)
+    errs (operator {op = op} {ts = ts} e f) = rw (e, f) (applied_errs around op (types_in facts around ts) ts)
     errs (no_entry {a = a} e) = missing a e
 
     first_errs : {ts : Trees} {k : Kind} → FirstErrsAs facts around everywhere ts k → all_settled_in facts around ts ≡ SomeErrs
@@ -177,6 +181,16 @@ module _ (facts : Facts) (around : LeafSettlings) (everywhere : Tree → Type 0)
   or_entry_kind (HasAttr a) (a_tree (Var Context) no_trees) Open m = leaf_kind _ (around.has_in_context a) (has_entry a)
   or_entry_kind op ts x m = m
 
+  equal_kind : (errs_as : Kind → Type 0) (b : Bool) → HasKind errs_as (equal_by_types b)
+  equal_kind errs_as true = tt
+  equal_kind errs_as false = tt
+
+  or_type_kind : (errs_as : Kind → Type 0) (op : Operator) (os : List (Option Name)) (x : Settling) → HasKind errs_as x → HasKind errs_as (or_type op os x)
+  or_type_kind errs_as (tree.Is ty) (Some u ∷ []) Open m = tt
+  or_type_kind errs_as (tree.Is ty) (None ∷ []) Open m = tt
+  or_type_kind errs_as Equal (o ∷ p ∷ []) Open m = equal_kind errs_as (types_differ o p)
+  or_type_kind errs_as op os x m = m
+
   apply_kind : (op : Operator) (ts : Trees) (xs : Settlings) → all_settled_in facts around ts ≡ xs →
       SomeHasKind (FirstKinds ts) xs → HasKind (Kinds (Apply op ts)) (apply_settled facts op xs)
   apply_kind op ts SomeOpen h m = tt
@@ -194,8 +208,9 @@ module _ (facts : Facts) (around : LeafSettlings) (everywhere : Tree → Type 0)
     has_kind (If t y n) =
         if_kind t y n (settled_in facts around t) (settled_in facts around y) (settled_in facts around n) refl (has_kind t) (has_kind y) (has_kind n)
     has_kind (Apply op ts) =
-        or_entry_kind op ts (apply_settled facts op (all_settled_in facts around ts))
-        (apply_kind op ts (all_settled_in facts around ts) refl (all_have_kind ts))
+        or_type_kind (Kinds (Apply op ts)) op (types_in facts around ts) (or_entry around op ts (apply_settled facts op (all_settled_in facts around ts)))
+        (or_entry_kind op ts (apply_settled facts op (all_settled_in facts around ts))
+        (apply_kind op ts (all_settled_in facts around ts) refl (all_have_kind ts)))
 
     all_have_kind : (ts : Trees) → SomeHasKind (FirstKinds ts) (all_settled_in facts around ts)
     all_have_kind no_trees = tt

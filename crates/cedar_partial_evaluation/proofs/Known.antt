@@ -6,9 +6,10 @@ use Rattle.cedar_language.specs.Tree.{Boolean, Context, Operator, GetAttr, HasAt
 use Rattle.cedar_language.specs.Value.{Value, Plain, Values, Kind, TypeError, UnlinkedSlot, Outcome, Gives, Fails}
 use Rattle.cedar_language.specs.Facts.{Facts}
 use Rattle.cedar_language.specs.Meaning.{Request, Outcomes, GivesAll, OneFails, slot_outcome, boolean_of, and_of, or_of, if_of, more_of, apply_of, meaning, meanings}
-use Rattle.cedar_partial_evaluation.specs.Settling.{Settling, Open, Errs, Is, Settlings, SomeErrs, AllAre, kindless, boolean, and_settled, or_settled, if_settled, and_more, apply_settled, or_entry, settled_in, all_settled_in, leaf_settlings_of, MeaningIsSettled, LeafSettlings}
+use Rattle.cedar_partial_evaluation.specs.Settling.{Settling, Open, Errs, Is, Settlings, SomeErrs, AllAre, kindless, boolean, and_settled, or_settled, if_settled, and_more, apply_settled, or_entry, or_type, settled_in, all_settled_in, types_in, leaf_settlings_of, MeaningIsSettled, LeafSettlings}
 use Rattle.cedar_partial_evaluation.specs.Partial.{Answers, AllEvaluated, SomeFailed, answer_of, last_answer, and_answer, or_answer, if_answer, and_next, apply_answer, partial_in, all_partial_in, leaf_answers_of, KnownIsMeaning, Evaluated, LeafAnswers}
 use Rattle.cedar_language.specs.Means.{IsNotBoolean}
+use Rattle.cedar_partial_evaluation.proofs.Sound.{type_meant}
 use Rattle.cedar_partial_evaluation.specs.Prompt.{ErrsAs, unbound, and_left, and_right, and_left_type, and_right_type, or_left, or_right, or_left_type, or_right_type, if_test, if_type, if_then, if_else, operands, operator, no_entry, FirstErrsAs, here, behind_value, behind_open, behind_erring, KindsAreMeant, IsRefused}
 
 -- ---- what is settled
@@ -71,8 +72,10 @@ module _ (facts : Facts) (request : Request) (around : LeafSettlings) (Passes : 
     settled_at (And l r) (h, i) = rw (settled_at l h, settled_at r i) (and_is (meaning facts request l) (meaning facts request r))
     settled_at (Or l r) (h, i) = rw (settled_at l h, settled_at r i) (or_is (meaning facts request l) (meaning facts request r))
     settled_at (Apply op ts) h =
-        entry_is op ts (apply_settled facts op (all_settled_in facts around ts)) ∙
-        ap (apply_settled facts op) (all_settled_at ts h) ∙ apply_is facts op (meanings facts request ts)
+        ap (or_type op (types_in facts around ts))
+        (entry_is op ts (apply_settled facts op (all_settled_in facts around ts)) ∙
+        ap (apply_settled facts op) (all_settled_at ts h) ∙ apply_is facts op (meanings facts request ts))
+        ∙ type_meant op (types_in facts around ts) (apply_of facts op (meanings facts request ts))
 
     all_settled_at : (ts : Trees) → EachUnknownOf Passes ts → all_settled_in facts around ts ≡ kindless_all (meanings facts request ts)
     all_settled_at no_trees h = refl

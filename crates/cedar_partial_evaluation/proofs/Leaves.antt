@@ -1,7 +1,7 @@
 -- What a tree doesn't mention has nothing to do with it.
-use Rattle.std.proofs.Common.{◌≡◌, ◌≢◌, ap, Bool, true, false, ◌&&◌, Option, Some, None, refl, sym, ◌∙◌}
+use Rattle.std.proofs.Common.{◌≡◌, ◌≢◌, ap, Bool, true, false, ◌&&◌, Option, Some, None, List, ◌∷◌, refl, sym, ◌∙◌}
 use Rattle.std.specs.FinMap as finite
-use Rattle.cedar_language.specs.Uid.{Text, Uid}
+use Rattle.cedar_language.specs.Uid.{Text, Name, Uid}
 use Rattle.cedar_language.specs.Tree.{Boolean, Entity, Variable, Principal, Action, Resource, Context, Operator, GetAttr, HasAttr, MakeRecord, Tree, Lit, Var, Slot, Unknown, If, And, Or, Apply, Trees, no_trees, a_tree}
 use Rattle.cedar_language.specs.Value.{Value, Plain, no_values, a_value, Outcome, Gives, Fails}
 use Rattle.cedar_language.specs.Facts.{Facts}
@@ -9,7 +9,7 @@ use Rattle.cedar_language.specs.Operators.{applied}
 use Rattle.cedar_language.specs.Meaning.{Slots, Request, slot_outcome, apply_of, meaning, meanings}
 use Rattle.cedar_language.specs.Authorization as authorization
 use Rattle.cedar_language.specs.Authorization.{request_at}
-use Rattle.cedar_partial_evaluation.specs.Settling.{Settling, Open, Errs, Is, kindless, AllAre, and_more, apply_settled, LeafSettlings, or_entry, settled_in, all_settled_in, leaf_settlings_of}
+use Rattle.cedar_partial_evaluation.specs.Settling.{Settling, Open, Errs, Is, kindless, AllAre, and_more, apply_settled, LeafSettlings, or_entry, stated_in, type_known, or_type, settled_in, all_settled_in, types_in, leaf_settlings_of}
 use Rattle.cedar_partial_evaluation.specs.Partial.{Answer, Evaluated, ResidualTree, Failed, Answers, AllEvaluated, SomeResiduals, SomeFailed, answer_of, last_answer, and_answer, or_answer, if_answer, and_next, LeafAnswers, apply_answer, partial_in, all_partial_in, leaf_answers_of}
 use Rattle.cedar_partial_evaluation.specs.Question.{Part, Given, Missing, Entries, NoContext, WithEntries, Question, Told, part_settled, part_held, settled_names, held_names, context_settled, context_held, variable_settled, variable_held, settled_of, held_of}
 use Rattle.cedar_partial_evaluation.specs.Filling.{names_told, FillsPart, FillsContext, IsFilling}
@@ -156,6 +156,22 @@ module _ (facts : Facts) where
     entry_alike (HasAttr n) (a_tree (Var Context) no_trees) h = has_alike n (a.variable Context) (and_true (mentioned Context) true h).0 refl
     entry_alike op ts h = refl
 
+    variable_typed : (v : Variable) (x : Settling) → mentioned v ≡ true → a.variable v ≡ x → type_known x (a.variable_type v) ≡ type_known x (b.variable_type v)
+    variable_typed v Open h e = alike.variable_type v h e
+    variable_typed v Errs h e = refl
+    variable_typed v (Is w) h e = refl
+
+    one_type : (t : Tree) → mentions_only mentioned slots t ≡ true → settled_in facts a t ≡ settled_in facts b t →
+        type_known (settled_in facts a t) (stated_in a t) ≡ type_known (settled_in facts b t) (stated_in b t)
+    one_type (Unknown n ty) h e = cc
+    one_type (Var v) h e = variable_typed v (a.variable v) h refl ∙ ap (λ x. type_known x (b.variable_type v)) e
+    one_type (Lit l) h e = refl
+    one_type (Slot s) h e = ap (λ x. type_known x None) e
+    one_type (If t y n) h e = ap (λ x. type_known x None) e
+    one_type (And l r) h e = ap (λ x. type_known x None) e
+    one_type (Or l r) h e = ap (λ x. type_known x None) e
+    one_type (Apply op ts) h e = ap (λ x. type_known x None) e
+
     mutual
       pub one_result : (t : Tree) → mentions_only mentioned slots t ≡ true → settled_in facts a t ≡ settled_in facts b t
       one_result (Lit l) h = refl
@@ -172,13 +188,22 @@ module _ (facts : Facts) where
       one_result (Or l r) h =
           let (hl, hr) = and_true (mentions_only mentioned slots l) (mentions_only mentioned slots r) h in
           rw (one_result l hl, one_result r hr) refl
-      one_result (Apply op ts) h = entry_alike op ts h ∙ ap (λ xs. or_entry b op ts (apply_settled facts op xs)) (all_one_result ts h)
+      one_result (Apply op ts) h =
+          ap (or_type op (types_in facts a ts)) (entry_alike op ts h ∙ ap (λ xs. or_entry b op ts (apply_settled facts op xs)) (all_one_result ts h))
+          ∙ ap (λ (os : List (Option Name)). or_type op os (or_entry b op ts (apply_settled facts op (all_settled_in facts b ts)))) (all_one_type ts h)
 
       pub all_one_result : (ts : Trees) → all_mention_only mentioned slots ts ≡ true → all_settled_in facts a ts ≡ all_settled_in facts b ts
       all_one_result no_trees h = refl
       all_one_result (a_tree t ts) h =
           let (ht, hts) = and_true (mentions_only mentioned slots t) (all_mention_only mentioned slots ts) h in
           rw (one_result t ht, all_one_result ts hts) refl
+
+      all_one_type : (ts : Trees) → all_mention_only mentioned slots ts ≡ true → types_in facts a ts ≡ types_in facts b ts
+      all_one_type no_trees h = refl
+      all_one_type (a_tree t ts) h =
+          let (ht, hts) = and_true (mentions_only mentioned slots t) (all_mention_only mentioned slots ts) h in
+          ap (λ (o : Option Name). o ∷ types_in facts a ts) (one_type t ht (one_result t ht))
+          ∙ ap (λ (os : List (Option Name)). type_known (settled_in facts b t) (stated_in b t) ∷ os) (all_one_type ts hts)
 
   -- ---- what is meant
 
@@ -232,7 +257,7 @@ module _ (facts : Facts) (told : Told) (t : Tree) (h : mentions_only (λ v. fals
   named_settles : settled_in facts (settled_names told) t ≡ kindless (meaning facts (names_told finite.empty) t)
   named_settles =
       one_result facts (λ v. false) false (settled_names told) (leaf_settlings_of (names_told finite.empty))
-      (record { variable = λ v k. cc; slot = λ s k. cc; in_context = λ k e n. refl; has_in_context = λ k e n. refl }) t h
+      (record { variable = λ v k. cc; slot = λ s k. cc; in_context = λ k e n. refl; has_in_context = λ k e n. refl; variable_type = λ v k e. cc }) t h
       ∙ meaning_is_settled facts (names_told finite.empty) t
 
 -- ---- a question
@@ -307,6 +332,7 @@ module _ (facts : Facts) (q : Question) (slots : Slots) (told : Told) (known : a
     slot = λ s k. refl;
     in_context = λ k e n. absurd (never_open _ _ (variable_result Context k) e);
     has_in_context = λ k e n. absurd (never_open _ _ (variable_result Context k) e);
+    variable_type = λ v k e. absurd (never_open _ _ (variable_result v k) e);
   }
 
   pub mentioned_settles : (t : Tree) → mentions_only (is_known q) true t ≡ true → settled_in facts (settled_of facts q slots told) t ≡ kindless (meaning facts (request_at known slots) t)

@@ -1,10 +1,10 @@
 -- Linking is writing.
-use Rattle.std.proofs.Common.{◌≡◌, Option, Some, None, refl, ◌∙◌, ap}
-use Rattle.cedar_language.specs.Uid.{Uid}
+use Rattle.std.proofs.Common.{◌≡◌, Option, Some, None, List, refl, ◌∙◌, ap}
+use Rattle.cedar_language.specs.Uid.{Name, Uid}
 use Rattle.cedar_language.specs.Tree.{Context, SlotId, Operator, GetAttr, HasAttr, Tree, Lit, Var, Slot, Unknown, If, And, Or, Apply, Trees, no_trees, a_tree}
 use Rattle.cedar_language.specs.Facts.{Facts}
 use Rattle.cedar_language.specs.Meaning.{Slots, Request, slot_outcome, apply_of, meaning, meanings}
-use Rattle.cedar_partial_evaluation.specs.Settling.{Settling, Open, Errs, Is, kindless, apply_settled, LeafSettlings, or_entry, settled_in, all_settled_in}
+use Rattle.cedar_partial_evaluation.specs.Settling.{Settling, Open, Errs, Is, kindless, apply_settled, LeafSettlings, or_entry, stated_in, or_type, settled_in, all_settled_in, types_in}
 use Rattle.cedar_partial_evaluation.specs.Question.{settled_of}
 use Rattle.cedar_partial_evaluation.specs.Linking.{bound_slot, bound_tree, bound_trees, no_slots, without_slots, LinkingIsWriting}
 
@@ -36,6 +36,8 @@ with_slots around slots = record {
   slot = λ s. kindless (slot_outcome (slots s));
   in_context = around.in_context;
   has_in_context = around.has_in_context;
+  variable_type = around.variable_type;
+  untold = around.untold;
 }
 
 module _ (facts : Facts) (around : LeafSettlings) (slots : Slots) where
@@ -68,6 +70,16 @@ module _ (facts : Facts) (around : LeafSettlings) (slots : Slots) where
   linked_entry (HasAttr a) (a_tree _ ts) x = refl
   linked_entry op (a_tree _ ts) x = refl
 
+  slot_states : (s : SlotId) (o : Option Uid) → stated_in (with_slots around no_slots) (bound_slot s o) ≡ None
+  slot_states s (Some u) = refl
+  slot_states s None = refl
+
+  states : (t : Tree) → stated_in (with_slots around no_slots) (bound_tree slots t) ≡ stated_in (with_slots around slots) t
+  states (Slot s) = slot_states s (slots s)
+  states (Var v) = refl
+  states (Unknown n ty) = refl
+  states _ = refl
+
   mutual
     pub settles : (t : Tree) → settled_in facts (with_slots around slots) t ≡ settled_in facts (with_slots around no_slots) (bound_tree slots t)
     settles (Lit l) = refl
@@ -78,12 +90,19 @@ module _ (facts : Facts) (around : LeafSettlings) (slots : Slots) where
     settles (And l r) = rw (settles l, settles r) refl
     settles (Or l r) = rw (settles l, settles r) refl
     settles (Apply op ts) =
-        linked_entry op ts (apply_settled facts op (all_settled_in facts (with_slots around slots) ts)) ∙
-        ap (λ xs. or_entry (with_slots around no_slots) op (bound_trees slots ts) (apply_settled facts op xs)) (all_settle ts)
+        ap (or_type op (types_in facts (with_slots around slots) ts))
+        (linked_entry op ts (apply_settled facts op (all_settled_in facts (with_slots around slots) ts)) ∙
+        ap (λ xs. or_entry (with_slots around no_slots) op (bound_trees slots ts) (apply_settled facts op xs)) (all_settle ts))
+        ∙ ap (λ (os : List (Option Name)). or_type op os (or_entry (with_slots around no_slots) op (bound_trees slots ts) (apply_settled facts op (all_settled_in facts (with_slots around no_slots) (bound_trees slots ts)))))
+        (types_settle ts)
 
     pub all_settle : (ts : Trees) → all_settled_in facts (with_slots around slots) ts ≡ all_settled_in facts (with_slots around no_slots) (bound_trees slots ts)
     all_settle no_trees = refl
     all_settle (a_tree t ts) = rw (settles t, all_settle ts) refl
+
+    types_settle : (ts : Trees) → types_in facts (with_slots around slots) ts ≡ types_in facts (with_slots around no_slots) (bound_trees slots ts)
+    types_settle no_trees = refl
+    types_settle (a_tree t ts) = rw (settles t, states t, types_settle ts) refl
 
 pub linking_is_writing : LinkingIsWriting
 linking_is_writing = record {

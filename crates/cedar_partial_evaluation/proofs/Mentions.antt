@@ -8,10 +8,10 @@ use Rattle.cedar_language.specs.Tree.{Variable, Principal, Action, Resource, Con
 use Rattle.cedar_language.specs.Value.{Value}
 use Rattle.cedar_language.specs.Facts.{Facts}
 use Rattle.cedar_language.specs.Meaning.{slot_outcome}
-use Rattle.cedar_partial_evaluation.specs.Settling.{Settling, Open, Errs, Is, kindless, LeafSettlings, or_entry, settled_in, all_settled_in}
+use Rattle.cedar_partial_evaluation.specs.Settling.{Settling, Open, Errs, Is, kindless, apply_settled, LeafSettlings, or_entry, settled_in, all_settled_in, types_in}
 use Rattle.cedar_partial_evaluation.specs.Question.{Part, Given, Missing, Entries, NoContext, WithEntries, Question, Told, settled_names, part_settled, context_settled, variable_settled, settled_of}
 use Rattle.cedar_partial_evaluation.specs.Mentions.{WithoutUnknowns, mentions_only, all_mention_only, is_given, is_known_context, is_known, KnownTreesSettle, with_names, NamesDontMatter}
-use Rattle.cedar_partial_evaluation.proofs.Sound.{and_true, is_closed, are_closed, and_closed, or_closed, if_closed, more_closed, apply_closed}
+use Rattle.cedar_partial_evaluation.proofs.Sound.{and_true, is_closed, are_closed, and_closed, or_closed, if_closed, more_closed, apply_closed, types_closed}
 
 entry_closed : (around : LeafSettlings) (op : Operator) (ts : Trees) (x : Settling) → is_closed x ≡ true → is_closed (or_entry around op ts x) ≡ true
 entry_closed around (GetAttr a) (a_tree (Var Context) no_trees) Open h = cc
@@ -36,7 +36,8 @@ module _ (facts : Facts) (around : LeafSettlings) (f : Variable → Bool) (slots
     closed_at (Or l r) h =
         let (hl, hr) = and_true (mentions_only f slots l) (mentions_only f slots r) h in
         or_closed _ _ (closed_at l hl) (closed_at r hr)
-    closed_at (Apply op ts) h = entry_closed around op ts _ (apply_closed facts op (all_settled_in facts around ts) (all_closed_at ts h))
+    closed_at (Apply op ts) h =
+        types_closed op (types_in facts around ts) (or_entry around op ts (apply_settled facts op (all_settled_in facts around ts))) (entry_closed around op ts _ (apply_closed facts op (all_settled_in facts around ts) (all_closed_at ts h)))
 
     all_closed_at : (ts : Trees) → all_mention_only f slots ts ≡ true → are_closed (all_settled_in facts around ts) ≡ true
     all_closed_at no_trees h = refl

@@ -1,30 +1,31 @@
 -- Telling more values carries on what is settled.
-use Rattle.std.proofs.Common.{◌≡◌, ◌≢◌, Bool, true, false, cond, ◌&&◌, Option, Some, None, List, [], ◌∷◌, refl, sym, ap}
+use Rattle.std.proofs.Common.{◌≡◌, ◌≢◌, Bool, true, false, cond, ◌&&◌, Option, Some, None, List, [], ◌∷◌, refl, sym, ◌∙◌, ap}
 use Rattle.std.specs.FinMap as finite
 use Rattle.cedar_language.specs.Uid.{Text, Name, Uid}
-use Rattle.cedar_language.specs.Tree.{Boolean, Long, String, Entity, Variable, Principal, Action, Resource, Context, SlotId, Operator, GetAttr, HasAttr, MakeSet, MakeRecord, Tree, Lit, Var, Slot, Unknown, If, And, Or, Apply, Trees, no_trees, a_tree, ValueType, EntityType}
+use Rattle.cedar_language.specs.Tree.{Boolean, Long, String, Entity, Variable, Principal, Action, Resource, Context, SlotId, Operator, GetAttr, HasAttr, MakeSet, MakeRecord, Tree, Lit, Var, Slot, Unknown, If, And, Or, Apply, Trees, no_trees, a_tree, ValueType, EntityType, Equal}
+use Rattle.cedar_language.specs.Tree as tree
 use Rattle.cedar_language.specs.Value.{Value, Plain, SetOf, RecordOf, ExtensionOf, Values, no_values, a_value, Kind, RecordAttrDoesNotExist, UnlinkedSlot}
 use Rattle.cedar_language.specs.Order.{same_name, same_text, rising, put, placed, value_cmp}
 use Rattle.cedar_language.specs.Facts.{Facts}
 use Rattle.cedar_language.specs.Operators.{found, applied}
 use Rattle.cedar_language.specs.Meaning.{Slots, slot_outcome}
-use Rattle.cedar_partial_evaluation.specs.Settling.{Settling, Open, Errs, Is, kindless, Below, LeafSettlings, or_entry, settled_in, all_settled_in}
+use Rattle.cedar_partial_evaluation.specs.Settling.{Settling, Open, Errs, Is, kindless, AllAre, and_more, apply_settled, Below, LeafSettlings, or_entry, stated_in, type_of_entity, type_known, or_type, settled_in, all_settled_in, types_in}
 use Rattle.cedar_partial_evaluation.specs.MadeAgain.{tree_of, trees_of, IsMadeAgain, AreMadeAgain, HoldsMade}
 use Rattle.cedar_partial_evaluation.specs.Partial.{Answer, Evaluated, ResidualTree, Failed, Answers, AllEvaluated, SomeResiduals, SomeFailed, answer_of, best_effort, and_next, is_projectable, are_projectable, LeafAnswers, projected_in, all_projected_in, found_tree, entry_answer, has_entry_answer, apply_answer, partial_in, all_partial_in}
-use Rattle.cedar_partial_evaluation.specs.Fair.{IsOfType, read, IsMadeAnswer, AreMadeLeaves}
+use Rattle.cedar_partial_evaluation.specs.Fair.{IsOfType, read, IsStated, IsMadeAnswer, AreMadeLeaves}
 use Rattle.std.specs.Prelude.{codes}
 use Rattle.std.specs.Cmp.Lexicographic.{pointwise_decides, bytes_decides}
 use Rattle.std.specs.declared.cmp.Ordering.{Ordering}
 use Rattle.std.specs.declared.cmp.Ordering.TheVariants as ordering
 use Rattle.cedar_partial_evaluation.specs.Seam.{Carries}
 use Rattle.cedar_partial_evaluation.specs.Prompt.{Meets, Shows, without_kind}
-use Rattle.cedar_partial_evaluation.specs.Question.{Part, Given, Missing, Entries, NoContext, WithEntries, Question, Told, entity_type, value_settled, value_held, name_settled, name_held, settled_names, held_names, is_simple_name, is_simple, are_simple, only_value, entry_settled, has_settled, in_context, has_in_context, part_settled, context_settled, variable_settled, settled_of, part_held, context_held, variable_held, held_of, Extends, AreMadeTold, IsAccepted, TellingCarries}
-use Rattle.cedar_partial_evaluation.specs.Unknowns.{fits}
+use Rattle.cedar_partial_evaluation.specs.Question.{Part, Given, Missing, Entries, NoContext, WithEntries, Question, Told, entity_type, value_settled, value_held, name_settled, name_held, is_untold, untold_type, part_type, variable_type, settled_names, held_names, is_simple_name, is_simple, are_simple, only_value, entry_settled, has_settled, in_context, has_in_context, part_settled, context_settled, variable_settled, settled_of, part_held, context_held, variable_held, held_of, Extends, AreMadeTold, IsAccepted, TellingCarries}
+use Rattle.cedar_partial_evaluation.specs.Unknowns.{fits, types_differ}
 use Rattle.cedar_partial_evaluation.specs.Filling.{filled}
 use Rattle.cedar_language.proofs.Rising.{rising_same}
 use Rattle.cedar_partial_evaluation.proofs.MadeAgain.{made}
-use Rattle.cedar_partial_evaluation.proofs.Sound.{and_true, tree_of_is}
-use Rattle.cedar_partial_evaluation.proofs.Seam.{BelowAll, below_refl, below_is, below_trans, and_mono, or_mono, if_mono, more_mono, apply_mono, residuals_settle, plain_carried}
+use Rattle.cedar_partial_evaluation.proofs.Sound.{and_true, tree_of_is, type_meant}
+use Rattle.cedar_partial_evaluation.proofs.Seam.{BelowAll, below_refl, below_is, below_trans, and_mono, or_mono, if_mono, more_mono, apply_mono, raised_in, residuals_settle, plain_carried}
 use Rattle.cedar_partial_evaluation.proofs.Prompt.{is_prompt}
 
 -- where less is known of the leaves, less is settled
@@ -32,15 +33,48 @@ module _ (facts : Facts) (a b : LeafSettlings)
     (variable : (v : Variable) → Below (a.variable v) (b.variable v))
     (unknown : (n : Text) (ty : Option ValueType) → Below (a.unknown n ty) (b.unknown n ty))
     (slot : (s : SlotId) → Below (a.slot s) (b.slot s))
-    (no_entry : (n : Text) → a.in_context n ≡ Open) (no_has : (n : Text) → a.has_in_context n ≡ Open) where
-  entry_mono : (op : Operator) (ts : Trees) (x y : Settling) → Below x y → Below (or_entry a op ts x) (or_entry b op ts y)
-  entry_mono (GetAttr n) (a_tree (Var Context) no_trees) Open y h = rw (no_entry n) tt
-  entry_mono (HasAttr n) (a_tree (Var Context) no_trees) Open y h = rw (no_has n) tt
-  entry_mono (GetAttr n) (a_tree (Var Context) no_trees) Errs y h = rw (← h) refl
-  entry_mono (HasAttr n) (a_tree (Var Context) no_trees) Errs y h = rw (← h) refl
-  entry_mono (GetAttr n) (a_tree (Var Context) no_trees) (Is v) y h = rw (← h) refl
-  entry_mono (HasAttr n) (a_tree (Var Context) no_trees) (Is v) y h = rw (← h) refl
-  entry_mono op ts x y h = h
+    (no_entry : (n : Text) → a.in_context n ≡ Open) (no_has : (n : Text) → a.has_in_context n ≡ Open)
+    (no_type : (v : Variable) → a.variable_type v ≡ None) (told_all : (n : Text) → a.untold n ≡ false) where
+  no_entries : (op : Operator) (ts : Trees) (x : Settling) → or_entry a op ts x ≡ x
+  no_entries (GetAttr n) (a_tree (Var Context) no_trees) Open = no_entry n
+  no_entries (HasAttr n) (a_tree (Var Context) no_trees) Open = no_has n
+  no_entries op ts x = refl
+
+  none_stated : (t : Tree) → stated_in a t ≡ None
+  none_stated (Var v) = no_type v
+  none_stated (Unknown n (Some (EntityType ty))) = rw (told_all n) refl
+  none_stated t = refl
+
+  -- where no type is stated, types settle nothing besides
+  is_untyped : (ty : Name) (x : Settling) (o : Option Name) → o ≡ None →
+      or_type (tree.Is ty) (type_known x o ∷ []) (apply_settled facts (tree.Is ty) (and_more x (AllAre no_values))) ≡ apply_settled facts (tree.Is ty) (and_more x (AllAre no_values))
+  is_untyped ty Open o e = rw e refl
+  is_untyped ty Errs o e = refl
+  is_untyped ty (Is v) o e = type_meant (tree.Is ty) (type_of_entity v ∷ []) (applied facts (tree.Is ty) (a_value v no_values))
+
+  not_differ : (o : Option Name) → types_differ o None ≡ false
+  not_differ (Some u) = refl
+  not_differ None = refl
+
+  equal_untyped : (x y : Settling) (o p : Option Name) → o ≡ None → p ≡ None →
+      or_type Equal (type_known x o ∷ type_known y p ∷ []) (apply_settled facts Equal (and_more x (and_more y (AllAre no_values)))) ≡ apply_settled facts Equal (and_more x (and_more y (AllAre no_values)))
+  equal_untyped Open Open o p e f = rw e refl
+  equal_untyped Open (Is w) o p e f = rw e refl
+  equal_untyped (Is v) Open o p e f = rw f (rw (not_differ (type_of_entity v)) refl)
+  equal_untyped (Is v) (Is w) o p e f = type_meant Equal (type_of_entity v ∷ type_of_entity w ∷ []) (applied facts Equal (a_value v (a_value w no_values)))
+  equal_untyped Errs Open o p e f = refl
+  equal_untyped Errs Errs o p e f = refl
+  equal_untyped Errs (Is w) o p e f = refl
+  equal_untyped Open Errs o p e f = refl
+  equal_untyped (Is v) Errs o p e f = refl
+
+  untyped : (op : Operator) (ts : Trees) → or_type op (types_in facts a ts) (apply_settled facts op (all_settled_in facts a ts)) ≡ apply_settled facts op (all_settled_in facts a ts)
+  untyped (tree.Is ty) (a_tree s no_trees) = is_untyped ty (settled_in facts a s) (stated_in a s) (none_stated s)
+  untyped Equal (a_tree s (a_tree t no_trees)) = equal_untyped (settled_in facts a s) (settled_in facts a t) (stated_in a s) (stated_in a t) (none_stated s) (none_stated t)
+  untyped op ts = refl
+
+  settled_plainly : (op : Operator) (ts : Trees) → settled_in facts a (Apply op ts) ≡ apply_settled facts op (all_settled_in facts a ts)
+  settled_plainly op ts = ap (or_type op (types_in facts a ts)) (no_entries op ts (apply_settled facts op (all_settled_in facts a ts))) ∙ untyped op ts
 
   mutual
     pub settled_mono : (t : Tree) → Below (settled_in facts a t) (settled_in facts b t)
@@ -51,7 +85,11 @@ module _ (facts : Facts) (a b : LeafSettlings)
     settled_mono (And l r) = and_mono _ _ _ _ (settled_mono l) (settled_mono r)
     settled_mono (Or l r) = or_mono _ _ _ _ (settled_mono l) (settled_mono r)
     settled_mono (If t y n) = if_mono _ _ _ _ _ _ (settled_mono t) (settled_mono y) (settled_mono n)
-    settled_mono (Apply op ts) = entry_mono op ts _ _ (apply_mono facts op (all_settled_in facts a ts) (all_settled_in facts b ts) (all_settled_mono ts))
+    settled_mono (Apply op ts) =
+        below_trans _ (apply_settled facts op (all_settled_in facts a ts)) _ (below_is _ _ (settled_plainly op ts))
+        (below_trans _ (apply_settled facts op (all_settled_in facts b ts)) _
+        (apply_mono facts op (all_settled_in facts a ts) (all_settled_in facts b ts) (all_settled_mono ts))
+        (raised_in facts b op ts (apply_settled facts op (all_settled_in facts b ts))))
 
     all_settled_mono : (ts : Trees) → BelowAll (all_settled_in facts a ts) (all_settled_in facts b ts)
     all_settled_mono no_trees = refl
@@ -170,6 +208,8 @@ module _ (facts : Facts) (good : HoldsMade facts) (q : Question) (slots : Slots)
     slot = λ s. tt;
     in_context = λ a. tt;
     has_in_context = λ a. tt;
+    variable_type = λ v ty h. (let k : ◌≡◌ {A = Option Name} None (Some ty) = h in cc);
+    untold = λ n ty h. (let k : false ≡ true = h in cc);
   }
 
   -- the question's leaves without the context's entries
@@ -177,7 +217,7 @@ module _ (facts : Facts) (good : HoldsMade facts) (q : Question) (slots : Slots)
   weak = filled facts q slots later
 
   names_below : (around : LeafSettlings) → ((n : Text) (ty : Option ValueType) → around.unknown n ty ≡ name_settled (finite.get later n) ty) → (p : Answer) → Below (read facts (settled_names later) p) (read facts around p)
-  names_below around e p = read_mono facts (settled_names later) around (λ v. tt) (λ n ty. below_is _ _ (sym (e n ty))) (λ s. tt) (λ n. refl) (λ n. refl) p
+  names_below around e p = read_mono facts (settled_names later) around (λ v. tt) (λ n ty. below_is _ _ (sym (e n ty))) (λ s. tt) (λ n. refl) (λ n. refl) (λ v. refl) (λ n. refl) p
 
   variable_carries : (around : LeafSettlings) → ((n : Text) (ty : Option ValueType) → around.unknown n ty ≡ name_settled (finite.get later n) ty) → (context : Entries) →
       Below (context_settled facts later context) (read facts around (context_held facts told context))
@@ -215,7 +255,43 @@ module _ (facts : Facts) (good : HoldsMade facts) (q : Question) (slots : Slots)
     slot = λ s. slot_below facts _ (slots s);
     in_context = λ a. tt;
     has_in_context = λ a. tt;
+    variable_type = λ v ty h. (let k : ◌≡◌ {A = Option Name} None (Some ty) = h in cc);
+    untold = λ n ty h. (let k : false ≡ true = h in cc);
   }
+
+  -- ---- types that are stated
+
+  untold_before : (o p : Option Value) → ((v : Value) → o ≡ Some v → p ≡ Some v) → p ≡ None → o ≡ None
+  untold_before (Some v) p f e = let g : p ≡ Some v = f v refl in cc
+  untold_before None p f e = refl
+
+  untold_stated : (p : Option Value) (stated : Option Name) (ty : Name) → untold_type p stated ≡ Some ty → (p ≡ None) × (stated ≡ Some ty)
+  untold_stated None stated ty h = (refl, h)
+  untold_stated (Some v) stated ty h = cc
+
+  untold_none : (p : Option Value) → is_untold p ≡ true → p ≡ None
+  untold_none None h = refl
+  untold_none (Some v) h = cc
+
+  name_stated : (n : Text) (ty : Name) → finite.get later n ≡ None → IsStated (settled_of facts q slots later) (name_held (finite.get told n) n (Some (EntityType ty))) ty
+  name_stated n ty none =
+      let before : finite.get told n ≡ None = untold_before (finite.get told n) (finite.get later n) (extends n) none in
+      record { name = n; is = rw before refl; unsettled = rw none refl; untold = rw none refl }
+
+  part_stated : (n : Text) (p : Part) (ty : Name) → part_type p (finite.get later n) ≡ Some ty → IsStated (settled_of facts q slots later) (part_held p (finite.get told n) n) ty
+  part_stated n (Given u) ty h = cc
+  part_stated n (Missing stated) ty h =
+      let (none, is) = untold_stated (finite.get later n) stated ty h in
+      rw is (name_stated n ty none)
+
+  pub variable_stated : (v : Variable) (ty : Name) → variable_type q later v ≡ Some ty → IsStated (settled_of facts q slots later) (variable_held facts q told v) ty
+  variable_stated Principal ty h = part_stated (codes "principal") q.principal ty h
+  variable_stated Action ty h = part_stated (codes "action") q.action ty h
+  variable_stated Resource ty h = part_stated (codes "resource") q.resource ty h
+  variable_stated Context ty h = cc
+
+  pub unknown_stated : (n : Text) (ty : Name) → is_untold (finite.get later n) ≡ true → IsStated (settled_of facts q slots later) (name_held (finite.get told n) n (Some (EntityType ty))) ty
+  unknown_stated n ty h = name_stated n ty (untold_none (finite.get later n) h)
 
   -- in a simple context the entries that are left are plain
   abbrev IsPlainAnswer : Answer → Type 0
@@ -430,10 +506,10 @@ module _ (facts : Facts) (good : HoldsMade facts) (q : Question) (slots : Slots)
         (residuals_settle facts good (settled_names later) (held_names told) base_carries (names_made facts told are_made) t)
         (below_is _ _ (best_effort_reads p t (made facts good (held_names told) (names_made facts told are_made) t) simple)))
         (below_trans _ (settled_in facts weak r) _
-        (settled_mono facts (settled_names later) weak (λ v. tt) (λ n ty. below_refl _) (λ s. tt) (λ n. refl) (λ n. refl) r)
+        (settled_mono facts (settled_names later) weak (λ v. tt) (λ n ty. below_refl _) (λ s. tt) (λ n. refl) (λ n. refl) (λ v. refl) (λ n. refl) r)
         (below_trans _ (read facts weak (projected_in facts (held_of facts q slots told) r)) _
         (plain_carried facts good weak (held_of facts q slots told) (weak_carries then.settled) (held_made facts good q slots told are_made) r (plain_of p t simple))
-        (read_mono facts weak (settled_of facts q slots later) (λ v. below_refl _) (λ n ty. below_refl _) (λ s. below_refl _) (λ n. refl) (λ n. refl)
+        (read_mono facts weak (settled_of facts q slots later) (λ v. below_refl _) (λ n ty. below_refl _) (λ s. below_refl _) (λ n. refl) (λ n. refl) (λ v. refl) (λ n. refl)
         (projected_in facts (held_of facts q slots told) r))))
 
     left_entry : (ks : List Text) (ts rs : Trees) (b : Bool) (o : Option Tree) → all_partial_in facts (held_names told) ts ≡ SomeResiduals rs →
@@ -505,6 +581,8 @@ telling_carries facts good q slots told later extends are_made now then = record
   slot = λ s. slot_below facts _ (slots s);
   in_context = λ a. context_entry facts good q slots told later extends are_made then a q.context now;
   has_in_context = λ a. context_has facts good q slots told later extends are_made then a q.context now;
+  variable_type = variable_stated facts good q slots told later extends are_made;
+  untold = unknown_stated facts good q slots told later extends are_made;
 }
 
 pub meets_below : (errs_as : Kind → Type 0) (x : Settling) (p : Answer) → Meets errs_as x p → Below x (without_kind p)
@@ -529,6 +607,8 @@ names_shown facts told = record {
   slot = λ s. tt;
   in_context = λ a. tt;
   has_in_context = λ a. ((λ h. (let k : Open ≡ Errs = h in cc)), tt);
+  variable_type = λ v ty h. (let k : ◌≡◌ {A = Option Name} None (Some ty) = h in cc);
+  untold = λ n ty h. (let k : false ≡ true = h in cc);
 }
 
 slot_shows : (o : Option Uid) → Meets (λ k. k ≡ UnlinkedSlot) (kindless (slot_outcome o)) (answer_of (slot_outcome o))
@@ -663,4 +743,6 @@ module _ (facts : Facts) (good : HoldsMade facts) (q : Question) (slots : Slots)
     slot = λ s. slot_shows (slots s);
     in_context = λ a. entry_shows a q.context ok;
     has_in_context = λ a. has_shows a q.context ok;
+    variable_type = variable_stated facts good q slots told told as_told are_made;
+    untold = unknown_stated facts good q slots told told as_told are_made;
   }

@@ -1,5 +1,5 @@
 -- What later values settle of a residual.
-use Rattle.std.proofs.Common.{◌≡◌, ◌≢◌, Bool, true, false, not, cond, Option, Some, None, List, [], ◌∷◌, refl, sym, ap, subst}
+use Rattle.std.proofs.Common.{◌≡◌, ◌≢◌, Bool, true, false, not, cond, Option, Some, None, List, [], ◌∷◌, refl, sym, ◌∙◌, ap, subst}
 use Rattle.cedar_language.specs.Uid.{Text, Name}
 use Rattle.cedar_language.specs.Tree.{Literal, Boolean, Long, String, Entity, Variable, Principal, Action, Resource, Context, SlotId, Operator, Not, Neg, IsEmpty, Equal, Less, LessEq, Add, Sub, Mul, In, Contains, ContainsAll, ContainsAny, GetTag, HasTag, GetAttr, HasAttr, HasPath, Like, MakeSet, MakeRecord, Call, Tree, Lit, Var, Slot, Unknown, If, And, Or, Apply, Trees, no_trees, a_tree, EntityType}
 use Rattle.cedar_language.specs.Tree as tree
@@ -7,10 +7,10 @@ use Rattle.cedar_language.specs.Value.{Value, Plain, no_values}
 use Rattle.cedar_language.specs.Order.{same_text, same_name}
 use Rattle.cedar_language.specs.Facts.{Facts}
 use Rattle.cedar_language.specs.Operators.{applied}
-use Rattle.cedar_partial_evaluation.specs.Settling.{Settling, Open, Errs, Is, Settlings, SomeOpen, SomeErrs, AllAre, kindless, Below, boolean, and_settled, or_settled, if_settled, and_more, apply_settled, LeafSettlings, or_entry, settled_in, all_settled_in}
+use Rattle.cedar_partial_evaluation.specs.Settling.{Settling, Open, Errs, Is, Settlings, SomeOpen, SomeErrs, AllAre, kindless, Below, boolean, and_settled, or_settled, if_settled, and_more, apply_settled, LeafSettlings, or_entry, stated_in, type_of_entity, type_known, equal_by_types, or_type, settled_in, all_settled_in, types_in}
 use Rattle.cedar_partial_evaluation.specs.MadeAgain.{HoldsMade}
 use Rattle.cedar_partial_evaluation.specs.Partial.{Answer, Evaluated, ResidualTree, Failed, Answers, AllEvaluated, SomeResiduals, SomeFailed, best_effort, last_answer, and_answer, or_answer, if_answer, and_next, is_projectable, are_projectable, LeafAnswers, built_answer, projected_in, all_projected_in, found_tree, entry_answer, attribute_answer, has_entry_answer, has_answer, is_answer, stated_type, types_differ, equal_answer, residual_answer, apply_answer, partial_in, all_partial_in}
-use Rattle.cedar_partial_evaluation.specs.Fair.{IsOfType, read, read_all, IsMadeAnswer, AreMadeLeaves}
+use Rattle.cedar_partial_evaluation.specs.Fair.{IsOfType, read, read_all, IsStated, IsMadeAnswer, AreMadeLeaves}
 use Rattle.cedar_partial_evaluation.specs.Seam.{Carries, ResidualsSettle}
 use Rattle.cedar_partial_evaluation.proofs.MadeAgain.{AreMadeAnswers, made, all_made, plain_made, all_plain_made}
 use Rattle.cedar_partial_evaluation.proofs.Sound.{tree_of_is, trees_of_are, errs_more, found_is_at, not_found_is_at, and_true, kindless_answer, other_type}
@@ -85,6 +85,78 @@ apply_mono facts op SomeOpen zs h = tt
 apply_mono facts op SomeErrs zs h = rw (← h) refl
 apply_mono facts op (AllAre vs) zs h = rw (← h) (below_refl (kindless (applied facts op vs)))
 
+-- ---- what entries and types settle besides
+
+entry_raised : (around : LeafSettlings) (op : Operator) (ts : Trees) (x : Settling) → Below x (or_entry around op ts x)
+entry_raised around (GetAttr a) (a_tree (Var Context) no_trees) Open = tt
+entry_raised around (HasAttr a) (a_tree (Var Context) no_trees) Open = tt
+entry_raised around op ts x = below_refl x
+
+type_raised : (op : Operator) (os : List (Option Name)) (x : Settling) → Below x (or_type op os x)
+type_raised (tree.Is ty) (o ∷ []) Open = tt
+type_raised Equal (o ∷ p ∷ []) Open = tt
+type_raised op os x = below_refl x
+
+pub raised_in : (facts : Facts) (around : LeafSettlings) (op : Operator) (ts : Trees) (x : Settling) →
+    Below x (or_type op (types_in facts around ts) (or_entry around op ts x))
+raised_in facts around op ts x =
+    below_trans x (or_entry around op ts x) _ (entry_raised around op ts x) (type_raised op (types_in facts around ts) (or_entry around op ts x))
+
+-- the type that is known of an operand by its answer
+abbrev pub answer_type : Facts → LeafSettlings → Answer → Option Name
+answer_type facts around (Evaluated v) = type_of_entity v
+answer_type facts around (ResidualTree r) = type_known (settled_in facts around r) (stated_in around r)
+answer_type facts around (Failed k) = None
+
+value_type : (facts : Facts) (around : LeafSettlings) (v : Value) (u : Name) (p : Answer) → type_of_entity v ≡ Some u → Is v ≡ read facts around p →
+    answer_type facts around p ≡ Some u
+value_type facts around v u (Evaluated w) h e = let same : w ≡ v = cc in rw same h
+value_type facts around v u (ResidualTree r) h e = ap (λ x. type_known x (stated_in around r)) (sym e) ∙ h
+value_type facts around v u (Failed k) h e = cc
+
+stated_answer : (facts : Facts) (around : LeafSettlings) (p : Answer) (u : Name) → IsStated around p u → answer_type facts around p ≡ Some u
+stated_answer facts around p u s = rw (s.is) (rw (s.unsettled, s.untold) refl)
+
+-- a type that is known of an operand is known of what is left of it
+pub type_carried : (facts : Facts) (around : LeafSettlings) (p : Answer) (u : Name) (x : Settling) (o : Option Name) → (o ≡ Some u → IsStated around p u) →
+    Below x (read facts around p) → type_known x o ≡ Some u → answer_type facts around p ≡ Some u
+type_carried facts around p u Open o f b h = stated_answer facts around p u (f h)
+type_carried facts around p u Errs o f b h = cc
+type_carried facts around p u (Is v) o f b h = value_type facts around v u p h b
+
+is_settles : (facts : Facts) (ty u : Name) (x : Settling) (o : Option Name) → type_known x o ≡ Some u →
+    or_type (tree.Is ty) (type_known x o ∷ []) (apply_settled facts (tree.Is ty) (and_more x (AllAre no_values))) ≡ Is (Plain (Boolean (same_name u ty)))
+is_settles facts ty u Open o h = let e : o ≡ Some u = h in rw e refl
+is_settles facts ty u Errs o h = cc
+is_settles facts ty u (Is (Plain (Entity e))) o h = let g : e.type_name ≡ u = cc in rw g refl
+is_settles facts ty u (Is _) o h = cc
+
+equal_settles : (facts : Facts) (u w : Name) (x y : Settling) (o p : Option Name) → type_known x o ≡ Some u → type_known y p ≡ Some w → not (same_name u w) ≡ true →
+    or_type Equal (type_known x o ∷ type_known y p ∷ []) (apply_settled facts Equal (and_more x (and_more y (AllAre no_values)))) ≡ Is (Plain (Boolean false))
+equal_settles facts u w Open Open o p h k d = let e : o ≡ Some u = h in let f : p ≡ Some w = k in rw (e, f) (rw d refl)
+equal_settles facts u w Open (Is (Plain (Entity b))) o p h k d = let e : o ≡ Some u = h in let g : b.type_name ≡ w = cc in rw (e, g) (rw d refl)
+equal_settles facts u w (Is (Plain (Entity a))) Open o p h k d = let g : a.type_name ≡ u = cc in let f : p ≡ Some w = k in rw (g, f) (rw d refl)
+equal_settles facts u w (Is (Plain (Entity a))) (Is (Plain (Entity b))) o p h k d =
+    let g : a.type_name ≡ u = cc in
+    let i : b.type_name ≡ w = cc in
+    rw (other_type a b u w g i d) refl
+equal_settles facts u w x y o p h k d = cc
+
+told_not : (b : Bool) (ty u : Name) → cond b (Some ty) None ≡ Some u → (b ≡ true) × (ty ≡ u)
+told_not true ty u h = (refl, cc)
+told_not false ty u h = cc
+
+-- the type that is stated of a leaf is that of what is left of it
+pub leaf_stated : (around : LeafSettlings) (other : LeafSettlings) (holds : LeafAnswers) →
+    ((v : Variable) (ty : Name) → around.variable_type v ≡ Some ty → IsStated other (holds.variable v) ty) →
+    ((n : Text) (ty : Name) → around.untold n ≡ true → IsStated other (holds.unknown n (Some (EntityType ty))) ty) →
+    (facts : Facts) (t : Tree) (u : Name) → stated_in around t ≡ Some u → IsStated other (partial_in facts holds t) u
+leaf_stated around other holds f g facts (Var v) u h = f v u h
+leaf_stated around other holds f g facts (Unknown n (Some (EntityType ty))) u h =
+    let (b, e) = told_not (around.untold n) ty u h in
+    subst (λ (y : Name). IsStated other (holds.unknown n (Some (EntityType ty))) y) e (g n ty b)
+leaf_stated around other holds f g facts t u h = cc
+
 -- an entry of a plain record is plain
 pub entry_step : (b : Bool) (s t : Tree) (o : Option Tree) → is_projectable s ≡ true → (o ≡ Some t → is_projectable t ≡ true) → cond b (Some s) o ≡ Some t → is_projectable t ≡ true
 entry_step true s t o h f e = let q : s ≡ t = cc in rw q at h
@@ -98,13 +170,11 @@ plain_entry (k ∷ ks) (a_tree s ts) a t h e =
     entry_step (same_text k a) s t (found_tree ks ts a) hs (plain_entry ks ts a t hts) e
 
 module _ (facts : Facts) (good : HoldsMade facts) (later : LeafSettlings) (holds : LeafAnswers) (carries : Carries facts later holds) (leaves : AreMadeLeaves facts holds) where
-  raised : (op : Operator) (ts : Trees) (x : Settling) → Below x (or_entry later op ts x)
-  raised (GetAttr a) (a_tree (Var Context) no_trees) Open = tt
-  raised (HasAttr a) (a_tree (Var Context) no_trees) Open = tt
-  raised op ts x = below_refl x
+  raised : (op : Operator) (ts : Trees) (x : Settling) → Below x (or_type op (types_in facts later ts) (or_entry later op ts x))
+  raised op ts x = raised_in facts later op ts x
 
-  raised_to : (op : Operator) (ts : Trees) (x y : Settling) → Below x y → Below x (or_entry later op ts y)
-  raised_to op ts x y h = below_trans x y (or_entry later op ts y) h (raised op ts y)
+  raised_to : (op : Operator) (ts : Trees) (x y : Settling) → Below x y → Below x (or_type op (types_in facts later ts) (or_entry later op ts y))
+  raised_to op ts x y h = below_trans x y _ h (raised op ts y)
 
   best_effort_carries : (q : Answer) (t : Tree) → IsMadeAnswer facts q → Below (settled_in facts later t) (read facts later q) →
       Below (settled_in facts later t) (settled_in facts later (best_effort facts q t))
@@ -348,6 +418,85 @@ module _ (facts : Facts) (good : HoldsMade facts) (later : LeafSettlings) (holds
   apply_carries op xs (SomeResiduals rs) h = below_trans _ _ _ (apply_mono facts op xs (all_settled_in facts later rs) h) (left_carries op rs)
   apply_carries op xs (SomeFailed k) h = apply_mono facts op xs SomeErrs h
 
+  -- ---- what types settle is answered
+
+  stated_name : (n : Text) (w u : Name) (x : Settling) → ((v : Value) → x ≡ Is v → IsOfType w v) → type_known x (cond (later.untold n) (Some w) None) ≡ Some u → w ≡ u
+  stated_name n w u Open f h = (told_not (later.untold n) w u h).1
+  stated_name n w u Errs f h = cc
+  stated_name n w u (Is v) f h =
+      let (e, is, of_type) = f v refl in
+      let g : ◌≡◌ {A = Option Name} (Some e.type_name) (Some u) = rw is at h in
+      let i : e.type_name ≡ u = cc in
+      sym of_type ∙ i
+
+  pub is_answered : (ty u : Name) (p : Answer) → answer_type facts later p ≡ Some u →
+      Below (Is (Plain (Boolean (same_name u ty)))) (read facts later (apply_answer facts holds (tree.Is ty) (and_next facts p (AllEvaluated no_values))))
+  is_answered ty u (Evaluated (Plain (Entity e))) h = let g : e.type_name ≡ u = cc in rw g refl
+  is_answered ty u (Evaluated _) h = cc
+  is_answered ty u (ResidualTree (Unknown n (Some (EntityType w)))) h =
+      let g : w ≡ u = stated_name n w u (later.unknown n (Some (EntityType w))) (λ v e. carries.typed n w v e) h in rw g refl
+  is_answered ty u (ResidualTree r) h = below_is _ _ (sym (is_settles facts ty u (settled_in facts later r) (stated_in later r) h))
+  is_answered ty u (Failed k) h = cc
+
+  left_equal : (u w : Name) (s t : Tree) (b : Bool) → type_known (settled_in facts later s) (stated_in later s) ≡ Some u →
+      type_known (settled_in facts later t) (stated_in later t) ≡ Some w → not (same_name u w) ≡ true →
+      Below (Is (Plain (Boolean false))) (read facts later (equal_answer b s t))
+  left_equal u w s t true h k d = refl
+  left_equal u w s t false h k d =
+      below_is _ _ (sym (equal_settles facts u w (settled_in facts later s) (settled_in facts later t) (stated_in later s) (stated_in later t) h k d))
+
+  pub equal_answered : (u w : Name) (p q : Answer) → answer_type facts later p ≡ Some u → answer_type facts later q ≡ Some w → not (same_name u w) ≡ true →
+      Below (Is (Plain (Boolean false))) (read facts later (apply_answer facts holds Equal (and_next facts p (and_next facts q (AllEvaluated no_values)))))
+  equal_answered u w (Evaluated (Plain (Entity a))) (Evaluated (Plain (Entity b))) h k d =
+      let g : a.type_name ≡ u = cc in
+      let i : b.type_name ≡ w = cc in
+      rw (other_type a b u w g i d) refl
+  equal_answered u w (Evaluated (Plain (Entity a))) (ResidualTree t) h k d =
+      left_equal u w (Lit (Entity a)) t (types_differ (stated_type (Lit (Entity a))) (stated_type t)) h k d
+  equal_answered u w (ResidualTree s) (Evaluated (Plain (Entity b))) h k d =
+      left_equal u w s (Lit (Entity b)) (types_differ (stated_type s) (stated_type (Lit (Entity b)))) h k d
+  equal_answered u w (ResidualTree s) (ResidualTree t) h k d = left_equal u w s t (types_differ (stated_type s) (stated_type t)) h k d
+  equal_answered u w p q h k d = cc
+
+  is_carried : (ty : Name) (s : Tree) (o : Option Name) (x : Settling) → ((u : Name) → o ≡ Some u → answer_type facts later (partial_in facts holds s) ≡ Some u) →
+      Below x (read facts later (apply_answer facts holds (tree.Is ty) (all_partial_in facts holds (a_tree s no_trees)))) →
+      Below (or_type (tree.Is ty) (o ∷ []) x) (read facts later (apply_answer facts holds (tree.Is ty) (all_partial_in facts holds (a_tree s no_trees))))
+  is_carried ty s (Some u) Open f b = is_answered ty u (partial_in facts holds s) (f u refl)
+  is_carried ty s None Open f b = tt
+  is_carried ty s o Errs f b = b
+  is_carried ty s o (Is v) f b = b
+
+  differing_carried : (s t : Tree) (b : Bool) (o p : Option Name) → types_differ o p ≡ b →
+      ((u : Name) → o ≡ Some u → answer_type facts later (partial_in facts holds s) ≡ Some u) →
+      ((u : Name) → p ≡ Some u → answer_type facts later (partial_in facts holds t) ≡ Some u) →
+      Below (equal_by_types b) (read facts later (apply_answer facts holds Equal (all_partial_in facts holds (a_tree s (a_tree t no_trees)))))
+  differing_carried s t true (Some u) (Some w) e f g = equal_answered u w (partial_in facts holds s) (partial_in facts holds t) (f u refl) (g w refl) e
+  differing_carried s t true (Some u) None e f g = cc
+  differing_carried s t true None p e f g = cc
+  differing_carried s t false o p e f g = tt
+
+  equal_carried : (s t : Tree) (o p : Option Name) (x : Settling) →
+      ((u : Name) → o ≡ Some u → answer_type facts later (partial_in facts holds s) ≡ Some u) →
+      ((u : Name) → p ≡ Some u → answer_type facts later (partial_in facts holds t) ≡ Some u) →
+      Below x (read facts later (apply_answer facts holds Equal (all_partial_in facts holds (a_tree s (a_tree t no_trees))))) →
+      Below (or_type Equal (o ∷ p ∷ []) x) (read facts later (apply_answer facts holds Equal (all_partial_in facts holds (a_tree s (a_tree t no_trees)))))
+  equal_carried s t o p Open f g b = differing_carried s t (types_differ o p) o p refl f g
+  equal_carried s t o p Errs f g b = b
+  equal_carried s t o p (Is v) f g b = b
+
+  -- of each operand the type that is known is known by its answer
+  abbrev TypesCarry : Trees → Type 0
+  TypesCarry no_trees = Unit {0}
+  TypesCarry (a_tree t ts) =
+      ((u : Name) → type_known (settled_in facts later t) (stated_in later t) ≡ Some u → answer_type facts later (partial_in facts holds t) ≡ Some u) × TypesCarry ts
+
+  types_carried : (op : Operator) (ts : Trees) (x : Settling) → TypesCarry ts → Below x (read facts later (apply_answer facts holds op (all_partial_in facts holds ts))) →
+      Below (or_type op (types_in facts later ts) x) (read facts later (apply_answer facts holds op (all_partial_in facts holds ts)))
+  types_carried (tree.Is ty) (a_tree s no_trees) x f b = is_carried ty s (type_known (settled_in facts later s) (stated_in later s)) x f.0 b
+  types_carried Equal (a_tree s (a_tree t no_trees)) x f b =
+      equal_carried s t (type_known (settled_in facts later s) (stated_in later s)) (type_known (settled_in facts later t) (stated_in later t)) x f.0 f.1.0 b
+  types_carried op ts x f b = b
+
   entry_carried : (op : Operator) (ts : Trees) (x : Settling) → Below x (read facts later (apply_answer facts holds op (all_partial_in facts holds ts))) →
       Below (or_entry later op ts x) (read facts later (apply_answer facts holds op (all_partial_in facts holds ts)))
   entry_carried (GetAttr a) (a_tree (Var Context) no_trees) Open m = carries.in_context a
@@ -364,12 +513,21 @@ module _ (facts : Facts) (good : HoldsMade facts) (later : LeafSettlings) (holds
     carried (Or l r) = or_carries (partial_in facts holds l) (partial_in facts holds r) l r (made facts good holds leaves r) (carried l) (carried r)
     carried (If t y n) = if_carries (partial_in facts holds t) (partial_in facts holds y) (partial_in facts holds n) t y n (made facts good holds leaves y) (made facts good holds leaves n) (carried t) (carried y) (carried n)
     carried (Apply op ts) =
-        entry_carried op ts (apply_settled facts op (all_settled_in facts later ts))
-        (apply_carries op (all_settled_in facts later ts) (all_partial_in facts holds ts) (all_carried ts))
+        types_carried op ts (or_entry later op ts (apply_settled facts op (all_settled_in facts later ts))) (all_types ts)
+        (entry_carried op ts (apply_settled facts op (all_settled_in facts later ts))
+        (apply_carries op (all_settled_in facts later ts) (all_partial_in facts holds ts) (all_carried ts)))
 
     all_carried : (ts : Trees) → BelowAll (all_settled_in facts later ts) (read_all facts later (all_partial_in facts holds ts))
     all_carried no_trees = refl
     all_carried (a_tree t ts) = more_carries (partial_in facts holds t) (all_partial_in facts holds ts) t ts (made facts good holds leaves t) (all_made facts good holds leaves ts) (carried t) (all_carried ts)
+
+    all_types : (ts : Trees) → TypesCarry ts
+    all_types no_trees = tt
+    all_types (a_tree t ts) = (
+      (λ u h. type_carried facts later (partial_in facts holds t) u (settled_in facts later t) (stated_in later t)
+          (leaf_stated later later holds carries.variable_type carries.untold facts t u) (carried t) h),
+      all_types ts,
+    )
 
 pub residuals_settle : ResidualsSettle
 residuals_settle facts good later holds carries leaves t = carried facts good later holds carries leaves t

@@ -1,13 +1,14 @@
 -- What trees for values settle to, and what is settled where nothing is open.
 use Rattle.std.proofs.Common.{◌≡◌, ◌≢◌, ℕ, Bool, true, false, not, cond, ◌&&◌, Option, Some, None, List, [], ◌∷◌, refl, sym, ◌∙◌, ap}
 use Rattle.cedar_language.specs.Uid.{Text, Name, Uid}
-use Rattle.cedar_language.specs.Tree.{Boolean, Entity, Operator, Tree, Trees, no_trees, a_tree}
+use Rattle.cedar_language.specs.Tree.{Boolean, Entity, Operator, Equal, Tree, Trees, no_trees, a_tree}
+use Rattle.cedar_language.specs.Tree as tree
 use Rattle.cedar_language.specs.Value.{Value, Plain, SetOf, RecordOf, ExtensionOf, Values, no_values, a_value, Outcome, Gives, Fails}
 use Rattle.cedar_language.specs.Order.{same, same_text, same_name}
 use Rattle.cedar_language.specs.Facts.{Facts}
 use Rattle.cedar_language.specs.Constructing.{longs_of}
 use Rattle.cedar_language.specs.Operators.{found, applied}
-use Rattle.cedar_partial_evaluation.specs.Settling.{Settling, Open, Errs, Is, Settlings, SomeOpen, SomeErrs, AllAre, kindless, boolean, and_settled, or_settled, if_settled, and_more, apply_settled, LeafSettlings, settled_in, all_settled_in}
+use Rattle.cedar_partial_evaluation.specs.Settling.{Settling, Open, Errs, Is, Settlings, SomeOpen, SomeErrs, AllAre, kindless, boolean, and_settled, or_settled, if_settled, and_more, apply_settled, LeafSettlings, or_type, settled_in, all_settled_in}
 use Rattle.cedar_partial_evaluation.specs.MadeAgain.{tree_of, trees_of, long_values, IsMadeAgain, AreMadeAgain}
 use Rattle.cedar_partial_evaluation.specs.Partial.{answer_of, found_tree}
 use Rattle.cedar_partial_evaluation.specs.Fair.{read}
@@ -92,6 +93,28 @@ pub apply_closed : (facts : Facts) (op : Operator) (xs : Settlings) → are_clos
 apply_closed facts op SomeOpen h = h
 apply_closed facts op SomeErrs h = refl
 apply_closed facts op (AllAre vs) h = kindless_closed (applied facts op vs)
+
+-- ---- types settle what is open alone
+
+pub type_closed : (op : Operator) (os : List (Option Name)) (x : Settling) → x ≢ Open → or_type op os x ≡ x
+type_closed (tree.Is ty) (o ∷ []) Open n = absurd (n refl)
+type_closed Equal (o ∷ p ∷ []) Open n = absurd (n refl)
+type_closed op os x n = refl
+
+pub type_errs : (op : Operator) (os : List (Option Name)) → or_type op os Errs ≡ Errs
+type_errs op os = type_closed op os Errs (λ h. cc)
+
+outcome_not : (o : Outcome) → kindless o ≢ Open
+outcome_not (Gives v) h = cc
+outcome_not (Fails k) h = cc
+
+pub type_meant : (op : Operator) (os : List (Option Name)) (o : Outcome) → or_type op os (kindless o) ≡ kindless o
+type_meant op os o = type_closed op os (kindless o) (outcome_not o)
+
+pub types_closed : (op : Operator) (os : List (Option Name)) (x : Settling) → is_closed x ≡ true → is_closed (or_type op os x) ≡ true
+types_closed (tree.Is ty) (o ∷ []) Open h = cc
+types_closed Equal (o ∷ p ∷ []) Open h = cc
+types_closed op os x h = h
 
 -- both operands of and_more are values where the whole is
 pub more_are : (x : Settling) (xs : Settlings) (ws : Values) → and_more x xs ≡ AllAre ws →

@@ -1,14 +1,16 @@
 -- What later values settle of residuals without slots.
-use Rattle.std.proofs.Common.{◌≡◌, Bool, true, false, Option, Some, None, refl, sym, ap, inl, inr, ◌∙◌}
-use Rattle.cedar_language.specs.Uid.{Text, Uid}
-use Rattle.cedar_language.specs.Tree.{Boolean, Context, Operator, GetAttr, HasAttr, MakeRecord, Tree, Lit, Var, Slot, Unknown, If, And, Or, Apply, Trees, no_trees, a_tree}
+use Rattle.std.proofs.Common.{◌≡◌, ◌⊎◌, Bool, true, false, not, Option, Some, None, List, [], ◌∷◌, refl, sym, ap, subst, inl, inr, ◌∙◌}
+use Rattle.cedar_language.specs.Uid.{Text, Name, Uid}
+use Rattle.cedar_language.specs.Tree.{Boolean, Context, Operator, Equal, GetAttr, HasAttr, MakeRecord, Tree, Lit, Var, Slot, Unknown, If, And, Or, Apply, Trees, no_trees, a_tree}
+use Rattle.cedar_language.specs.Tree as tree
 use Rattle.cedar_language.specs.Value.{Plain, no_values, UnlinkedSlot}
+use Rattle.cedar_language.specs.Order.{same_name}
 use Rattle.cedar_language.specs.Facts.{Facts}
 use Rattle.cedar_language.specs.Operators.{applied}
 use Rattle.cedar_language.specs.Meaning.{Slots, slot_outcome, meaning}
-use Rattle.cedar_partial_evaluation.specs.Settling.{Settling, Open, Errs, Is, Settlings, SomeErrs, AllAre, kindless, Below, boolean, apply_settled, LeafSettlings, or_entry, settled_in, all_settled_in}
+use Rattle.cedar_partial_evaluation.specs.Settling.{Settling, Open, Errs, Is, Settlings, SomeErrs, AllAre, kindless, Below, boolean, apply_settled, LeafSettlings, or_entry, stated_in, type_known, equal_by_types, or_type, settled_in, all_settled_in, types_in}
 use Rattle.cedar_partial_evaluation.specs.MadeAgain.{HoldsMade}
-use Rattle.cedar_partial_evaluation.specs.Partial.{Answer, Evaluated, ResidualTree, Failed, Answers, AllEvaluated, SomeResiduals, SomeFailed, answer_of, best_effort, last_answer, and_answer, or_answer, if_answer, and_next, are_projectable, LeafAnswers, built_answer, projected_in, all_projected_in, found_tree, entry_answer, attribute_answer, residual_answer, apply_answer, partial_in, all_partial_in}
+use Rattle.cedar_partial_evaluation.specs.Partial.{Answer, Evaluated, ResidualTree, Failed, Answers, AllEvaluated, SomeResiduals, SomeFailed, answer_of, best_effort, last_answer, and_answer, or_answer, if_answer, and_next, are_projectable, LeafAnswers, built_answer, projected_in, all_projected_in, found_tree, entry_answer, attribute_answer, types_differ, residual_answer, apply_answer, partial_in, all_partial_in}
 use Rattle.cedar_partial_evaluation.specs.Fair.{read, read_all, IsMadeAnswer, AreMadeLeaves}
 use Rattle.cedar_partial_evaluation.specs.Seam.{Carries}
 use Rattle.cedar_partial_evaluation.specs.Unbound.{unbound, UnboundAnswersAreFair}
@@ -20,8 +22,8 @@ use Rattle.cedar_partial_evaluation.specs.Question.{Question, Told, Extends, Are
 use Rattle.cedar_partial_evaluation.proofs.Question.{meets_below, weak_carries, telling_carries, held_made}
 use Rattle.cedar_partial_evaluation.proofs.Filling.{below_closed, context_not, means_filled, reads_below, answers_prompt}
 use Rattle.cedar_partial_evaluation.proofs.MadeAgain.{AreMadeAnswers, made, all_made}
-use Rattle.cedar_partial_evaluation.proofs.Sound.{tree_of_is, trees_of_are, kindless_answer}
-use Rattle.cedar_partial_evaluation.proofs.Seam.{BelowAll, below_refl, below_is, below_trans, boolean_mono, and_mono, or_mono, if_mono, refused_more, more_mono, apply_mono, left_carries}
+use Rattle.cedar_partial_evaluation.proofs.Sound.{tree_of_is, trees_of_are, kindless_answer, errs_more, type_errs}
+use Rattle.cedar_partial_evaluation.proofs.Seam.{BelowAll, below_refl, below_is, below_trans, boolean_mono, and_mono, or_mono, if_mono, refused_more, more_mono, apply_mono, answer_type, type_carried, leaf_stated, is_answered, equal_answered, left_carries}
 use Rattle.cedar_partial_evaluation.proofs.Unbound.{Worse, AllWorse, and_worse, or_worse, if_worse, more_worse, apply_worse}
 
 still_below : (x y : Settling) → Below x Errs → Worse x y → Below x y
@@ -80,6 +82,37 @@ module _ (facts : Facts) (good : HoldsMade facts) (later : LeafSettlings) (holds
   entry_worse op ts x y (inl e) = inl (rw e (same_entry op ts x))
   entry_worse op ts x y (inr e) = inr (rw e (errs_entry op ts))
 
+  same_stated : (t : Tree) → stated_in (unbound later) t ≡ stated_in later t
+  same_stated (Var v) = refl
+  same_stated (Unknown n ty) = refl
+  same_stated _ = refl
+
+  applied_errs : (op : Operator) (os : List (Option Name)) (ts : Trees) → or_type op os (or_entry (unbound later) op ts Errs) ≡ Errs
+  applied_errs op os ts = ap (or_type op os) (errs_entry op ts) ∙ type_errs op os
+
+  type_worse : (op : Operator) (os : List (Option Name)) (x y : Settling) → Worse x y → Worse (or_type op os x) (or_type op os y)
+  type_worse op os x y (inl e) = inl (ap (or_type op os) e)
+  type_worse op os x y (inr e) = inr (ap (or_type op os) e ∙ type_errs op os)
+
+  -- the types that are known stay, or some operand errs
+  abbrev TypesWorse : Trees → Type 0
+  TypesWorse ts = (types_in facts (unbound later) ts ≡ types_in facts later ts) ⊎ (all_settled_in facts (unbound later) ts ≡ SomeErrs)
+
+  one_more_worse : (t : Tree) (ts : Trees) → Worse (settled_in facts later t) (settled_in facts (unbound later) t) → TypesWorse ts → TypesWorse (a_tree t ts)
+  one_more_worse t ts (inl e) (inl f) = inl (rw (e, same_stated t, f) refl)
+  one_more_worse t ts (inl e) (inr f) = inr (rw f refl)
+  one_more_worse t ts (inr e) w = inr (rw e (errs_more (all_settled_in facts (unbound later) ts)))
+
+  applied_worse : (op : Operator) (ts : Trees) → TypesWorse ts →
+      Worse (or_entry later op ts (apply_settled facts op (all_settled_in facts later ts))) (or_entry (unbound later) op ts (apply_settled facts op (all_settled_in facts (unbound later) ts))) →
+      Worse (settled_in facts later (Apply op ts)) (settled_in facts (unbound later) (Apply op ts))
+  applied_worse op ts (inl e) w =
+      subst (λ (os : List (Option Name)). Worse (settled_in facts later (Apply op ts)) (or_type op os (or_entry (unbound later) op ts (apply_settled facts op (all_settled_in facts (unbound later) ts)))))
+      (sym e)
+      (type_worse op (types_in facts later ts) (or_entry later op ts (apply_settled facts op (all_settled_in facts later ts)))
+      (or_entry (unbound later) op ts (apply_settled facts op (all_settled_in facts (unbound later) ts))) w)
+  applied_worse op ts (inr e) w = inr (rw e (applied_errs op (types_in facts (unbound later) ts) ts))
+
   mutual
     worse : (t : Tree) → Worse (settled_in facts later t) (settled_in facts (unbound later) t)
     worse (Lit l) = inl refl
@@ -90,11 +123,16 @@ module _ (facts : Facts) (good : HoldsMade facts) (later : LeafSettlings) (holds
     worse (And l r) = and_worse _ _ _ _ (worse l) (worse r)
     worse (Or l r) = or_worse _ _ _ _ (worse l) (worse r)
     worse (Apply op ts) =
-        entry_worse op ts _ _ (apply_worse facts op (all_settled_in facts later ts) (all_settled_in facts (unbound later) ts) (all_worse ts))
+        applied_worse op ts (types_worse ts)
+        (entry_worse op ts _ _ (apply_worse facts op (all_settled_in facts later ts) (all_settled_in facts (unbound later) ts) (all_worse ts)))
 
     all_worse : (ts : Trees) → AllWorse (all_settled_in facts later ts) (all_settled_in facts (unbound later) ts)
     all_worse no_trees = inl refl
     all_worse (a_tree t ts) = more_worse _ _ _ _ (worse t) (all_worse ts)
+
+    types_worse : (ts : Trees) → TypesWorse ts
+    types_worse no_trees = inl refl
+    types_worse (a_tree t ts) = one_more_worse t ts (worse t) (types_worse ts)
 
   without_carries : Carries facts (unbound later) (without holds)
   without_carries = record {
@@ -106,6 +144,8 @@ module _ (facts : Facts) (good : HoldsMade facts) (later : LeafSettlings) (holds
     slot = λ s. refl;
     in_context = λ a. rw (apply_same facts holds (GetAttr a) (and_next facts (holds.variable Context) (AllEvaluated no_values))) (carries.in_context a);
     has_in_context = λ a. rw (apply_same facts holds (HasAttr a) (and_next facts (holds.variable Context) (AllEvaluated no_values))) (carries.has_in_context a);
+    variable_type = carries.variable_type;
+    untold = carries.untold;
   }
 
   without_leaves : AreMadeLeaves facts (without holds)
@@ -174,6 +214,57 @@ module _ (facts : Facts) (good : HoldsMade facts) (later : LeafSettlings) (holds
   apply_carries op xs (SomeResiduals rs) h = below_trans _ _ _ (apply_mono facts op xs (all_settled_in facts (unbound later) rs) h) (left_below op rs)
   apply_carries op xs (SomeFailed k) h = apply_mono facts op xs SomeErrs h
 
+  -- ---- what types settle is answered
+
+  is_below : (ty u : Name) (p : Answer) → answer_type facts (unbound later) p ≡ Some u →
+      Below (Is (Plain (Boolean (same_name u ty)))) (read facts (unbound later) (apply_answer facts holds (tree.Is ty) (and_next facts p (AllEvaluated no_values))))
+  is_below ty u p h =
+      rw (apply_same facts holds (tree.Is ty) (and_next facts p (AllEvaluated no_values))) at (is_answered facts good (unbound later) (without holds) without_carries without_leaves ty u p h)
+
+  equal_below : (u w : Name) (p q : Answer) → answer_type facts (unbound later) p ≡ Some u → answer_type facts (unbound later) q ≡ Some w → not (same_name u w) ≡ true →
+      Below (Is (Plain (Boolean false))) (read facts (unbound later) (apply_answer facts holds Equal (and_next facts p (and_next facts q (AllEvaluated no_values)))))
+  equal_below u w p q h k d =
+      rw (apply_same facts holds Equal (and_next facts p (and_next facts q (AllEvaluated no_values)))) at (equal_answered facts good (unbound later) (without holds) without_carries without_leaves u w p q h k d)
+
+  is_carried : (ty : Name) (s : Tree) (o : Option Name) (x : Settling) → ((u : Name) → o ≡ Some u → answer_type facts (unbound later) (partial_in facts holds s) ≡ Some u) →
+      Below x (read facts (unbound later) (apply_answer facts holds (tree.Is ty) (all_partial_in facts holds (a_tree s no_trees)))) →
+      Below (or_type (tree.Is ty) (o ∷ []) x) (read facts (unbound later) (apply_answer facts holds (tree.Is ty) (all_partial_in facts holds (a_tree s no_trees))))
+  is_carried ty s (Some u) Open f b = is_below ty u (partial_in facts holds s) (f u refl)
+  is_carried ty s None Open f b = tt
+  is_carried ty s o Errs f b = b
+  is_carried ty s o (Is v) f b = b
+
+  differing_carried : (s t : Tree) (b : Bool) (o p : Option Name) → types_differ o p ≡ b →
+      ((u : Name) → o ≡ Some u → answer_type facts (unbound later) (partial_in facts holds s) ≡ Some u) →
+      ((u : Name) → p ≡ Some u → answer_type facts (unbound later) (partial_in facts holds t) ≡ Some u) →
+      Below (equal_by_types b) (read facts (unbound later) (apply_answer facts holds Equal (all_partial_in facts holds (a_tree s (a_tree t no_trees)))))
+  differing_carried s t true (Some u) (Some w) e f g = equal_below u w (partial_in facts holds s) (partial_in facts holds t) (f u refl) (g w refl) e
+  differing_carried s t true (Some u) None e f g = cc
+  differing_carried s t true None p e f g = cc
+  differing_carried s t false o p e f g = tt
+
+  equal_carried : (s t : Tree) (o p : Option Name) (x : Settling) →
+      ((u : Name) → o ≡ Some u → answer_type facts (unbound later) (partial_in facts holds s) ≡ Some u) →
+      ((u : Name) → p ≡ Some u → answer_type facts (unbound later) (partial_in facts holds t) ≡ Some u) →
+      Below x (read facts (unbound later) (apply_answer facts holds Equal (all_partial_in facts holds (a_tree s (a_tree t no_trees))))) →
+      Below (or_type Equal (o ∷ p ∷ []) x) (read facts (unbound later) (apply_answer facts holds Equal (all_partial_in facts holds (a_tree s (a_tree t no_trees)))))
+  equal_carried s t o p Open f g b = differing_carried s t (types_differ o p) o p refl f g
+  equal_carried s t o p Errs f g b = b
+  equal_carried s t o p (Is v) f g b = b
+
+  -- of each operand the type that is known is known by its answer
+  abbrev TypesCarry : Trees → Type 0
+  TypesCarry no_trees = Unit {0}
+  TypesCarry (a_tree t ts) =
+      ((u : Name) → type_known (settled_in facts later t) (stated_in later t) ≡ Some u → answer_type facts (unbound later) (partial_in facts holds t) ≡ Some u) × TypesCarry ts
+
+  types_carried : (op : Operator) (ts : Trees) (x : Settling) → TypesCarry ts → Below x (read facts (unbound later) (apply_answer facts holds op (all_partial_in facts holds ts))) →
+      Below (or_type op (types_in facts later ts) x) (read facts (unbound later) (apply_answer facts holds op (all_partial_in facts holds ts)))
+  types_carried (tree.Is ty) (a_tree s no_trees) x f b = is_carried ty s (type_known (settled_in facts later s) (stated_in later s)) x f.0 b
+  types_carried Equal (a_tree s (a_tree t no_trees)) x f b =
+      equal_carried s t (type_known (settled_in facts later s) (stated_in later s)) (type_known (settled_in facts later t) (stated_in later t)) x f.0 f.1.0 b
+  types_carried op ts x f b = b
+
   entry_carried : (op : Operator) (ts : Trees) (x : Settling) → Below x (read facts (unbound later) (apply_answer facts holds op (all_partial_in facts holds ts))) →
       Below (or_entry later op ts x) (read facts (unbound later) (apply_answer facts holds op (all_partial_in facts holds ts)))
   entry_carried (GetAttr a) (a_tree (Var Context) no_trees) Open m = carries.in_context a
@@ -190,12 +281,21 @@ module _ (facts : Facts) (good : HoldsMade facts) (later : LeafSettlings) (holds
     carried (Or l r) = or_carries (partial_in facts holds l) (partial_in facts holds r) l r (made facts good holds leaves r) (carried l) (carried r)
     carried (If t y n) = if_carries (partial_in facts holds t) (partial_in facts holds y) (partial_in facts holds n) t y n (made facts good holds leaves y) (made facts good holds leaves n) (carried t) (carried y) (carried n)
     carried (Apply op ts) =
-        entry_carried op ts (apply_settled facts op (all_settled_in facts later ts))
-        (apply_carries op (all_settled_in facts later ts) (all_partial_in facts holds ts) (all_carried ts))
+        types_carried op ts (or_entry later op ts (apply_settled facts op (all_settled_in facts later ts))) (all_types ts)
+        (entry_carried op ts (apply_settled facts op (all_settled_in facts later ts))
+        (apply_carries op (all_settled_in facts later ts) (all_partial_in facts holds ts) (all_carried ts)))
 
     all_carried : (ts : Trees) → BelowAll (all_settled_in facts later ts) (read_all facts (unbound later) (all_partial_in facts holds ts))
     all_carried no_trees = refl
     all_carried (a_tree t ts) = more_carries (partial_in facts holds t) (all_partial_in facts holds ts) t ts (made facts good holds leaves t) (all_made facts good holds leaves ts) (carried t) (all_carried ts)
+
+    all_types : (ts : Trees) → TypesCarry ts
+    all_types no_trees = tt
+    all_types (a_tree t ts) = (
+      (λ u h. type_carried facts (unbound later) (partial_in facts holds t) u (settled_in facts later t) (stated_in later t)
+          (leaf_stated later (unbound later) holds carries.variable_type carries.untold facts t u) (carried t) h),
+      all_types ts,
+    )
 
 pub unbound_residuals_settle : UnboundResidualsSettle
 unbound_residuals_settle facts good later holds carries leaves t = carried facts good later holds carries leaves t
@@ -217,6 +317,8 @@ question_carries facts good q slots told later e are_made now then =
       slot = λ s. slot_below facts (unbound (settled_of facts q slots later)) (slots s);
       in_context = λ a. rw (apply_same facts (held_of facts q slots told) (GetAttr a) (and_next facts (variable_held facts q told Context) (AllEvaluated no_values))) at (c.in_context a);
       has_in_context = λ a. rw (apply_same facts (held_of facts q slots told) (HasAttr a) (and_next facts (variable_held facts q told Context) (AllEvaluated no_values))) at (c.has_in_context a);
+      variable_type = c.variable_type;
+      untold = c.untold;
     }
 
 pub unbound_answers_are_prompt : UnboundAnswersArePrompt
@@ -242,6 +344,8 @@ filling_carries facts good q slots told filling known extends are_made fills =
       slot = λ s. slot_below facts (unbound (filled facts q slots filling)) (slots s);
       in_context = λ a. tt;
       has_in_context = λ a. tt;
+      variable_type = λ v ty h. (let k : ◌≡◌ {A = Option Name} None (Some ty) = h in cc);
+      untold = λ n ty h. (let k : false ≡ true = h in cc);
     }
 
 -- a residual means without slots what its tree means with them

@@ -2,16 +2,16 @@
 use Rattle.std.specs.Prelude.{◌≡◌, ℤ, pos, true, false, cond, Option, Some, None, [], ◌∷◌, codes}
 use Rattle.std.specs.FinMap as finite
 use Rattle.cedar_language.specs.Uid.{Text, Name, Uid}
-use Rattle.cedar_language.specs.Tree.{Boolean, Long, String, Entity, Principal, Context, Operator, Equal, Add, GetAttr, HasAttr, Call, MakeRecord, Tree, Lit, Var, Unknown, And, Apply, no_trees, a_tree, LongType}
+use Rattle.cedar_language.specs.Tree.{Boolean, Long, String, Entity, Principal, Resource, Context, Operator, Equal, Add, In, GetAttr, HasAttr, Call, MakeRecord, Tree, Lit, Var, Unknown, And, Apply, no_trees, a_tree, LongType}
 use Rattle.cedar_language.specs.Tree as tree
-use Rattle.cedar_language.specs.Value.{Extension, Value, Plain, ExtensionOf, TypeError, RecordAttrDoesNotExist, Values, no_values, a_value, RecordOf}
+use Rattle.cedar_language.specs.Value.{Extension, Value, Plain, ExtensionOf, TypeError, EntityDoesNotExist, RecordAttrDoesNotExist, UnlinkedSlot, Values, no_values, a_value, RecordOf}
 use Rattle.cedar_language.specs.Order.{same_text, same_name}
 use Rattle.cedar_language.specs.WellFormed.{IsWellFormed}
 use Rattle.cedar_language.specs.Facts.{Function, Facts}
 use Rattle.cedar_language.specs.Answering.{Residual}
 use Rattle.cedar_partial_evaluation.specs.MadeAgain.{HoldsMade}
 use Rattle.cedar_partial_evaluation.specs.Settling.{Settling, Open, Is, settled_in}
-use Rattle.cedar_partial_evaluation.specs.Partial.{Answer, Evaluated, Failed, partial_in}
+use Rattle.cedar_partial_evaluation.specs.Partial.{Answer, Evaluated, ResidualTree, Failed, partial_in}
 use Rattle.cedar_partial_evaluation.specs.Question.{Given, Missing, Entries, WithEntries, Question, Told, settled_of, held_of}
 use Rattle.cedar_partial_evaluation.specs.Filling.{IsFilling}
 use Rattle.cedar_partial_evaluation.specs.Early.{standing_of_answer}
@@ -99,6 +99,10 @@ rank_low = one (Call rank_name) (Lit (String (codes "low")))
 abbrev pub typed_principal : Question
 typed_principal = record { principal = Missing (Some (codes "User" ∷ [])); action = Given user; resource = Given user; context = WithEntries [] no_trees }
 
+-- a principal and a resource that are unknown, with their types
+abbrev pub typed_both : Question
+typed_both = record { principal = Missing (Some (codes "User" ∷ [])); action = Given user; resource = Missing (Some (codes "R" ∷ [])); context = WithEntries [] no_trees }
+
 -- an unknown that is to be a long: of another type than an entity, but nothing is decided by that
 abbrev pub a_long : Tree
 a_long = Unknown (codes "x") (Some LongType)
@@ -138,6 +142,13 @@ with_k = asked (WithEntries (codes "a" ∷ codes "k" ∷ codes "w" ∷ []) (a_tr
 abbrev pub k_zz : Tree
 k_zz = one (GetAttr (codes "zz")) (context_dot (codes "k"))
 
+-- `x && ?principal.zz`: the entity isn't held, so the right operand errs and is kept with its slot
+abbrev pub behind_x : Tree
+behind_x = And name_x (one (GetAttr (codes "zz")) (tree.Slot tree.PrincipalSlot))
+
+abbrev pub answers_bound : Question → Told → Tree → Answer
+answers_bound q told t = partial_in nothing_held (held_of nothing_held q (λ s. Some user) told) t
+
 pub record EarlyRows : Type 0 where
   -- an entry beside an unknown one is read
   pub beside_unknown : (told : Told) → IsUntold told (codes "x") →
@@ -170,6 +181,21 @@ pub record EarlyRows : Type 0 where
   pub other_type_told : (told : Told) →
       IsToldAs told (codes "principal") (Plain (Entity (uid (codes "Bot") (codes "b")))) →
       answers typed_principal told (two Equal (Var Principal) (Lit (Entity user))) ≡ Failed TypeError
+  -- the type settles `is`, and `==` with an entity of another type on either side, or with a missing resource of another type
+  pub is_settles : (told : Told) → IsUntold told (codes "principal") →
+      settles typed_principal told (one (tree.Is (codes "User" ∷ [])) (Var Principal)) ≡ Is (Plain (Boolean true))
+  pub is_other_settles : (told : Told) → IsUntold told (codes "principal") →
+      settles typed_principal told (And (one (tree.Is (codes "Bot" ∷ [])) (Var Principal)) (two In (Var Principal) (Lit (Entity user)))) ≡ Is (Plain (Boolean false))
+  pub other_type_settles : (told : Told) → IsUntold told (codes "principal") →
+      settles typed_principal told (two Equal (Var Principal) (Lit (Entity (uid (codes "Bot") (codes "b"))))) ≡ Is (Plain (Boolean false))
+  pub turned_settles : (told : Told) → IsUntold told (codes "principal") →
+      settles typed_principal told (two Equal (Lit (Entity (uid (codes "Bot") (codes "b")))) (Var Principal)) ≡ Is (Plain (Boolean false))
+  pub two_types_settle : (told : Told) → IsUntold told (codes "principal") → IsUntold told (codes "resource") →
+      settles typed_both told (two Equal (Var Principal) (Var Resource)) ≡ Is (Plain (Boolean false))
+  pub same_type_settles_nothing : (told : Told) → IsUntold told (codes "principal") →
+      settles typed_principal told (two Equal (Var Principal) (Lit (Entity user))) ≡ Open
+  pub other_type_told_settles_nothing : (told : Told) → IsToldAs told (codes "principal") (Plain (Entity (uid (codes "Bot") (codes "b")))) →
+      settles typed_principal told (one (tree.Is (codes "User" ∷ [])) (Var Principal)) ≡ Open
   -- a filling of this question
   pub a_filling : (told : Told) → IsToldAs told (codes "principal") (Plain (Entity user)) →
       ((n : Text) (v : Value) → finite.get told n ≡ Some v → IsWellFormed v) →
@@ -193,3 +219,7 @@ pub record EarlyRows : Type 0 where
       answers with_k told k_zz ≡ Failed RecordAttrDoesNotExist
   pub decided_less : (told : Told) → IsToldAs told (codes "x") (ExtensionOf low) → IsUntold told (codes "w") →
       standing_of_answer (answers with_k told k_zz) ≡ Residual
+  -- what is kept with its slot errs where the slot isn't bound any more, with another kind
+  pub slot_kept : (told : Told) → IsUntold told (codes "x") → answers_bound no_entries told behind_x ≡ ResidualTree behind_x
+  pub slot_bound : (told : Told) → IsToldAs told (codes "x") yes → answers_bound no_entries told behind_x ≡ Failed EntityDoesNotExist
+  pub slot_unbound : (told : Told) → IsToldAs told (codes "x") yes → answers no_entries told behind_x ≡ Failed UnlinkedSlot

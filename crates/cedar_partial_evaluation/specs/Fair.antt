@@ -1,10 +1,10 @@
 -- What an answer of partial evaluation means.
-use Rattle.std.specs.Prelude.{◌≡◌, Option}
+use Rattle.std.specs.Prelude.{◌≡◌, true, Option, Some}
 use Rattle.cedar_language.specs.Uid.{Text, Name, Uid}
-use Rattle.cedar_language.specs.Tree.{Entity, ValueType, Variable, SlotId}
+use Rattle.cedar_language.specs.Tree.{Entity, ValueType, EntityType, Variable, SlotId, Unknown}
 use Rattle.cedar_language.specs.Value.{Value, Plain}
 use Rattle.cedar_language.specs.Facts.{Facts}
-use Rattle.cedar_partial_evaluation.specs.Settling.{Settling, Errs, Is, Settlings, SomeErrs, AllAre, LeafSettlings, settled_in, all_settled_in}
+use Rattle.cedar_partial_evaluation.specs.Settling.{Settling, Open, Errs, Is, Settlings, SomeErrs, AllAre, LeafSettlings, settled_in, all_settled_in}
 use Rattle.cedar_partial_evaluation.specs.MadeAgain.{IsMadeAgain}
 use Rattle.cedar_partial_evaluation.specs.Partial.{Answer, Evaluated, ResidualTree, Failed, Answers, AllEvaluated, SomeResiduals, SomeFailed, LeafAnswers}
 
@@ -22,6 +22,13 @@ abbrev pub read_all : Facts → LeafSettlings → Answers → Settlings
 read_all facts around (AllEvaluated vs) = AllAre vs
 read_all facts around (SomeResiduals rs) = all_settled_in facts around rs
 read_all facts around (SomeFailed k) = SomeErrs
+
+-- what is left is an unknown that states this type, and nothing is told of it
+pub record IsStated (around : LeafSettlings) (p : Answer) (ty : Name) : Type 0 where
+  pub name : Text
+  pub is : p ≡ ResidualTree (Unknown name (Some (EntityType ty)))
+  pub unsettled : around.unknown name (Some (EntityType ty)) ≡ Open
+  pub untold : around.untold name ≡ true
 
 -- an answer that is a value is made again by a tree for it
 abbrev pub IsMadeAnswer : Facts → Answer → Type 0

@@ -1,5 +1,5 @@
 -- Fillings of a question: values under which nothing in it is unknown.
-use Rattle.std.specs.Prelude.{◌≡◌, cond, true, Option, Some, None, codes, []}
+use Rattle.std.specs.Prelude.{◌≡◌, cond, true, false, Option, Some, None, codes, []}
 use Rattle.std.specs.FinMap as finite
 use Rattle.cedar_language.specs.Uid.{Text, Uid}
 use Rattle.cedar_language.specs.Tree.{Entity, ValueType, RecordType, MakeRecord, Tree, Apply, Trees}
@@ -78,6 +78,8 @@ filled facts q slots filling = record {
   slot = λ s. kindless (slot_outcome (slots s));
   in_context = λ a. Open;
   has_in_context = λ a. Open;
+  variable_type = λ v. None;
+  untold = λ n. false;
 }
 
 -- the tree errs under each filling that keeps what is told

@@ -31,13 +31,14 @@ pub record AnswerAlike (mentioned : Variable → Bool) (slots : Bool) (a b : Lea
   pub variable : (v : Variable) → mentioned v ≡ true → a.variable v ≡ b.variable v
   pub slot : (s : SlotId) → slots ≡ true → a.slot s ≡ b.slot s
 
--- they settle to one result; the context's entries count where the context is open
+-- they settle to one result; where a variable is open, the type stated of it and the context's entries count
 pub record SettleAlike (mentioned : Variable → Bool) (slots : Bool) (a b : LeafSettlings) : Type 0 where
   pub variable : (v : Variable) → mentioned v ≡ true → a.variable v ≡ b.variable v
   pub slot : (s : SlotId) → slots ≡ true → a.slot s ≡ b.slot s
   pub in_context : mentioned Context ≡ true → a.variable Context ≡ Open → (n : Text) → a.in_context n ≡ b.in_context n
   pub has_in_context : mentioned Context ≡ true → a.variable Context ≡ Open → (n : Text) →
       a.has_in_context n ≡ b.has_in_context n
+  pub variable_type : (v : Variable) → mentioned v ≡ true → a.variable v ≡ Open → a.variable_type v ≡ b.variable_type v
 
 -- they have one value
 pub record AskAlike (mentioned : Variable → Bool) (slots : Bool) (a b : Request) : Type 0 where

@@ -1,5 +1,5 @@
 -- Partial evaluation: a value, a residual that is left because something is unknown, or an error.
-use Rattle.std.specs.Prelude.{◌≡◌, Bool, true, false, not, cond, Option, Some, None, List, [], ◌∷◌}
+use Rattle.std.specs.Prelude.{◌≡◌, Bool, true, false, cond, Option, Some, None, List, [], ◌∷◌}
 use Rattle.cedar_language.specs.Uid.{Text, Name}
 use Rattle.cedar_language.specs.Tree.{Boolean, Entity, Variable, SlotId, Operator, Equal, Is, GetAttr, HasAttr, MakeRecord, Tree, Lit, Var, Slot, Unknown, If, And, Or, Apply, Trees, no_trees, a_tree, ValueType, EntityType}
 use Rattle.cedar_language.specs.Value.{Value, Plain, Values, no_values, a_value, Kind, TypeError, RecordAttrDoesNotExist, Outcome, Gives, Fails}
@@ -9,6 +9,7 @@ use Rattle.cedar_language.specs.Facts.{Facts}
 use Rattle.cedar_language.specs.Operators.{applied}
 use Rattle.cedar_language.specs.Meaning.{slot_outcome, Request, meaning}
 use Rattle.cedar_partial_evaluation.specs.MadeAgain.{tree_of, trees_of}
+pub use Rattle.cedar_partial_evaluation.specs.Unknowns.{types_differ}
 
 pub data Answer : Type 0 where
   Evaluated : Value → Answer
@@ -130,11 +131,6 @@ abbrev pub stated_type : Tree → Option Name
 stated_type (Lit (Entity u)) = Some u.type_name
 stated_type (Unknown n (Some (EntityType u))) = Some u
 stated_type _ = None
-
-abbrev pub types_differ : Option Name → Option Name → Bool
-types_differ (Some u) (Some w) = not (same_name u w)
-types_differ (Some u) None = false
-types_differ None o = false
 
 -- `==` of two things whose types are known to differ is false
 abbrev pub equal_answer : Bool → Tree → Tree → Answer

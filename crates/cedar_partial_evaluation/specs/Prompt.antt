@@ -1,7 +1,7 @@
 -- Kinds of errors to which a tree settles, and what a prompt answer gives.
-use Rattle.std.specs.Prelude.{◌≡◌, ◌≢◌, true, false, Option}
-use Rattle.cedar_language.specs.Uid.{Text}
-use Rattle.cedar_language.specs.Tree.{Boolean, Variable, Context, SlotId, Operator, GetAttr, HasAttr, Tree, Var, Slot, If, And, Or, Apply, Trees, no_trees, a_tree, ValueType}
+use Rattle.std.specs.Prelude.{◌≡◌, ◌≢◌, true, false, Option, Some}
+use Rattle.cedar_language.specs.Uid.{Text, Name}
+use Rattle.cedar_language.specs.Tree.{Boolean, Variable, Context, SlotId, Operator, GetAttr, HasAttr, Tree, Var, Slot, If, And, Or, Apply, Trees, no_trees, a_tree, ValueType, EntityType}
 use Rattle.cedar_language.specs.Value.{Value, Plain, Values, no_values, Kind, TypeError, RecordAttrDoesNotExist, UnlinkedSlot, Fails}
 use Rattle.cedar_language.specs.Facts.{Facts}
 use Rattle.cedar_language.specs.Operators.{applied}
@@ -10,7 +10,7 @@ use Rattle.cedar_language.specs.Meaning.{Request, meaning}
 use Rattle.cedar_partial_evaluation.specs.Settling.{Settling, Open, Errs, Is, AllAre, LeafSettlings, Below, settled_in, all_settled_in, leaf_settlings_of}
 use Rattle.cedar_partial_evaluation.specs.MadeAgain.{HoldsMade}
 use Rattle.cedar_partial_evaluation.specs.Partial.{Answer, Evaluated, ResidualTree, Failed, AllEvaluated, LeafAnswers, and_next, apply_answer, partial_in, leaf_answers_of}
-use Rattle.cedar_partial_evaluation.specs.Fair.{AreMadeLeaves}
+use Rattle.cedar_partial_evaluation.specs.Fair.{IsStated, AreMadeLeaves}
 
 abbrev pub true_value : Value
 true_value = Plain (Boolean true)
@@ -77,6 +77,8 @@ pub record Shows (facts : Facts) (around : LeafSettlings) (holds : LeafAnswers) 
   pub slot : (s : SlotId) → Meets (λ k. k ≡ UnlinkedSlot) (around.slot s) (holds.slot s)
   pub in_context : (a : Text) → Meets (λ k. k ≡ RecordAttrDoesNotExist) (around.in_context a) (apply_answer facts holds (GetAttr a) (and_next facts (holds.variable Context) (AllEvaluated no_values)))
   pub has_in_context : (a : Text) → (around.has_in_context a ≢ Errs) × Below (around.has_in_context a) (without_kind (apply_answer facts holds (HasAttr a) (and_next facts (holds.variable Context) (AllEvaluated no_values))))
+  pub variable_type : (v : Variable) (ty : Name) → around.variable_type v ≡ Some ty → IsStated around (holds.variable v) ty
+  pub untold : (n : Text) (ty : Name) → around.untold n ≡ true → IsStated around (holds.unknown n (Some (EntityType ty))) ty
 
 -- what is held suffices for the tree to be refused
 abbrev pub IsRefused : Facts → LeafAnswers → Tree → Type 0

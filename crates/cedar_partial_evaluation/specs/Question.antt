@@ -58,6 +58,19 @@ abbrev pub name_held : Option Value → Text → Option ValueType → Answer
 name_held (Some v) n ty = value_held (fits ty v) v
 name_held None n ty = ResidualTree (Unknown n ty)
 
+abbrev pub is_untold : Option Value → Bool
+is_untold None = true
+is_untold (Some v) = false
+
+-- the type that is stated of a missing part, while none is told for it
+abbrev pub untold_type : Option Value → Option Name → Option Name
+untold_type None ty = ty
+untold_type (Some v) ty = None
+
+abbrev pub part_type : Part → Option Value → Option Name
+part_type (Given u) o = None
+part_type (Missing ty) o = untold_type o ty
+
 -- without variables and slots: for the written context
 abbrev pub settled_names : Told → LeafSettlings
 settled_names told = record {
@@ -66,6 +79,8 @@ settled_names told = record {
   slot = λ s. Open;
   in_context = λ a. Open;
   has_in_context = λ a. Open;
+  variable_type = λ v. None;
+  untold = λ n. false;
 }
 
 abbrev pub held_names : Told → LeafAnswers
@@ -129,6 +144,12 @@ variable_settled facts q told Action = part_settled q.action (finite.get told (c
 variable_settled facts q told Resource = part_settled q.resource (finite.get told (codes "resource"))
 variable_settled facts q told Context = context_settled facts told q.context
 
+abbrev pub variable_type : Question → Told → Variable → Option Name
+variable_type q told Principal = part_type q.principal (finite.get told (codes "principal"))
+variable_type q told Action = part_type q.action (finite.get told (codes "action"))
+variable_type q told Resource = part_type q.resource (finite.get told (codes "resource"))
+variable_type q told Context = None
+
 -- what is settled of the question's leaves once these values are told
 abbrev pub settled_of : Facts → Question → Slots → Told → LeafSettlings
 settled_of facts q slots told = record {
@@ -137,6 +158,8 @@ settled_of facts q slots told = record {
   slot = λ s. kindless (slot_outcome (slots s));
   in_context = in_context facts told q.context;
   has_in_context = has_in_context facts told q.context;
+  variable_type = variable_type q told;
+  untold = λ n. is_untold (finite.get told n);
 }
 
 abbrev pub part_held : Part → Option Value → Text → Answer

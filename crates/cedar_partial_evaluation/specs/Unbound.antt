@@ -19,6 +19,8 @@ unbound around = record {
   slot = λ s. Errs;
   in_context = around.in_context;
   has_in_context = around.has_in_context;
+  variable_type = around.variable_type;
+  untold = around.untold;
 }
 
 -- a residual's later answer without slots means what the tree at first meant with them

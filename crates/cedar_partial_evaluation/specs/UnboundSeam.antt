@@ -1,5 +1,5 @@
 -- What later values settle of a residual in which slots are no longer bound.
-use Rattle.std.specs.Prelude.{◌≡◌, ◌≢◌, Option, Some}
+use Rattle.std.specs.Prelude.{◌≡◌, ◌≢◌, true, Option, Some}
 use Rattle.cedar_language.specs.Uid.{Text, Name}
 use Rattle.cedar_language.specs.Tree.{GetAttr, HasAttr, Variable, Context, SlotId, Tree, ValueType, EntityType}
 use Rattle.cedar_language.specs.Value.{Value, no_values}
@@ -7,7 +7,7 @@ use Rattle.cedar_language.specs.Facts.{Facts}
 use Rattle.cedar_partial_evaluation.specs.Settling.{LeafSettlings, Errs, Is, Below, settled_in}
 use Rattle.cedar_partial_evaluation.specs.MadeAgain.{HoldsMade}
 use Rattle.cedar_partial_evaluation.specs.Partial.{ResidualTree, AllEvaluated, LeafAnswers, and_next, apply_answer, partial_in}
-use Rattle.cedar_partial_evaluation.specs.Fair.{IsOfType, AreMadeLeaves, read}
+use Rattle.cedar_partial_evaluation.specs.Fair.{IsOfType, IsStated, AreMadeLeaves, read}
 use Rattle.cedar_language.specs.Meaning.{Slots}
 use Rattle.cedar_partial_evaluation.specs.Prompt.{without_kind}
 use Rattle.cedar_partial_evaluation.specs.Linking.{no_slots}
@@ -23,6 +23,8 @@ pub record CarriesUnbound (facts : Facts) (later : LeafSettlings) (holds : LeafA
   pub slot : (s : SlotId) → Below (later.slot s) (read facts (unbound later) (holds.slot s))
   pub in_context : (a : Text) → Below (later.in_context a) (read facts (unbound later) (apply_answer facts holds (GetAttr a) (and_next facts (holds.variable Context) (AllEvaluated no_values))))
   pub has_in_context : (a : Text) → Below (later.has_in_context a) (read facts (unbound later) (apply_answer facts holds (HasAttr a) (and_next facts (holds.variable Context) (AllEvaluated no_values))))
+  pub variable_type : (v : Variable) (ty : Name) → later.variable_type v ≡ Some ty → IsStated (unbound later) (holds.variable v) ty
+  pub untold : (n : Text) (ty : Name) → later.untold n ≡ true → IsStated (unbound later) (holds.unknown n (Some (EntityType ty))) ty
 
 -- once more values are told, what an answer left settles without slots, kinds aside, wherever its tree does with them
 abbrev pub UnboundResidualsSettle : Type 0

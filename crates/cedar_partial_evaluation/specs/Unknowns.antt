@@ -1,6 +1,6 @@
 -- Unknowns of a tree, and the types with which they are annotated.
-use Rattle.std.specs.Prelude.{Bool, true, false, Option, Some, None}
-use Rattle.cedar_language.specs.Uid.{Text}
+use Rattle.std.specs.Prelude.{Bool, true, false, not, Option, Some, None}
+use Rattle.cedar_language.specs.Uid.{Text, Name}
 use Rattle.cedar_language.specs.Tree.{Boolean, Long, String, Entity, ValueType, BooleanType, LongType, StringType, SetType, RecordType, EntityType, ExtensionType, Tree, Lit, Var, Slot, Unknown, If, And, Or, Apply, Trees, no_trees, a_tree}
 use Rattle.cedar_language.specs.Value.{Value, Plain, SetOf, RecordOf, ExtensionOf}
 use Rattle.cedar_language.specs.Order.{same_name}
@@ -20,6 +20,12 @@ is_of_type _ _ = false
 abbrev pub fits : Option ValueType → Value → Bool
 fits None v = true
 fits (Some ty) v = is_of_type ty v
+
+-- two types that are known, and differ
+abbrev pub types_differ : Option Name → Option Name → Bool
+types_differ (Some u) (Some w) = not (same_name u w)
+types_differ (Some u) None = false
+types_differ None o = false
 
 -- each unknown of the tree passes
 abbrev mutual

@@ -1,18 +1,20 @@
 -- The entities given are for exactly the slots of a policy where none is lacking and none is too many.
-use Rattle.std.proofs.Common.{◌≡◌, ◌⊎◌, inl, inr, refl, sym, ◌∙◌, Bool, true, ◌&&◌, List, [], ◌∷◌, ◌++◌, Option, Some, None}
-use Rattle.std.specs.Prelude.{filter, not, is_some}
+use Rattle.std.proofs.Common.{◌≡◌, refl, sym, ◌∙◌, Bool, true, false, ◌&&◌, List, ◌++◌, Option, Some, None}
+use Rattle.std.specs.Prelude.{filter, not, is_some, Result, Ok, Err, OnOk, IfErr}
 use Rattle.std.specs.List.{list_any}
 use Rattle.cedar_language.specs.Uid.{Uid}
 use Rattle.cedar_language.specs.Tree.{SlotId, PrincipalSlot, ResourceSlot}
-use Rattle.cedar_grammar.specs.Policy.{Policy, Target, the_entity, the_slot, Constraint, anything, equals, within, of_type, of_type_within, target_slots, constraint_slots}
+use Rattle.cedar_grammar.specs.Policy.{Policy, holds_slot, where_held}
 use Rattle.cedar_world.specs.Syntax.{Bindings, binding_of, is_slot}
 use Rattle.cedar_world.specs.Refusals.{same_flag, binds_exactly}
 use Rattle.cedar_policy_parts.specs.Bindings.{bound_slots}
-use Rattle.cedar_policies.specs.Linking.{lacking, extra}
-use Rattle.cedar_policies.specs.Linking.{IsArityRefusal, are_none, ChecksArity}
+use Rattle.cedar_policies.specs.Linking.{lacking, extra, IsArityRefusal, are_none, ChecksArity}
 use Rattle.cedar_policies.specs.declared.errors.LinkingError.{LinkingError}
 use Rattle.cedar_policies.specs.declared.errors.LinkingError.TheVariants.{ArityError, NoSuchTemplate, PolicyIdConflict, Memory}
-use Rattle.std.specs.Prelude.{Result, Ok, Err, OnOk, IfErr}
+
+-- what is held of the principal's slot and of the resource's
+abbrev listed : Bool → Bool → List SlotId
+listed h k = where_held h PrincipalSlot ++ where_held k ResourceSlot
 
 -- whether none of these slots lacks an entity, and no other slot has one
 abbrev fits : Bindings → List SlotId → Bool
@@ -24,49 +26,26 @@ exactly b ss = same_flag (is_some b.principal) (list_any (is_slot PrincipalSlot)
 abbrev of : Option Uid → Option Uid → Bindings
 of p r = record { principal = p; resource = r }
 
-none_listed : (p r : Option Uid) → fits (of p r) [] ≡ exactly (of p r) []
-none_listed None None = refl
-none_listed None (Some r) = refl
-none_listed (Some p) None = refl
-none_listed (Some p) (Some r) = refl
-
-principal_listed : (p r : Option Uid) → fits (of p r) (PrincipalSlot ∷ []) ≡ exactly (of p r) (PrincipalSlot ∷ [])
-principal_listed None None = refl
-principal_listed None (Some r) = refl
-principal_listed (Some p) None = refl
-principal_listed (Some p) (Some r) = refl
-
-resource_listed : (p r : Option Uid) → fits (of p r) (ResourceSlot ∷ []) ≡ exactly (of p r) (ResourceSlot ∷ [])
-resource_listed None None = refl
-resource_listed None (Some r) = refl
-resource_listed (Some p) None = refl
-resource_listed (Some p) (Some r) = refl
-
-both_listed : (p r : Option Uid) → fits (of p r) (PrincipalSlot ∷ ResourceSlot ∷ []) ≡ exactly (of p r) (PrincipalSlot ∷ ResourceSlot ∷ [])
-both_listed None None = refl
-both_listed None (Some r) = refl
-both_listed (Some p) None = refl
-both_listed (Some p) (Some r) = refl
-
-target_lists : (s : SlotId) (e : Target) → (target_slots s e ≡ []) ⊎ (target_slots s e ≡ s ∷ [])
-target_lists s (the_entity u) = inl refl
-target_lists s the_slot = inr refl
-
-constraint_lists : (s : SlotId) (c : Constraint) → (constraint_slots s c ≡ []) ⊎ (constraint_slots s c ≡ s ∷ [])
-constraint_lists s anything = inl refl
-constraint_lists s (equals e) = target_lists s e
-constraint_lists s (within e) = target_lists s e
-constraint_lists s (of_type p) = inl refl
-constraint_lists s (of_type_within p e) = target_lists s e
-
-agrees : (b : Bindings) (xs ys : List SlotId) → (xs ≡ []) ⊎ (xs ≡ PrincipalSlot ∷ []) → (ys ≡ []) ⊎ (ys ≡ ResourceSlot ∷ []) → fits b (xs ++ ys) ≡ exactly b (xs ++ ys)
-agrees b xs ys (inl h) (inl k) = rw (h, k) (none_listed b.principal b.resource)
-agrees b xs ys (inl h) (inr k) = rw (h, k) (resource_listed b.principal b.resource)
-agrees b xs ys (inr h) (inl k) = rw (h, k) (principal_listed b.principal b.resource)
-agrees b xs ys (inr h) (inr k) = rw (h, k) (both_listed b.principal b.resource)
+agrees : (p r : Option Uid) (h k : Bool) → fits (of p r) (listed h k) ≡ exactly (of p r) (listed h k)
+agrees None None true true = refl
+agrees None None true false = refl
+agrees None None false true = refl
+agrees None None false false = refl
+agrees None (Some r) true true = refl
+agrees None (Some r) true false = refl
+agrees None (Some r) false true = refl
+agrees None (Some r) false false = refl
+agrees (Some p) None true true = refl
+agrees (Some p) None true false = refl
+agrees (Some p) None false true = refl
+agrees (Some p) None false false = refl
+agrees (Some p) (Some r) true true = refl
+agrees (Some p) (Some r) true false = refl
+agrees (Some p) (Some r) false true = refl
+agrees (Some p) (Some r) false false = refl
 
 fitting : (b : Bindings) (p : Policy) → are_none (lacking b p) (extra b p) ≡ binds_exactly b p
-fitting b p = agrees b _ _ (constraint_lists PrincipalSlot p.principal) (constraint_lists ResourceSlot p.resource)
+fitting b p = agrees b.principal b.resource (holds_slot p PrincipalSlot) (holds_slot p ResourceSlot)
 
 same_answer : (b : Bindings) (p : Policy) (xs ys : List SlotId) → xs ≡ lacking b p → ys ≡ extra b p → binds_exactly b p ≡ are_none xs ys
 same_answer b p xs ys e f = sym (fitting b p) ∙ (λ i. are_none (sym e i) (sym f i))

@@ -1,3 +1,4 @@
 pub mod Arity
+pub mod Holding
 pub mod Unbound
 pub mod Standing

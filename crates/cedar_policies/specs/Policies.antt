@@ -6,7 +6,7 @@ use Rattle.cedar_world.specs.Syntax.{Bindings, linked}
 use Rattle.cedar_policy_parts.specs.Bindings.{unbound}
 use Rattle.cedar_policy_parts.specs.declared.errors.UnexpectedSlotError.{UnexpectedSlotError}
 use Rattle.cedar_policy_parts.specs.declared.errors.UnexpectedSlotError.TheVariants.{FoundSlot, Memory}
-use Rattle.cedar_policies.specs.Templates.{template_id, syntax_of}
+use Rattle.cedar_policies.specs.Templates.{template_id, syntax_of, listed_slots}
 use Rattle.cedar_policies.specs.StaticPolicies.{IsFirstSlot}
 use Rattle.cedar_policies.specs.declared.templates.Template.{Template}
 use Rattle.cedar_policies.specs.declared.policies.Policy.{Policy}
@@ -47,10 +47,10 @@ pub record IsLink (t : Template) (new_id : Text) (b : Bindings) (p : Policy) : T
   pub link : link_of p ≡ Some new_id
   pub bindings : bindings_of p ≡ b
 
--- the template as a policy of its own, where it has no slot; refused for its first slot otherwise, or for memory
+-- the template as a policy of its own, where it lists no slot; refused for the first that it lists otherwise, or for memory
 abbrev pub TakesOwn : Template → Result Policy UnexpectedSlotError → Type 0
-TakesOwn t (Ok p) = IsOwn (template_id t) (syntax_of t) p × (policy_template p ≡ t) × (grammar.slots (syntax_of t) ≡ [])
-TakesOwn t (Err (FoundSlot s)) = IsFirstSlot (grammar.slots (syntax_of t)) s.id
+TakesOwn t (Ok p) = IsOwn (template_id t) (syntax_of t) p × (policy_template p ≡ t) × (listed_slots t ≡ [])
+TakesOwn t (Err (FoundSlot s)) = IsFirstSlot (listed_slots t) s.id
 TakesOwn t (Err (Memory e)) = ⊤
 
 -- a link, which has an id of its own, keeps its template

@@ -14,10 +14,10 @@ pub enum TemplateValidationError {
     /// The scope names entities as actions that are none.
     #[error(transparent)]
     InvalidActionType(InvalidActionType),
-    /// A slot stands in a clause; the word of the clause is `when`, also for what an `unless` asks.
+    /// A slot stands in a clause. It may, so nothing tells this; callers may match on it still.
     #[error(transparent)]
     SlotsInConditionClause(SlotsInConditionClause),
-    /// The slots that the template lists aren't its own.
+    /// The slots that the template lists aren't those of its scope and its clauses.
     #[error("the slots listed are not those of the template")]
     SlotCacheMismatch,
     /// A call in a clause doesn't fit the table of extensions. Never for want of memory.
@@ -72,7 +72,7 @@ impl From<AllocError> for TemplateValidationError {
 /// Why a template isn't linked.
 #[derive(Debug, PartialEq, Eq, Drop)]
 pub enum LinkingError {
-    /// The slots given aren't exactly the template's.
+    /// The slots given aren't exactly those that the template holds.
     ArityError {
         /// The slots that lack an entity.
         unbound_values: Vec<SlotId>,

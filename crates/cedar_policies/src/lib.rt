@@ -4,6 +4,7 @@
 pub mod bodies;
 mod displays;
 pub mod errors;
+mod held_slots;
 pub mod laws;
 pub mod linking;
 pub mod policies;

@@ -11,6 +11,7 @@ ghost use Rattle.cedar_policies.specs.Policies.{IsLink, IsOwn, TakesOwn, policy_
 ghost use Rattle.cedar_policies.specs.Linking.{IsArityRefusal, ChecksArity};
 
 use crate::errors::LinkingError;
+use crate::held_slots::is_same;
 use crate::policies::Policy;
 use crate::static_policies::StaticPolicy;
 use crate::templates::Template;
@@ -24,8 +25,8 @@ use std::rc::Rc;
 
 /// Policies made of templates; their type stands above the templates'.
 pub trait TemplateLinks {
-    /// Whether the entities given are for exactly the template's slots; refused with the slots that lack
-    /// one and those that the template doesn't have, or for memory.
+    /// Whether the entities given are for exactly the slots that the template holds, whether or not it lists
+    /// them; refused with the slots that lack one and those that the template doesn't hold, or for memory.
     fn check_binding(
         alloc: Global,
         template: &Template,
@@ -35,8 +36,8 @@ pub trait TemplateLinks {
         ensures refused { IfErr result (IsArityRefusal values.now (syntax_of template.now)) };
 
     /// The link of this template under an id, with these entities for its slots; refused where they are
-    /// not for exactly its slots, with the slots that lack one and those that the template doesn't have,
-    /// or for memory.
+    /// not for exactly the slots that it holds, whether or not it lists them, with the slots that lack one
+    /// and those that the template doesn't hold, or for memory.
     fn link(
         alloc: Global,
         template: Rc<Template>,
@@ -47,7 +48,7 @@ pub trait TemplateLinks {
         ensures fits { OnOk result (binds_exactly values (syntax_of template.value) ≡ true) }
         ensures refused { IfErr result (IsArityRefusal values (syntax_of template.value)) };
 
-    /// The template as a policy that is its own, where it has no slot; refused for its first slot
+    /// The template as a policy that is its own, where it lists no slot; refused for the first that it lists
     /// otherwise, or for memory.
     fn try_as_policy(template: Rc<Template>) -> Result<Policy, UnexpectedSlotError>
         ensures { TakesOwn template.value result };
@@ -67,7 +68,7 @@ impl TemplateLinks for Template {
         template: &Template,
         values: &SlotEnv,
     ) -> Result<(), LinkingError> {
-        let slots = template.slots();
+        let slots = template.held_slots();
         let unbound_values = unbound_slots(alloc, slots, values)?;
         let extra_values = extra_slots(alloc, slots, values)?;
         check_arity(unbound_values, extra_values)
@@ -162,16 +163,6 @@ fn is_listed(slots: &[Slot], slot: SlotId) -> bool
         }
     }
     false
-}
-
-fn is_same(a: SlotId, b: SlotId) -> bool
-    ensures { result ≡ is_slot a b }
-{
-    if a.is_principal() {
-        b.is_principal()
-    } else {
-        b.is_resource()
-    }
 }
 
 impl FromIn<StaticPolicy> for Policy {

@@ -1,15 +1,16 @@
 // Policies: static ones, and links of templates.
-ghost use Rattle.std.specs.Prelude.{◌≡◌, [], ◌↔◌, IsTrue, IsNone, IfOk, option_map, is_some, Some, true};
-ghost use Rattle.std.specs.Option.{option_copied, ForNone};
+ghost use Rattle.std.specs.Prelude.{◌≡◌, [], ◌↔◌, IsTrue, IsNone, IsSome, IfOk, option_map, is_some, Some, true};
+ghost use Rattle.std.specs.Option.{option_copied, ForNone, ForSome};
 ghost use Rattle.std.specs.Map.{lookup};
 ghost use Rattle.cedar_language.specs.Order.{same_text};
-ghost use Rattle.cedar_grammar.specs.Policy.{condition, anything, any_action, slots as slots_of};
+ghost use Rattle.cedar_grammar.specs.Policy.{condition, anything, any_action};
 ghost use Rattle.cedar_world.specs.Refusals.{binds_exactly};
 ghost use Rattle.cedar_trees.specs.Bare.{bare};
 ghost use Rattle.cedar_policy_parts.specs.Effects.{effect_of};
 ghost use Rattle.cedar_policy_parts.specs.Actions.{action_of};
+ghost use Rattle.cedar_policy_parts.specs.Bindings.{unbound};
 ghost use Rattle.cedar_policies.specs.Bodies.{shared_tree};
-ghost use Rattle.cedar_policies.specs.Templates.{syntax_of};
+ghost use Rattle.cedar_policies.specs.Templates.{syntax_of, listed_slots};
 
 use crate::templates::Template;
 use cedar_literals::slots::SlotId;
@@ -26,14 +27,16 @@ use std::alloc::{AllocError, Global};
 use std::rc::Rc;
 
 /// A policy in force: a static one, which is its own template, or a link of a template with an entity for
-/// each of its slots, and for no other. (Cedar language reference, "Policy templates".)
+/// each slot that it holds, and for no other. A static policy lists no slot and binds none; where it was made
+/// of a clause, that clause may hold slots, and they stay without entities. (Cedar language reference, "Policy
+/// templates".)
 #[derive(Debug)]
 pub struct Policy {
     template: Rc<Template>,
     link: Option<PolicyID>,
     values: SlotEnv,
-    pub ghost fills: { binds_exactly values (syntax_of template.value) ≡ true },
-    pub ghost own: { ForNone link (slots_of (syntax_of template.value) ≡ []) },
+    pub ghost fills: { ForSome link (λ _. binds_exactly values (syntax_of template.value) ≡ true) },
+    pub ghost own: { ForNone link ((listed_slots template.value ≡ []) × (values ≡ unbound)) },
 }
 
 // Written by hand, so that a function which may return early lets go of a policy by a call.
@@ -52,8 +55,8 @@ impl Policy {
 
     // The link of this template, or the static policy that it is.
     pub(crate) fn new(template: Rc<Template>, link: Option<PolicyID>, values: SlotEnv) -> Policy
-        requires fills { binds_exactly values (syntax_of template.value) ≡ true }
-        requires own { ForNone link (slots_of (syntax_of template.value) ≡ []) }
+        requires fills { ForSome link (λ _. binds_exactly values (syntax_of template.value) ≡ true) }
+        requires own { ForNone link ((listed_slots template.value ≡ []) × (values ≡ unbound)) }
         ensures template { policy_template result ≡ template.value }
         ensures link { link_of result ≡ link }
         ensures bindings { bindings_of result ≡ values }
@@ -65,7 +68,8 @@ impl Policy {
         }
     }
 
-    /// The static policy of this one clause, which applies to every request; refused for memory alone.
+    /// The static policy of this one clause, which applies to every request. It lists no slot and binds none: a
+    /// slot of the clause stays without an entity. Refused for memory alone.
     pub fn from_when_clause(
         alloc: Global,
         effect: Effect,
@@ -81,6 +85,7 @@ impl Policy {
           resource = anything;
           body = Some (bare when);
         } policy) }
+        ensures lists { IfOk result (λ policy. listed_slots (policy_template policy) ≡ []) }
     {
         let annotations = Rc::new(alloc, Annotations::new(alloc))?;
         let when = Rc::new(alloc, when)?;
@@ -88,7 +93,8 @@ impl Policy {
     }
 
     /// The static policy of this one clause and these annotations, which applies to every request; the
-    /// clause and the annotations are shared. Refused for memory alone.
+    /// clause and the annotations are shared. It lists no slot and binds none: a slot of the clause stays
+    /// without an entity. Refused for memory alone.
     pub fn from_when_clause_annos(
         alloc: Global,
         effect: Effect,
@@ -105,6 +111,7 @@ impl Policy {
           resource = anything;
           body = Some (shared_tree when);
         } policy) }
+        ensures lists { IfOk result (λ policy. listed_slots (policy_template policy) ≡ []) }
     {
         let template = Template::new_shared(
             alloc,
@@ -117,7 +124,8 @@ impl Policy {
             ResourceConstraint::any(),
             Some(when),
         )?;
-        Ok(Policy::new(Rc::new(alloc, template)?, None, SlotEnv::new()))
+        let template = Rc::new(alloc, template.unlisted())?;
+        Ok(Policy::new(template, None, SlotEnv::new()))
     }
 
     /// The template that it is a link of; a static policy is its own.
@@ -135,10 +143,11 @@ impl Policy {
         &self.template
     }
 
-    /// The entities that the slots of its template are bound to: each slot's, and no other's.
+    /// The entities that the slots of its template are bound to: of a link each slot's, and no other's; of a
+    /// static policy none.
     pub fn env(&self) -> &SlotEnv
         ensures bindings { result.now ≡ bindings_of self.now }
-        ensures fills { binds_exactly (bindings_of self.now) (policy_syntax self.now) ≡ true }
+        ensures fills { ForSome (link_of self.now) (λ _. binds_exactly (bindings_of self.now) (policy_syntax self.now) ≡ true) }
     {
         &self.values
     }
@@ -160,6 +169,7 @@ impl Policy {
         ensures bindings { IfOk result (λ made. bindings_of made ≡ bindings_of self.now) }
         ensures link { IfOk result (λ made. is_some (link_of made) ≡ is_some (link_of self.now)) }
         ensures template { IfOk result (λ made. KeepsTemplate (link_of self.now) (policy_template self.now) (policy_template made)) }
+        ensures lists { IfOk result (λ made. listed_slots (policy_template made) ≡ listed_slots (policy_template self.now)) }
     {
         let values = self.values.clone(alloc)?;
         match &self.link {
@@ -179,7 +189,8 @@ impl Policy {
         template: Rc<Template>,
         id: PolicyID,
     ) -> Result<Policy, AllocError>
-        requires { syntax_of template.value ≡ policy_syntax self.now }
+        requires syntax { syntax_of template.value ≡ policy_syntax self.now }
+        requires link { IsSome (link_of self.now) }
         ensures { IfOk result (IsLink template.value id (bindings_of self.now)) }
     {
         let values = self.values.clone(alloc)?;
@@ -200,7 +211,7 @@ impl Policy {
     /// Whether it is no link.
     pub fn is_static(&self) -> bool
         ensures link { IsTrue result ↔ IsNone (link_of self.now) }
-        ensures own { ForNone (link_of self.now) (slots_of (policy_syntax self.now) ≡ []) }
+        ensures own { ForNone (link_of self.now) ((listed_slots (policy_template self.now) ≡ []) × (bindings_of self.now ≡ unbound)) }
     {
         self.link.is_none()
     }

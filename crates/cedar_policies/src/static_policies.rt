@@ -43,7 +43,7 @@ impl Drop for StaticPolicy {
 impl StaticPolicy {
     ghost use Rattle.cedar_policies.specs.StaticPolicies.{static_id, static_syntax, MakesStatic, TakesStatic};
 
-    /// The policy of these parts; refused for the first slot of the scope, or for memory.
+    /// The policy of these parts; refused for the first slot of the scope and the clauses, or for memory.
     pub fn new(
         alloc: Global,
         id: PolicyID,
@@ -253,9 +253,9 @@ impl FromIn<StaticPolicy> for Rc<Template> {
 
     ghost use Rattle.std.specs.Prelude.{IfOk};
     ghost use Rattle.cedar_policies.specs.StaticPolicies.{static_id, static_syntax};
-    ghost use Rattle.cedar_policies.specs.Templates.{template_id, syntax_of};
+    ghost use Rattle.cedar_policies.specs.Templates.{IsTemplate};
 
-    ghost from_in_gives = { λ policy result. IfOk result (λ made. (template_id made.value ≡ static_id policy) × (syntax_of made.value ≡ static_syntax policy)) };
+    ghost from_in_gives = { λ policy result. IfOk result (λ made. IsTemplate (static_id policy) (static_syntax policy) made.value) };
 
     fn from_in(alloc: Global, policy: StaticPolicy) -> Result<Rc<Template>, AllocError> {
         Ok(Rc::new(alloc, Template::from_body(alloc, policy.into_body())?)?)

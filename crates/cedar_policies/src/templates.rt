@@ -1,9 +1,9 @@
 // Templates.
-ghost use Rattle.std.specs.Prelude.{◌≡◌, [], ◌↔◌, IsTrue, IfOk, option_map};
+ghost use Rattle.std.specs.Prelude.{◌≡◌, [], ◌↔◌, IsTrue, IfOk, option_map, true};
 ghost use Rattle.std.specs.Option.{option_copied};
 ghost use Rattle.std.specs.Map.{lookup};
 ghost use Rattle.cedar_language.specs.Order.{same_text};
-ghost use Rattle.cedar_grammar.specs.Policy.{condition, slots as slots_of};
+ghost use Rattle.cedar_grammar.specs.Policy.{condition, scope_slots, slots as slots_of};
 ghost use Rattle.cedar_trees.specs.Bare.{bare};
 ghost use Rattle.cedar_policy_parts.specs.Effects.{effect_of};
 ghost use Rattle.cedar_policy_parts.specs.Actions.{action_of};
@@ -11,6 +11,7 @@ ghost use Rattle.cedar_policies.specs.Bodies.{body_id, body_syntax, shared_tree}
 ghost use Rattle.cedar_policies.specs.Slots.{slot_ids};
 
 use crate::bodies::TemplateBody;
+use crate::held_slots::held_slots;
 use cedar_literals::slots::Slot;
 use cedar_names::conversions::FromIn;
 use cedar_names::identifiers::AnyId;
@@ -24,14 +25,17 @@ use cedar_trees::expr::Expr;
 use std::alloc::{AllocError, Global};
 use std::rc::Rc;
 
-/// A policy with or without slots, under an id, and the slots of its scope. Contracts see the id through
-/// `template_id` and the rest, without places, through `syntax_of`. (Cedar language reference, "Policy
-/// templates".)
+/// A policy with or without slots, under an id. It lists the slots that its scope and its clauses hold; only one that
+/// was made of a clause alone lists none. Contracts see the id through `template_id`, what it lists through
+/// `listed_slots`, and the rest, without places, through `syntax_of`. (Cedar language reference, "Policy templates".)
 #[derive(Debug)]
 pub struct Template {
     body: TemplateBody,
+    // those that are held, listed or not
     slots: Vec<Slot>,
-    pub ghost lists_slots: { slot_ids slots.items ≡ slots_of (body_syntax body) },
+    unlisted: bool,
+    pub ghost holds_slots: { slot_ids slots.items ≡ slots_of (body_syntax body) },
+    pub ghost bare_scope: { unlisted ≡ true → scope_slots (body_syntax body) ≡ [] },
 }
 
 // Written by hand, so that a function which may return early lets go of a template by a call.
@@ -40,34 +44,55 @@ impl Drop for Template {
         let Template {
             body: _body,
             slots: _slots,
+            unlisted: _unlisted,
         } = self;
     }
 }
 
-// The slots of the scope, the principal's first.
-fn scope_slots(alloc: Global, body: &TemplateBody) -> Result<Vec<Slot>, AllocError>
-    ensures { IfOk result (λ slots. slot_ids slots.items ≡ slots_of (body_syntax body.now)) }
-{
-    let mut slots = Vec::new(alloc);
-    if let Some(slot) = body.principal_constraint().slot(alloc)? {
-        slots.push(slot)?;
-    }
-    if let Some(slot) = body.resource_constraint().slot(alloc)? {
-        slots.push(slot)?;
-    }
-    Ok(slots)
-}
-
 impl Template {
-    ghost use Rattle.cedar_policies.specs.Templates.{template_id, syntax_of};
+    ghost use Rattle.cedar_policies.specs.Templates.{template_id, syntax_of, listed_slots};
 
     /// The template with this body; refused for memory alone.
     pub fn from_body(alloc: Global, body: TemplateBody) -> Result<Template, AllocError>
         ensures id { IfOk result (λ made. template_id made ≡ body_id body) }
         ensures syntax { IfOk result (λ made. syntax_of made ≡ body_syntax body) }
+        ensures lists { IfOk result (λ made. listed_slots made ≡ slots_of (body_syntax body)) }
     {
-        let slots = scope_slots(alloc, &body)?;
-        Ok(Template { body, slots })
+        let slots = held_slots(alloc, &body)?;
+        Ok(Template {
+            body,
+            slots,
+            unlisted: false,
+        })
+    }
+
+    /// The same template, which lists its slots, also where it was made of a clause alone. Takes no memory.
+    pub fn listed(self) -> Template
+        ensures id { template_id result ≡ template_id self }
+        ensures syntax { syntax_of result ≡ syntax_of self }
+        ensures lists { listed_slots result ≡ slots_of (syntax_of self) }
+    {
+        let (body, slots) = self.into_parts();
+        Template {
+            body,
+            slots,
+            unlisted: false,
+        }
+    }
+
+    // The same template, whose scope has no slot, and which lists none.
+    pub(crate) fn unlisted(self) -> Template
+        requires { scope_slots (syntax_of self) ≡ [] }
+        ensures id { template_id result ≡ template_id self }
+        ensures syntax { syntax_of result ≡ syntax_of self }
+        ensures lists { listed_slots result ≡ [] }
+    {
+        let (body, slots) = self.into_parts();
+        Template {
+            body,
+            slots,
+            unlisted: true,
+        }
     }
 
     /// The template of these parts; refused for memory alone.
@@ -91,6 +116,7 @@ impl Template {
           resource = resource_constraint;
           body = option_map bare non_scope_constraint;
         }) }
+        ensures lists { IfOk result (λ made. listed_slots made ≡ slots_of (syntax_of made)) }
     {
         let body = TemplateBody::new(
             alloc,
@@ -127,6 +153,7 @@ impl Template {
           resource = resource_constraint;
           body = option_map shared_tree non_scope_constraint;
         }) }
+        ensures lists { IfOk result (λ made. listed_slots made ≡ slots_of (syntax_of made)) }
     {
         let body = TemplateBody::new_shared(
             id,
@@ -149,11 +176,12 @@ impl Template {
         &self.body
     }
 
-    /// Whether the slots that it lists are those of its scope: always.
+    /// Whether the slots that it lists are those of its scope and its clauses, as they are unless it was made of a
+    /// clause alone.
     pub fn check_invariant(&self) -> bool
-        ensures { IsTrue result }
+        ensures { IsTrue result ↔ (listed_slots self.now ≡ slots_of (syntax_of self.now)) }
     {
-        true
+        !self.unlisted || self.slots.is_empty()
     }
 
     /// The id.
@@ -167,16 +195,22 @@ impl Template {
     pub fn new_id(&self, alloc: Global, id: PolicyID) -> Result<Template, AllocError>
         ensures id { IfOk result (λ made. template_id made ≡ id) }
         ensures syntax { IfOk result (λ made. syntax_of made ≡ syntax_of self.now) }
+        ensures lists { IfOk result (λ made. listed_slots made ≡ listed_slots self.now) }
     {
-        Template::from_body(alloc, self.body.new_id(alloc, id)?)
+        Ok(Template {
+            body: self.body.new_id(alloc, id)?,
+            slots: self.slots.clone()?,
+            unlisted: self.unlisted,
+        })
     }
 
     /// A copy that shares its parts; refused for memory alone.
     pub fn clone(&self, alloc: Global) -> Result<Template, AllocError>
         ensures id { IfOk result (λ copy. template_id copy ≡ template_id self.now) }
         ensures syntax { IfOk result (λ copy. syntax_of copy ≡ syntax_of self.now) }
+        ensures lists { IfOk result (λ copy. listed_slots copy ≡ listed_slots self.now) }
     {
-        Template::from_body(alloc, self.body.clone(alloc)?)
+        self.new_id(alloc, self.id().clone()?)
     }
 
     /// Where it was read, if it was.
@@ -263,27 +297,43 @@ impl Template {
         self.body.condition(alloc)
     }
 
-    /// The slots of its scope, the principal's first; no slot stands twice, so there are two at the most.
+    /// The slots that it lists: those of its scope and its clauses, the principal's first. No slot stands twice, so
+    /// there are two at the most. Of one that was made of a clause alone none, whatever slots stand there.
     pub fn slots(&self) -> &[Slot]
+        ensures { slot_ids result.now ≡ listed_slots self.now }
+    {
+        if self.unlisted {
+            &[]
+        } else {
+            self.held_slots()
+        }
+    }
+
+    /// The slots of its scope and its clauses, also where it doesn't list them.
+    pub fn held_slots(&self) -> &[Slot]
         ensures { slot_ids result.now ≡ slots_of (syntax_of self.now) }
     {
         self.slots.as_slice()
     }
 
-    /// Whether it has no slot.
+    /// Whether it lists no slot.
     pub fn is_static(&self) -> bool
-        ensures { IsTrue result ↔ (slots_of (syntax_of self.now) ≡ []) }
+        ensures { IsTrue result ↔ (listed_slots self.now ≡ []) }
     {
-        self.slots.is_empty()
+        self.slots().is_empty()
     }
 
-    // Its body and its slots.
+    // Its body and the slots that it holds.
     pub(crate) fn into_parts(self) -> (TemplateBody, Vec<Slot>)
         ensures id { body_id result.0 ≡ template_id self }
         ensures syntax { body_syntax result.0 ≡ syntax_of self }
         ensures slots { slot_ids result.1.items ≡ slots_of (syntax_of self) }
     {
-        let Template { body, slots } = self;
+        let Template {
+            body,
+            slots,
+            unlisted: _,
+        } = self;
         (body, slots)
     }
 }
@@ -293,9 +343,9 @@ impl FromIn<TemplateBody> for Template {
 
     ghost use Rattle.std.specs.Prelude.{IfOk};
     ghost use Rattle.cedar_policies.specs.Bodies.{body_id, body_syntax};
-    ghost use Rattle.cedar_policies.specs.Templates.{template_id, syntax_of};
+    ghost use Rattle.cedar_policies.specs.Templates.{IsTemplate};
 
-    ghost from_in_gives = { λ body result. IfOk result (λ made. (template_id made ≡ body_id body) × (syntax_of made ≡ body_syntax body)) };
+    ghost from_in_gives = { λ body result. IfOk result (IsTemplate (body_id body) (body_syntax body)) };
 
     fn from_in(alloc: Global, body: TemplateBody) -> Result<Template, AllocError> {
         Template::from_body(alloc, body)

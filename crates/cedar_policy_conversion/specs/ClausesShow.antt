@@ -1,12 +1,6 @@
 -- Which kinds of faults the clauses of a policy show: one rule for a kind, at the node where it may be told.
-use Rattle.std.specs.Prelude.{◌≡◌, ◌≢◌, ◌⊎◌, List, [], ◌∷◌, Option, Some, None}
+use Rattle.std.specs.Prelude.{◌≡◌, ◌⊎◌, List, [], ◌∷◌, Option, Some, None}
 use Rattle.std.specs.Option.{option_map, unwrap_or}
-use Rattle.std.specs.Rc.{rc_str_bytes}
-use Rattle.std.specs.declared.alloc.Global.{Global}
-use Rattle.std.specs.declared.rc.RcStr.{RcStr}
-use Rattle.cedar_language.specs.Tree.{SlotId}
-use Rattle.cedar_literals.specs.Slots.{slot_text}
-use Rattle.cedar_grammar.specs.Token.{Word, spelled}
 use Rattle.cedar_grammar.specs.Names.{Names}
 use Rattle.cedar_grammar.specs.Loose as loose
 use Rattle.cedar_cst.specs.LeafView.{view_ident}
@@ -22,28 +16,15 @@ clause_word_shows i kinds.EmptyNodeInvariantViolation = i ≡ loose.missing_iden
 clause_word_shows i (kinds.InvalidCondition word) = (view_ident word ≡ i) × (clause_word i ≡ None)
 clause_word_shows i kind = ⊥
 
--- the slot of templates that a kind tells of, if any
-abbrev pub IsSlotTold : ToASTErrorKind → Option SlotId → Type 0
-IsSlotTold kind None = (text : RcStr Global) (id : SlotId) → kind ≡ kinds.InvalidSlot text → rc_str_bytes text ≢ slot_text id
-IsSlotTold kind (Some id) = (text : RcStr Global) × (kind ≡ kinds.InvalidSlot text) × (rc_str_bytes text ≡ slot_text id)
-
--- of what shows this in a clause that begins so: a template's slot is told of the clause
-abbrev pub in_clause_shows : Option Word → (ToASTErrorKind → Type 0) → ToASTErrorKind → Type 0
-in_clause_shows None shows kind = shows kind
-in_clause_shows (Some w) shows (kinds.SlotsInConditionClause s) =
-    shows (kinds.SlotsInConditionClause s) ⊎ (text : RcStr Global) × shows (kinds.InvalidSlot text) × (rc_str_bytes text ≡ slot_text s.slot.id) × (s.clause_type.now ≡ spelled w)
-in_clause_shows (Some w) shows (kinds.InvalidSlot text) = shows (kinds.InvalidSlot text) × ((id : SlotId) → rc_str_bytes text ≢ slot_text id)
-in_clause_shows (Some w) shows kind = shows kind
-
 -- of what stands between the braces of a clause that begins so, if anything does
-abbrev pub condition_shows : Names → Option Word → loose.Ident → Option loose.Expr → ToASTErrorKind → Type 0
-condition_shows names w i None (kinds.EmptyClause word) = unwrap_or (option_map view_ident word) loose.missing_ident ≡ i
-condition_shows names w i None kind = ⊥
-condition_shows names w i (Some e) kind = in_clause_shows w (expr_shows names e) kind
+abbrev pub condition_shows : Names → loose.Ident → Option loose.Expr → ToASTErrorKind → Type 0
+condition_shows names i None (kinds.EmptyClause word) = unwrap_or (option_map view_ident word) loose.missing_ident ≡ i
+condition_shows names i None kind = ⊥
+condition_shows names i (Some e) kind = expr_shows names e kind
 
 abbrev pub clause_shows : Names → loose.Cond → ToASTErrorKind → Type 0
 clause_shows names loose.missing_cond kind = missing_shows kind
-clause_shows names (loose.cond i e) kind = clause_word_shows i kind ⊎ condition_shows names (clause_word i) i e kind
+clause_shows names (loose.cond i e) kind = clause_word_shows i kind ⊎ condition_shows names i e kind
 
 abbrev pub clauses_show : Names → List loose.Cond → ToASTErrorKind → Type 0
 clauses_show names [] kind = ⊥

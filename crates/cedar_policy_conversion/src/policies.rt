@@ -1,15 +1,16 @@
-// Policies by whether they have slots.
+// Policies by whether they have slots: in their scope, or in their clauses.
 ghost use Rattle.std.specs.Prelude.{◌≡◌, Some, IfOk, IfErr};
 ghost use Rattle.std.specs.Option.{option_map};
 ghost use Rattle.cedar_grammar.specs.Converting.{policy_syntax};
+ghost use Rattle.cedar_grammar.specs.Policy.{slots};
 ghost use Rattle.cedar_cst.specs.View.{shown_policy};
 ghost use Rattle.cedar_policies.specs.StaticPolicies.{static_id, static_syntax};
-ghost use Rattle.cedar_policies.specs.Templates.{template_id, syntax_of};
+ghost use Rattle.cedar_policies.specs.Templates.{template_id, listed_slots, syntax_of};
 ghost use Rattle.cedar_conversion_leaves.specs.Converts.{and_then, Finds};
 ghost use Rattle.cedar_policy_set.specs.Texts.{text_entry};
 ghost use Rattle.cedar_conversion_leaves.specs.Telling.{TellsOnly};
 ghost use Rattle.cedar_policy_conversion.specs.Shows.{policy_shows, slots_show, static_policy_shows, template_shows};
-ghost use Rattle.cedar_policy_conversion.specs.Kinds.{without_slots, with_slots, entry_made, id_made};
+ghost use Rattle.cedar_policy_conversion.specs.Kinds.{without_slots, with_slots, entry_made, id_made, ListsSlots};
 
 use crate::PolicyError;
 use crate::templates::to_template;
@@ -44,7 +45,8 @@ fn as_static(
     }
 }
 
-/// A static policy under an id; a fault where it has a slot. (Cedar language reference, "Policies".)
+/// A static policy under an id; a fault where its scope or a clause has a slot. (Cedar language reference,
+/// "Policies".)
 pub fn to_policy(
     alloc: Global,
     node: &Node<Option<cst::Policy>>,
@@ -59,7 +61,8 @@ pub fn to_policy(
     as_static(alloc, node.loc(), template)
 }
 
-/// A template under an id; a fault where it has no slot. (Cedar language reference, "Policy templates".)
+/// A template under an id; a fault where neither its scope nor a clause has a slot. (Cedar language reference,
+/// "Policy templates".)
 pub fn to_policy_template(
     alloc: Global,
     node: &Node<Option<cst::Policy>>,
@@ -68,6 +71,7 @@ pub fn to_policy_template(
 ) -> Result<Template, PolicyError>
     ensures syntax { Finds syntax_of result (and_then (policy_syntax styles.now (shown_policy node.now)) with_slots) }
     ensures id { IfOk result (λ template. template_id template ≡ id) }
+    ensures lists { IfOk result (λ template. listed_slots template ≡ slots (syntax_of template)) }
     ensures shown { IfErr result (λ error. TellsOnly error (template_shows styles.now (shown_policy node.now))) }
 {
     let template = to_template(alloc, node, id, styles)?;
@@ -78,10 +82,12 @@ pub fn to_policy_template(
     Ok(template)
 }
 
-// The template as a static policy, where it has no slot.
+// The template, which lists its slots, as a static policy where it has none.
 fn sorted(template: Template) -> Either<StaticPolicy, Template>
+    requires { listed_slots template ≡ slots (syntax_of template) }
     ensures entry { entry_made result ≡ text_entry (syntax_of template) }
     ensures id { id_made result ≡ template_id template }
+    ensures lists { ListsSlots result }
 {
     if !template.is_static() {
         return Either::Right(template);
@@ -102,6 +108,7 @@ pub fn to_policy_or_template(
 ) -> Result<Either<StaticPolicy, Template>, PolicyError>
     ensures syntax { Finds entry_made result (option_map text_entry (policy_syntax styles.now (shown_policy node.now))) }
     ensures id { IfOk result (λ either. id_made either ≡ id) }
+    ensures lists { IfOk result ListsSlots }
     ensures shown { IfErr result (λ error. TellsOnly error (policy_shows styles.now (shown_policy node.now))) }
 {
     let template = to_template(alloc, node, id, styles)?;

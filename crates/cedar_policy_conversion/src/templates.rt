@@ -1,8 +1,9 @@
 // Policies with or without slots.
 ghost use Rattle.std.specs.Prelude.{◌≡◌, IfOk, IfErr};
 ghost use Rattle.cedar_grammar.specs.Converting.{policy_syntax};
+ghost use Rattle.cedar_grammar.specs.Policy.{slots};
 ghost use Rattle.cedar_cst.specs.View.{shown_policy, view_policy_impl};
-ghost use Rattle.cedar_policies.specs.Templates.{template_id, syntax_of};
+ghost use Rattle.cedar_policies.specs.Templates.{template_id, listed_slots, syntax_of};
 ghost use Rattle.cedar_conversion_leaves.specs.Converts.{Finds};
 ghost use Rattle.cedar_conversion_leaves.specs.Telling.{TellsOnly};
 ghost use Rattle.cedar_policy_conversion.specs.Parts.{parts_syntax};
@@ -71,6 +72,7 @@ fn template_of(
 ) -> Result<Template, AllocError>
     ensures id { IfOk result (λ made. template_id made ≡ id) }
     ensures syntax { IfOk result (λ made. syntax_of made ≡ parts_syntax parts) }
+    ensures lists { IfOk result (λ made. listed_slots made ≡ slots (syntax_of made)) }
 {
     Template::new(
         alloc,
@@ -85,8 +87,9 @@ fn template_of(
     )
 }
 
-/// A policy, with or without slots, under an id. The faults of all its parts are gathered: its annotations,
-/// its effect, its scope and its clauses. (Cedar language reference, "Policy syntax".)
+/// A policy, with or without slots, under an id. It lists the slots of its scope and its clauses. The faults of
+/// all its parts are gathered: its annotations, its effect, its scope and its clauses. (Cedar language
+/// reference, "Policy syntax".)
 #[tactic(auto, unfolding(cedar_grammar::specs::Converting::policy_syntax))]
 pub fn to_template(
     alloc: Global,
@@ -96,6 +99,7 @@ pub fn to_template(
 ) -> Result<Template, PolicyError>
     ensures syntax { Finds syntax_of result (policy_syntax styles.now (shown_policy node.now)) }
     ensures id { IfOk result (λ template. template_id template ≡ id) }
+    ensures lists { IfOk result (λ template. listed_slots template ≡ slots (syntax_of template)) }
     ensures shown { IfErr result (λ error. TellsOnly error (policy_shows styles.now (shown_policy node.now))) }
 {
     let Some(cst::Policy::Policy(policy)) = &node.node else {

@@ -38,7 +38,7 @@ impl fmt::Display for InvalidActionType {
 
 impl Error for InvalidActionType {}
 
-/// A slot stands in a clause.
+/// A slot stands in a clause. It may, so nothing tells this; callers may match on it still.
 #[derive(Debug, PartialEq, Eq, Drop, Error)]
 #[error("found template slot {} in a `{clause_type}` clause", .slot.id)]
 pub struct SlotsInConditionClause {

@@ -222,6 +222,15 @@ fn valid(alloc: Global, answer: Result<(), TemplateValidationError>) -> Answer {
     }
 }
 
+/// The slots that a template lists.
+fn listed_slots(alloc: Global, slots: &[Slot]) -> Answer {
+    let mut text = String::new(alloc);
+    for slot in slots {
+        write!(text, "{};", slot.id)?;
+    }
+    Ok(text)
+}
+
 /// What is asked of the template.
 pub fn ask(
     alloc: Global,
@@ -234,6 +243,8 @@ pub fn ask(
     };
     match case.verb {
         "id" => told(alloc, template.id()),
+        "slots" => listed_slots(alloc, template.slots()),
+        "lists-all" => said(alloc, template.check_invariant()),
         "condition" => show(alloc, template.condition(alloc)),
         "validate" => valid(alloc, template.try_validate(alloc, extensions)),
         "rename" => {
@@ -269,6 +280,15 @@ pub fn turn(alloc: Global, verb: &str, held: &mut Policies) -> Answer {
         "share" => keep(alloc, &mut held.shared, Rc::new(alloc, template)),
         _ => keep(alloc, &mut held.own, StaticPolicy::try_from(template)),
     }
+}
+
+/// A copy of the policy's template is the one at hand.
+pub fn lend(alloc: Global, held: &mut Policies) -> Answer {
+    let Some(policy) = &held.policy else {
+        return no_case(alloc);
+    };
+    let template = policy.template().clone(alloc);
+    keep(alloc, &mut held.template, template)
 }
 
 /// What was shared is made a policy, by its own id or by another one and bindings.
@@ -312,16 +332,22 @@ fn show_uids(alloc: Global, uids: Result<BTreeSet<EntityUID>, AllocError>) -> An
     Ok(text)
 }
 
-/// The link under the id `m` of the policy's template under the id `u`.
-fn relinked(alloc: Global, policy: &Policy) -> Result<Policy, AllocError> {
+/// The link under the id `m` of a link's template under the id `u`; none of a static policy.
+fn relinked(alloc: Global, policy: &Policy) -> Result<Option<Policy>, AllocError> {
+    if policy.is_static() {
+        return Ok(None);
+    }
     let id = PolicyID::from_string(alloc, "u")?;
     let template = Rc::new(alloc, policy.template().new_id(alloc, id)?)?;
-    policy.relink(alloc, template, PolicyID::from_string(alloc, "m")?)
+    let link = policy.relink(alloc, template, PolicyID::from_string(alloc, "m")?)?;
+    Ok(Some(link))
 }
 
-fn show_link(alloc: Global, link: Result<Policy, AllocError>) -> Answer {
-    let link = link?;
-    Ok(format!(in alloc; "{}: {link}", link.id())?)
+fn show_link(alloc: Global, link: Result<Option<Policy>, AllocError>) -> Answer {
+    match link? {
+        Some(link) => Ok(format!(in alloc; "{}: {link}", link.id())?),
+        None => no_case(alloc),
+    }
 }
 
 fn lent<T: AsStr>(alloc: Global, value: &T) -> Answer {
@@ -338,6 +364,7 @@ pub fn policy(alloc: Global, verb: &str, policy: Option<&Policy>) -> Answer {
         "id-text" => lent(alloc, policy.id()),
         "relink" => show_link(alloc, relinked(alloc, policy)),
         "is-static" => said(alloc, policy.is_static()),
+        "bindings" => told(alloc, policy.env()),
         "condition" => show(alloc, policy.condition(alloc)),
         "principal" => show(alloc, policy.principal_constraint(alloc)),
         "resource" => show(alloc, policy.resource_constraint(alloc)),

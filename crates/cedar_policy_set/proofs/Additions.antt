@@ -1,6 +1,6 @@
 -- What adding a policy does, and for which ids it isn't added.
 use Rattle.std.proofs.Common.{◌≡◌, Bool, true, false, not, ◌||◌, cond, [], ◌∷◌, ◌++◌, refl, sym, ap, subst, ◌∙◌, true≢false, Option, None, Some, is_some}
-use Rattle.std.specs.Option.{option_map_or, ForNone}
+use Rattle.std.specs.Option.{option_map_or, ForNone, ForSome}
 use Rattle.std.specs.List.{list_any}
 use Rattle.std.specs.Map.{keys_of}
 use Rattle.std.proofs.lemmas.List.{append_assoc, map-append}
@@ -8,7 +8,7 @@ use Rattle.std.proofs.lemmas.List.Folds.{list_any-append}
 use Rattle.std.proofs.lemmas.Map.Made.{is_some-lookup}
 use Rattle.cedar_language.specs.Uid.{Text}
 use Rattle.cedar_language.specs.Order.{same_text}
-use Rattle.cedar_grammar.specs.Policy.{Policy, slots}
+use Rattle.cedar_grammar.specs.Policy.{Policy, scope_slots}
 use Rattle.cedar_world.specs.Syntax.{Bindings}
 use Rattle.cedar_world.specs.Refusals.{binds_exactly}
 use Rattle.cedar_policy_set.specs.Entries.{Entry, static_policy, template, link, Entries, bound_at, is_bound, IsFull, IsWhole}
@@ -18,9 +18,9 @@ use Rattle.cedar_policy_set.specs.Refused.{taken, in_the_way, lacks_template, ad
 use Rattle.cedar_policy_set.proofs.Finding.{id_itself, none_from, some_apart, found_later}
 use Rattle.cedar_policy_set.proofs.Wholes.{whole_push}
 
-pub full_entry : (o : Option Text) (t : Text) (s : Policy) (b : Bindings) → ForNone o (slots s ≡ []) → binds_exactly b s ≡ true → IsFull (entry_by o t s b)
+pub full_entry : (o : Option Text) (t : Text) (s : Policy) (b : Bindings) → ForNone o (scope_slots s ≡ []) → ForSome o (λ _. binds_exactly b s ≡ true) → IsFull (entry_by o t s b)
 full_entry None t s b own fills = own refl
-full_entry (Some id) t s b own fills = fills
+full_entry (Some id) t s b own fills = fills id refl
 
 pub free_from : (es : Entries) (id : Text) → taken es id ≡ None → bound_at es id ≡ None
 free_from es id h = none_from (bound_at es id) (by (is_bound es id) h)

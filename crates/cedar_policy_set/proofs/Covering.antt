@@ -1,16 +1,13 @@
 -- What an index of scopes covers of a set stays covered when ids are bound behind it, and more is covered in turn.
-use Rattle.std.proofs.Common.{◌≡◌, ◌≢◌, ◌⊎◌, inl, inr, ℕ, suc, zero, ◌+◌, ◌<◌, ◌≤◌, true, false, ◌&&◌, List, [], ◌∷◌, ◌++◌, length, refl, sym, ap, subst, ◌∙◌, Option, None, Some, is_some, arith}
-use Rattle.std.specs.List.{slice_get, list_any}
+use Rattle.std.proofs.Common.{◌≡◌, ◌≢◌, ◌⊎◌, inl, inr, ℕ, suc, zero, ◌+◌, ◌<◌, ◌≤◌, true, false, List, [], ◌∷◌, ◌++◌, length, refl, sym, ap, subst, ◌∙◌, Option, None, Some, arith}
+use Rattle.std.specs.List.{slice_get}
 use Rattle.std.specs.Option.{ForNone, option_map}
 use Rattle.std.proofs.lemmas.Option.{slice_get-map, slice_get_within}
 use Rattle.std.proofs.Math.Dec.{eqb}
 use Rattle.std.proofs.lemmas.Bool.Decides.{eqb_tells}
-use Rattle.cedar_language.specs.Uid.{Text, Uid}
-use Rattle.cedar_language.specs.Tree.{PrincipalSlot, ResourceSlot}
+use Rattle.cedar_language.specs.Uid.{Text}
 use Rattle.cedar_grammar.specs.Policy as grammar
-use Rattle.cedar_grammar.specs.Policy.{slots}
-use Rattle.cedar_world.specs.Syntax.{Bindings, is_slot}
-use Rattle.cedar_world.specs.Refusals.{same_flag, binds_exactly}
+use Rattle.cedar_world.specs.Syntax.{Bindings}
 use Rattle.cedar_policy_parts.specs.Bindings.{unbound}
 use Rattle.cedar_policies.specs.Policies.{policy_template, policy_syntax, link_of, bindings_of}
 use Rattle.cedar_policies.specs.declared.policies.Policy.{Policy}
@@ -82,19 +79,10 @@ covers_entry es x y id b covers kept more at found =
 
 -- ---- a policy as an entry
 
-both_none : (o q : Option Uid) → (same_flag (is_some o) false && same_flag (is_some q) false) ≡ true → record { principal = o; resource = q } ≡ unbound
-both_none None None h = refl
-both_none None (Some v) h = absurd (cc h)
-both_none (Some u) q h = absurd (cc h)
-
-nothing_bound : (s : grammar.Policy) (b : Bindings) → slots s ≡ [] → binds_exactly b s ≡ true → b ≡ unbound
-nothing_bound s b none fills =
-    both_none b.principal b.resource (sym (ap (λ ss. same_flag (is_some b.principal) (list_any (is_slot PrincipalSlot) ss) && same_flag (is_some b.resource) (list_any (is_slot ResourceSlot) ss)) none) ∙ fills)
-
-entered : (x : ScopeIndex) (n : ℕ) (o : Option Text) (t : Text) (s : grammar.Policy) (b : Bindings) → ForNone o (slots s ≡ []) → binds_exactly b s ≡ true → IsFound x n b s → IsEntryFound x n (entry_by o t s b)
-entered x n None t s b own fills found = subst (λ a. IsFound x n a s) (nothing_bound s b (own refl) fills) found
-entered x n (Some id) t s b own fills found = found
+entered : (x : ScopeIndex) (n : ℕ) (o : Option Text) (t : Text) (s : grammar.Policy) (b : Bindings) → ForNone o (b ≡ unbound) → IsFound x n b s → IsEntryFound x n (entry_by o t s b)
+entered x n None t s b own found = subst (λ a. IsFound x n a s) (own refl) found
+entered x n (Some id) t s b own found = found
 
 -- a policy that is found by its entities and its syntax is found as an entry
 pub found_entered : (x : ScopeIndex) (n : ℕ) (p : Policy) → IsFound x n (bindings_of p) (policy_syntax p) → IsEntryFound x n (policy_entry p)
-found_entered x n p found = entered x n (link_of p) (template_id (policy_template p)) (policy_syntax p) (bindings_of p) p.own p.fills found
+found_entered x n p found = entered x n (link_of p) (template_id (policy_template p)) (policy_syntax p) (bindings_of p) (λ e. (p.own e).1) found

@@ -2,7 +2,7 @@
 use Rattle.std.proofs.Common.{◌≡◌, ◌≢◌, ℕ, true, false, List, [], ◌∷◌, ◌++◌, refl, sym, ap, subst, ◌∙◌, Option, None, Some, is_some}
 use Rattle.std.specs.List.{IsDistinct}
 use Rattle.std.specs.Option.{option_map}
-use Rattle.std.specs.Map.{lookup, keys_of, remove_entry}
+use Rattle.std.specs.Map.{lookup, keys_of, values_of, remove_entry}
 use Rattle.indexmap.specs.IndexMap.{insert_entry, insert_all}
 use Rattle.indexmap.proofs.MapLemmas.{absent_from_lookup, insert_entry-absent}
 use Rattle.cedar_language.specs.Uid.{Text}
@@ -12,18 +12,18 @@ use Rattle.cedar_world.specs.PolicyEdits.{numbered}
 use Rattle.cedar_scope_index.specs.declared.index.ScopeIndex.{ScopeIndex}
 use Rattle.cedar_policy_set.specs.Entries.{template, Entries, bound_at, without, HasItsTemplate, IsFull, IsWhole, has_links}
 use Rattle.cedar_policy_set.specs.declared.bounds.Bound.{Bound}
-use Rattle.cedar_policy_set.specs.Bounds.{entry_of, bound_id, entries_of, IsNamed, IsSound}
+use Rattle.cedar_policy_set.specs.Bounds.{entry_of, bound_id, entries_of, IsNamed, ListsSlots, ListTheirSlots, IsSound}
 use Rattle.cedar_policy_set.specs.Numbers.{Counts, AreBound}
 use Rattle.cedar_policy_set.specs.declared.numbers.Numbers.{Numbers}
 use Rattle.cedar_policy_set.specs.Scopes.{Covers}
 use Rattle.cedar_policy_set.proofs.Appending.{insert_all_apart}
 use Rattle.cedar_policy_set.proofs.Covering.{covers_more}
 use Rattle.cedar_policy_set.proofs.Counting.{counts_more, counts_without}
-use Rattle.cedar_policy_set.proofs.Views.{named_push, named_append, named_without, found_entry, keys_of_entries, entries_append, entries_without}
+use Rattle.cedar_policy_set.proofs.Views.{named_push, named_append, named_without, listed_push, listed_append, listed_without, found_entry, keys_of_entries, entries_append, entries_without}
 use Rattle.cedar_policy_set.proofs.Wholes.{empty_is_whole, whole_push, whole_without}
 
 pub sound_empty : (es : List (Text × Bound)) → es ≡ [] → IsSound es
-sound_empty es e = subst IsSound (sym e) (record { named = refl; whole = empty_is_whole })
+sound_empty es e = subst IsSound (sym e) (record { named = refl; listed = tt; whole = empty_is_whole })
 
 unmapped : (o : Option Bound) → option_map entry_of o ≡ None → o ≡ None
 unmapped None h = refl
@@ -50,10 +50,11 @@ module _ (es new : List (Text × Bound)) (seen : Entries) (view : entries_of es 
     pub covers_bind : (x : ScopeIndex) → Covers (entries_of es) x → Covers (entries_of new) x
     covers_bind x h = subst (λ xs. Covers xs x) (sym bind_is) (covers_more seen ((id, entry_of b) ∷ []) x (subst (λ xs. Covers xs x) view h))
 
-    pub sound_bind : bound_id b ≡ id → HasItsTemplate seen (entry_of b) → IsFull (entry_of b) → IsSound new
-    sound_bind named its full =
+    pub sound_bind : bound_id b ≡ id → ListsSlots b → HasItsTemplate seen (entry_of b) → IsFull (entry_of b) → IsSound new
+    sound_bind named listed its full =
         record {
           named = subst IsNamed (sym pushed) (named_push es id b sound.named named);
+          listed = subst (λ xs. ListTheirSlots (values_of xs)) (sym pushed) (listed_push es id b sound.listed listed);
           whole = subst IsWhole (sym bind_is) (whole_push seen id (entry_of b) free (subst IsWhole view sound.whole) its full);
         }
 
@@ -77,10 +78,11 @@ module _ (es new : List (Text × Bound)) (seen : Entries) (view : entries_of es 
     pub covers_append : (x : ScopeIndex) → Covers (entries_of es) x → Covers (entries_of new) x
     covers_append x h = subst (λ xs. Covers xs x) (sym append_is) (covers_more seen (entries_of more) x (subst (λ xs. Covers xs x) view h))
 
-    pub sound_append : IsNamed more → IsSound new
-    sound_append named =
+    pub sound_append : IsNamed more → ListTheirSlots (values_of more) → IsSound new
+    sound_append named listed =
         record {
           named = subst IsNamed (sym joined_is) (named_append es more sound.named named);
+          listed = subst (λ xs. ListTheirSlots (values_of xs)) (sym joined_is) (listed_append es more sound.listed listed);
           whole = subst IsWhole (sym append_is) whole;
         }
 
@@ -96,6 +98,7 @@ module _ (es new : List (Text × Bound)) (seen : Entries) (view : entries_of es 
     sound_without distinct unlinked =
         record {
           named = subst IsNamed (sym is) (named_without (same_text id) es sound.named);
+          listed = subst (λ xs. ListTheirSlots (values_of xs)) (sym is) (listed_without (same_text id) es sound.listed);
           whole = subst IsWhole (sym without_is)
               (whole_without seen id (subst IsWhole view sound.whole) unlinked (subst (IsDistinct same_text) (sym (keys_of_entries new) ∙ ap keys_of without_is) distinct));
         }

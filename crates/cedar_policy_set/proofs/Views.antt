@@ -1,5 +1,5 @@
 -- What the map of a policy set holds, and what contracts see of it.
-use Rattle.std.proofs.Common.{◌≡◌, ℕ, zero, suc, Bool, true, false, cond, List, [], ◌∷◌, ◌++◌, map, refl, sym, ap, ◌∙◌, Option, None, Some, is_some}
+use Rattle.std.proofs.Common.{◌≡◌, ℕ, zero, suc, Bool, true, false, cond, List, [], ◌∷◌, ◌++◌, map, refl, sym, ap, subst, ◌∙◌, Option, None, Some, is_some}
 use Rattle.std.specs.Option.{option_map, option_map_or, option_copied}
 use Rattle.std.specs.List.{slice_get}
 use Rattle.std.specs.Prelude.{IfSome, if◌then◌else◌}
@@ -13,7 +13,7 @@ use Rattle.cedar_language.specs.Order.{same_text}
 use Rattle.cedar_policy_set.specs.Entries.{bound_at, without, is_policy}
 use Rattle.cedar_policy_set.specs.Scopes.{policy_stood}
 use Rattle.cedar_policy_set.specs.declared.bounds.Bound.{Bound}
-use Rattle.cedar_policy_set.specs.Bounds.{entry_of, bound_id, entries_of, seen, IsNamed}
+use Rattle.cedar_policy_set.specs.Bounds.{entry_of, bound_id, entries_of, seen, IsNamed, ListsSlots, ListTheirSlots}
 use Rattle.cedar_policy_set.proofs.Finding.{same_id, some_apart, remove_entry-map}
 
 abbrev first_of : {X : Type 0} → X → List X → X
@@ -52,6 +52,24 @@ named_without test (e ∷ es) h = by (test e.0) (named_without test es (tail_nam
     by : (c : Bool) → IsNamed (remove_entry test es) → IsNamed (cond c es (e ∷ remove_entry test es))
     by true rest = tail_named e es h
     by false rest = (λ i. head_named e es h i ∷ rest i)
+
+all_append : (bs more : List Bound) → ListTheirSlots bs → ListTheirSlots more → ListTheirSlots (bs ++ more)
+all_append [] more h k = k
+all_append (b ∷ bs) more h k = (h.0, all_append bs more h.1 k)
+
+pub listed_append : (es more : List (Text × Bound)) → ListTheirSlots (values_of es) → ListTheirSlots (values_of more) → ListTheirSlots (values_of (es ++ more))
+listed_append es more h k = subst ListTheirSlots (sym (map-append (λ e. e.1) es more)) (all_append (values_of es) (values_of more) h k)
+
+pub listed_push : (es : List (Text × Bound)) (id : Text) (b : Bound) → ListTheirSlots (values_of es) → ListsSlots b → ListTheirSlots (values_of (es ++ (id, b) ∷ []))
+listed_push es id b h k = listed_append es ((id, b) ∷ []) h (k, tt)
+
+pub listed_without : (test : Text → Bool) (es : List (Text × Bound)) → ListTheirSlots (values_of es) → ListTheirSlots (values_of (remove_entry test es))
+listed_without test [] h = tt
+listed_without test (e ∷ es) h = by (test e.0) (listed_without test es h.1)
+  where
+    by : (c : Bool) → ListTheirSlots (values_of (remove_entry test es)) → ListTheirSlots (values_of (cond c es (e ∷ remove_entry test es)))
+    by true rest = h.1
+    by false rest = (h.0, rest)
 
 -- the values, each under its own id, are the entries
 pub seen_values : (es : List (Text × Bound)) → IsNamed es → seen (values_of es) ≡ entries_of es

@@ -1,10 +1,11 @@
 -- What a policy set holds at an id, as contracts see it.
-use Rattle.std.specs.Prelude.{◌≡◌, List, map, Option, Some, None}
-use Rattle.std.specs.Map.{keys_of}
+use Rattle.std.specs.Prelude.{◌≡◌, ⊤, List, map, Option, Some, None}
+use Rattle.std.specs.List.{AllByRecursion}
+use Rattle.std.specs.Map.{keys_of, values_of}
 use Rattle.cedar_language.specs.Uid.{Text}
 use Rattle.cedar_grammar.specs.Policy as grammar
 use Rattle.cedar_world.specs.Syntax.{Bindings}
-use Rattle.cedar_policies.specs.Templates.{template_id, syntax_of}
+use Rattle.cedar_policies.specs.Templates.{template_id, syntax_of, listed_slots}
 use Rattle.cedar_policies.specs.Policies.{policy_template, policy_syntax, link_of, bindings_of, policy_id}
 use Rattle.cedar_policies.specs.declared.templates.Template.{Template as ATemplate}
 use Rattle.cedar_policies.specs.declared.policies.Policy.{Policy as APolicy}
@@ -49,7 +50,16 @@ seen bs = map (λ b. (bound_id b, entry_of b)) bs
 abbrev pub IsNamed : List (Text × Bound) → Type 0
 IsNamed es = map (λ e. bound_id e.1) es ≡ keys_of es
 
--- each stands under its own id, and the set is whole
+-- a template of a set lists its slots, also where it was made of a clause
+abbrev pub ListsSlots : Bound → Type 0
+ListsSlots (Policy p) = ⊤
+ListsSlots (Template t) = listed_slots t.value ≡ grammar.slots (syntax_of t.value)
+
+abbrev pub ListTheirSlots : List Bound → Type 0
+ListTheirSlots bs = AllByRecursion ListsSlots bs
+
+-- each stands under its own id, each template lists its slots, and the set is whole
 pub record IsSound (es : List (Text × Bound)) : Type 0 where
   pub named : IsNamed es
+  pub listed : ListTheirSlots (values_of es)
   pub whole : IsWhole (entries_of es)

@@ -4,7 +4,7 @@ use Rattle.std.specs.Map.{lookup, remove_entry, keys_of}
 use Rattle.std.specs.List.{IsDistinct, list_any, filter_map}
 use Rattle.cedar_language.specs.Uid.{Text}
 use Rattle.cedar_language.specs.Order.{same_text}
-use Rattle.cedar_grammar.specs.Policy.{Policy, slots}
+use Rattle.cedar_grammar.specs.Policy.{Policy, scope_slots}
 use Rattle.cedar_world.specs.Syntax.{Bindings, is_template}
 use Rattle.cedar_world.specs.Refusals.{binds_exactly}
 
@@ -39,13 +39,14 @@ HasItsTemplate es (static_policy s) = Unit {0}
 HasItsTemplate es (template s) = Unit {0}
 HasItsTemplate es (link t s b) = HasTemplate es t s
 
--- a static policy has no slot, and a link gives exactly the slots of its template
+-- a static policy has no slot in its scope, and a link gives exactly the slots of its template
 abbrev pub IsFull : Entry → Type 0
-IsFull (static_policy s) = slots s ≡ []
+IsFull (static_policy s) = scope_slots s ≡ []
 IsFull (template s) = Unit {0}
 IsFull (link t s b) = binds_exactly b s ≡ true
 
--- No id stands twice; each link names a bound template, and gives exactly its slots; a static policy has none.
+-- No id stands twice; each link names a bound template, and gives exactly its slots; a static policy has none in its scope,
+-- but may hold one in a clause, where it was made of that clause.
 pub record IsWhole (es : Entries) : Type 0 where
   pub distinct : IsDistinct same_text (keys_of es)
   pub templates : (id : Text) (e : Entry) → bound_at es id ≡ Some e → HasItsTemplate es e
@@ -98,10 +99,11 @@ abbrev pub own_template_at : Option Entry → Option Policy
 own_template_at None = None
 own_template_at (Some e) = own_template e
 
--- the same, where it has slots
-abbrev pub slotted : Option Policy → Option Policy
-slotted None = None
-slotted (Some s) = if is_template s then Some s else None
+-- a template that has slots
+abbrev pub slotted_template : Entry → Option Policy
+slotted_template (static_policy s) = None
+slotted_template (template s) = if is_template s then Some s else None
+slotted_template (link t s b) = None
 
 -- beside its id
 abbrev pub named : Text → Option Policy → Option (Text × Policy)
@@ -120,7 +122,7 @@ abbrev pub templates_of : Entries → List (Text × Policy)
 templates_of es = filter_map (λ e. named e.0 (own_template e.1)) es
 
 abbrev pub slotted_templates_of : Entries → List (Text × Policy)
-slotted_templates_of es = filter_map (λ e. named e.0 (slotted (own_template e.1))) es
+slotted_templates_of es = filter_map (λ e. named e.0 (slotted_template e.1)) es
 
 -- the ids of the links of a template; that of a static policy, which is its own
 abbrev pub links_of : Text → Entries → List Text

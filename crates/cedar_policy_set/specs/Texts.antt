@@ -1,5 +1,5 @@
 -- The policies of a text as entries of a policy set, and what a set has of them. (Cedar language reference, "Policies".)
-use Rattle.std.specs.Prelude.{◌≡◌, ℕ, suc, true, not, List, [], ◌∷◌, Some, if◌then◌else◌}
+use Rattle.std.specs.Prelude.{◌≡◌, ℕ, suc, true, false, not, List, [], ◌∷◌, Some, if◌then◌else◌}
 use Rattle.cedar_language.specs.Tree.{Tree}
 use Rattle.cedar_language.specs.Uid.{Text}
 use Rattle.cedar_grammar.specs.Calls.{calls_only}
@@ -17,9 +17,10 @@ abbrev pub text_entries : ℕ → List Policy → Entries
 text_entries i [] = []
 text_entries i (s ∷ ss) = (numbered i, text_entry s) ∷ text_entries (suc i) ss
 
--- each template has slots
-abbrev pub HaveSlots : Entries → Type 0
-HaveSlots es = (id : Text) (s : Policy) → bound_at es id ≡ Some (template s) → is_template s ≡ true
+-- what isn't a link is a template where it has slots, and a static policy where it has none
+pub record AreToldBySlots (es : Entries) : Type 0 where
+  pub templates : (id : Text) (s : Policy) → bound_at es id ≡ Some (template s) → is_template s ≡ true
+  pub policies : (id : Text) (s : Policy) → bound_at es id ≡ Some (static_policy s) → is_template s ≡ false
 
 -- the syntax of a policy or template; of a link, that of its template
 abbrev pub syntax_in : Entry → Policy

@@ -1,5 +1,6 @@
 -- Whether what a policy set binds is valid. (Cedar language reference, "Policy templates".)
-use Rattle.std.specs.Prelude.{◌≡◌, ◌≢◌, ◌⊎◌, ⊤, [], ◌∷◌, Result, Ok, Err}
+use Rattle.std.specs.Prelude.{◌≡◌, ◌≢◌, ◌⊎◌, ⊤, List, [], ◌∷◌, Result, Ok, Err}
+use Rattle.cedar_language.specs.Tree.{SlotId}
 use Rattle.cedar_language.specs.Uid.{Text}
 use Rattle.cedar_grammar.specs.Policy.{Policy, slots}
 use Rattle.cedar_extensions.specs.Table.{Table}
@@ -19,12 +20,12 @@ refused_for error = Err error
 abbrev pub accepted : Result Unit PolicySetValidationError
 accepted = Ok tt
 
--- the template is valid, or is refused for why it isn't
-abbrev pub ValidatesTemplate : {A : Type 0} → Table → Text → Policy → Result A PolicySetValidationError → Type 0
-ValidatesTemplate table id s (Ok a) = Validates table s (Ok a)
-ValidatesTemplate table id s (Err (InvalidTemplate i error)) = (i ≡ id) × Validates table s (refused_by error)
-ValidatesTemplate table id s (Err (LinkToSlotlessTemplate i)) = ⊥
-ValidatesTemplate table id s (Err (Memory e)) = ⊤
+-- the template, which lists these slots, is valid, or is refused for why it isn't
+abbrev pub ValidatesTemplate : {A : Type 0} → Table → Text → List SlotId → Policy → Result A PolicySetValidationError → Type 0
+ValidatesTemplate table id listed s (Ok a) = Validates table listed s (Ok a)
+ValidatesTemplate table id listed s (Err (InvalidTemplate i error)) = (i ≡ id) × Validates table listed s (refused_by error)
+ValidatesTemplate table id listed s (Err (LinkToSlotlessTemplate i)) = ⊥
+ValidatesTemplate table id listed s (Err (Memory e)) = ⊤
 
 -- the link is of a template with slots, or is refused
 abbrev pub ValidatesLink : {A : Type 0} → Text → Policy → Result A PolicySetValidationError → Type 0
@@ -33,9 +34,10 @@ ValidatesLink id s (Err (InvalidTemplate i error)) = ⊥
 ValidatesLink id s (Err (LinkToSlotlessTemplate i)) = (i ≡ id) × (slots s ≡ [])
 ValidatesLink id s (Err (Memory e)) = ⊤
 
+-- a static policy lists no slot, and a template those that it has
 abbrev pub ValidatesOne : {A : Type 0} → Table → Text → Entry → Result A PolicySetValidationError → Type 0
-ValidatesOne table id (static_policy s) r = ValidatesTemplate table id s r
-ValidatesOne table id (template s) r = ValidatesTemplate table id s r
+ValidatesOne table id (static_policy s) r = ValidatesTemplate table id [] s r
+ValidatesOne table id (template s) r = ValidatesTemplate table id (slots s) s r
 ValidatesOne table id (link t s b) r = ValidatesLink id s r
 
 abbrev pub StopsAtInvalid : {A : Type 0} → Table → Text × Entry → Result A PolicySetValidationError → Type 0

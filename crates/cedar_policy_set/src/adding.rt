@@ -1,12 +1,14 @@
 // Adding policies and templates.
 ghost use Rattle.std.specs.Prelude.{◌≡◌, [], ◌∷◌, ◌++◌, IfOk, IfErr, OnOk, OnErr, None, Some, true, false, map};
+ghost use Rattle.std.specs.Map.{values_of};
 ghost use Rattle.std.specs.Option.{option_copied};
 ghost use Rattle.cedar_language.specs.Order.{same_text};
-ghost use Rattle.cedar_policies.specs.Templates.{template_id, syntax_of};
+ghost use Rattle.cedar_grammar.specs.Policy.{slots as slots_of};
+ghost use Rattle.cedar_policies.specs.Templates.{template_id, syntax_of, listed_slots};
 ghost use Rattle.cedar_policies.specs.StaticPolicies.{static_id, static_syntax};
 ghost use Rattle.cedar_policies.specs.Policies.{policy_id, policy_template, policy_syntax};
 ghost use Rattle.cedar_policy_set.specs.Entries.{static_policy, template as a_template, IsFull};
-ghost use Rattle.cedar_policy_set.specs.Bounds.{policy_entry, policy_seen, entries_of, IsNamed};
+ghost use Rattle.cedar_policy_set.specs.Bounds.{policy_entry, policy_seen, entries_of, IsNamed, ListTheirSlots};
 ghost use Rattle.cedar_policy_set.specs.Refused.{IsOccupied, taken, in_the_way, lacks_template, added, AddsAll};
 
 use crate::bounds::{Bound, is_link};
@@ -22,8 +24,8 @@ use std::alloc::{AllocError, Global};
 use std::rc::Rc;
 
 impl PolicySet {
-    /// Binds the id of a template; refused where it is bound, also to an equal one, or for memory. A
-    /// refused call changes nothing.
+    /// Binds the id of a template, which lists its slots here, also where it was made of a clause. Refused
+    /// where the id is bound, also to an equal one, or for memory. A refused call changes nothing.
     pub fn add_template(&mut self, alloc: Global, template: Template) -> Result<(), PolicySetError>
         ensures added { OnOk result (self.new ≡ self.old ++ (template_id template, a_template (syntax_of template)) ∷ []) }
         ensures free { OnOk result (taken self.old (template_id template) ≡ None) }
@@ -34,7 +36,8 @@ impl PolicySet {
         if self.is_bound(&id) {
             return Err(PolicySetError::Occupied { id });
         }
-        self.bind(id, Bound::Template(Rc::new(alloc, template)?))?;
+        let template = Rc::new(alloc, template.listed())?;
+        self.bind(id, Bound::Template(template))?;
         Ok(())
     }
 
@@ -139,6 +142,7 @@ impl PolicySet {
 // A policy under its id.
 fn alone(alloc: Global, policy: Policy) -> Result<IndexMap<PolicyID, Bound>, AllocError>
     ensures named { IfOk result (λ more. IsNamed more.entries) }
+    ensures listed { IfOk result (λ more. ListTheirSlots (values_of more.entries)) }
     ensures policy { IfOk result (λ more. entries_of more.entries ≡ policy_seen policy ∷ []) }
 {
     let mut more = IndexMap::new(alloc);
@@ -150,10 +154,25 @@ fn alone(alloc: Global, policy: Policy) -> Result<IndexMap<PolicyID, Bound>, All
 fn with_its_template(alloc: Global, link: Policy) -> Result<IndexMap<PolicyID, Bound>, AllocError>
     requires { same_text (policy_id link) (template_id (policy_template link)) ≡ false }
     ensures named { IfOk result (λ more. IsNamed more.entries) }
+    ensures listed { IfOk result (λ more. ListTheirSlots (values_of more.entries)) }
     ensures both { IfOk result (λ more. entries_of more.entries ≡ (template_id (policy_template link), a_template (policy_syntax link)) ∷ policy_seen link ∷ []) }
 {
     let mut more = IndexMap::new(alloc);
-    Bound::Template(link.template_arc().clone()?).insert_into(&mut more)?;
+    let template = listed(alloc, link.template_arc())?;
+    Bound::Template(template).insert_into(&mut more)?;
     Bound::Policy(link).insert_into(&mut more)?;
     Ok(more)
+}
+
+// The template, or a copy that lists its slots where it doesn't.
+fn listed(alloc: Global, template: &Rc<Template>) -> Result<Rc<Template>, AllocError>
+    ensures id { IfOk result (λ made. template_id made.value ≡ template_id template.now.value) }
+    ensures syntax { IfOk result (λ made. syntax_of made.value ≡ syntax_of template.now.value) }
+    ensures lists { IfOk result (λ made. listed_slots made.value ≡ slots_of (syntax_of template.now.value)) }
+{
+    if template.check_invariant() {
+        return Ok(template.clone()?);
+    }
+    let copy = template.as_ref().clone(alloc)?;
+    Ok(Rc::new(alloc, copy.listed())?)
 }

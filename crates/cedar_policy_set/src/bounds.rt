@@ -4,7 +4,7 @@ ghost use Rattle.std.specs.Option.{option_copied};
 ghost use Rattle.std.specs.Map.{lookup};
 ghost use Rattle.cedar_language.specs.Order.{same_text};
 ghost use Rattle.cedar_policies.specs.Templates.{template_id, syntax_of};
-ghost use Rattle.cedar_policy_set.specs.Entries.{template as a_template, IsFull, is_link, is_link_to, is_of_template, is_policy, is_static, own_template, slotted, named};
+ghost use Rattle.cedar_policy_set.specs.Entries.{template as a_template, IsFull, is_link, is_link_to, is_of_template, is_policy, is_static, own_template, slotted_template, named};
 ghost use Rattle.cedar_policy_set.specs.EntryNodes.{same_entry};
 ghost use Rattle.cedar_policy_set.specs.Bounds.{policy_entry, link_entry, policy_seen, template_seen};
 
@@ -150,15 +150,13 @@ impl Bound {
         }
     }
 
-    // The template, or that of a static policy, where it has slots.
+    // The template, where it is one and has slots.
     pub(crate) fn slotted_template(&self) -> Option<&Rc<Template>>
-        ensures { option_map (λ t. template_seen t.value) (option_copied result) ≡ named (bound_id self.now) (slotted (own_template (entry_of self.now))) }
+        ensures { option_map (λ t. template_seen t.value) (option_copied result) ≡ named (bound_id self.now) (slotted_template (entry_of self.now)) }
     {
-        let template = self.own_template()?;
-        if template.is_static() {
-            None
-        } else {
-            Some(template)
+        match self {
+            Bound::Template(template) if !template.held_slots().is_empty() => Some(template),
+            _ => None,
         }
     }
 
@@ -199,6 +197,5 @@ pub(crate) fn is_link(policy: &Policy) -> bool
     ensures link { result ≡ is_link (policy_entry policy.now) }
     ensures full { IsFull (policy_entry policy.now) }
 {
-    let _values = policy.env();
     !policy.is_static()
 }

@@ -1,5 +1,6 @@
 // The policy set as one map from ids.
 ghost use Rattle.std.specs.Prelude.{◌≡◌, ◌↔◌, ◌^◌, ◌<◌, ◌≤◌, [], ◌∷◌, ◌++◌, IsTrue, IfSome, OnOk, OnErr, Some, None, true, false, length, option_map};
+ghost use Rattle.std.specs.Map.{values_of};
 ghost use Rattle.std.specs.Option.{option_copied};
 ghost use Rattle.cedar_language.specs.Uid.{Text};
 ghost use Rattle.cedar_grammar.specs.Policy.{Policy as PolicySyntax};
@@ -15,8 +16,9 @@ use std::fmt;
 use std::marker::Model;
 
 /// Static policies, templates and links by their ids, in the order in which they came: a new one last, and
-/// a removal closes up. Each link names a template of the set and gives exactly its slots. Contracts see
-/// the ids, each with what it is bound to. (Cedar language reference, "Policies" and "Policy templates".)
+/// a removal closes up. Each link names a template of the set and gives exactly its slots, and each template
+/// lists its slots. Contracts see the ids, each with what it is bound to. (Cedar language reference,
+/// "Policies" and "Policy templates".)
 pub struct PolicySet {
     pub(crate) bound: IndexMap<PolicyID, Bound>,
     numbers: Numbers,
@@ -84,7 +86,7 @@ impl Eq for PolicySet {
 
 impl PolicySet {
     ghost use Rattle.cedar_policy_set.specs.Entries.{bound_at, is_bound, without, HasItsTemplate, IsFull, IsWhole, template, has_links};
-    ghost use Rattle.cedar_policy_set.specs.Bounds.{entry_of, bound_id, entries_of, seen, IsNamed, IsSound};
+    ghost use Rattle.cedar_policy_set.specs.Bounds.{entry_of, bound_id, entries_of, seen, IsNamed, IsSound, ListsSlots, ListTheirSlots};
     ghost use Rattle.cedar_policy_set.specs.Numbers.{BindsNumbers};
 
     /// The empty set; takes no memory.
@@ -99,8 +101,8 @@ impl PolicySet {
     }
 
     /// The set that binds just these, in their order; takes no memory. The caller sees to it that they are
-    /// such a set: each stands under its own id, and each link names a template among them and gives exactly
-    /// its slots.
+    /// such a set: each stands under its own id, each link names a template among them and gives exactly its
+    /// slots, and each template lists its slots.
     pub fn from_raw_components(bound: IndexMap<PolicyID, Bound>) -> PolicySet
         requires { IsSound bound.entries }
         ensures { result ≡ entries_of bound.entries }
@@ -155,7 +157,8 @@ impl PolicySet {
 
     /// What the ids are bound to, lent, in the order in which they came.
     pub fn values(&self) -> Values<'_, PolicyID, Bound>
-        ensures { seen result ≡ self.now }
+        ensures entries { seen result ≡ self.now }
+        ensures listed { ListTheirSlots result }
     {
         self.bound.values()
     }
@@ -176,6 +179,7 @@ impl PolicySet {
     pub(crate) fn bind(&mut self, id: PolicyID, bound: Bound) -> Result<(), AllocError>
         requires free { bound_at self.old id ≡ None }
         requires named { bound_id bound ≡ id }
+        requires listed { ListsSlots bound }
         requires template { HasItsTemplate self.old (entry_of bound) }
         requires full { IsFull (entry_of bound) }
         ensures bound { OnOk result (self.new ≡ self.old ++ (id, entry_of bound) ∷ []) }
@@ -186,10 +190,12 @@ impl PolicySet {
     }
 
     /// Binds these after what is bound, in their order. The caller sees to it that each stands under its own
-    /// id, that no id is bound already, and that each link names a template that is bound then and gives
-    /// exactly its slots. Refused for memory alone; a refused call changes nothing.
+    /// id, that no id is bound already, that each link names a template that is bound then and gives exactly
+    /// its slots, and that each template lists its slots. Refused for memory alone; a refused call changes
+    /// nothing.
     pub fn append(&mut self, more: IndexMap<PolicyID, Bound>) -> Result<(), AllocError>
         requires named { IsNamed more.entries }
+        requires listed { ListTheirSlots (values_of more.entries) }
         requires whole { IsWhole (self.old ++ entries_of more.entries) }
         ensures appended { OnOk result (self.new ≡ self.old ++ entries_of more.entries) }
         ensures err { OnErr result (self.new ≡ self.old) }
@@ -203,6 +209,7 @@ impl PolicySet {
     // Binds these as `append` does, without a look at which numbers are bound then.
     pub(crate) fn bind_all(&mut self, mut more: IndexMap<PolicyID, Bound>) -> Result<(), AllocError>
         requires named { IsNamed more.entries }
+        requires listed { ListTheirSlots (values_of more.entries) }
         requires whole { IsWhole (self.old ++ entries_of more.entries) }
         ensures appended { OnOk result (self.new ≡ self.old ++ entries_of more.entries) }
         ensures err { OnErr result (self.new ≡ self.old) }

@@ -1,10 +1,10 @@
 // Whether what a policy set binds is valid.
 ghost use Rattle.std.specs.Prelude.{◌≡◌, true};
 ghost use Rattle.cedar_extensions.specs.Table.{Table, as_table};
-ghost use Rattle.cedar_policies.specs.Templates.{template_id, syntax_of};
+ghost use Rattle.cedar_policies.specs.Templates.{template_id, syntax_of, listed_slots};
 ghost use Rattle.cedar_policies.specs.Policies.{policy_id};
 ghost use Rattle.cedar_policy_set.specs.Entries.{is_link};
-ghost use Rattle.cedar_policy_set.specs.Bounds.{bound_id, entry_of, policy_entry};
+ghost use Rattle.cedar_policy_set.specs.Bounds.{bound_id, entry_of, policy_entry, ListsSlots};
 ghost use Rattle.cedar_policy_set.specs.Validated.{ValidatesAll, ValidatesOne, ValidatesTemplate};
 
 use crate::bounds::Bound;
@@ -19,7 +19,8 @@ use std::alloc::Global;
 
 impl PolicySet {
     /// Whether each template and static policy of the set is valid against the table of extensions, and each
-    /// link is of a template that has slots; refused for the first that isn't, or for memory.
+    /// link is of a template that has slots; refused for the first that isn't, or for memory. A static policy
+    /// whose clause holds a slot isn't valid, since it lists none.
     pub fn try_validate<F: ExtensionFunctionObject>(
         &self,
         alloc: Global,
@@ -40,6 +41,7 @@ fn validate<F: ExtensionFunctionObject>(
     bound: &Bound,
     extensions: &Extensions<'_, F>,
 ) -> Result<(), PolicySetValidationError>
+    requires { ListsSlots bound.now }
     ensures { ValidatesOne (as_table F.answers extensions.now) (bound_id bound.now) (entry_of bound.now) result }
 {
     match bound {
@@ -57,7 +59,7 @@ fn validate_template<F: ExtensionFunctionObject>(
     template: &Template,
     extensions: &Extensions<'_, F>,
 ) -> Result<(), PolicySetValidationError>
-    ensures { ValidatesTemplate (as_table F.answers extensions.now) (template_id template.now) (syntax_of template.now) result }
+    ensures { ValidatesTemplate (as_table F.answers extensions.now) (template_id template.now) (listed_slots template.now) (syntax_of template.now) result }
 {
     match template.try_validate(alloc, extensions) {
         Ok(()) => Ok(()),
@@ -74,7 +76,7 @@ fn validate_link(link: &Policy) -> Result<(), PolicySetValidationError>
     requires { is_link (policy_entry link.now) ≡ true }
     ensures { (table : Table) → ValidatesOne table (policy_id link.now) (policy_entry link.now) result }
 {
-    if link.template().is_static() {
+    if link.template().held_slots().is_empty() {
         let id = link.id().clone()?;
         return Err(PolicySetValidationError::LinkToSlotlessTemplate { id });
     }

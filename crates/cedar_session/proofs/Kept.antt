@@ -15,13 +15,14 @@ use Rattle.cedar_partial_evaluation.specs.Question.{Extends}
 use Rattle.cedar_world.specs.Answer as world
 use Rattle.cedar_world.specs.Asking.{Question}
 use Rattle.cedar_world.specs.Bodies.{Fields, ask_body, is_restricted, tell_body}
-use Rattle.cedar_world.specs.Commands.{Tell, Answered, Refused}
+use Rattle.cedar_world.specs.Commands.{Tell, Reply, Answered, Refused}
 use Rattle.cedar_world.specs.InForce.{AnswersReadWhatIsInForce}
-use Rattle.cedar_world.specs.KnownKinds.{IsOrdinary}
+use Rattle.cedar_world.specs.KnownKinds.{IsOrdinary, IsFound}
+use Rattle.cedar_world.specs.Session.{Command, IsReached}
 use Rattle.cedar_world.specs.Setting.{Setting, IsBodyWithin, IsBody, BodiesAreOne}
 use Rattle.cedar_world.specs.Step.{Step, IsLaterAnswer, opens}
 use Rattle.cedar_world.specs.World.{World, Policies, Entities}
-use Rattle.cedar_telling.specs.Lookups.{AnswersErrOrdinarily}
+use Rattle.cedar_telling.specs.Lookups.{IsAskedBy, AnswersErrOrdinarily}
 use Rattle.cedar_world.proofs.Parts.{not_none}
 use Rattle.cedar_asking.specs.Answering.{AreOf}
 use Rattle.cedar_asking.specs.Answers.{IsSettingOf}
@@ -42,7 +43,7 @@ use Rattle.cedar_replies.specs.declared.refusal.Refusal.{Refusal}
 use Rattle.cedar_replies.specs.declared.refusal.Refusal.TheVariants as refusal
 use Rattle.cedar_restricted.specs.Views.{restricted_tree}
 use Rattle.cedar_session.specs.Open.{KeepsAsked, KeepsOpen, question_in, nothing_given, bare}
-use Rattle.cedar_session.specs.OrdinaryErrors.{AnswersOrdinarily}
+use Rattle.cedar_session.specs.OrdinaryErrors.{AnswersOrdinarily, AnswersToldOrdinarily}
 use Rattle.cedar_session.specs.Sessions.{asked_of}
 use Rattle.cedar_session.specs.declared.asked.Asked.{Asked}
 use Rattle.cedar_session.proofs.LaterProp.{later_prop}
@@ -59,6 +60,10 @@ ordinary_prop : (k : Kind) (x y : IsOrdinary k) → x ≡ y
 ordinary_prop FailedExtensionFunctionLookup x y = absurd x
 ordinary_prop UnlinkedSlot x y = absurd x
 ordinary_prop _ x y = refl
+
+found_prop : (k : Kind) (x y : IsFound k) → x ≡ y
+found_prop FailedExtensionFunctionLookup x y = absurd x
+found_prop _ x y = refl
 
 abbrev Map : Type 0
 Map = HashMap (RcStr Global) Value (BuildHasherDefault FoldHasher)
@@ -83,9 +88,16 @@ module _ (by : Setting) (policies : Policies) (entities : Entities) where
   pub stays : (new : Entities) → new ≡ entities → (o : Option Asked) → ∥ KeepsOpen by policies entities o ∥₁ → ∥ KeepsOpen by policies new o ∥₁
   stays new same o h = subst (λ (e : Entities). ∥ KeepsOpen by policies e o ∥₁) (sym same) h
 
+  -- an answer to a question that is asked errs as later ones may
+  pub asked_ordinarily : AnswersErrOrdinarily → (answer : Answer) → AnswersOrdinarily by held (answer_of answer) → AnswersToldOrdinarily by held (answer_of answer)
+  asked_ordinarily law answer ordinary = record {
+    finds = λ commands replies reached. law.weaker (answer_of answer) (ordinary commands replies reached);
+    without_slots = λ free. ordinary;
+  }
+
   -- what is kept of a question that was just asked
   pub begins : (asked : Asked) (q : Question) (answer : Answer) → ask_body (restricted_tree asked.body) ≡ Some q → (text : uid.Text) × IsBody by text (restricted_tree asked.body) → asked.told.entries ≡ [] → asked.answer ≡ answer
-      → KeepsQuestion by held q asked.first [] (answer_of answer) → AnswersOrdinarily by held (answer_of answer) → KeepsAsked by policies entities asked
+      → KeepsQuestion by held q asked.first [] (answer_of answer) → AnswersToldOrdinarily by held (answer_of answer) → KeepsAsked by policies entities asked
   begins asked q answer asks read none same keeps ordinary =
       let is : question_in (restricted_tree asked.body) ≡ q = ap (λ o. unwrap_or o nothing_given) asks in
       record {
@@ -95,7 +107,7 @@ module _ (by : Setting) (policies : Policies) (entities : Entities) where
             subst (λ (p : Question). KeepsQuestion by held p asked.first asked.told.entries (answer_of asked.answer)) (sym is)
             (subst (λ (es : List (RcStr Global × Value)). KeepsQuestion by held q asked.first es (answer_of asked.answer)) (sym none)
             (subst (λ (a : Answer). KeepsQuestion by held q asked.first [] (answer_of a)) (sym same) keeps));
-        ordinary = subst (λ (a : Answer). AnswersOrdinarily by held (answer_of a)) (sym same) ordinary;
+        ordinary = subst (λ (a : Answer). AnswersToldOrdinarily by held (answer_of a)) (sym same) ordinary;
       }
 
   module _ (asked : Asked) (o : Option Asked) (is : o ≡ Some asked) (steady : ∥ KeepsOpen by policies entities o ∥₁) where
@@ -140,16 +152,29 @@ module _ (by : Setting) (policies : Policies) (entities : Entities) where
       later_here : (answer : world.Answer) → IsLaterAnswer by held (asked_of asked) (told_in all.entries) answer → IsLaterAnswer by (world_with o) (asked_of asked) (told_in all.entries) answer
       later_here answer h = ((reads.alike by held (world_with o) (record { entities = refl; policies = λ id. refl })).later (asked_of asked) (told_in all.entries) answer).0 h
 
-      -- the errors are ordinary, as those of the last answer
-      ordinary_then : AnswersErrOrdinarily → (answer : Answer) → Says table all s (Ok answer) → KeepsAsked by policies entities asked → AnswersOrdinarily by held (answer_of answer)
-      ordinary_then law answer says k commands replies reached =
+      -- the errors are such as those of the last answer
+      ordinary_then : AnswersErrOrdinarily → (answer : Answer) → Says table all s (Ok answer) → KeepsAsked by policies entities asked → AnswersToldOrdinarily by held (answer_of answer)
+      ordinary_then law answer says k =
           let joins = (answered (Ok answer) says k).joins in
-          law.later by commands replies held reached question (k.read.0, restricted_tree asked.body, k.read.1, k.states) (told_in all.entries) (answer_of asked.answer) joins.0 (answer_of answer) joins.1 joins.2 (k.ordinary commands replies reached)
+          let asks : IsAskedBy by question = (k.read.0, restricted_tree asked.body, k.read.1, k.states) in
+          record {
+            finds = λ commands replies reached.
+                law.later by commands replies held reached question asks (told_in all.entries) (answer_of asked.answer) joins.0 (answer_of answer) joins.1 joins.2 (k.ordinary.finds commands replies reached);
+            without_slots = λ free commands replies reached.
+                law.later_without_slots by commands replies held reached free question asks (told_in all.entries) (answer_of asked.answer) joins.0 (answer_of answer) joins.1 joins.2
+                (k.ordinary.without_slots free commands replies reached);
+          }
 
-      pub errs_ordinarily : AnswersErrOrdinarily → (answer : Answer) → Says table all s (Ok answer) → AnswersOrdinarily by (world_with o) (answer_of answer)
-      errs_ordinarily law answer says commands replies reached id k e =
-          ∥∥₁_elim kept (ordinary_prop k) (λ h.
-          ordinary_then law answer says h commands replies (record { policies = reached.policies; entities = reached.entities; links = reached.links; no_cycle = reached.no_cycle }) id k e)
+      reached_here : (commands : List Command) (replies : List Reply) → IsReached by commands replies (world_with o) → IsReached by commands replies held
+      reached_here commands replies reached = record { policies = reached.policies; entities = reached.entities; links = reached.links; no_cycle = reached.no_cycle }
+
+      pub errs_ordinarily : AnswersErrOrdinarily → (answer : Answer) → Says table all s (Ok answer) → AnswersToldOrdinarily by (world_with o) (answer_of answer)
+      errs_ordinarily law answer says = record {
+        finds = λ commands replies reached id k e.
+            ∥∥₁_elim kept (found_prop k) (λ h. (ordinary_then law answer says h).finds commands replies (reached_here commands replies reached) id k e);
+        without_slots = λ free commands replies reached id k e.
+            ∥∥₁_elim kept (ordinary_prop k) (λ h. (ordinary_then law answer says h).without_slots free commands replies (reached_here commands replies reached) id k e);
+      }
 
       module _ (answer copy : Answer) (same : copy ≡ answer) (says : Says table all s (Ok answer)) (new : Option Asked) (new_is : new ≡ option_map (λ (a : Asked). record a { told = all; answer = copy }) o) where
         goes_on : new ≡ Some (record asked { told = all; answer = copy })
@@ -163,7 +188,7 @@ module _ (by : Setting) (policies : Policies) (entities : Entities) where
               states = k.states;
               read = k.read;
               keeps = subst (λ (a : Answer). KeepsQuestion by held question asked.first all.entries (answer_of a)) (sym same) (answered (Ok answer) says k).keeps;
-              ordinary = subst (λ (a : Answer). AnswersOrdinarily by held (answer_of a)) (sym same) (ordinary_then law answer says k);
+              ordinary = subst (λ (a : Answer). AnswersToldOrdinarily by held (answer_of a)) (sym same) (ordinary_then law answer says k);
             }))
 
       module _ (text : uid.Text) (once : BodiesAreOne by) (tree : Tree) (is_read : IsBodyWithin by by.depth text tree) (low : height tree ≤ by.depth) (restricted : is_restricted tree ≡ true) (body : tell_body tree ≡ Some fs) where

@@ -7,7 +7,7 @@ use Rattle.cedar_language.specs.Uid.{Name, Uid}
 use Rattle.cedar_language.specs.Tree.{ValueType, String, Operator, MakeRecord, Call, Tree, Lit, Var, Slot, Unknown, If, And, Or, Apply, Trees, no_trees, a_tree}
 use Rattle.cedar_partial_evaluation.specs.Unknowns.{EachUnknown, EachUnknownOf}
 use Rattle.cedar_grammar.specs.Calls.{calls_none_but, calls_only, all_call_only}
-use Rattle.cedar_world.specs.Asking.{Entries, NoContext, WithEntries, Question}
+use Rattle.cedar_world.specs.Asking.{Part, Entries, NoContext, WithEntries, Question}
 use Rattle.cedar_world.specs.Bodies.{Fields, zipped, found, if_there, entries_of, unknown_or, named_call, named, all_named, question_with, question_fields, question_keys, are_among, ask_body}
 use Rattle.cedar_world.specs.Functions.{is_the_unknown}
 use Rattle.cedar_world.specs.Orders.{text_eq}
@@ -90,7 +90,7 @@ module _ (passes : Name → Bool) where
   of_optional None c is h = let same : None ≡ c = cc in subst (λ x. StatesNoTypes (unwrap_or x NoContext)) same tt
   of_optional (Some t) c is h = of_record t c is (h t refl)
 
-  of_parts : (p a r : Option (Option Uid)) (c : Option (Option Entries)) (q : Question) → question_with p a r c ≡ Some q → ((e : Option Entries) → c ≡ Some e → StatesNoTypes (unwrap_or e NoContext)) → StatesNoTypes q.context
+  of_parts : (p a r : Option Part) (c : Option (Option Entries)) (q : Question) → question_with p a r c ≡ Some q → ((e : Option Entries) → c ≡ Some e → StatesNoTypes (unwrap_or e NoContext)) → StatesNoTypes q.context
   of_parts (Some p) (Some a) (Some r) (Some c) q is h =
       subst (λ (x : Question). StatesNoTypes x.context) (same_some _ q is) (h c refl)
   of_parts (Some p) (Some a) (Some r) None q is h = cc

@@ -5,7 +5,7 @@ ghost use Rattle.cedar_world.specs.World.{new_world};
 ghost use Rattle.cedar_replies.specs.Replies.{answer_of, reply_of};
 ghost use Rattle.cedar_session.specs.Commands.{command_verb, command_text};
 ghost use Rattle.cedar_session.specs.Open.{KeepsOpen};
-ghost use Rattle.cedar_session.specs.OrdinaryErrors.{AnswersOrdinarily, RepliesOrdinarily};
+ghost use Rattle.cedar_session.specs.OrdinaryErrors.{AnswersOrdinarily, AnswersToldOrdinarily, RepliesOrdinarily};
 ghost use Rattle.cedar_texts.specs.Settings.{setting_with};
 
 use crate::asked::{Asked, close, go_on};
@@ -263,16 +263,19 @@ impl<'e, 'f, F: ExtensionFunctionObject> Session<'e, 'f, F> {
     ///
     /// The body is a record: `principal`, `action` and `resource`, each where it stands, are entities, and
     /// `context`, where it stands, is a record, in which `unknown("n")` names an unknown `n`. What is left
-    /// out or named so is unknown, and the answer holds whatever it is: a decision stands there only where
-    /// all that it may be leads to it, an id is among `must` only where its policy is a reason in each case,
-    /// and among `may` where it is one in some. No id errs by a failed look-up of a function, since a text
-    /// calls functions of the session alone, or by a slot that isn't linked, since no policy in force has one.
+    /// out or named so is unknown. Where the principal or the resource is left out, `principal_type` or
+    /// `resource_type` may stand there, a string that names its type as it is written in the policies, without
+    /// white space. The answer holds whatever the unknowns are, of the types that are stated: a decision stands
+    /// there only where all that they may be leads to it, an id is among `must` only where its policy is a reason
+    /// in each case, and among `may` where it is one in some. No id errs by a failed look-up of a function, since
+    /// a text calls functions of the session alone, or by a slot that isn't linked, since no policy in force has
+    /// one.
     ///
-    /// It is refused as any body, then `Shape` where it isn't such a record, `Evaluation` where a part of the
-    /// context without unknowns errs, `BadUnknown` where `unknown` is called there on anything but a string
-    /// or names one of the four variables, `Depth` where the evaluation of some policy goes deeper than the
-    /// limit, of a question without unknowns only where the condition of a policy in force is higher than
-    /// that, and `Memory`; then nothing changes.
+    /// It is refused as any body, then `Shape` where it isn't such a record, where a type is stated of what is
+    /// given, or where no type is so named; `Evaluation` where a part of the context without unknowns errs,
+    /// `BadUnknown` where `unknown` is called there on anything but a string or names one of the four variables,
+    /// `Depth` where the evaluation of some policy goes deeper than the limit, of a question without unknowns only
+    /// where the condition of a policy in force is higher than that, and `Memory`; then nothing changes.
     pub fn ask(&mut self, text: &str) -> Result<Answer, Refusal>
         requires { length text.now ≤ body_limit }
         ensures step { Step (setting_of self.old) (world_of self.old) AskVerb text.now (ask_reply result) (world_of self.new) }
@@ -324,19 +327,20 @@ impl<'e, 'f, F: ExtensionFunctionObject> Session<'e, 'f, F> {
     ///
     /// The body is a record from names to values: the names of the context's unknowns, and `principal`,
     /// `action`, `resource` and `context` where the question leaves them out. An empty one is accepted. No id errs
-    /// by a failed look-up of a function, or by a slot that isn't linked.
+    /// by a failed look-up of a function. One errs by a slot that isn't linked only where some clause has a slot:
+    /// what was left of a link is evaluated again without the entities of its slots.
     ///
     /// It is refused `NoQuestion` where no question is open, which is checked first and takes no memory; then
     /// as any body; `Shape` where it is no record, `Evaluation` where a value errs, `NotAValue` where one holds
     /// an unknown, `NoSuchUnknown` for a name that is no unknown of the question, `AlreadyTold` for one told
-    /// before, `WrongKind` where a principal, an action or a resource is told what is no entity or a context
-    /// what is no record, `Evaluation` where the context errs with all that is told, `Depth` where the
-    /// evaluation of the context with all that is told, or of some policy, goes deeper than the limit, and
-    /// `Memory`; then nothing changes.
+    /// before, `WrongKind` where a principal, an action or a resource is told what is no entity, or one of
+    /// another type than the question states, or a context what is no record, `Evaluation` where the context errs
+    /// with all that is told, `Depth` where the evaluation of the context with all that is told, or of some
+    /// policy, goes deeper than the limit, and `Memory`; then nothing changes.
     pub fn tell(&mut self, text: &str) -> Result<Answer, Refusal>
         requires { length text.now ≤ body_limit }
         ensures step { Step (setting_of self.old) (world_of self.old) TellVerb text.now (ask_reply result) (world_of self.new) }
-        ensures ordinary { IfOk result (λ answer. AnswersOrdinarily (setting_of self.old) (world_of self.old) (answer_of answer)) }
+        ensures ordinary { IfOk result (λ answer. AnswersToldOrdinarily (setting_of self.old) (world_of self.old) (answer_of answer)) }
         ensures setting { setting_of self.new ≡ setting_of self.old }
     {
         cedar_world::texts_are_one();
@@ -372,11 +376,11 @@ impl<'e, 'f, F: ExtensionFunctionObject> Session<'e, 'f, F> {
 
     /// Answers a command as the method of its verb does: `load` by the ids, `ask` and `tell` by the answer, and any
     /// other by [`Reply::Done`]. It is refused as that method, and a refused one changes nothing. No answer names a failed
-    /// look-up of a function, or a slot that isn't linked.
+    /// look-up of a function, and none a slot that isn't linked, but one to `tell` where some clause has a slot.
     pub fn apply(&mut self, command: &Command<'_>) -> Result<Reply, Refusal>
         requires { length (command_text command.now) ≤ body_limit }
         ensures step { Step (setting_of self.old) (world_of self.old) (command_verb command.now) (command_text command.now) (reply_of result) (world_of self.new) }
-        ensures ordinary { RepliesOrdinarily (setting_of self.old) (world_of self.old) (reply_of result) }
+        ensures ordinary { RepliesOrdinarily (setting_of self.old) (world_of self.old) (reply_of result) (command_verb command.now) }
         ensures setting { setting_of self.new ≡ setting_of self.old }
     {
         match *command {

@@ -1,6 +1,8 @@
 // Trees that are put on a stack, and what the one on its top says as the body of a command.
 use crate::ranks::Ranks;
-use cedar_bodies::{AskBody, EntityBody, ask_body, entity_bodies, listed_entities, uids_of};
+use cedar_bodies::{
+    AskBody, AskedPart, EntityBody, ask_body, entity_bodies, listed_entities, uids_of,
+};
 use cedar_entities::entity::Entity;
 use cedar_extensions::extensions::Extensions;
 use cedar_literals::literals::Literal;
@@ -84,7 +86,7 @@ pub(crate) fn read(
     };
     match verb {
         "uids" => uids_told(alloc, uids_of(alloc, &tree)),
-        "question" => question_told(alloc, ask_body(&tree)),
+        "question" => question_told(alloc, ask_body(alloc, &tree)),
         "bodies" => bodies_told(alloc, entity_bodies(alloc, &tree)),
         _ => listed(alloc, tree, extensions, text.parse::<u32>().unwrap_or(0)),
     }
@@ -118,20 +120,21 @@ fn uids_told(alloc: Global, uids: Result<Option<Vec<EntityUID>>, AllocError>) ->
     Ok(text)
 }
 
-fn uid_told(alloc: Global, uid: Option<&EntityUID>) -> Answer {
-    match uid {
-        Some(uid) => uid.to_string(alloc),
-        None => String::from_str(alloc, "none"),
+fn part_told(alloc: Global, part: &AskedPart<'_>) -> Answer {
+    match part {
+        AskedPart::Given(uid) => uid.to_string(alloc),
+        AskedPart::Missing(Some(entity_type)) => entity_type.to_string(alloc),
+        AskedPart::Missing(None) => String::from_str(alloc, "none"),
     }
 }
 
-fn question_told(alloc: Global, question: Option<AskBody<'_>>) -> Answer {
-    let Some(question) = question else {
+fn question_told(alloc: Global, question: Result<Option<AskBody<'_>>, AllocError>) -> Answer {
+    let Some(question) = question? else {
         return String::from_str(alloc, "other");
     };
-    let principal = uid_told(alloc, question.principal)?;
-    let action = uid_told(alloc, question.action)?;
-    let resource = uid_told(alloc, question.resource)?;
+    let principal = part_told(alloc, &question.principal)?;
+    let action = part_told(alloc, &question.action)?;
+    let resource = part_told(alloc, &question.resource)?;
     let context = question.context;
     format!(in alloc; "{principal} {action} {resource} {context:?}")
 }

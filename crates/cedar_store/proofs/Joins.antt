@@ -1,7 +1,7 @@
 -- What the loop keeps that renames what the other set has more.
 use Rattle.std.proofs.Common.{inl, inr, ◌≡◌, Bool, true, false, not, ◌||◌, cond, List, [], ◌∷◌, ◌++◌, map, filter, refl, sym, ap, subst, ◌∙◌, true≢false, None}
 use Rattle.std.specs.List.{IsDistinct, AllByRecursion}
-use Rattle.std.specs.Map.{keys_of, lookup}
+use Rattle.std.specs.Map.{keys_of, values_of, lookup}
 use Rattle.std.specs.Set.{is_member}
 use Rattle.std.proofs.lemmas.List.{append_assoc, map-append}
 use Rattle.std.proofs.lemmas.Map.Made.{is_some-lookup, IsDistinct-keys_filter}
@@ -9,10 +9,10 @@ use Rattle.cedar_language.specs.Uid.{Text}
 use Rattle.cedar_language.specs.Order.{same_text}
 use Rattle.cedar_policy_set.specs.Entries.{Entry, Entries, is_bound}
 use Rattle.cedar_policy_set.specs.declared.bounds.Bound.{Bound}
-use Rattle.cedar_policy_set.specs.Bounds.{entry_of, bound_id, entries_of, IsNamed}
+use Rattle.cedar_policy_set.specs.Bounds.{entry_of, bound_id, entries_of, IsNamed, ListsSlots, ListTheirSlots}
 use Rattle.cedar_policy_set.proofs.Distinct.{distinct_apart}
 use Rattle.cedar_policy_set.proofs.Finding.{same_id, id_itself, none_from, or_left, or_right}
-use Rattle.cedar_policy_set.proofs.Views.{named_push, keys_of_entries, entries_append}
+use Rattle.cedar_policy_set.proofs.Views.{named_push, listed_push, keys_of_entries, entries_append}
 use Rattle.cedar_store.specs.Renaming.{NewIds, conflicts, conflicting, IsRenaming, new_id, renamed}
 use Rattle.cedar_store.specs.Merged.{renamed_entry, is_more, joining}
 use Rattle.cedar_store.proofs.RenamingLaws.{new_id_apart, more_is_free}
@@ -21,6 +21,7 @@ pub record IsJoining (mine theirs : Entries) (renaming : NewIds) (rest : Entries
   pub goes_on : entries_of more ++ joining mine renaming rest ≡ joining mine renaming theirs
   pub distinct : IsDistinct same_text (keys_of (joining mine renaming theirs))
   pub named : IsNamed more
+  pub listed : ListTheirSlots (values_of more)
 
 -- a filter has no more ids
 pub member_of_filter : (p : Text × Entry → Bool) (a : Text) (es : Entries) → is_member same_text (keys_of (filter p es)) a ≡ true → is_member same_text (keys_of es) a ≡ true
@@ -57,6 +58,7 @@ module _ (mine theirs : Entries) (renaming : NewIds) (is : IsRenaming mine their
       record {
         goes_on = refl;
         named = refl;
+        listed = tt;
         distinct = distinct_joining (filter (is_more mine) theirs) (λ a m. is_some-lookup (same_text a) theirs ∙ member_of_filter (is_more mine) a theirs m)
             (IsDistinct-keys_filter same_text (is_more mine) theirs d);
       }
@@ -104,8 +106,8 @@ module _ (mine theirs : Entries) (renaming : NewIds) (e : Text × Entry) (rest :
       ∙ distinct_apart (keys_of more) (new_id renaming e.0) (keys_of (joining mine renaming rest)) (subst (IsDistinct same_text) keys held.distinct))
 
   -- and the loop goes on
-  pub join_one : (b : Bound) → bound_id b ≡ new_id renaming e.0 → entry_of b ≡ renamed renaming e.1 → IsJoining mine theirs renaming rest (more ++ (bound_id b, b) ∷ [])
-  join_one b id entry =
+  pub join_one : (b : Bound) → bound_id b ≡ new_id renaming e.0 → ListsSlots b → entry_of b ≡ renamed renaming e.1 → IsJoining mine theirs renaming rest (more ++ (bound_id b, b) ∷ [])
+  join_one b id lists entry =
       record {
         goes_on =
             ap (λ xs. xs ++ joining mine renaming rest) (entries_append more ((bound_id b, b) ∷ []))
@@ -114,4 +116,5 @@ module _ (mine theirs : Entries) (renaming : NewIds) (e : Text × Entry) (rest :
             ∙ goes;
         distinct = held.distinct;
         named = named_push more (bound_id b) b held.named refl;
+        listed = listed_push more (bound_id b) b held.listed lists;
       }

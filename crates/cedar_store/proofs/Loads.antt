@@ -12,11 +12,11 @@ use Rattle.std.proofs.lemmas.Map.Made.{is_some-lookup}
 use Rattle.cedar_language.specs.Uid.{Text}
 use Rattle.cedar_language.specs.Order.{same_text, text_cmp}
 use Rattle.cedar_language.specs.OrderLaws.{text_cmp_total, text_cmp_same}
-use Rattle.cedar_world.specs.Syntax.{PolicySyntax, is_template, are_some}
+use Rattle.cedar_world.specs.Syntax.{PolicySyntax}
 use Rattle.cedar_world.specs.World as world
 use Rattle.cedar_world.specs.PolicyEdits as edits
 use Rattle.cedar_world.specs.PolicyEdits.{numbered, own_ids, HasRoom, Conflicts, IsFree, Names}
-use Rattle.cedar_policy_set.specs.Entries.{Entry, static_policy, template, link, Entries, bound_at, is_bound, IsWhole}
+use Rattle.cedar_policy_set.specs.Entries.{Entry, static_policy, template, link, Entries, bound_at, is_bound}
 use Rattle.cedar_policy_set.specs.EntryNodes.{same_entry, entries_decide}
 use Rattle.cedar_policy_set.specs.Worlds.{world_bound, policies_in}
 use Rattle.cedar_policy_set.proofs.Distinct.{distinct_apart}
@@ -24,8 +24,8 @@ use Rattle.cedar_policy_set.proofs.Finding.{id_apart, same_id, id_itself, none_f
 use Rattle.cedar_policy_set.proofs.WorldLaws.{ties_are, finds_as_worlds, binds_as_worlds}
 use Rattle.cedar_store.specs.Renaming as merging
 use Rattle.cedar_store.specs.Renaming.{NewIds, conflicts, conflicting, Numbers, new_id, renamed}
-use Rattle.cedar_store.specs.Merged.{renamed_entry, is_more, joining, joined}
-use Rattle.cedar_policy_set.specs.Texts.{text_entry, text_entries, HaveSlots}
+use Rattle.cedar_store.specs.Merged.{renamed_entry, is_more, joining}
+use Rattle.cedar_policy_set.specs.Texts.{text_entry, text_entries, AreToldBySlots}
 use Rattle.cedar_store.specs.Loading.{LoadsAsWorlds}
 use Rattle.cedar_store.proofs.Joins.{member_of_filter}
 use Rattle.cedar_store.proofs.Keeps.{false_unless, not_false, or_none, not_renamed}
@@ -58,7 +58,7 @@ abbrev bound_in : world.Bound → Option world.Bound → world.Bound
 bound_in b None = b
 bound_in b (Some c) = c
 
-module _ (mine : Entries) (whole : IsWhole mine) (have : HaveSlots mine) where
+module _ (mine : Entries) (told : AreToldBySlots mine) where
   found : (id : Text) (o : Option Entry) → bound_at mine id ≡ o → finmap.get (policies_in mine) id ≡ option_map world_bound o
   found id o f = finds_as_worlds mine id ∙ ap (option_map world_bound) f
 
@@ -66,11 +66,10 @@ module _ (mine : Entries) (whole : IsWhole mine) (have : HaveSlots mine) where
   is_text : (id : Text) (s : PolicySyntax) (e : Entry) → bound_at mine id ≡ Some e → world_bound e ≡ world.Policy s → e ≡ text_entry s
   is_text id s (static_policy r) f v =
       let same : r ≡ s = ap (syntax_in r) v in
-      let none : is_template r ≡ false = ap are_some (whole.full id (static_policy r) f) in
-      sym (ap (λ b. cond b (template r) (static_policy r)) none) ∙ ap text_entry same
+      sym (ap (λ b. cond b (template r) (static_policy r)) (told.policies id r f)) ∙ ap text_entry same
   is_text id s (template r) f v =
       let same : r ≡ s = ap (syntax_in r) v in
-      sym (ap (λ b. cond b (template r) (static_policy r)) (have id r f)) ∙ ap text_entry same
+      sym (ap (λ b. cond b (template r) (static_policy r)) (told.templates id r f)) ∙ ap text_entry same
   is_text id s (link t r b) f v = absurd (true≢false (sym (ap is_written v)))
 
   room : (i : ℕ) (s : PolicySyntax) → conflicts mine (numbered i, text_entry s) ≡ false → HasRoom (policies_in mine) (numbered i) s
@@ -231,12 +230,12 @@ module _ (mine : Entries) (r : NewIds) where
           shared (Some x) f g n = f ∙ ap Some ((entries_decide x (text_entry s)).0 (not_false _ n))
 
 pub loads_as_worlds : LoadsAsWorlds
-loads_as_worlds mine ss r whole have fits is =
+loads_as_worlds mine ss r whole told fits is =
     let text = text_is_whole ss fits in
     let stays = all_of (λ e. conflicts mine e ≡ false → new_id r e.0 ≡ e.0) (text_entries 0 ss) text.distinct
     (λ id e h n. ap (λ o. unwrap_or o id) (not_renamed mine (text_entries 0 ss) r is whole text id e h n)) in
     let distinct = (whole_joined mine (text_entries 0 ss) r is whole text).distinct in
     record {
-      names = names mine whole have ss fits (new_id r) 0 ss 0 r (omega arith) is (λ j low high. refl);
+      names = names mine told ss fits (new_id r) 0 ss 0 r (omega arith) is (λ j low high. refl);
       policies = sym (ap (λ es. edits.joined (policies_in es) ss (map (new_id r) (own_ids 0 ss))) (sym (append-nil mine)) ∙ joins mine r [] 0 ss distinct stays);
     }

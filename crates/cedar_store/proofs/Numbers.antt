@@ -1,5 +1,5 @@
 -- The ids policy0, policy1, ..: two of them are equal only at equal numbers, and n of them need a list of n.
-use Rattle.std.proofs.Common.{◌≡◌, ◌≢◌, ℕ, zero, suc, ◌-◌, ◌^◌, ◌<◌, ◌≤◌, Bool, true, false, ◌||◌, List, [], ◌∷◌, length, codes, decimal, refl, sym, subst, true≢false, arith, ltb, ltb-true, ltb-false}
+use Rattle.std.proofs.Common.{◌≡◌, ℕ, zero, suc, ◌-◌, ◌^◌, ◌<◌, ◌≤◌, Bool, true, false, ◌||◌, List, [], ◌∷◌, length, codes, decimal, refl, sym, subst, true≢false, arith, ltb, ltb-true, ltb-false}
 use Rattle.std.specs.List.{IsDistinct, AllByRecursion}
 use Rattle.std.specs.Set.{is_member}
 use Rattle.std.specs.Cmp.Lexicographic.{nat_list_eq_equiv}

@@ -1,5 +1,5 @@
 -- What a merge's renaming does to ids: distinct ids stay distinct, and the new ones are bound in neither set.
-use Rattle.std.proofs.Common.{inl, inr, ◌⊎◌, ◌≡◌, ℕ, ◌+◌, ◌-◌, ◌^◌, ◌<◌, ◌≤◌, Bool, true, false, ◌||◌, cond, List, [], ◌∷◌, refl, sym, ap, subst, ◌∙◌, true≢false, arith, is_some, Option, None, Some, unwrap_or, ltb, ltb-true, ltb-false}
+use Rattle.std.proofs.Common.{inl, inr, ◌⊎◌, ◌≡◌, ℕ, ◌+◌, ◌^◌, ◌<◌, ◌≤◌, Bool, true, false, ◌||◌, cond, List, [], ◌∷◌, refl, sym, ap, subst, ◌∙◌, true≢false, arith, is_some, Option, None, Some, unwrap_or, ltb, ltb-true, ltb-false}
 use Rattle.std.specs.Map.{keys_of, lookup}
 use Rattle.std.specs.Set.{is_member}
 use Rattle.std.proofs.lemmas.Map.Made.{is_some-lookup}

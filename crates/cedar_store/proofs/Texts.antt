@@ -9,6 +9,7 @@ use Rattle.cedar_world.specs.Syntax.{PolicySyntax, is_template, are_some}
 use Rattle.cedar_world.specs.World as world
 use Rattle.cedar_world.specs.PolicyEdits.{numbered}
 use Rattle.cedar_language.specs.Tree.{SlotId}
+use Rattle.cedar_policies.proofs.Holding.{scope_is_bare}
 use Rattle.cedar_policy_set.specs.Entries.{Entry, static_policy, template, bound_at, is_bound, HasItsTemplate, IsFull, IsWhole}
 use Rattle.cedar_policy_set.specs.Worlds.{world_bound}
 use Rattle.cedar_policy_set.proofs.Finding.{same_id, id_itself}
@@ -89,5 +90,5 @@ text_is_whole ss fits =
       distinct = text_distinct ss 0 (omega arith);
       templates = of_all (HasItsTemplate (text_entries 0 ss)) (text_entries 0 ss)
           (all_text (HasItsTemplate (text_entries 0 ss)) (λ s. by_slots (HasItsTemplate (text_entries 0 ss)) s tt (λ h. tt)) 0 ss);
-      full = of_all IsFull (text_entries 0 ss) (all_text IsFull (λ s. by_slots IsFull s tt (λ h. h)) 0 ss);
+      full = of_all IsFull (text_entries 0 ss) (all_text IsFull (λ s. by_slots IsFull s tt (scope_is_bare s)) 0 ss);
     }

@@ -1,9 +1,10 @@
 // The policies that another set has more.
 ghost use Rattle.std.specs.Prelude.{◌≡◌, IfOk, true, false};
-ghost use Rattle.cedar_policies.specs.Templates.{template_id, syntax_of};
+ghost use Rattle.std.specs.Map.{values_of};
+ghost use Rattle.cedar_policies.specs.Templates.{template_id, syntax_of, listed_slots};
 ghost use Rattle.cedar_policies.specs.Policies.{policy_id};
 ghost use Rattle.cedar_policy_set.specs.Entries.{is_link};
-ghost use Rattle.cedar_policy_set.specs.Bounds.{bound_id, entry_of, entries_of, policy_entry, IsNamed};
+ghost use Rattle.cedar_policy_set.specs.Bounds.{bound_id, entry_of, entries_of, policy_entry, IsNamed, ListsSlots, ListTheirSlots};
 ghost use Rattle.cedar_store.specs.Renaming.{IsRenaming, new_id, renamed};
 ghost use Rattle.cedar_store.specs.Merged.{is_more, joining};
 
@@ -26,6 +27,7 @@ pub(crate) fn joining(
 ) -> Result<IndexMap<PolicyID, Bound>, AllocError>
     requires { IsRenaming mine.now theirs.now renaming.now.entries }
     ensures named { IfOk result (λ more. IsNamed more.entries) }
+    ensures listed { IfOk result (λ more. ListTheirSlots (values_of more.entries)) }
     ensures more { IfOk result (λ more. entries_of more.entries ≡ joining mine.now renaming.now.entries theirs.now) }
 {
     // The contract of `len` is what says that a set is whole.
@@ -48,7 +50,9 @@ fn is_more(mine: &PolicySet, theirs: &Bound) -> bool
 
 // The same under its new id, a link with the new id of its template.
 fn renamed(alloc: Global, renaming: &Renaming, bound: &Bound) -> Result<Bound, AllocError>
+    requires { ListsSlots bound.now }
     ensures id { IfOk result (λ made. bound_id made ≡ new_id renaming.now.entries (bound_id bound.now)) }
+    ensures listed { IfOk result ListsSlots }
     ensures entry { IfOk result (λ made. entry_of made ≡ renamed renaming.now.entries (entry_of bound.now)) }
 {
     match bound {
@@ -75,6 +79,7 @@ fn renamed_template(
 ) -> Result<Rc<Template>, AllocError>
     ensures id { IfOk result (λ made. template_id made.value ≡ new_id renaming.now.entries (template_id template.now.value)) }
     ensures syntax { IfOk result (λ made. syntax_of made.value ≡ syntax_of template.now.value) }
+    ensures lists { IfOk result (λ made. listed_slots made.value ≡ listed_slots template.now.value) }
 {
     match given_id(renaming, template.id()) {
         None => Ok(template.clone()?),

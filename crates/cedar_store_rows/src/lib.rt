@@ -104,6 +104,7 @@ fn policies(alloc: Global, case: &Case<'_>, held: &mut Held) -> Answer {
         "static" => templates::own(alloc, case.verb, made),
         "unexpected" => templates::unexpected(alloc, case.verb),
         "policy" => templates::policy(alloc, case.verb, made.policy.as_ref()),
+        "policy-template" => templates::lend(alloc, made),
         "add" => sets::add(alloc, case.verb, made, &mut held.sets),
         "collect" => sets::collect(alloc, case.verb, &mut made.policy, &mut held.sets),
         "in-set" => sets::edit(alloc, case, &mut held.bindings, &mut held.sets),

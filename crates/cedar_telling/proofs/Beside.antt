@@ -27,7 +27,7 @@ side_by_side : (f : Judged → Judged) (js : List Judged) → ((j : Judged) → 
 side_by_side f [] h = nothing
 side_by_side f (j ∷ js) h = a_policy (h j (inl refl)) (side_by_side f js (λ k a. h k (inr a)))
 
-beside : (f : Judged → Judged) (js : List Judged) (j : Judged) → IsAmong j js → At js (map f js) j (f j)
+pub beside : (f : Judged → Judged) (js : List Judged) (j : Judged) → IsAmong j js → At js (map f js) j (f j)
 beside f [] j a = absurd a
 beside f (k ∷ js) j (inl e) = subst (λ x. At (k ∷ js) (map f (k ∷ js)) x (f x)) e at_first
 beside f (k ∷ js) j (inr a) = at_later (beside f js j a)

@@ -1,5 +1,5 @@
 -- What is called by a policy with its slots bound, by a tree in which no slot stands, and by the context of a question that a body asks.
-use Rattle.std.proofs.Common.{◌≡◌, Bool, true, false, ◌&&◌, cond, Option, Some, None, List, [], ◌∷◌, ◌++◌, inl, inr, refl, ap, subst}
+use Rattle.std.proofs.Common.{◌≡◌, Bool, true, false, ◌&&◌, cond, Option, Some, None, List, [], ◌∷◌, ◌++◌, inl, inr, refl, subst}
 use Rattle.std.specs.List.{list_all}
 use Rattle.std.specs.Option.{unwrap_or}
 use lib.Chars.{codes}
@@ -7,12 +7,11 @@ use Rattle.cedar_language.specs.Uid.{Text, Name, Uid}
 use Rattle.cedar_language.specs.Tree.{String, SlotId, Operator, MakeRecord, Call, Tree, Lit, Var, Slot, Unknown, If, And, Or, Apply, Trees, no_trees, a_tree}
 use Rattle.cedar_language.specs.Slots.{Slots, tree_slots, trees_slots, bound_slot, bound_tree, bound_trees}
 use Rattle.cedar_grammar.specs.Calls.{calls_none_but, calls_only, all_call_only}
-use Rattle.cedar_grammar.specs.Policy.{body_slots, bound_body}
-use Rattle.cedar_world.specs.Asking.{Entries, NoContext, WithEntries, Question}
+use Rattle.cedar_world.specs.Asking.{Part, Entries, NoContext, WithEntries, Question}
 use Rattle.cedar_world.specs.Bodies.{Fields, zipped, found, if_there, entries_of, unknown_or, named_call, named, all_named, question_with, question_fields, question_keys, are_among, ask_body}
 use Rattle.cedar_world.specs.Functions.{is_the_unknown}
 use Rattle.cedar_world.specs.Orders.{text_eq}
-use Rattle.cedar_world.proofs.KnownKinds.{first_empty, second_empty}
+use Rattle.cedar_world.proofs.Slots.{first_empty, second_empty}
 use Rattle.cedar_world.proofs.Parts.{same_some}
 use Rattle.cedar_telling.specs.Lookups.{calls_among, all_call_among}
 use Rattle.cedar_telling.proofs.Both.{and_left, and_right, and_true, and_both}
@@ -45,29 +44,6 @@ module _ (passes : Name → Bool) (b : Slots) where
     all_bound_call : (ts : Trees) → all_call_among true passes (bound_trees b ts) ≡ all_call_among true passes ts
     all_bound_call no_trees = refl
     all_bound_call (a_tree t ts) = rw (bound_calls t, all_bound_call ts) refl
-
--- what holds no slot stays as it is
-module _ (b : Slots) where
-  mutual
-    tree_stays : (t : Tree) → tree_slots t ≡ [] → bound_tree b t ≡ t
-    tree_stays (Lit l) e = refl
-    tree_stays (Var v) e = refl
-    tree_stays (Slot s) e = absurd (cc e)
-    tree_stays (Unknown n ty) e = refl
-    tree_stays (If t y n) e =
-        let more = second_empty (tree_slots t) (tree_slots y ++ tree_slots n) e in
-        rw (tree_stays t (first_empty (tree_slots t) (tree_slots y ++ tree_slots n) e), tree_stays y (first_empty (tree_slots y) (tree_slots n) more), tree_stays n (second_empty (tree_slots y) (tree_slots n) more)) refl
-    tree_stays (And l r) e = rw (tree_stays l (first_empty (tree_slots l) (tree_slots r) e), tree_stays r (second_empty (tree_slots l) (tree_slots r) e)) refl
-    tree_stays (Or l r) e = rw (tree_stays l (first_empty (tree_slots l) (tree_slots r) e), tree_stays r (second_empty (tree_slots l) (tree_slots r) e)) refl
-    tree_stays (Apply op ts) e = rw (trees_stay ts e) refl
-
-    trees_stay : (ts : Trees) → trees_slots ts ≡ [] → bound_trees b ts ≡ ts
-    trees_stay no_trees e = refl
-    trees_stay (a_tree t ts) e = rw (tree_stays t (first_empty (tree_slots t) (trees_slots ts) e), trees_stay ts (second_empty (tree_slots t) (trees_slots ts) e)) refl
-
-  pub body_stays : (o : Option Tree) → body_slots o ≡ [] → bound_body b o ≡ o
-  body_stays None e = refl
-  body_stays (Some t) e = ap (λ c. Some c) (tree_stays t e)
 
 -- ---- texts
 
@@ -172,7 +148,7 @@ module _ (slots : Bool) (passes : Name → Bool) where
       subst (λ x. ContextCalls (unwrap_or x NoContext)) same (all_named_pass ts h)
   optional_calls (Some t) c h is = cc
 
-  with_parts : (p a r : Option (Option Uid)) (c : Option (Option Entries)) (q : Question) → question_with p a r c ≡ Some q
+  with_parts : (p a r : Option Part) (c : Option (Option Entries)) (q : Question) → question_with p a r c ≡ Some q
       → ((e : Option Entries) → c ≡ Some e → ContextCalls (unwrap_or e NoContext)) → ContextCalls q.context
   with_parts (Some p) (Some a) (Some r) (Some c) q is h = subst (λ (x : Question). ContextCalls x.context) (same_some _ q is) (h c refl)
   with_parts (Some p) (Some a) (Some r) None q is h = cc

@@ -64,4 +64,6 @@ carries_unbound carries facts made q slots told later extends are_made now then 
       slot = λ s. slot_below facts (unbound (settled_of facts q slots later)) (slots s);
       in_context = λ a. rw (apply_same facts q slots told (GetAttr a) (and_next facts (variable_held facts q told Context) (AllEvaluated no_values))) at (c.in_context a);
       has_in_context = λ a. rw (apply_same facts q slots told (HasAttr a) (and_next facts (variable_held facts q told Context) (AllEvaluated no_values))) at (c.has_in_context a);
+      variable_type = c.variable_type;
+      untold = c.untold;
     }

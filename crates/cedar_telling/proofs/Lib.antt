@@ -24,3 +24,5 @@ mod Fillings
 mod EarlySound
 mod OneJudged
 mod AgainSound
+mod Sharper
+mod TypedAnswers

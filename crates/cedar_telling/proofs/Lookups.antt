@@ -3,7 +3,7 @@
 use Rattle.std.proofs.Common.{◌≡◌, ◌≢◌, Bool, true, false, ◌&&◌, not, Option, Some, None, is_some, IsSome, List, [], refl, sym, ◌∙◌, ap, subst, true≢false}
 use Rattle.std.specs.FinMap as finite
 use Rattle.cedar_language.specs.Uid.{Text, Name, Uid}
-use Rattle.cedar_language.specs.Tree.{Boolean, ValueType, Variable, Principal, Action, Resource, Context, SlotId, PrincipalSlot, ResourceSlot, MakeRecord, Tree, Lit, Apply}
+use Rattle.cedar_language.specs.Tree.{Boolean, ValueType, Variable, Principal, Action, Resource, Context, SlotId, MakeRecord, Tree, Lit, Apply}
 use Rattle.cedar_language.specs.Value.{Value, Plain, Kind, TypeError, RecordAttrDoesNotExist, FailedExtensionFunctionLookup, Outcome, Gives, Fails}
 use Rattle.cedar_language.specs.Constructing.{the_constructor, is_the_constructor, constructor_function}
 use Rattle.cedar_language.specs.Facts.{Facts}
@@ -18,29 +18,34 @@ use Rattle.cedar_partial_evaluation.specs.Reauthorizing.{condition_again}
 use Rattle.cedar_partial_evaluation.specs.Unknowns.{fits}
 use Rattle.cedar_grammar.specs.Build.{conjunction}
 use Rattle.cedar_grammar.specs.Laws.{ExprsHoldNoSlot, LinkConditions}
-use Rattle.cedar_grammar.specs.Policy.{scope_tree, with_body, slots, body_slots, constraint_slots, bound_constraint, bound}
+use Rattle.cedar_grammar.specs.Policy.{scope_tree, with_body, slots, body_slots, bound}
 use Rattle.cedar_world.specs.Functions.{body_names, function_of, is_the_unknown}
-use Rattle.cedar_world.specs.KnownKinds.{IsOrdinary, ErrsOrdinarily}
+use Rattle.cedar_world.specs.KnownKinds.{IsOrdinary, IsFound, ErrsOrdinarily}
 use Rattle.cedar_world.specs.NameLaws.{is_answered, CallsAreFound}
 use Rattle.cedar_world.specs.Bodies.{ask_body}
 use Rattle.cedar_world.specs.Setting.{Setting, ArePolicies, IsBody}
 use Rattle.cedar_world.specs.Standing.{StandsEarly}
 use Rattle.cedar_world.specs.World.{Entities, AreFacts}
 use Rattle.cedar_world.specs.Syntax.{PolicySyntax, Bindings, binding_of, linked, condition}
-use Rattle.cedar_world.proofs.KnownKinds.{first_empty, second_empty, still_some}
+use Rattle.cedar_world.proofs.KnownKinds.{still_some}
 use Rattle.cedar_world.proofs.OrdinaryErrors.{applied_fine}
+use Rattle.cedar_world.proofs.Slots.{principal_free, resource_free, condition_free}
 use Rattle.cedar_telling.specs.Again.{standing_again}
 use Rattle.cedar_telling.specs.Lookups.{calls_among, finds_all, IsFoundAnswer, FoundAnswers, FindsFunctions, EarlyTextsFindFunctions}
 use Rattle.cedar_telling.proofs.Both.{and_left, and_right}
 use Rattle.cedar_telling.proofs.CallsLeft.{AnyKind, IsKept, AreKeptLeaves, Keeps, kept}
 use Rattle.cedar_telling.proofs.Called.{ContextCalls, question_calls, fewer_pass, without_slots, bound_calls, of_each}
 use Rattle.cedar_telling.proofs.Members.{IsAmong, contained}
-use Rattle.cedar_telling.proofs.Scopes.{condition_free, condition_kept}
+use Rattle.cedar_telling.proofs.Scopes.{condition_kept}
 
 -- ---- evaluations
 
-abbrev NoLookup : Kind → Type 0
+abbrev pub NoLookup : Kind → Type 0
 NoLookup k = k ≢ FailedExtensionFunctionLookup
+
+pub found_kind : (k : Kind) → NoLookup k → IsFound k
+found_kind FailedExtensionFunctionLookup h = absurd (h refl)
+found_kind k h = tt
 
 ordinary_is_none : (k : Kind) → IsOrdinary k → NoLookup k
 ordinary_is_none k h e = subst IsOrdinary e h
@@ -174,19 +179,17 @@ module _ (facts : Facts) (constructs : IsSome (facts.function the_constructor)) 
   ordinary told t h =
       kind_fine false IsOrdinary facts (λ k o. o) (partial_in facts (held_of facts q no_slots told) t) (held_fine false IsOrdinary facts (λ k o. o) constructs q calls no_slots (λ e s. no_slot_stands e) told t h)
 
-  pub early_ordinary : (told : Told) (s : PolicySyntax) → finds_all facts (condition s) ≡ true → slots s ≡ [] → body_slots s.body ≡ [] → (k : Kind) → StandsEarly facts q told s (Erring k) → IsOrdinary k
-  early_ordinary told s h e f = ordinary told (condition s) (without_slots (there facts) (condition s) (condition_free s e f) h)
+  pub early_ordinary : (told : Told) (s : PolicySyntax) → finds_all facts (condition s) ≡ true → slots s ≡ [] → (k : Kind) → StandsEarly facts q told s (Erring k) → IsOrdinary k
+  early_ordinary told s h e = ordinary told (condition s) (without_slots (there facts) (condition s) (condition_free s e) h)
 
-  -- what was left of a condition, whose slots these bind, evaluated again without them
+  -- what was left of a condition, whose slots these bind, evaluated again without them, where the clauses hold none
   pub again_ordinary : (told : Told) (p : PolicySyntax) (b : Slots) → finds_all facts (condition p) ≡ true → slots (bound b p) ≡ [] → body_slots p.body ≡ []
       → (k : Kind) → Erring k ≡ standing_again facts q told b (condition p) → IsOrdinary k
   again_ordinary told p b h e f =
       let keeps = keeps_fine false AnyKind facts (λ k o. tt) constructs in
-      let principal = constraint_slots PrincipalSlot (bound_constraint (b PrincipalSlot) p.principal) in
-      let resource = constraint_slots ResourceSlot (bound_constraint (b ResourceSlot) p.resource) in
       let first = partial_in facts (held_of facts q b finite.empty) (condition p) in
       let left : IsKept false (there facts) AnyKind first =
-      condition_kept (there facts) facts keeps q b p (first_empty principal resource e) (second_empty principal resource e) (λ c is.
+      condition_kept (there facts) facts keeps q b p (principal_free (bound b p) e) (resource_free (bound b p) e) (λ c is.
       let free = without_slots (there facts) c (ap body_slots (sym is) ∙ f) (clause_calls (there facts) (scope_tree p) c (ap (λ o. calls_among true (there facts) (with_body (scope_tree p) o)) (sym is) ∙ h)) in
       (free, any b finite.empty c free)) in
       ordinary told (condition_again first) (again_calls false AnyKind facts (λ k o. tt) first left)

@@ -1,5 +1,6 @@
--- Of a scope whose slots are bound, no part errs while nothing is told, and none is left with a slot.
-use Rattle.std.proofs.Common.{◌≡◌, Bool, true, false, Option, Some, None, List, [], ◌∷◌, ◌++◌, map, refl, sym, ap, subst}
+-- Of a scope whose slots are bound, no part errs while nothing is told, and none is left with a slot; so a condition is left with one
+-- only where its clauses hold one.
+use Rattle.std.proofs.Common.{◌≡◌, Bool, true, false, Option, Some, None, List, [], map, refl, sym, ap, subst}
 use Rattle.std.specs.FinMap as finite
 use Rattle.cedar_language.specs.Uid.{Text, Name, Uid}
 use Rattle.cedar_language.specs.Tree.{Boolean, Entity, Operator, Equal, In, Is, MakeSet, Variable, Principal, Action, Resource, SlotId, PrincipalSlot, ResourceSlot, Tree, And, Lit, Var, Unknown, Apply, no_trees, a_tree}
@@ -7,60 +8,18 @@ use Rattle.cedar_language.specs.Value.{Value, Plain, SetOf, no_values, a_value}
 use Rattle.cedar_language.specs.Order.{rising}
 use Rattle.cedar_language.specs.Facts.{Facts}
 use Rattle.cedar_language.specs.Meaning.{slot_outcome}
-use Rattle.cedar_language.specs.Slots.{Slots, tree_slots, trees_slots}
+use Rattle.cedar_language.specs.Slots.{Slots}
 use Rattle.cedar_language.specs.Operators.{within_members}
 use Rattle.cedar_partial_evaluation.specs.MadeAgain.{tree_of}
 use Rattle.cedar_partial_evaluation.specs.Partial.{Answer, Evaluated, ResidualTree, Failed, Answers, AllEvaluated, answer_of, best_effort, last_answer, and_answer, and_next, equal_answer, stated_type, types_differ, LeafAnswers, apply_answer, partial_in}
 use Rattle.cedar_partial_evaluation.specs.Question.{Part, Given, Missing, Question, entity_type, part_held, held_of}
 use Rattle.cedar_grammar.specs.Build.{trees, unary, binary, conjunction}
-use Rattle.cedar_grammar.specs.Policy.{Policy, Target, the_entity, the_slot, Constraint, anything, equals, within, of_type, of_type_within, ActionConstraint, any_action, action_equals, action_within_any, target_tree, target_slots, constraint_tree, constraint_slots, action_tree, scope_tree, with_body, condition, slots, body_slots, bound_target, bound_constraint}
+use Rattle.cedar_grammar.specs.Policy.{Policy, Target, the_entity, the_slot, Constraint, anything, equals, within, of_type, of_type_within, ActionConstraint, any_action, action_equals, action_within_any, target_tree, target_slots, constraint_tree, constraint_slots, action_tree, scope_tree, with_body, condition, bound_target, bound_constraint}
 use Rattle.cedar_world.specs.Orders.{text_cmp}
-use Rattle.cedar_world.proofs.KnownKinds.{first_empty, second_empty}
 use Rattle.cedar_world.proofs.Scope.{conjoined, entities, all_listed, rising_uids}
 use Rattle.cedar_telling.specs.Lookups.{calls_among}
 use Rattle.cedar_telling.proofs.Both.{and_both}
 use Rattle.cedar_telling.proofs.CallsLeft.{AnyKind, Keeps, IsKept, value_passes, and_kept}
-
--- ---- scopes in which no slot stands
-
-both_empty : (xs ys : List SlotId) → xs ≡ [] → ys ≡ [] → xs ++ ys ≡ []
-both_empty xs ys e f = rw (e, f) refl
-
-conjunction_free : (l r : Tree) → tree_slots l ≡ [] → tree_slots r ≡ [] → tree_slots (conjunction l r) ≡ []
-conjunction_free (Lit (Boolean a)) (Lit (Boolean b)) h k = refl
-conjunction_free l r h k = both_empty (tree_slots l) (tree_slots r) h k
-
-constraint_free : (v : Variable) (slot : SlotId) (c : Constraint) → constraint_slots slot c ≡ [] → tree_slots (constraint_tree v slot c) ≡ []
-constraint_free v slot anything e = refl
-constraint_free v slot (equals (the_entity u)) e = refl
-constraint_free v slot (equals the_slot) e = absurd (cc e)
-constraint_free v slot (within (the_entity u)) e = refl
-constraint_free v slot (within the_slot) e = absurd (cc e)
-constraint_free v slot (of_type name) e = refl
-constraint_free v slot (of_type_within name (the_entity u)) e = refl
-constraint_free v slot (of_type_within name the_slot) e = absurd (cc e)
-
-literals_free : (us : List Uid) → trees_slots (trees (map (λ u. Lit (Entity u)) us)) ≡ []
-literals_free [] = refl
-literals_free (u ∷ us) = literals_free us
-
-action_free : (c : ActionConstraint) → tree_slots (action_tree c) ≡ []
-action_free any_action = refl
-action_free (action_equals u) = refl
-action_free (action_within_any us) = rw (literals_free us) refl
-
-clauses_free : (scope : Tree) (o : Option Tree) → tree_slots scope ≡ [] → body_slots o ≡ [] → tree_slots (with_body scope o) ≡ []
-clauses_free scope None h k = h
-clauses_free scope (Some c) h k = conjunction_free scope c h k
-
-pub condition_free : (p : Policy) → slots p ≡ [] → body_slots p.body ≡ [] → tree_slots (condition p) ≡ []
-condition_free p e f =
-    let principal = constraint_tree Principal PrincipalSlot p.principal in
-    let resource = constraint_tree Resource ResourceSlot p.resource in
-    clauses_free (scope_tree p) p.body
-    (conjunction_free (conjunction principal (action_tree p.action)) resource
-    (conjunction_free principal (action_tree p.action) (constraint_free Principal PrincipalSlot p.principal (first_empty (constraint_slots PrincipalSlot p.principal) (constraint_slots ResourceSlot p.resource) e)) (action_free p.action))
-    (constraint_free Resource ResourceSlot p.resource (second_empty (constraint_slots PrincipalSlot p.principal) (constraint_slots ResourceSlot p.resource) e))) f
 
 -- ---- scopes whose slots are bound
 

@@ -4,3 +4,4 @@ pub mod Joined
 pub mod Plain
 pub mod Lookups
 pub mod ContextErrors
+pub mod Typed

@@ -6,6 +6,7 @@ ghost use Rattle.cedar_telling.specs.ContextErrors.{ContextsErrInParts};
 ghost use Rattle.cedar_telling.specs.Joined.{FirstAnswersAreSteady, LaterAnswersStand};
 ghost use Rattle.cedar_telling.specs.Lookups.{EarlyTextsFindFunctions, PoliciesInForceErrOrdinarily, FoundAnswers, AnswersErrOrdinarily};
 ghost use Rattle.cedar_telling.specs.Plain.{PlainAnswers};
+ghost use Rattle.cedar_telling.specs.Typed.{TypedQuestionsAreSharper};
 
 // ---- evaluations
 
@@ -53,12 +54,13 @@ pub fn early_texts_find_functions()
     cedar_world::calls_are_found();
 }
 
-/// No policy that is in force after any list of commands errs so, or with a slot that isn't linked.
+/// No policy that is in force after any list of commands errs so, or, when the question is asked, with a slot that isn't
+/// linked; nor does one err with such a slot later where no clause has a slot.
 pub fn policies_in_force_err_ordinarily()
     ensures { PoliciesInForceErrOrdinarily }
 {
     cedar_grammar::linking_binds_the_condition();
-    cedar_grammar::slots_stand_in_scopes();
+    cedar_grammar::slots_stand_in_policies();
     cedar_world::link_laws();
     cedar_world::calls_are_found();
 }
@@ -86,8 +88,8 @@ pub fn again_is_sound()
 
 // ---- answers
 
-/// No answer names a failed look-up of a function, or a slot that isn't linked, when a body's question is asked or once more
-/// is told.
+/// No answer names a failed look-up of a function, when a body's question is asked or once more is told; and none names a
+/// slot that isn't linked when it is asked, nor later where no clause of a policy or template has a slot.
 pub fn answers_err_ordinarily()
     ensures { AnswersErrOrdinarily }
 {
@@ -113,4 +115,11 @@ pub fn later_answers_stand()
     cedar_world::answers_read_what_is_in_force();
     cedar_world::answers_are_made();
     cedar_language::rules_are_fair();
+}
+
+/// A question that states types of what is missing is answered at least as sharply as the one that states none.
+pub fn typed_questions_are_sharper()
+    ensures { TypedQuestionsAreSharper }
+{
+    cedar_language::rules_are_sharp();
 }

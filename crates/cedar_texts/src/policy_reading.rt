@@ -16,7 +16,8 @@ use std::alloc::Global;
 
 /// The policies and templates that a text is, under `policy0`, `policy1`, .. in its order, where they may
 /// call the functions of the table but `unknown`: no condition of theirs calls it, or holds an unknown
-/// else. (Cedar language reference, "Policy syntax".)
+/// else. One with a slot in its scope or in a clause is a template. (Cedar language reference, "Policy
+/// syntax" and "Policy templates".)
 ///
 /// It is refused `Text` where the text is no policies within any nesting; `Depth` where its nesting is
 /// more than `depth`; and `Memory`.

@@ -23,9 +23,9 @@ use std::alloc::Global;
 /// where the table lacks that function. Most bodies are read straight from their text (`read_data`); the
 /// parser reads the others, and finds why a text is refused.
 ///
-/// It is refused `Text` where the text is no expression within any nesting; `Depth` where its nesting
-/// or the height of its tree is more than `depth`; `NotRestricted` where it holds more than literals,
-/// sets, records and calls; and `Memory`.
+/// It is refused `Text` where the text is no expression within any nesting, and so where a slot of templates
+/// stands in it; `Depth` where its nesting or the height of its tree is more than `depth`; `NotRestricted`
+/// where it holds more than literals, sets, records and calls; and `Memory`.
 pub fn read_body<F: ExtensionFunctionObject>(
     alloc: Global,
     text: &str,

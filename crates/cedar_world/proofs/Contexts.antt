@@ -18,7 +18,7 @@ use Rattle.cedar_world.specs.Functions.{Functions}
 use Rattle.cedar_world.specs.Setting.{Setting, functions_alone, value_of}
 use Rattle.cedar_world.specs.First.{IsData}
 use Rattle.cedar_world.proofs.Lists.{and_left, and_right}
-use Rattle.cedar_world.proofs.Agreeing.{Agrees, LeavesAgree, tree_agrees}
+use Rattle.cedar_world.proofs.Agreeing.{Agrees, LeavesAgree, IsTold, each_passes, tree_agrees}
 use Rattle.cedar_world.proofs.Errors.{context_entry}
 
 -- ---- trees of data read functions alone
@@ -174,12 +174,13 @@ module _ (by : Setting) (facts : Facts) (same : (name : Name) → facts.function
     slot = λ s. tt;
     in_context = λ a. tt;
     has_in_context = λ a. tt;
+    variable_type = λ v ty h. (let k : ◌≡◌ {A = Option Name} None (Some ty) = h in cc);
   }
 
   data_agrees : (t : Tree) → is_restricted t ≡ true → Agrees (settled_in facts (settled_names told) t) (value_of by.functions filling t)
   data_agrees t d =
       subst (λ x. Agrees x (value_of by.functions filling t)) (sym (data_same facts (functions_alone by.functions) told same t d))
-      (tree_agrees (functions_alone by.functions) (settled_names told) (names_told filling) names_agree t)
+      (tree_agrees (functions_alone by.functions) (settled_names told) (names_told filling) names_agree t (each_passes (IsTold (settled_names told)) (λ n ty. refl) t))
 
   pub context_agrees : (c : Entries) (w : Value) → IsData c → FillsContext (functions_alone by.functions) c filling w → Agrees (context_settled facts told c) (Gives w)
   context_agrees NoContext w d h = rw (untold _) tt

@@ -48,7 +48,7 @@ settled_kinds facts q s standing l e (decided result settles gives) = (result, s
 settled_is_sound : KnownTreesSettle → (by : Setting) (world : World) (facts : Facts) (q : Question) → AreFactsOf by world facts → NamesNoUnknown world → IsData q.context
     → IsSound by world facts q (StandsSoFar facts q finite.empty)
 settled_is_sound settle by world facts q are closed of_data = record {
-  fair = λ id s force standing stands filling request fills. standing_comes by facts are.function q of_data filling request fills s standing stands;
+  fair = λ id s force standing stands filling request fills. standing_comes by facts are.function q of_data filling request fills s standing (closed id s force) stands;
   sharp = λ s result settles standing stands. one_standing facts q finite.empty s result settles standing stands;
   kinds = λ s result k l settles errs stands. settled_kinds facts q s (Erring l) l (λ i. Erring l) stands;
   exact = λ id s force known request fills standing stands.

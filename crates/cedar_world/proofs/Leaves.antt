@@ -1,5 +1,5 @@
 -- What is settled of a question when it is asked is what each known question says that fills it.
-use Rattle.std.proofs.Common.{◌≡◌, ◌≢◌, Bool, true, false, ◌&&◌, ◌||◌, Option, None, refl, sym, ◌∙◌, ap, codes, true≢false}
+use Rattle.std.proofs.Common.{◌≡◌, ◌≢◌, Bool, true, false, ◌&&◌, ◌||◌, Option, Some, None, refl, sym, ◌∙◌, ap, codes, true≢false}
 use Rattle.cedar_partial_evaluation.specs.Filling.{FillsPart}
 use Rattle.std.specs.FinMap as map
 use Rattle.cedar_language.specs.Uid.{Text, Name, Uid}
@@ -9,7 +9,9 @@ use Rattle.cedar_language.specs.Facts.{Facts}
 use Rattle.cedar_language.specs.Authorization.{Known, request_at}
 use Rattle.cedar_partial_evaluation.specs.Settling.{Open, settled_in}
 use Rattle.cedar_partial_evaluation.specs.Prompt.{ErrsAs}
-use Rattle.cedar_partial_evaluation.specs.Question.{part_settled, variable_settled, settled_of}
+use Rattle.cedar_partial_evaluation.specs.Fair.{IsOfType}
+use Rattle.cedar_partial_evaluation.specs.Question.{part_settled, part_type, variable_settled, variable_type, settled_of}
+use Rattle.std.specs.Cmp.Lexicographic.{pointwise_decides, bytes_decides}
 use Rattle.cedar_partial_evaluation.specs.Mentions.{mentions_only, all_mention_only, is_given, is_known_context, is_known, KnownTreesSettle}
 use Rattle.cedar_partial_evaluation.specs.Filling as early
 use Rattle.cedar_world.specs.Orders.{text_eq}
@@ -20,13 +22,19 @@ use Rattle.cedar_world.specs.Setting.{Setting, functions_alone, means}
 use Rattle.cedar_world.specs.First.{IsData}
 use Rattle.cedar_world.proofs.Lists.{and_left, and_right, and_both}
 use Rattle.cedar_world.proofs.InForce.{text_itself}
-use Rattle.cedar_world.proofs.Agreeing.{Agrees, LeavesAgree, tree_agrees}
+use Rattle.cedar_world.proofs.Agreeing.{Agrees, LeavesAgree, IsTold, none_stands, tree_agrees}
 use Rattle.cedar_world.proofs.Errors.{fails}
 use Rattle.cedar_world.proofs.Contexts.{context_agrees, in_context_agrees, has_in_context_agrees, missing_means}
 
 part_agrees : (p : Part) (o told : Option Value) (u : Uid) → told ≡ None → FillsPart p o u → Agrees (part_settled p told) (Gives (Plain (Entity u)))
 part_agrees (Given v) o told u e h = rw h refl
 part_agrees (Missing ty) o told u e h = rw e tt
+
+part_typed : (p : Part) (o told : Option Value) (u : Uid) (ty : Name) → FillsPart p o u → part_type p told ≡ Some ty → u.type_name ≡ ty
+part_typed (Given v) o told u ty h e = cc
+part_typed (Missing (Some y)) o None u ty (is, fit) e = let same : y ≡ ty = cc in (pointwise_decides bytes_decides u.type_name y).0 fit ∙ same
+part_typed (Missing None) o None u ty h e = cc
+part_typed (Missing y) o (Some v) u ty h e = cc
 
 module _ (by : Setting) (facts : Facts) (same : (name : Name) → facts.function name ≡ (functions_alone by.functions).function name) (q : Question) (told : Told)
     (untold : (n : Text) → map.get told n ≡ None) (of_data : IsData q.context) (filling : Told) (request : Known) (fills : early.IsFilling (functions_alone by.functions) q filling request) where
@@ -36,6 +44,12 @@ module _ (by : Setting) (facts : Facts) (same : (name : Name) → facts.function
   variable_agrees Resource = part_agrees q.resource _ _ request.resource (untold _) fills.resource
   variable_agrees Context = context_agrees by facts same told untold filling q.context request.context of_data fills.context
 
+  variable_typed : (v : Variable) (ty : Name) → variable_type q told v ≡ Some ty → IsOfType ty ((request_at request (λ s. None)).variable v)
+  variable_typed Principal ty h = (request.principal, refl, part_typed q.principal _ _ request.principal ty fills.principal h)
+  variable_typed Action ty h = (request.action, refl, part_typed q.action _ _ request.action ty fills.action h)
+  variable_typed Resource ty h = (request.resource, refl, part_typed q.resource _ _ request.resource ty fills.resource h)
+  variable_typed Context ty h = cc
+
   leaves_agree : LeavesAgree facts (settled_of facts q (λ s. None) told) (request_at request (λ s. None))
   leaves_agree = record {
     variable = variable_agrees;
@@ -43,11 +57,13 @@ module _ (by : Setting) (facts : Facts) (same : (name : Name) → facts.function
     slot = λ s. (UnlinkedSlot, refl);
     in_context = λ a. in_context_agrees by facts same told untold filling q.context request.context a of_data fills.context;
     has_in_context = λ a. has_in_context_agrees by facts same told untold filling q.context request.context a of_data fills.context;
+    variable_type = variable_typed;
   }
 
   -- what is settled is what is meant once the question is filled
-  pub condition_agrees : (t : Tree) → Agrees (settled_in facts (settled_of facts q (λ s. None) told) t) (means facts request t)
-  condition_agrees t = tree_agrees facts (settled_of facts q (λ s. None) told) (request_at request (λ s. None)) leaves_agree t
+  pub condition_agrees : (t : Tree) → mentions_only (λ v. true) true t ≡ true → Agrees (settled_in facts (settled_of facts q (λ s. None) told) t) (means facts request t)
+  condition_agrees t h =
+      tree_agrees facts (settled_of facts q (λ s. None) told) (request_at request (λ s. None)) leaves_agree t (none_stands (IsTold (settled_of facts q (λ s. None) told)) (λ v. true) true t h)
 
   -- ---- a known question
 

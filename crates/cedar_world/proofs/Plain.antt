@@ -21,7 +21,7 @@ use Rattle.cedar_world.specs.Setting.{Setting}
 use Rattle.cedar_world.specs.Standing.{StandsSoFar, IsJudged, Judges, ErrOnce}
 use Rattle.cedar_world.specs.WorldFacts.{AreFactsOf, facts_of}
 use Rattle.cedar_world.specs.First.{IsData, HasRequest, NamesNoUnknown}
-use Rattle.cedar_world.specs.Scope.{scope_met, standing_met}
+use Rattle.cedar_world.specs.Scope.{scope_known, standing_met}
 use Rattle.cedar_world.specs.InForce.{AreInForce}
 use Rattle.cedar_world.specs.Plain.{HasScopesAlone, HasNoEntries, judged_by_scope, AnswersByScope, ScopesAnswer}
 use Rattle.cedar_world.proofs.Lists.{contained, contains, mapped, unmapped}
@@ -68,7 +68,7 @@ has_request by q (inr e) known =
     (request, fills by q request known p a r e refl)
 
 module _ (by : Setting) (world : World) (facts : Facts) (are : AreFactsOf by world facts) (alone : HasScopesAlone world) (q : Question) where
-  stands : (id : Text) (s : PolicySyntax) → in_force_at world.policies id ≡ Some s → StandsSoFar facts q finite.empty s (standing_met (scope_met (is_within facts) s q))
+  stands : (id : Text) (s : PolicySyntax) → in_force_at world.policies id ≡ Some s → StandsSoFar facts q finite.empty s (standing_met (scope_known (is_within facts) s q))
   stands id s h = scopes_settle.stands facts q s (alone.slots id s h) (alone.bodies id s h)
 
   abbrev by_scope : Text × PolicySyntax → Judged
@@ -110,7 +110,7 @@ not_erring None k h = cc
 none_errs : (is_in : Uid → Uid → Bool) (q : Question) (ps : List (Text × PolicySyntax)) → ErrOnce (map (judged_by_scope is_in q) ps)
 none_errs is_in q ps id k l x y =
     let (p, among, is) = unmapped (judged_by_scope is_in q) ps x.0 (contained (map (judged_by_scope is_in q) ps) x.0 x.1) in
-    absurd (not_erring (scope_met is_in p.1 q) k (ap (λ (j : Judged). j.standing) is ∙ x.3))
+    absurd (not_erring (scope_known is_in p.1 q) k (ap (λ (j : Judged). j.standing) is ∙ x.3))
 
 pub scopes_answer : KnownTreesSettle → ScopesAnswer
 scopes_answer settle = record {

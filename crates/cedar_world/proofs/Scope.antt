@@ -1,12 +1,12 @@
 -- How far scopes are settled.
-use Rattle.std.proofs.Common.{◌≡◌, ◌↔◌, Bool, true, false, ◌&&◌, ◌||◌, Option, Some, None, IsTrue, List, [], ◌∷◌, ◌++◌, map, refl, sym, ◌∙◌, ap, subst}
+use Rattle.std.proofs.Common.{◌≡◌, ◌↔◌, Bool, true, false, not, ◌&&◌, ◌||◌, Option, Some, None, IsTrue, List, [], ◌∷◌, ◌++◌, map, refl, sym, ◌∙◌, ap, subst}
 use Rattle.std.specs.List.{list_any}
 use Rattle.std.specs.FinMap as finite
 use Rattle.std.specs.declared.cmp.Ordering.{Ordering}
 use Rattle.std.specs.declared.cmp.Ordering.TheVariants as ordering
 use Rattle.std.specs.Cmp.{both_ways}
 use Rattle.std.specs.Cmp.Lexicographic.{pointwise_decides, bytes_decides}
-use Rattle.cedar_language.specs.Uid.{Text, Uid}
+use Rattle.cedar_language.specs.Uid.{Text, Name, Uid}
 use Rattle.cedar_language.specs.Tree.{Boolean, Entity, Variable, Principal, Action, Resource, SlotId, PrincipalSlot, ResourceSlot, Tree, Lit}
 use Rattle.cedar_language.specs.Value.{Value, Plain, Values, no_values, a_value, Gives}
 use Rattle.cedar_language.specs.Order.{same, same_text, same_name, same_uid, value_cmp, placed, put, rising}
@@ -14,17 +14,18 @@ use Rattle.cedar_language.specs.OrderLaws.{value_cmp_same, same_is, is_same}
 use Rattle.cedar_language.specs.Facts.{Facts}
 use Rattle.cedar_language.specs.Operators.{and_uid, uids_in, is_within, is_within_some}
 use Rattle.cedar_partial_evaluation.specs.Partial.{Evaluated, Answers, AllEvaluated, and_answer, and_next, LeafAnswers, partial_in, all_partial_in}
-use Rattle.cedar_partial_evaluation.specs.Settling.{Settling, Open, Is, AllAre, and_settled, LeafSettlings, settled_in, all_settled_in}
+use Rattle.cedar_partial_evaluation.specs.Settling.{Settling, Open, Is, AllAre, and_settled, LeafSettlings, equal_by_types, settled_in, all_settled_in}
 use Rattle.cedar_partial_evaluation.specs.Mentions.{mentions_only, all_mention_only}
-use Rattle.cedar_partial_evaluation.specs.Question.{part_settled, settled_of}
+use Rattle.cedar_partial_evaluation.specs.Question.{part_settled, part_type, settled_of}
 use Rattle.cedar_grammar.specs.Build.{trees, conjunction}
-use Rattle.cedar_grammar.specs.Policy.{Target, the_entity, the_slot, Constraint, anything, equals, within, of_type, of_type_within, ActionConstraint, any_action, action_equals, action_within_any, target_tree, constraint_tree, action_tree, scope_tree, with_body, constraint_slots}
+use Rattle.cedar_grammar.specs.Policy.{Target, the_entity, the_slot, Constraint, anything, equals, within, of_type, of_type_within, ActionConstraint, any_action, action_equals, action_within_any, target_tree, constraint_tree, action_tree, scope_tree, with_body, constraint_slots, slots}
 use Rattle.cedar_world.specs.Orders.{text_cmp}
-use Rattle.cedar_world.specs.Syntax.{PolicySyntax, condition, are_some, is_template}
+use Rattle.cedar_world.specs.Syntax.{PolicySyntax, condition, is_template}
 use Rattle.cedar_world.specs.Asking.{Part, Given, Missing, Question}
 use Rattle.cedar_world.specs.Standing.{settled_so_far, StandsSoFar, still_open, decided}
-use Rattle.cedar_world.specs.Scope.{meets, met, action_met, and_then_met, scope_met, standing_met, ScopesSettle}
+use Rattle.cedar_world.specs.Scope.{meets, met, action_met, unless_other, by_type, known_of, action_by_type, action_known_of, and_then_met, scope_met, scope_known, standing_met, ScopesSettle}
 use Rattle.cedar_world.proofs.Lists.{or_false, and_left, and_right, and_both}
+use Rattle.cedar_world.proofs.Slots.{none_left, principal_free, resource_free}
 
 -- ---- entities
 
@@ -151,6 +152,16 @@ and_both_known : (a b : Bool) → and_settled (known (Some a)) (known (Some b)) 
 and_both_known true b = refl
 and_both_known false b = refl
 
+-- ---- types that are stated of what is missing
+
+equal_stated : (b : Bool) → equal_by_types (not b) ≡ known (unless_other b)
+equal_stated true = refl
+equal_stated false = refl
+
+within_stated : (b : Bool) → and_settled (Is (Plain (Boolean b))) Open ≡ known (unless_other b)
+within_stated true = refl
+within_stated false = refl
+
 module _ (facts : Facts) (around : LeafSettlings) (v : Variable) where
   constraint_given : (slot : SlotId) (c : Constraint) (u : Uid) → constraint_slots slot c ≡ [] → around.variable v ≡ Is (Plain (Entity u)) → settled_in facts around (constraint_tree v slot c) ≡ known (Some (meets (is_within facts) c u))
   constraint_given slot anything u h e = refl
@@ -162,38 +173,53 @@ module _ (facts : Facts) (around : LeafSettlings) (v : Variable) where
   constraint_given slot (within the_slot) u h e = cc
   constraint_given slot (of_type_within name the_slot) u h e = cc
 
-  constraint_settled : (slot : SlotId) (c : Constraint) (part : Part) → constraint_slots slot c ≡ [] → around.variable v ≡ part_settled part None → settled_in facts around (constraint_tree v slot c) ≡ known (met (is_within facts) c part)
-  constraint_settled slot anything part h e = refl
-  constraint_settled slot (equals x) (Given u) h e = constraint_given slot (equals x) u h e
-  constraint_settled slot (within x) (Given u) h e = constraint_given slot (within x) u h e
-  constraint_settled slot (of_type name) (Given u) h e = constraint_given slot (of_type name) u h e
-  constraint_settled slot (of_type_within name x) (Given u) h e = constraint_given slot (of_type_within name x) u h e
-  constraint_settled slot (equals (the_entity x)) (Missing type) h e = rw e refl
-  constraint_settled slot (within (the_entity x)) (Missing type) h e = rw e refl
-  constraint_settled slot (of_type name) (Missing type) h e = rw e refl
-  constraint_settled slot (of_type_within name x) (Missing type) h e = rw e refl
-  constraint_settled slot (equals the_slot) (Missing type) h e = cc
-  constraint_settled slot (within the_slot) (Missing type) h e = cc
+  equal_missing : (x : Uid) (type : Option Name) → around.variable v ≡ Open → around.variable_type v ≡ type →
+      settled_in facts around (constraint_tree v PrincipalSlot (equals (the_entity x))) ≡ known (by_type (equals (the_entity x)) type)
+  equal_missing x (Some ty) e t = rw (e, t) (equal_stated (same_name ty x.type_name))
+  equal_missing x None e t = rw (e, t) refl
 
-action_settled : (facts : Facts) (around : LeafSettlings) (c : ActionConstraint) (part : Part) → around.variable Action ≡ part_settled part None → settled_in facts around (action_tree c) ≡ known (action_met (is_within facts) c part)
-action_settled facts around any_action part e = refl
-action_settled facts around (action_equals x) (Given u) e = rw e (ap (λ b. Is (Plain (Boolean b))) (entity_equal u x))
-action_settled facts around (action_equals x) (Missing type) e = rw e refl
-action_settled facts around (action_within_any us) (Given u) e =
-    let rest = rising_uids facts us in
-    rw (e, all_literals facts around us, rest.uids_are) (ap (λ b. Is (Plain (Boolean b))) (rest.found u))
-action_settled facts around (action_within_any us) (Missing type) e = rw (e, all_literals facts around us) refl
+  constraint_missing : (slot : SlotId) (c : Constraint) (type : Option Name) → constraint_slots slot c ≡ [] → around.variable v ≡ Open → around.variable_type v ≡ type →
+      settled_in facts around (constraint_tree v slot c) ≡ known (by_type c type)
+  constraint_missing slot anything type h e t = refl
+  constraint_missing slot (equals (the_entity x)) type h e t = equal_missing x type e t
+  constraint_missing slot (within (the_entity x)) type h e t = rw e refl
+  constraint_missing slot (of_type name) (Some ty) h e t = rw (e, t) refl
+  constraint_missing slot (of_type name) None h e t = rw (e, t) refl
+  constraint_missing slot (of_type_within name (the_entity x)) (Some ty) h e t = rw (e, t) (within_stated (same_name ty name))
+  constraint_missing slot (of_type_within name (the_entity x)) None h e t = rw (e, t) refl
+  constraint_missing slot (equals the_slot) type h e t = cc
+  constraint_missing slot (within the_slot) type h e t = cc
+  constraint_missing slot (of_type_within name the_slot) type h e t = cc
+
+  constraint_settled : (slot : SlotId) (c : Constraint) (part : Part) → constraint_slots slot c ≡ [] → around.variable v ≡ part_settled part None → around.variable_type v ≡ part_type part None →
+      settled_in facts around (constraint_tree v slot c) ≡ known (known_of (is_within facts) c part)
+  constraint_settled slot anything (Given u) h e t = refl
+  constraint_settled slot (equals x) (Given u) h e t = constraint_given slot (equals x) u h e
+  constraint_settled slot (within x) (Given u) h e t = constraint_given slot (within x) u h e
+  constraint_settled slot (of_type name) (Given u) h e t = constraint_given slot (of_type name) u h e
+  constraint_settled slot (of_type_within name x) (Given u) h e t = constraint_given slot (of_type_within name x) u h e
+  constraint_settled slot c (Missing type) h e t = constraint_missing slot c type h e t
+
+module _ (facts : Facts) (around : LeafSettlings) where
+  action_given : (c : ActionConstraint) (u : Uid) → around.variable Action ≡ Is (Plain (Entity u)) → settled_in facts around (action_tree c) ≡ known (action_met (is_within facts) c (Given u))
+  action_given any_action u e = refl
+  action_given (action_equals x) u e = rw e (ap (λ b. Is (Plain (Boolean b))) (entity_equal u x))
+  action_given (action_within_any us) u e =
+      let rest = rising_uids facts us in
+      rw (e, all_literals facts around us, rest.uids_are) (ap (λ b. Is (Plain (Boolean b))) (rest.found u))
+
+  action_missing : (c : ActionConstraint) (type : Option Name) → around.variable Action ≡ Open → around.variable_type Action ≡ type → settled_in facts around (action_tree c) ≡ known (action_by_type c type)
+  action_missing any_action type e t = refl
+  action_missing (action_equals x) (Some ty) e t = rw (e, t) (equal_stated (same_name ty x.type_name))
+  action_missing (action_equals x) None e t = rw (e, t) refl
+  action_missing (action_within_any us) type e t = rw (e, all_literals facts around us) refl
+
+  action_settled : (c : ActionConstraint) (part : Part) → around.variable Action ≡ part_settled part None → around.variable_type Action ≡ part_type part None →
+      settled_in facts around (action_tree c) ≡ known (action_known_of (is_within facts) c part)
+  action_settled c (Given u) e t = action_given c u e
+  action_settled c (Missing type) e t = action_missing c type e t
 
 -- ---- conditions
-
-first_none : (xs ys : List SlotId) → are_some (xs ++ ys) ≡ false → xs ≡ []
-first_none [] ys h = refl
-first_none (x ∷ xs) ys h = cc
-
-later_none : (xs ys : List SlotId) → are_some (xs ++ ys) ≡ false → ys ≡ []
-later_none [] [] h = refl
-later_none [] (y ∷ ys) h = cc
-later_none (x ∷ xs) ys h = cc
 
 module _ (facts : Facts) (q : Question) (s : PolicySyntax) (static : is_template s ≡ false) where
   abbrev around : LeafSettlings
@@ -202,28 +228,31 @@ module _ (facts : Facts) (q : Question) (s : PolicySyntax) (static : is_template
   part_untold : (p : Part) (n : Text) → part_settled p (finite.get {R = text_cmp} finite.empty n) ≡ part_settled p None
   part_untold p n = ap (part_settled p) (finite.get-empty text_cmp n)
 
+  type_untold : (p : Part) (n : Text) → part_type p (finite.get {R = text_cmp} finite.empty n) ≡ part_type p None
+  type_untold p n = ap (part_type p) (finite.get-empty text_cmp n)
+
   both_known : (l r : Tree) (o p : Option Bool) → settled_in facts around l ≡ known o → settled_in facts around r ≡ known p → settled_in facts around (conjunction l r) ≡ known (and_then_met o p)
   both_known l r o p h k =
       folded facts around l r ∙ ap (λ x. and_settled x (settled_in facts around r)) h ∙ ap (and_settled (known o)) k ∙ and_known o p
 
-  scope_settled : settled_in facts around (scope_tree s) ≡ known (scope_met (is_within facts) s q)
+  scope_settled : settled_in facts around (scope_tree s) ≡ known (scope_known (is_within facts) s q)
   scope_settled =
-      let principal : settled_in facts around (constraint_tree Principal PrincipalSlot s.principal) ≡ known (met (is_within facts) s.principal q.principal) =
-      constraint_settled facts around Principal PrincipalSlot s.principal q.principal (first_none (constraint_slots PrincipalSlot s.principal) (constraint_slots ResourceSlot s.resource) static) (part_untold q.principal _) in
-      let action : settled_in facts around (action_tree s.action) ≡ known (action_met (is_within facts) s.action q.action) = action_settled facts around s.action q.action (part_untold q.action _) in
-      let resource : settled_in facts around (constraint_tree Resource ResourceSlot s.resource) ≡ known (met (is_within facts) s.resource q.resource) =
-      constraint_settled facts around Resource ResourceSlot s.resource q.resource (later_none (constraint_slots PrincipalSlot s.principal) (constraint_slots ResourceSlot s.resource) static) (part_untold q.resource _) in
+      let principal : settled_in facts around (constraint_tree Principal PrincipalSlot s.principal) ≡ known (known_of (is_within facts) s.principal q.principal) =
+      constraint_settled facts around Principal PrincipalSlot s.principal q.principal (principal_free s (none_left (slots s) static)) (part_untold q.principal _) (type_untold q.principal _) in
+      let action : settled_in facts around (action_tree s.action) ≡ known (action_known_of (is_within facts) s.action q.action) = action_settled facts around s.action q.action (part_untold q.action _) (type_untold q.action _) in
+      let resource : settled_in facts around (constraint_tree Resource ResourceSlot s.resource) ≡ known (known_of (is_within facts) s.resource q.resource) =
+      constraint_settled facts around Resource ResourceSlot s.resource q.resource (resource_free s (none_left (slots s) static)) (part_untold q.resource _) (type_untold q.resource _) in
       both_known (conjunction (constraint_tree Principal PrincipalSlot s.principal) (action_tree s.action)) (constraint_tree Resource ResourceSlot s.resource)
-      (and_then_met (met (is_within facts) s.principal q.principal) (action_met (is_within facts) s.action q.action)) (met (is_within facts) s.resource q.resource)
-      (both_known (constraint_tree Principal PrincipalSlot s.principal) (action_tree s.action) (met (is_within facts) s.principal q.principal) (action_met (is_within facts) s.action q.action) principal action) resource
+      (and_then_met (known_of (is_within facts) s.principal q.principal) (action_known_of (is_within facts) s.action q.action)) (known_of (is_within facts) s.resource q.resource)
+      (both_known (constraint_tree Principal PrincipalSlot s.principal) (action_tree s.action) (known_of (is_within facts) s.principal q.principal) (action_known_of (is_within facts) s.action q.action) principal action) resource
 
   settles_as : (o : Option Bool) → settled_so_far facts q finite.empty (condition s) ≡ known o → StandsSoFar facts q finite.empty s (standing_met o)
   settles_as (Some true) h = decided (Gives (Plain (Boolean true))) h refl
   settles_as (Some false) h = decided (Gives (Plain (Boolean false))) h refl
   settles_as None h = still_open h
 
-  stands : s.body ≡ None → StandsSoFar facts q finite.empty s (standing_met (scope_met (is_within facts) s q))
-  stands none = settles_as (scope_met (is_within facts) s q) (ap (λ b. settled_in facts around (with_body (scope_tree s) b)) none ∙ scope_settled)
+  stands : s.body ≡ None → StandsSoFar facts q finite.empty s (standing_met (scope_known (is_within facts) s q))
+  stands none = settles_as (scope_known (is_within facts) s q) (ap (λ b. settled_in facts around (with_body (scope_tree s) b)) none ∙ scope_settled)
 
 -- ---- what the given parts suffice to decide
 
@@ -244,8 +273,8 @@ module _ (facts : Facts) (around : LeafSettlings) where
   action_is_met : (c : ActionConstraint) (part : Part) → ((u : Uid) → part ≡ Given u → around.variable Action ≡ Is (Plain (Entity u)))
       → (b : Bool) → action_met (is_within facts) c part ≡ Some b → settled_in facts around (action_tree c) ≡ known (Some b)
   action_is_met any_action part given b e = ap known e
-  action_is_met (action_equals x) (Given u) given b e = action_settled facts around (action_equals x) (Given u) (given u refl) ∙ ap known e
-  action_is_met (action_within_any us) (Given u) given b e = action_settled facts around (action_within_any us) (Given u) (given u refl) ∙ ap known e
+  action_is_met (action_equals x) (Given u) given b e = action_given facts around (action_equals x) u (given u refl) ∙ ap known e
+  action_is_met (action_within_any us) (Given u) given b e = action_given facts around (action_within_any us) u (given u refl) ∙ ap known e
   action_is_met (action_equals x) (Missing type) given b e = cc
   action_is_met (action_within_any us) (Missing type) given b e = cc
 
@@ -264,9 +293,9 @@ module _ (facts : Facts) (around : LeafSettlings) where
   module _ (q : Question) (given : AreGiven q) (s : PolicySyntax) (static : is_template s ≡ false) where
     scope_is_met : (b : Bool) → scope_met (is_within facts) s q ≡ Some b → settled_in facts around (scope_tree s) ≡ known (Some b)
     scope_is_met =
-        let principal = constraint_met Principal PrincipalSlot s.principal q.principal (first_none (constraint_slots PrincipalSlot s.principal) (constraint_slots ResourceSlot s.resource) static) given.principal in
+        let principal = constraint_met Principal PrincipalSlot s.principal q.principal (principal_free s (none_left (slots s) static)) given.principal in
         let action = action_is_met s.action q.action given.action in
-        let resource = constraint_met Resource ResourceSlot s.resource q.resource (later_none (constraint_slots PrincipalSlot s.principal) (constraint_slots ResourceSlot s.resource) static) given.resource in
+        let resource = constraint_met Resource ResourceSlot s.resource q.resource (resource_free s (none_left (slots s) static)) given.resource in
         both_met (conjunction (constraint_tree Principal PrincipalSlot s.principal) (action_tree s.action)) (constraint_tree Resource ResourceSlot s.resource)
         (and_then_met (met (is_within facts) s.principal q.principal) (action_met (is_within facts) s.action q.action)) (met (is_within facts) s.resource q.resource)
         (both_met (constraint_tree Principal PrincipalSlot s.principal) (action_tree s.action) (met (is_within facts) s.principal q.principal) (action_met (is_within facts) s.action q.action) principal action) resource

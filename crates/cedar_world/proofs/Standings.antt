@@ -76,22 +76,22 @@ module _ (facts : Facts) (q : Question) (told : Told) where
 
 module _ (by : Setting) (facts : Facts) (same : (name : Name) → facts.function name ≡ (functions_alone by.functions).function name) (q : Question) (of_data : IsData q.context)
     (filling : Told) (request : Known) (fills : early.IsFilling (functions_alone by.functions) q filling request) where
-  agrees_here : (t : Tree) → Agrees (settled_so_far facts q map.empty t) (means facts request t)
-  agrees_here t = condition_agrees by facts same q map.empty (λ n. map.get-empty _ n) of_data filling request fills t
+  agrees_here : (t : Tree) → mentions_only (λ v. true) true t ≡ true → Agrees (settled_so_far facts q map.empty t) (means facts request t)
+  agrees_here t c = condition_agrees by facts same q map.empty (λ n. map.get-empty _ n) of_data filling request fills t c
 
   means_comes : (x : Settling) (a o : Outcome) → Agrees x o → x ≡ kindless a → Becomes (standing_of a) (standing_of o)
   means_comes x (Gives v) o h e = let is : o ≡ Gives v = rw e at h in rw is (comes_itself (Gives v))
   means_comes x (Fails k) o h e = let (l, is) : (l : Kind) × (o ≡ Fails l) = rw e at h in rw is (tt, (l, refl))
 
-  pub standing_comes : (s : PolicySyntax) (standing : Standing) → StandsSoFar facts q map.empty s standing → Becomes standing (standing_of (means facts request (condition s)))
-  standing_comes s _ (still_open e) = (tt, tt)
-  standing_comes s standing (decided result h is) =
+  pub standing_comes : (s : PolicySyntax) (standing : Standing) → mentions_only (λ v. true) true (condition s) ≡ true → StandsSoFar facts q map.empty s standing → Becomes standing (standing_of (means facts request (condition s)))
+  standing_comes s _ c (still_open e) = (tt, tt)
+  standing_comes s standing c (decided result h is) =
       subst (λ x. Becomes x (standing_of (means facts request (condition s)))) is
-      (means_comes (settled_so_far facts q map.empty (condition s)) result (means facts request (condition s)) (agrees_here (condition s)) (settled_as facts q map.empty (condition s) result h))
+      (means_comes (settled_so_far facts q map.empty (condition s)) result (means facts request (condition s)) (agrees_here (condition s) c) (settled_as facts q map.empty (condition s) result h))
 
   module _ (settle : KnownTreesSettle) (known : (v : _) → is_known q v ≡ true) where
     known_result : (t : Tree) (result : Outcome) → mentions_only (λ v. true) true t ≡ true → Settles facts q map.empty t result → means facts request t ≡ result
-    known_result t (Gives v) c h = rw h at (agrees_here t)
+    known_result t (Gives v) c h = rw h at (agrees_here t c)
     known_result t (Fails k) c h = known_fails by facts same q map.empty (λ n. map.get-empty _ n) of_data filling request fills settle known _ t k c h
 
     pub standing_known : (s : PolicySyntax) (standing : Standing) → mentions_only (λ v. true) true (condition s) ≡ true → StandsSoFar facts q map.empty s standing → standing_of (means facts request (condition s)) ≡ standing

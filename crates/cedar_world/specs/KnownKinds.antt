@@ -15,6 +15,11 @@ IsOrdinary FailedExtensionFunctionLookup = ⊥
 IsOrdinary UnlinkedSlot = ⊥
 IsOrdinary k = ⊤
 
+-- no failed look-up of a function
+abbrev pub IsFound : Kind → Type 0
+IsFound FailedExtensionFunctionLookup = ⊥
+IsFound k = ⊤
+
 abbrev pub ErrsOrdinarily : Outcome → Type 0
 ErrsOrdinarily (Gives v) = ⊤
 ErrsOrdinarily (Fails k) = IsOrdinary k

@@ -17,7 +17,7 @@ use Rattle.cedar_world.specs.WorldFacts.{AreFactsOf}
 use Rattle.cedar_world.specs.First.{IsData, HasRequest}
 use Rattle.cedar_world.specs.InForce.{AreInForce}
 use Rattle.cedar_world.specs.Standing.{Says, answer_by}
-use Rattle.cedar_world.specs.Scope.{scope_met, standing_met}
+use Rattle.cedar_world.specs.Scope.{scope_known, standing_met}
 
 -- each policy in force has neither slots nor clauses
 pub record HasScopesAlone (world : World) : Type 0 where
@@ -29,7 +29,7 @@ HasNoEntries context = (context ≡ NoContext) ⊎ (context ≡ WithEntries [] n
 
 -- how the scope of a policy stands to a question
 abbrev pub judged_by_scope : (Uid → Uid → Bool) → Question → Text × PolicySyntax → Judged
-judged_by_scope is_in q p = record { id = p.0; effect = p.1.effect; standing = standing_met (scope_met is_in p.1 q) }
+judged_by_scope is_in q p = record { id = p.0; effect = p.1.effect; standing = standing_met (scope_known is_in p.1 q) }
 
 module _ (by : Setting) (world : World) (q : Question) (ps : List (Text × PolicySyntax)) where
   -- what the rules say of the policies, by their scopes, is a first answer

@@ -4,16 +4,11 @@ use Rattle.std.specs.List.{list_any}
 use Rattle.cedar_language.specs.Uid.{Uid}
 use Rattle.cedar_language.specs.Tree.{SlotId, PrincipalSlot, ResourceSlot}
 use Rattle.cedar_grammar.specs.Policy.{Policy, slots, Slots, bound}
-pub use Rattle.cedar_grammar.specs.Policy.{condition}
+pub use Rattle.cedar_grammar.specs.Policy.{condition, is_slot}
 
 -- Two texts of policies are the same thing where their syntax is equal.
 abbrev pub PolicySyntax : Type 0
 PolicySyntax = Policy
-
-abbrev pub is_slot : SlotId → SlotId → Bool
-is_slot PrincipalSlot PrincipalSlot = true
-is_slot ResourceSlot ResourceSlot = true
-is_slot _ _ = false
 
 abbrev pub has_slot : PolicySyntax → SlotId → Bool
 has_slot s slot = list_any (is_slot slot) (slots s)

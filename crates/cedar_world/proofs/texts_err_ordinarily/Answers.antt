@@ -3,4 +3,4 @@ use Rattle.cedar_world.proofs.KnownKinds.{texts_err_ordinarily as law}
 use Rattle.cedar_world.proofs.texts_err_ordinarily.Goals as goal
 
 pub returns : goal.returns
-returns c = law c.link_laws.ensures.static c.slots_stand_in_scopes.ensures.bodies c.calls_are_found.ensures
+returns c = law c.link_laws.ensures.static c.linking_binds_the_condition.ensures c.calls_are_found.ensures

@@ -3,7 +3,7 @@ use Rattle.std.proofs.Common.{◌≡◌, ◌∙◌, sym, ap, None, Some, Ok}
 use Rattle.std.proofs.lemmas.Result.{err_from_is_err_and}
 use Rattle.cedar_bodies.specs.Fields.{AreEvaluated}
 use Rattle.cedar_bodies.specs.Lent.{fields_in}
-use Rattle.cedar_bodies.specs.Questions.{question_of}
+use Rattle.cedar_bodies.specs.Questions.{question_of, LendsContext}
 use Rattle.cedar_extensions.specs.Table.{as_table}
 use Rattle.cedar_restricted.specs.Views.{restricted_tree}
 use Rattle.cedar_trees.specs.Bare.{bare, record_tree}
@@ -12,13 +12,18 @@ use Rattle.cedar_asking.proofs.TellParts.{record_restricted, given_restricted}
 use Rattle.cedar_asking.proofs.TellBodies.{refused, not_values, no_unknown, told_again, misfit, all_told}
 use Rattle.cedar_asking.proofs.telling.told_by.Given.{Over}
 use Rattle.cedar_asking.proofs.telling.told_by.Goals as goal
-use Rattle.cedar_asking.proofs.telling.told_by.Goals.{In-Some, In-Some-2, In-Some-ask_body}
+use Rattle.cedar_asking.proofs.telling.told_by.Goals.{In-Some, In-Some-2, In-Some-3}
 
 is_record : (g : Over) (c : In-Some g) → restricted_tree c.args.body.now ≡ record_tree (fields_in c.in-Some.entries.now)
 is_record g c = sym c.as_ref.ensures.tree ∙ c.in-Some.ensures.tree
 
-is_stated : (g : Over) (c : In-Some-ask_body g) → Some (question_of c.in-Some-ask_body.asked) ≡ ask_body (restricted_tree c.args.question.now)
-is_stated g c = c.in-Some-ask_body.ensures.question ∙ ap ask_body c.as_ref-2.ensures.tree
+is_stated : (g : Over) (c : In-Some-3 g) → Some (question_of c.in-Some-3.asked) ≡ ask_body (restricted_tree c.args.question.now)
+is_stated g c =
+    let asked : Some (question_of c.in-Some-3.asked) ≡ ask_body (bare c.as_ref-2.result.now) = rw c.in-Some-3.is at c.in_ok-asked.ensures.question in
+    asked ∙ ap ask_body c.as_ref-2.ensures.tree
+
+is_lent : (g : Over) (c : In-Some-3 g) → LendsContext (bare c.as_ref-2.result.now) c.in-Some-3.asked.context
+is_lent g c = rw c.in-Some-3.is at c.in_ok-asked.ensures.lent
 
 evaluated_is : (g : Over) (c : In-Some-2 g) → AreEvaluated (as_table g.F.ExtensionFunctionObject.answers c.args.extensions.now) c.args.depth (fields_in c.in-Some.entries.now) (Ok (Some c.in-Some-2.values))
 evaluated_is g c = rw c.in-Some-2.is at c.in_ok-values.ensures
@@ -38,32 +43,32 @@ returns-in_default-2 g c =
     not_values _ c.args.told.now (as_table g.F.ExtensionFunctionObject.answers c.args.extensions.now) c.args.depth (restricted_tree c.args.body.now) (restricted_tree c.args.question.now) (fields_in c.in-Some.entries.now) (is_record g (goal.at.returns-in_default-2 g c).In-Some) none
 
 pub names_no_unknown-requires : goal.names_no_unknown-requires
-names_no_unknown-requires g c = given_restricted (bare c.as_ref-2.result.now) c.as_ref-2.ensures.restricted c.in-Some-ask_body.asked.context c.in-Some-ask_body.ensures.lent
+names_no_unknown-requires g c = given_restricted (bare c.as_ref-2.result.now) c.as_ref-2.ensures.restricted c.in-Some-3.asked.context (is_lent g (goal.at.names_no_unknown-requires g c).In-Some-3)
 
 pub returns-then-names_no_unknown : goal.returns-then-names_no_unknown
 returns-then-names_no_unknown g c =
     no_unknown _ c.args.told.now (as_table g.F.ExtensionFunctionObject.answers c.args.extensions.now) c.args.depth (restricted_tree c.args.body.now) (restricted_tree c.args.question.now) (fields_in c.in-Some.entries.now) (is_record g (goal.at.returns-then-names_no_unknown g c).In-Some)
-    c.in-Some-2.values (evaluated_is g (goal.at.returns-then-names_no_unknown g c).In-Some-2) c.in-Some-ask_body.asked (is_stated g (goal.at.returns-then-names_no_unknown g c).In-Some-ask_body)
+    c.in-Some-2.values (evaluated_is g (goal.at.returns-then-names_no_unknown g c).In-Some-2) c.in-Some-3.asked (is_stated g (goal.at.returns-then-names_no_unknown g c).In-Some-3)
     (sym c.names_no_unknown.ensures ∙ c.if-names_no_unknown.true)
 
 pub returns-then-names_told : goal.returns-then-names_told
 returns-then-names_told g c =
     told_again _ c.args.told.now (as_table g.F.ExtensionFunctionObject.answers c.args.extensions.now) c.args.depth (restricted_tree c.args.body.now) (restricted_tree c.args.question.now) (fields_in c.in-Some.entries.now) (is_record g (goal.at.returns-then-names_told g c).In-Some)
-    c.in-Some-2.values (evaluated_is g (goal.at.returns-then-names_told g c).In-Some-2) c.in-Some-ask_body.asked (is_stated g (goal.at.returns-then-names_told g c).In-Some-ask_body)
+    c.in-Some-2.values (evaluated_is g (goal.at.returns-then-names_told g c).In-Some-2) c.in-Some-3.asked (is_stated g (goal.at.returns-then-names_told g c).In-Some-3)
     (sym c.names_no_unknown.ensures ∙ c.if-names_no_unknown.false) (sym c.names_told.ensures ∙ c.if-names_told.true)
 
 pub holds_misfit-requires : goal.holds_misfit-requires
-holds_misfit-requires g c = given_restricted (bare c.as_ref-2.result.now) c.as_ref-2.ensures.restricted c.in-Some-ask_body.asked.context c.in-Some-ask_body.ensures.lent
+holds_misfit-requires g c = given_restricted (bare c.as_ref-2.result.now) c.as_ref-2.ensures.restricted c.in-Some-3.asked.context (is_lent g (goal.at.holds_misfit-requires g c).In-Some-3)
 
 pub returns-then-holds_misfit : goal.returns-then-holds_misfit
 returns-then-holds_misfit g c =
     misfit _ c.args.told.now (as_table g.F.ExtensionFunctionObject.answers c.args.extensions.now) c.args.depth (restricted_tree c.args.body.now) (restricted_tree c.args.question.now) (fields_in c.in-Some.entries.now) (is_record g (goal.at.returns-then-holds_misfit g c).In-Some)
-    c.in-Some-2.values (evaluated_is g (goal.at.returns-then-holds_misfit g c).In-Some-2) c.in-Some-ask_body.asked (is_stated g (goal.at.returns-then-holds_misfit g c).In-Some-ask_body)
+    c.in-Some-2.values (evaluated_is g (goal.at.returns-then-holds_misfit g c).In-Some-2) c.in-Some-3.asked (is_stated g (goal.at.returns-then-holds_misfit g c).In-Some-3)
     (sym c.names_no_unknown.ensures ∙ c.if-names_no_unknown.false) (sym c.names_told.ensures ∙ c.if-names_told.false) (sym c.holds_misfit.ensures ∙ c.if-holds_misfit.true)
 
 pub returns : goal.returns
 returns g c =
     all_told _ c.args.told.now (as_table g.F.ExtensionFunctionObject.answers c.args.extensions.now) c.args.depth (restricted_tree c.args.body.now) (restricted_tree c.args.question.now) (fields_in c.in-Some.entries.now) (is_record g (goal.at.returns g c).In-Some)
-    c.in-Some-2.values (evaluated_is g (goal.at.returns g c).In-Some-2) c.in-Some-ask_body.asked (is_stated g (goal.at.returns g c).In-Some-ask_body)
+    c.in-Some-2.values (evaluated_is g (goal.at.returns g c).In-Some-2) c.in-Some-3.asked (is_stated g (goal.at.returns g c).In-Some-3)
     (sym c.names_no_unknown.ensures ∙ c.if-names_no_unknown.false) (sym c.names_told.ensures ∙ c.if-names_told.false) (sym c.holds_misfit.ensures ∙ c.if-holds_misfit.false)
     c.in_ok-with_values.field-0 c.in_ok-with_values.ensures

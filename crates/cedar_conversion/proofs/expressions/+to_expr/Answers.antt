@@ -222,7 +222,7 @@ primary_to_head-returns-in-Name-clause-head g t c = record {
 }
 
 pub primary_to_head-returns-in-Slot-clause-head : goal.primary_to_head-returns-in-Slot-clause-head
-primary_to_head-returns-in-Slot-clause-head g t c = faulty g.B.ExprBuilder.refusal (IsHeadRefused g.B.ExprBuilder.operations) c.no_slots.result _ c.no_slots.ensures.fault (primary_slot c.args.styles.now c.args.node.now c.in-Some.primary c.in-Slot.slot c.in-Some.is c.in-Slot.is)
+primary_to_head-returns-in-Slot-clause-head g t c = same_as g.B.ExprBuilder.refusal (IsHead g.B.ExprBuilder.operations g.B.ExprBuilder.meaning) (IsHeadRefused g.B.ExprBuilder.operations) c.slot_to_head.result _ _ (primary_slot c.args.styles.now c.args.node.now c.in-Some.primary c.in-Slot.slot c.in-Some.is c.in-Slot.is) (c.slot_to_head.ensures.head _ c.to_slot-id.ensures.slot)
 
 pub primary_to_head-returns-in-Expr-clause-head : goal.primary_to_head-returns-in-Expr-clause-head
 primary_to_head-returns-in-Expr-clause-head g t c = same_as g.B.ExprBuilder.refusal (IsHead g.B.ExprBuilder.operations g.B.ExprBuilder.meaning) (IsHeadRefused g.B.ExprBuilder.operations) c.expr_to_head.result _ _ (primary_expr c.args.styles.now c.args.node.now c.in-Some.primary c.in-Expr.expr c.in-Some.is c.in-Expr.is) (c.expr_to_head.ensures.head _ c.expr_to_expr-inner.ensures.tree)
@@ -463,7 +463,7 @@ primary_to_head-returns-in-Ref-clause-shown g t c = seen_as c.entity_to_head.res
 
 pub primary_to_head-returns-in-Slot-clause-shown : goal.primary_to_head-returns-in-Slot-clause-shown
 unfolding primary_shows
-primary_to_head-returns-in-Slot-clause-shown g t c = tells_more c.no_slots.result _ _ (λ k s. subst (λ z. primary_shows c.args.styles.now z k) (sym (slot_seen c.args.node.now c.in-Some.primary c.in-Slot.slot c.in-Some.is c.in-Slot.is)) s) c.no_slots.ensures.kind
+primary_to_head-returns-in-Slot-clause-shown g t c = seen_as c.slot_to_head.result (primary_shows c.args.styles.now) _ _ _ (slot_seen c.args.node.now c.in-Some.primary c.in-Slot.slot c.in-Some.is c.in-Slot.is) (told_each c.to_slot-id.result _ c.to_slot-id.ensures.shown) c.slot_to_head.ensures.shown
 
 pub primary_to_head-returns-in-Expr-clause-shown : goal.primary_to_head-returns-in-Expr-clause-shown
 unfolding primary_shows

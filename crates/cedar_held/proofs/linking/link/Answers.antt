@@ -11,7 +11,7 @@ use Rattle.cedar_held.proofs.linking.link.Goals as goal
 pub returns-in_err-link-clause-linked : goal.returns-in_err-link-clause-linked
 returns-in_err-link-clause-linked c =
     let p = err_from_is_err_and c.from_residual.result c.from_residual.ensures.1 in
-    rw (p.1, p.2) (link_refused c.policy_sets_are_worlds.ensures.finds c.args.set.now c.requires (link_of c.args.body.now) c.len-count.ensures.whole c.in_err-link.field-0.0 c.in_err-link.ensures)
+    rw (p.1, p.2) (link_refused c.policy_sets_are_worlds.ensures.finds c.args.set.now c.requires (link_of c.args.body.now) c.in_err-link.field-0.0 c.in_err-link.ensures)
 
 pub returns-in-Ok-clause-linked : goal.returns-in-Ok-clause-linked
 returns-in-Ok-clause-linked c =

@@ -10,7 +10,7 @@ use Rattle.cedar_conversion_leaves.proofs.Telling.{handed_on}
 use Rattle.cedar_policy_conversion.specs.Clauses.{clause_word, word_of, condition_tree}
 use Rattle.cedar_policy_conversion.proofs.Gathering.{both_found, no_pair, a_pair, lacks_more, passed, paired}
 use Rattle.cedar_policy_conversion.proofs.Joining.{clause_of_parts}
-use Rattle.cedar_policy_conversion.proofs.InClauses.{beginning_is, clause_tells}
+use Rattle.cedar_policy_conversion.proofs.InClauses.{clause_tells}
 use Rattle.cedar_policy_conversion.proofs.clauses.to_clause.Goals as goal
 
 pub returns-in_err-word-clause-clause : goal.returns-in_err-word-clause-clause
@@ -35,7 +35,5 @@ returns-in-When-clause-clause c =
 
 pub returns-in_err-word-clause-shown : goal.returns-in_err-word-clause-shown
 returns-in_err-word-clause-shown c =
-    let i = shown_ident c.in-Some.cond.cond in
-    let begins = beginning_is c.to_clause_word-word.result i c.beginning_of-beginning.result c.to_clause_word-word.ensures.word c.to_clause_word-word.ensures.none c.beginning_of-beginning.ensures in
     handed_on c.from_residual.result _ _ c.from_residual.ensures
-    (clause_tells c.args.styles.now c.args.node.now c.in-Some.cond c.in-Some.is c.to_clause_word-word.result c.to_condition-expr.result _ (option_map word_of c.beginning_of-beginning.result) c.in_err-word.ensures begins c.to_clause_word-word.ensures.shown c.to_condition-expr.ensures.shown)
+    (clause_tells c.args.styles.now c.args.node.now c.in-Some.cond c.in-Some.is c.to_clause_word-word.result c.to_condition-expr.result _ c.in_err-word.ensures c.to_clause_word-word.ensures.shown c.to_condition-expr.ensures.shown)

@@ -15,10 +15,10 @@ returns c =
     let b = c.args.values.now in
     let p = syntax_of c.args.template.now in
     let lack : c.in_ok-unbound_values.unbound_values.items ≡ lacking b p =
-    c.in_ok-unbound_values.ensures ∙ ap (λ (ss : List SlotId). filter (λ s. not (is_some (binding_of b s))) ss) c.slots-slots.ensures
+    c.in_ok-unbound_values.ensures ∙ ap (λ (ss : List SlotId). filter (λ s. not (is_some (binding_of b s))) ss) c.held_slots-slots.ensures
     in
     let more : c.in_ok-extra_values.extra_values.items ≡ extra b p =
-    c.in_ok-extra_values.ensures ∙ ap (λ (ss : List SlotId). filter (λ s. not (list_any (is_slot s) ss)) (bound_slots b)) c.slots-slots.ensures
+    c.in_ok-extra_values.ensures ∙ ap (λ (ss : List SlotId). filter (λ s. not (list_any (is_slot s) ss)) (bound_slots b)) c.held_slots-slots.ensures
     in
     record {
       fits = checked_fits b p _ _ lack more c.check_arity.result c.check_arity.ensures;

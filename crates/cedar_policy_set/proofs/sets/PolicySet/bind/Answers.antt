@@ -5,7 +5,7 @@ use Rattle.cedar_policy_set.proofs.sets.PolicySet.bind.Goals as goal
 pub invariant_of-self-2 : goal.invariant_of-self-2
 invariant_of-self-2 c =
     record {
-      sound = sound_bind _ _ _ c.self.view_is c.self.invariant.sound _ _ c.requires.free c.in_ok-insert.ensures.entries c.requires.named c.requires.template c.requires.full;
+      sound = sound_bind _ _ _ c.self.view_is c.self.invariant.sound _ _ c.requires.free c.in_ok-insert.ensures.entries c.requires.named c.requires.listed c.requires.template c.requires.full;
       counts = counts_bind _ _ _ c.self.view_is c.self.invariant.sound _ _ c.requires.free c.in_ok-insert.ensures.entries _ c.self.invariant.counts;
       covers = covers_bind _ _ _ c.self.view_is c.self.invariant.sound _ _ c.requires.free c.in_ok-insert.ensures.entries _ c.self.invariant.covers;
     }

@@ -5,7 +5,7 @@ use Rattle.cedar_policy_set.proofs.sets.PolicySet.bind_all.Goals as goal
 pub invariant_of-self-2 : goal.invariant_of-self-2
 invariant_of-self-2 c =
     record {
-      sound = sound_append _ _ _ c.self.view_is c.self.invariant.sound _ c.requires.whole c.in_ok-append.ensures.entries c.requires.named;
+      sound = sound_append _ _ _ c.self.view_is c.self.invariant.sound _ c.requires.whole c.in_ok-append.ensures.entries c.requires.named c.requires.listed;
       counts = counts_append _ _ _ c.self.view_is c.self.invariant.sound _ c.requires.whole c.in_ok-append.ensures.entries _ c.self.invariant.counts;
       covers = covers_append _ _ _ c.self.view_is c.self.invariant.sound _ c.requires.whole c.in_ok-append.ensures.entries _ c.self.invariant.covers;
     }

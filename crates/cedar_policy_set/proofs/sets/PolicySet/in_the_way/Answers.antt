@@ -1,5 +1,5 @@
 -- Three ways for a link: its template comes along, another template has the id, or its own template is there.
-use Rattle.std.proofs.Common.{◌≡◌, true, false, None, Some, ap, sym, ◌∙◌}
+use Rattle.std.proofs.Common.{◌≡◌, true, None, Some, ap, sym, ◌∙◌}
 use Rattle.cedar_language.specs.Order.{same_text}
 use Rattle.cedar_policies.specs.Templates.{template_id, syntax_of}
 use Rattle.cedar_policies.specs.Policies.{policy_id, policy_template, policy_syntax, link_of, bindings_of}

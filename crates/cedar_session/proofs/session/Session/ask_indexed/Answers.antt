@@ -9,7 +9,7 @@ use Rattle.cedar_replies.specs.Replies.{answer_of}
 use Rattle.cedar_asking.specs.Keeping.{IsNamed}
 use Rattle.cedar_session.specs.Open.{bare}
 use Rattle.cedar_session.specs.Sessions.{setting_of, world_of}
-use Rattle.cedar_session.proofs.Kept.{begins}
+use Rattle.cedar_session.proofs.Kept.{begins, asked_ordinarily}
 use Rattle.cedar_session.proofs.Texts.{read_tree, serves}
 use Rattle.cedar_session.proofs.Untyped.{question_untyped}
 use Rattle.cedar_session.proofs.Asking.{unread_ask, unasked, unanswered, answered}
@@ -118,5 +118,6 @@ invariant_of-self-2 g c =
     record {
       steady = ∣ begins by self.policies self.entities (record { body = c.in_ok-body.body; first = c.in_ok-first.first; told = c.new.result; answer = c.in_ok-kept.kept })
           asked.0 c.in_ok-first.answer asked.1 (c.args.text.now, (self.depth, read.0)) c.new.ensures.empty c.in_ok-kept.ensures.cases first.keeps
-          (λ commands replies reached. c.answers_err_ordinarily.ensures.first by commands replies (bare self.policies self.entities) reached asked.0 asks (answer_of c.in_ok-first.answer) first.errors) ∣₁;
+          (asked_ordinarily by self.policies self.entities c.answers_err_ordinarily.ensures c.in_ok-first.answer
+          (λ commands replies reached. c.answers_err_ordinarily.ensures.first by commands replies (bare self.policies self.entities) reached asked.0 asks (answer_of c.in_ok-first.answer) first.errors)) ∣₁;
     }

@@ -1,0 +1,135 @@
+#!/usr/bin/env python3
+"""check_docs.py, at the top of the repository: what README.md and docs/ name stands in the tree.
+
+Between backquotes a page may name a crate, a word of a crate (`word` of `crate`, also several words: `a`, `b` and `c` of
+`crate`), a function of a crate (`crate::function`), a file, a folder or a must-fail edit. Each has to be there: a crate has a
+line in crates.txt or is one of the kit, a word stands in the crate's sources, definitions, proofs or edits, a file is found.
+Links to pages lead somewhere, and where a page says how many crates, edits of the gate or edits beside it there are, the tree
+has as many. Prints a line for each that isn't so, and ends with status 1 where there is any."""
+
+import os
+import re
+import shutil
+import subprocess
+import sys
+
+NUMBERS = "no one two three four five six seven eight nine ten eleven twelve".split()
+# A word in capitals stands for whatever name is there.
+PATTERN = re.compile(r"\b[A-Z]{4,}\b(?!\.md)")
+FILE = re.compile(r"^[\w.+*/-]+\.(md|py|rt|antt|edit|txt|c|h|rs|sh|stdin|stdout)$")
+
+
+def text_of(path):
+    with open(path, encoding="utf-8", errors="replace") as it:
+        return it.read()
+
+
+def tracked():
+    """The files of the tree: those that git has, and those that it would take."""
+    ran = subprocess.run(["git", "ls-files", "-co", "--exclude-standard"], capture_output=True, text=True, check=True)
+    return [it for it in ran.stdout.splitlines() if os.path.isfile(it)]
+
+
+class Tree:
+    """What there is to name."""
+
+    def __init__(self):
+        self.files = tracked()
+        lines = [it.partition("#")[0].partition(":")[0].split() for it in text_of("crates.txt").splitlines()]
+        self.crates = {it[0] for it in lines if it}
+        kit = os.path.realpath(os.path.join(os.path.dirname(os.path.realpath(shutil.which("rt") or "/")), "..", "rlibs"))
+        self.kit = {it.removesuffix(".rlib") for it in os.listdir(kit)} if os.path.isdir(kit) else set()
+        self.words = {it: set() for it in self.crates}
+        self.edits = {"gate": 0, "beside": 0}
+        for file in self.files:
+            parts = file.split("/")
+            if len(parts) < 3 or parts[0] != "crates":
+                continue
+            words = self.words.setdefault(parts[1], set())
+            words.update(re.findall(r"[\w◌.\-+]+|\w+", text_of(file)) if file.endswith((".rt", ".antt", ".edit", ".md")) else ())
+            words.update(re.findall(r"\w+", text_of(file)) if file.endswith((".rt", ".antt", ".edit", ".md", "stdin", "stdout")) else ())
+            words.update(it.partition(".")[0] for it in parts[2:])
+            if parts[2] == "must-fail":
+                self.edits["beside" if file.endswith(".md") else "gate"] += 1
+        self.all_words = set().union(*self.words.values())
+
+    def has_file(self, name):
+        pattern = re.compile("(^|/)" + re.escape(name).replace(r"\*", "[^/]*") + "($|/)")
+        return any(pattern.search(it) for it in self.files)
+
+
+def prose(text):
+    """The lines of a page with their numbers; what stands in blocks of code is left out."""
+    inside = False
+    for number, line in enumerate(text.splitlines(), 1):
+        if line.lstrip().startswith("```"):
+            inside = not inside
+        elif not inside and not line.startswith("    "):
+            yield number, line
+
+
+def last_part(word):
+    """The name that a reader would look for: of `Type::call` the call, of `call(x)` the call, of `f!` the macro."""
+    found = re.findall(r"[A-Za-z_]\w*", re.sub(r"[({<\[].*", "", word))
+    return found[-1] if found else None
+
+
+def of_crates(line):
+    """Each word that a line says is of a crate, with the crate."""
+    names = r"`[^`]+`(?: \([^)`]*\))?"
+    for found in re.finditer(rf"({names}(?:(?:, | and | or |, and ){names})*) of `(cedar_\w+)`", line):
+        for word in re.findall(r"`([^`]+)`", found[1]):
+            yield word, found[2]
+
+
+def faults_of_line(tree, line):
+    for word, crate in of_crates(line):
+        name = last_part(word)
+        if crate in tree.words and name and " " not in word.strip() and not FILE.match(word) and name not in tree.words[crate]:
+            yield f"`{word}` isn't in `{crate}`"
+    for word in re.findall(r"`([^`]+)`", line):
+        if re.fullmatch(r"cedar_\w+", word) and word not in tree.crates and word not in tree.all_words:
+            yield f"there is no crate or word `{word}`"
+        elif FILE.match(word) and not word.startswith(".") and not PATTERN.search(word) and not tree.has_file(word):
+            yield f"there is no file `{word}`"
+        elif re.fullmatch(r"cedar_\w+::\w+(::\w+)*", word):
+            crate, *names = word.split("::")
+            if crate in tree.words and names[-1] not in tree.words[crate]:
+                yield f"`{word}` isn't there"
+    for path in re.findall(r"(?<![\w/.])((?:docs|tools|bench|crates|include|examples|clients)/[\w./-]*\w)", line):
+        # (what a build makes is in no tree)
+        if "/out/" not in path and not PATTERN.search(path) and not tree.has_file(path):
+            yield f"there is no {path}"
+    for path in re.findall(r"\]\(([^)#\s]+)\)", line):
+        if "://" not in path and not tree.has_file(path.removeprefix("./").removeprefix("../")):
+            yield f"a link leads to {path}, which isn't there"
+    yield from wrong_counts(tree, line)
+
+
+def number_of(word):
+    return int(word) if word.isdigit() else NUMBERS.index(word.lower())
+
+
+def wrong_counts(tree, line):
+    count = rf"(\d+|{'|'.join(NUMBERS)})"
+    said = [
+        (rf"\b{count} (?:must-fail edits|edits of the gate)\b", tree.edits["gate"], "edits that the gate tries"),
+        (rf"\b{count} (?:lie|stand) beside\b", tree.edits["beside"], "edits beside the gate"),
+        (r"(?<!some )\b(\d+) crates\b", len(tree.crates), "crates"),
+    ]
+    for pattern, have, what in said:
+        for found in re.finditer(pattern, line, re.IGNORECASE):
+            if number_of(found[1]) != have:
+                yield f"'{found[0]}': there are {have} {what}"
+
+
+def main():
+    tree = Tree()
+    pages = ["README.md", *sorted(it for it in tree.files if re.fullmatch(r"(docs|bench|include)/[\w.-]+\.md", it))]
+    faults = [f"{page}:{number}: {why}" for page in pages for number, line in prose(text_of(page)) for why in faults_of_line(tree, line)]
+    print("\n".join(faults) if faults else f"{len(pages)} pages name nothing that isn't there")
+    return 1 if faults else 0
+
+
+if __name__ == "__main__":
+    sys.exit(main())
