@@ -13,8 +13,8 @@ use Rattle.cedar_partial_evaluation.specs.Early.{standing_of_answer}
 use Rattle.cedar_partial_evaluation.specs.Partial.{LeafAnswers, partial_in}
 use Rattle.cedar_partial_evaluation.specs.Question.{held_of}
 use Rattle.cedar_partial_evaluation.specs.ReadUnknowns.{calls_unknown}
-use Rattle.cedar_telling.specs.Again.{standing_again, StandsAgain}
-use Rattle.cedar_telling.specs.Plain.{PlainAnswers}
+use Rattle.cedar_world.specs.Again.{standing_again, StandsAgain}
+use Rattle.cedar_world.specs.PlainAnswers.{PlainAnswers}
 use Rattle.cedar_world.specs.Answer.{Answer}
 use Rattle.cedar_world.specs.Asking.{Question}
 use Rattle.cedar_world.specs.Setting.{Setting}
@@ -29,7 +29,7 @@ use Rattle.cedar_interpreter.specs.Operating.{HasFunctions}
 use Rattle.cedar_operators.specs.Store.{HasFacts}
 use Rattle.cedar_policy_set.specs.Entries.{Entry, bound_at, policies_of}
 use Rattle.cedar_policy_set.specs.Texts.{syntax_in}
-use Rattle.cedar_policy_set.specs.Worlds.{FindsAsWorlds}
+use Rattle.cedar_held.specs.PolicyWorlds.{FindsAsWorlds}
 use Rattle.cedar_requests.specs.Holding.{RequestParts}
 use Rattle.cedar_substitution.specs.Told.{told_for}
 use Rattle.cedar_evaluator.specs.Evaluations.{Unsatisfied, bindings_in, condition_in, Kept, IsKept, AreKept}

@@ -18,7 +18,7 @@ use Rattle.cedar_replies.specs.declared.error_kind.ErrorKind.{ErrorKind}
 use Rattle.cedar_replies.specs.declared.refusal.Refusal.{Refusal}
 use Rattle.cedar_replies.specs.declared.refusal.Refusal.TheVariants as refusal
 use Rattle.cedar_requests.specs.Holding.{RequestParts}
-use Rattle.cedar_bodies.specs.Built.{GivesBuilt}
+use Rattle.cedar_held.specs.Built.{GivesBuilt}
 use Rattle.cedar_evaluator.specs.Authorizing.{RespondsWithoutFalse}
 use Rattle.cedar_evaluator.specs.Holding.{holding_in}
 use Rattle.cedar_evaluator.specs.Responses.{Holding, holding_of}

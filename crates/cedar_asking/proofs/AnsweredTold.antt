@@ -7,7 +7,7 @@ use Rattle.cedar_world.specs.Answer.{Answer}
 use Rattle.cedar_world.specs.Asking.{Question}
 use Rattle.cedar_world.specs.Setting.{Setting}
 use Rattle.cedar_world.specs.World.{World}
-use Rattle.cedar_bodies.specs.Refusals.{refusal_by}
+use Rattle.cedar_held.specs.BodyRefusals.{refusal_by}
 use Rattle.cedar_entities.specs.declared.store.Entities.{Entities}
 use Rattle.cedar_extensions.specs.Failures.{Failure, OfKind, LimitMet, MemoryRanOut, failure_of}
 use Rattle.cedar_extensions.specs.Table.{Table}

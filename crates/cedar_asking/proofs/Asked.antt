@@ -12,7 +12,7 @@ use Rattle.cedar_language.specs.Restricted.{are_restricted}
 use Rattle.cedar_partial_evaluation.specs.Partial.{Failed, partial_in}
 use Rattle.cedar_partial_evaluation.specs.Question.{IsAccepted, context_held}
 use Rattle.cedar_world.specs.Asking.{WithEntries}
-use Rattle.cedar_world.specs.Bodies.{all_named, hold_call}
+use Rattle.cedar_grammar.specs.UnknownCalls.{all_named, hold_call}
 use Rattle.cedar_extensions.specs.Table.{Table}
 use Rattle.cedar_restricted_evaluation.specs.Evaluations.{HasFunctions, answer_in, part_answer, nothing_told}
 use Rattle.cedar_restricted_evaluation.proofs.WrittenNames.{named_as, written_names_are_read}

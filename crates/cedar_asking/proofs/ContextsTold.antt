@@ -21,7 +21,7 @@ use Rattle.cedar_partial_evaluation.specs.Partial.{Answer, Evaluated, ResidualTr
 use Rattle.cedar_partial_evaluation.specs.Question.{Extends, AreMadeTold, name_held, held_names, context_held}
 use Rattle.cedar_partial_evaluation.specs.ReadUnknowns.{calls_unknown}
 use Rattle.cedar_partial_evaluation.specs.Telling.{ContextsStay}
-use Rattle.cedar_telling.specs.Plain.{IsPlainAnswer, PlainAnswers}
+use Rattle.cedar_world.specs.PlainAnswers.{IsPlainAnswer, PlainAnswers}
 use Rattle.cedar_world.specs.Asking.{Entries, NoContext, WithEntries, Told}
 use Rattle.cedar_world.specs.First.{IsData}
 use Rattle.cedar_extensions.specs.Failures.{OfKind, failure_of}
@@ -30,7 +30,7 @@ use Rattle.cedar_extensions.specs.declared.evaluation_error.EvaluationError.{Eva
 use Rattle.cedar_extensions.specs.Table.{Table}
 use Rattle.cedar_interpreter.specs.Asking.{context_asked}
 use Rattle.cedar_interpreter.specs.Operating.{HasFunctions}
-use Rattle.cedar_policy_set.proofs.WorldLaws.{ties_are}
+use Rattle.cedar_held.proofs.PolicyWorlds.{ties_are}
 use Rattle.cedar_restricted_evaluation.specs.Evaluations.{part_answer}
 use Rattle.cedar_requests.specs.Contexts.{context_part}
 use Rattle.cedar_requests.specs.Telling.{OfSubstituted, TellsContext}

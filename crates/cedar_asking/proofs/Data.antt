@@ -14,9 +14,9 @@ use Rattle.cedar_partial_evaluation.specs.Partial.{Answer, Evaluated, ResidualTr
 use Rattle.cedar_partial_evaluation.specs.Prompt.{without_kind}
 use Rattle.cedar_partial_evaluation.specs.Question.{name_settled, name_held, settled_names, held_names, IsAccepted, context_settled, context_held}
 use Rattle.cedar_world.specs.Asking.{Entries, NoContext, WithEntries}
-use Rattle.cedar_world.specs.Bodies.{unknown_or, named_call, named, all_named}
+use Rattle.cedar_grammar.specs.UnknownCalls.{unknown_or, named_call, named, all_named}
 use Rattle.cedar_world.specs.First.{IsData}
-use Rattle.cedar_world.specs.Functions.{is_the_unknown}
+use Rattle.cedar_grammar.specs.Functions.{is_the_unknown}
 
 and_left : (a b : Bool) → (a && b) ≡ true → a ≡ true
 and_left true b h = refl

@@ -16,7 +16,7 @@ use Rattle.cedar_partial_evaluation.specs.Question.{Part, Given, Missing, part_h
 use Rattle.cedar_partial_evaluation.specs.ReadUnknowns.{calls_unknown}
 use Rattle.cedar_partial_evaluation.specs.Reauthorizing.{condition_again}
 use Rattle.cedar_partial_evaluation.specs.Unknowns.{fits}
-use Rattle.cedar_telling.specs.Plain.{IsPlainAnswer, ArePlainLeaves, PlainAnswers}
+use Rattle.cedar_world.specs.PlainAnswers.{IsPlainAnswer, ArePlainLeaves, PlainAnswers}
 use Rattle.cedar_world.specs.Asking.{Entries, NoContext, WithEntries, Question, Told}
 use Rattle.cedar_world.specs.First.{IsData}
 use Rattle.cedar_world.specs.Setting.{Setting}

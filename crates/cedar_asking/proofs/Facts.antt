@@ -13,13 +13,13 @@ use Rattle.cedar_partial_evaluation.specs.MadeAgain.{long_values, parts_of, IsMa
 use Rattle.cedar_world.specs.Setting.{Setting, functions_alone}
 use Rattle.cedar_world.specs.World.{World, EntityData, seen}
 use Rattle.cedar_world.specs.WorldFacts.{AreFactsOf}
-use Rattle.cedar_entities.specs.Shown.{as_held, Shows}
+use Rattle.cedar_held.specs.Shown.{as_held, Shows}
 use Rattle.cedar_entities.specs.Store.{held_at, is_partial_store, IsClosed}
 use Rattle.cedar_entities.specs.declared.store.Entities.{Entities}
-use Rattle.cedar_entities.proofs.Shown.{attribute_at, to_world, to_store}
+use Rattle.cedar_held.proofs.Shown.{attribute_at, to_world, to_store}
 use Rattle.cedar_extensions.specs.Table.{Table}
 use Rattle.cedar_operators.specs.Store.{IsShown, HasFacts}
-use Rattle.cedar_bodies.specs.Built.{IsBuilt, AreBuilt, HoldBuilt, GivesBuilt}
+use Rattle.cedar_held.specs.Built.{IsBuilt, AreBuilt, HoldBuilt, GivesBuilt}
 use Rattle.cedar_restricted_evaluation.specs.Evaluations.{HasFunctions}
 
 -- ---- the store

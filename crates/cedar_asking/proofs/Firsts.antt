@@ -7,7 +7,7 @@ use Rattle.cedar_language.specs.Value.{Kind}
 use Rattle.cedar_language.specs.Facts.{Facts}
 use Rattle.cedar_language.specs.Height.{height, LinkingKeepsHeight}
 use Rattle.cedar_language.specs.Answering as answering
-use Rattle.cedar_language.specs.Answering.{Judged, decision, in_must, in_may}
+use Rattle.cedar_language.specs.Answering.{Judged, decision, in_must, in_may, ids_with}
 use Rattle.cedar_partial_evaluation.specs.Early.{standing_of_answer}
 use Rattle.cedar_partial_evaluation.specs.Leaves.{MentionedIsMeant}
 use Rattle.cedar_partial_evaluation.specs.LinkingEarly.{LinkingIsWritingEarly}
@@ -18,14 +18,13 @@ use Rattle.cedar_partial_evaluation.specs.Question.{held_of}
 use Rattle.cedar_grammar.specs.Calls.{calls_only}
 use Rattle.cedar_grammar.specs.Laws.{LinkConditions}
 use Rattle.cedar_world.specs.Answer.{Answer, ids_of}
-use Rattle.cedar_world.specs.Answers.{ids_with}
 use Rattle.cedar_world.specs.Asking.{Question}
 use Rattle.cedar_world.specs.First.{NamesNoUnknown, EarlyAnswersStand}
 use Rattle.cedar_world.specs.Question.{IsKnown}
 use Rattle.cedar_world.specs.Setting.{Setting}
 use Rattle.cedar_world.specs.Standing.{StandsEarly, IsJudged, Judges, ErrOnce, AnswersAreMade}
 use Rattle.cedar_world.specs.Step.{IsFirstAnswer}
-use Rattle.cedar_world.specs.Syntax.{PolicySyntax, condition}
+use Rattle.cedar_grammar.specs.Syntax.{PolicySyntax, condition}
 use Rattle.cedar_world.specs.World.{World, in_force_at}
 use Rattle.cedar_world.specs.WorldFacts.{AreFactsOf}
 use Rattle.cedar_entities.specs.declared.store.Entities.{Entities}
@@ -36,15 +35,15 @@ use Rattle.cedar_interpreter.specs.Asking.{Inquiry, untold}
 use Rattle.cedar_interpreter.specs.Operating.{HasFunctions, NamesNothing}
 use Rattle.cedar_policy_set.specs.Entries.{Entry, static_policy, template, link, Entries, bound_at, IsWhole, policies_of}
 use Rattle.cedar_policy_set.specs.Texts.{AreToldBySlots, syntax_in}
-use Rattle.cedar_policy_set.specs.Worlds.{policies_in, FindsAsWorlds}
+use Rattle.cedar_held.specs.PolicyWorlds.{policies_in, FindsAsWorlds}
 use Rattle.cedar_replies.specs.Erring.{have_kinds, with_kinds}
 use Rattle.cedar_replies.specs.declared.error_kind.ErrorKind.{ErrorKind}
 use Rattle.cedar_evaluator.specs.Evaluations.{Kept, IsKept, AreKept, IsServed, condition_in}
 use Rattle.cedar_evaluator.specs.Responses.{errors_of, holding_of, judged_held}
 use Rattle.cedar_asking.specs.Answers.{IsSettingOf, SomeTooHigh}
 use Rattle.cedar_asking.specs.Erring.{with_failure, SomeAtLimit}
-use Rattle.cedar_telling.specs.Lookups.{ListsStanding}
-use Rattle.cedar_telling.proofs.OrdinaryAnswers.{rules_list}
+use Rattle.cedar_world.specs.Lookups.{ListsStanding}
+use Rattle.cedar_world.proofs.OrdinaryAnswers.{rules_list}
 use Rattle.cedar_asking.specs.Laws.{SaysHeld}
 use Rattle.cedar_asking.specs.Requests.{IsRequestOf}
 use Rattle.cedar_asking.proofs.Errors.{errors_listed, settled_listed, limit_kept}

@@ -6,12 +6,13 @@ use Rattle.std.specs.Cmp.Lexicographic.{bytes_decides, nat_list_eq_equiv}
 use Rattle.std.proofs.lemmas.Map.Entries.{option_filter}
 use Rattle.std.proofs.lemmas.Map.Views.{lookup-from_Contains, Contains-from_lookup}
 use Rattle.cedar_language.specs.Uid.{Text}
-use Rattle.cedar_world.specs.Syntax.{PolicySyntax, linked}
+use Rattle.cedar_grammar.specs.Bindings.{linked}
+use Rattle.cedar_grammar.specs.Syntax.{PolicySyntax}
 use Rattle.cedar_world.specs.World.{World, Policy, template_of, template_at, standing_for, in_force_as, in_force_at}
 use Rattle.cedar_asking.proofs.Lists.{IsAmong, contained, contains}
 use Rattle.cedar_policy_set.specs.Entries.{Entry, static_policy, template, link, Entries, bound_at, HasItsTemplate, IsFull, IsWhole, is_policy, policies_of}
 use Rattle.cedar_policy_set.specs.Texts.{AreToldBySlots, syntax_in}
-use Rattle.cedar_policy_set.specs.Worlds.{world_bound, policies_in, FindsAsWorlds}
+use Rattle.cedar_held.specs.PolicyWorlds.{world_bound, policies_in, FindsAsWorlds}
 use Rattle.cedar_asking.proofs.Members.{filtered, unfiltered}
 
 -- a policy or template as it is written, and a link as if it had been written with its entities

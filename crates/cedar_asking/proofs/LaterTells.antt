@@ -6,7 +6,7 @@ use Rattle.std.specs.declared.rc.RcStr.{RcStr}
 use Rattle.either.specs.declared.Either.{Either}
 use Rattle.either.specs.declared.Either.TheVariants.{Left, Right}
 use Rattle.cedar_grammar.specs.Laws.{LinkConditions}
-use Rattle.cedar_language.specs.Answering.{decision, in_must, in_may}
+use Rattle.cedar_language.specs.Answering.{decision, in_must, in_may, ids_with}
 use Rattle.cedar_language.specs.Facts.{Facts}
 use Rattle.cedar_language.specs.Tree.{Context, Tree, Trees}
 use Rattle.cedar_language.specs.Uid.{Text}
@@ -17,16 +17,16 @@ use Rattle.cedar_partial_evaluation.specs.Partial.{Failed}
 use Rattle.cedar_partial_evaluation.specs.Prompt.{IsPrompt}
 use Rattle.cedar_partial_evaluation.specs.Question.{Extends, AreMadeTold, IsAccepted, context_held, held_of}
 use Rattle.cedar_partial_evaluation.specs.Telling.{ContextsStay}
-use Rattle.cedar_telling.specs.Again.{StandsAgain, AgainIsSound}
-use Rattle.cedar_telling.specs.ContextErrors.{ContextsErrInParts}
-use Rattle.cedar_telling.proofs.OrdinaryAnswers.{rules_list}
-use Rattle.cedar_telling.specs.Joined.{IsJoined, LaterAnswersStand}
+use Rattle.cedar_world.specs.Again.{StandsAgain, AgainIsSound}
+use Rattle.cedar_world.specs.ContextErrors.{ContextsErrInParts}
+use Rattle.cedar_world.proofs.OrdinaryAnswers.{rules_list}
+use Rattle.cedar_world.specs.Joined.{IsJoined, LaterAnswersStand}
 use Rattle.cedar_language.specs.Constructing.{the_constructor}
-use Rattle.cedar_telling.specs.Plain.{PlainAnswers}
+use Rattle.cedar_world.specs.PlainAnswers.{PlainAnswers}
 use Rattle.cedar_world.specs.Answer.{Answer, ids_of}
-use Rattle.cedar_world.specs.Answers.{ids_with}
 use Rattle.cedar_world.specs.Asking.{Entries as Written, NoContext, WithEntries, Question}
-use Rattle.cedar_world.specs.Bodies.{some_name_of, is_one_of, hold_call}
+use Rattle.cedar_grammar.specs.UnknownCalls.{hold_call}
+use Rattle.cedar_world.specs.Bodies.{some_name_of, is_one_of}
 use Rattle.cedar_world.specs.First.{IsData}
 use Rattle.cedar_world.specs.Setting.{Setting, functions_alone}
 use Rattle.cedar_world.specs.Standing.{Says, AnswersAreMade, UnsatisfiedSayNothing}
@@ -41,7 +41,7 @@ use Rattle.cedar_extensions.specs.Table.{Table}
 use Rattle.cedar_interpreter.specs.Asking.{context_asked, request_held}
 use Rattle.cedar_interpreter.specs.Operating.{HasFunctions}
 use Rattle.cedar_policy_set.specs.Entries.{Entries}
-use Rattle.cedar_policy_set.specs.Worlds.{FindsAsWorlds}
+use Rattle.cedar_held.specs.PolicyWorlds.{FindsAsWorlds}
 use Rattle.cedar_replies.specs.declared.error_kind.ErrorKind.{ErrorKind}
 use Rattle.cedar_requests.specs.Contexts.{context_part}
 use Rattle.cedar_requests.specs.Telling.{TellsContext}
@@ -57,7 +57,7 @@ use Rattle.cedar_evaluator.specs.declared.errors.ConcretizationError.TheVariants
 use Rattle.cedar_evaluator.specs.declared.errors.ReauthorizationError.{ReauthorizationError}
 use Rattle.cedar_evaluator.specs.declared.errors.ReauthorizationError.TheVariants as reauthorization
 use Rattle.cedar_evaluator.specs.declared.partial_response.PartialResponse.{PartialResponse}
-use Rattle.cedar_bodies.specs.Built.{GivesBuilt}
+use Rattle.cedar_held.specs.Built.{GivesBuilt}
 use Rattle.cedar_asking.specs.Answering.{AreOf}
 use Rattle.cedar_asking.specs.Erring.{with_failure}
 use Rattle.cedar_asking.specs.Keeping.{IsNamed, AreTold, KeepsQuestion, IsFirstResponse}

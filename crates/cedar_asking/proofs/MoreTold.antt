@@ -21,7 +21,7 @@ use Rattle.cedar_world.specs.Question.{Portion, is_unknown, fits, told_with}
 use Rattle.cedar_world.specs.Refusals.{some_pair, some_key}
 use Rattle.cedar_world.specs.Setting.{Setting}
 use Rattle.cedar_substitution.specs.Told.{told_for}
-use Rattle.cedar_bodies.specs.Built.{IsBuilt, AreBuiltEntries}
+use Rattle.cedar_held.specs.Built.{IsBuilt, AreBuiltEntries}
 use Rattle.cedar_asking.specs.Keeping.{AreTold}
 use Rattle.cedar_asking.specs.TellLaws.{MoreIsTold}
 use Rattle.cedar_asking.specs.Tells.{told_in, TellMore}

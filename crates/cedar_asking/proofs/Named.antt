@@ -16,8 +16,9 @@ use Rattle.cedar_trees.specs.Bare.{bare, bare_kind, bare_entries}
 use Rattle.cedar_trees.specs.declared.expr.Expr.{Expr}
 use Rattle.cedar_trees.specs.declared.expr.ExprKind.TheVariants as kind
 use Rattle.cedar_trees.proofs.Bares.{bare_is, bare-Record}
-use Rattle.cedar_world.specs.Bodies.{unknown_or, named_call, named, all_named, some_name, some_name_of, holds_call, hold_call, is_one_of, string_of}
-use Rattle.cedar_world.specs.Functions.{is_the_unknown}
+use Rattle.cedar_grammar.specs.UnknownCalls.{unknown_or, named_call, named, all_named, holds_call, hold_call}
+use Rattle.cedar_world.specs.Bodies.{some_name, some_name_of, is_one_of, string_of}
+use Rattle.cedar_grammar.specs.Functions.{is_the_unknown}
 use Rattle.cedar_world.specs.Values.{variable_names}
 use Rattle.cedar_asking.specs.Unknowns.{name_given, is_no_name, badly_named, some_badly_named}
 

@@ -8,11 +8,11 @@ use Rattle.cedar_language.specs.Restricted.{is_restricted, are_restricted}
 use Rattle.cedar_partial_evaluation.specs.MadeAgain.{HoldsMade}
 use Rattle.cedar_partial_evaluation.specs.Partial.{answer_of}
 use Rattle.cedar_partial_evaluation.specs.ReadUnknowns.{calls_unknown, some_calls_unknown}
-use Rattle.cedar_world.specs.Bodies.{holds_call, hold_call}
+use Rattle.cedar_grammar.specs.UnknownCalls.{holds_call, hold_call}
 use Rattle.cedar_world.specs.Setting.{Setting, functions_alone}
-use Rattle.cedar_telling.specs.Plain.{IsPlainAnswer}
+use Rattle.cedar_world.specs.PlainAnswers.{IsPlainAnswer}
 use Rattle.cedar_extensions.specs.Table.{Table}
-use Rattle.cedar_bodies.specs.Built.{GivesBuilt}
+use Rattle.cedar_held.specs.Built.{GivesBuilt}
 use Rattle.cedar_restricted_evaluation.specs.Evaluations.{HasFunctions}
 use Rattle.cedar_asking.proofs.Facts.{built_is_made}
 

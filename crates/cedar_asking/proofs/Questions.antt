@@ -4,15 +4,15 @@ use Rattle.std.specs.FinMap as finite
 use Rattle.cedar_grammar.specs.Laws.{LinkConditions}
 use Rattle.cedar_language.specs.Facts.{Facts}
 use Rattle.cedar_partial_evaluation.specs.LinkingEarly.{LinkingIsWritingEarly}
-use Rattle.cedar_telling.specs.Again.{EarlyStaysSound}
-use Rattle.cedar_telling.specs.Joined.{FirstAnswersAreSteady}
+use Rattle.cedar_world.specs.Again.{EarlyStaysSound}
+use Rattle.cedar_world.specs.Joined.{FirstAnswersAreSteady}
 use Rattle.cedar_world.specs.Asking.{Question}
 use Rattle.cedar_world.specs.Standing.{AnswersAreMade}
 use Rattle.cedar_world.specs.WorldFacts.{AreFactsOf, facts_of, WorldsHaveFacts}
 use Rattle.cedar_extensions.specs.Failures.{LimitMet}
 use Rattle.cedar_interpreter.specs.Operating.{HasFunctions}
 use Rattle.cedar_operators.specs.Store.{HasFacts}
-use Rattle.cedar_policy_set.specs.Worlds.{FindsAsWorlds}
+use Rattle.cedar_held.specs.PolicyWorlds.{FindsAsWorlds}
 use Rattle.cedar_evaluator.specs.Evaluations.{Kept, Erred}
 use Rattle.cedar_evaluator.specs.Responses.{Holding, errors_of, holding_of}
 use Rattle.cedar_asking.specs.Erring.{with_failure}

@@ -14,11 +14,11 @@ use Rattle.cedar_partial_evaluation.specs.Partial.{Answer, LeafAnswers, partial_
 use Rattle.cedar_partial_evaluation.specs.Question.{held_of}
 use Rattle.cedar_partial_evaluation.specs.ReadUnknowns.{calls_unknown}
 use Rattle.cedar_partial_evaluation.specs.Reauthorizing.{condition_again}
-use Rattle.cedar_telling.specs.Plain.{ArePlainLeaves, PlainAnswers}
+use Rattle.cedar_world.specs.PlainAnswers.{ArePlainLeaves, PlainAnswers}
 use Rattle.cedar_world.specs.Asking.{Question}
 use Rattle.cedar_world.specs.First.{NamesNoUnknown}
 use Rattle.cedar_world.specs.Setting.{Setting}
-use Rattle.cedar_world.specs.Syntax.{PolicySyntax, condition}
+use Rattle.cedar_grammar.specs.Syntax.{PolicySyntax, condition}
 use Rattle.cedar_world.specs.World.{World}
 use Rattle.cedar_world.specs.WorldFacts.{AreFactsOf}
 use Rattle.cedar_policy_parts.specs.Bindings.{binding_of, unbound}
@@ -29,7 +29,7 @@ use Rattle.cedar_interpreter.specs.Operating.{HasFunctions, NamesNothing}
 use Rattle.cedar_operators.specs.Store.{HasFacts}
 use Rattle.cedar_policy_set.specs.Entries.{Entry, static_policy, template, link, Entries, policies_of}
 use Rattle.cedar_policy_set.specs.Texts.{syntax_in}
-use Rattle.cedar_policy_set.specs.Worlds.{FindsAsWorlds}
+use Rattle.cedar_held.specs.PolicyWorlds.{FindsAsWorlds}
 use Rattle.cedar_evaluator.specs.Evaluations.{Found, Satisfied, Unsatisfied, Erred, Open, Finds, bindings_in, condition_in, Kept, IsKept}
 use Rattle.cedar_evaluator.specs.Responses.{Holding, error_id, errors_of}
 use Rattle.cedar_evaluator.specs.declared.partial_response.PartialResponse.{PartialResponse}

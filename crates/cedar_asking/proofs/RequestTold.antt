@@ -15,9 +15,10 @@ use Rattle.cedar_partial_evaluation.specs.MadeAgain.{HoldsMade}
 use Rattle.cedar_partial_evaluation.specs.Partial.{answer_of}
 use Rattle.cedar_partial_evaluation.specs.Question.{Part, AreMadeTold, part_held, name_held, variable_held, context_held, held_of}
 use Rattle.cedar_partial_evaluation.specs.Telling.{ContextsStay}
-use Rattle.cedar_telling.specs.Plain.{PlainAnswers}
+use Rattle.cedar_world.specs.PlainAnswers.{PlainAnswers}
 use Rattle.cedar_world.specs.Asking.{Entries, NoContext, WithEntries, Question}
-use Rattle.cedar_world.specs.Bodies.{some_name_of, is_one_of, hold_call}
+use Rattle.cedar_grammar.specs.UnknownCalls.{hold_call}
+use Rattle.cedar_world.specs.Bodies.{some_name_of, is_one_of}
 use Rattle.cedar_world.specs.Orders.{text_eq}
 use Rattle.cedar_world.specs.Question.{has_name, fits_part, fits_context}
 use Rattle.cedar_world.specs.Setting.{Setting}

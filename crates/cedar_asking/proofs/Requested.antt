@@ -7,7 +7,8 @@ use Rattle.cedar_language.specs.Uid.{Text, Name}
 use Rattle.cedar_language.specs.Value.{Value, Plain, SetOf, RecordOf, ExtensionOf}
 use Rattle.cedar_partial_evaluation.specs.Question.{Part, Given, Missing, entity_type, part_held}
 use Rattle.cedar_world.specs.Asking.{Entries, NoContext, WithEntries, Question}
-use Rattle.cedar_world.specs.Bodies.{some_name, some_name_of, is_one_of, hold_call}
+use Rattle.cedar_grammar.specs.UnknownCalls.{hold_call}
+use Rattle.cedar_world.specs.Bodies.{some_name, some_name_of, is_one_of}
 use Rattle.cedar_world.specs.Orders.{text_eq}
 use Rattle.cedar_world.specs.Question.{is_missing, has_name, fits_part, fits_context}
 use Rattle.cedar_world.specs.Values.{variable_names, holds_bad_unknown}

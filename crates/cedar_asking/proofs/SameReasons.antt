@@ -1,8 +1,7 @@
 -- Where no policy is open, those that may be reasons are those that must be.
 use Rattle.std.proofs.Common.{◌≡◌, ◌∙◌, Bool, true, false, ◌||◌, cond, List, [], ◌∷◌, ◌++◌, length, map, arith, refl, sym, ap, append-nil}
-use Rattle.cedar_language.specs.Answering.{in_must, in_may}
+use Rattle.cedar_language.specs.Answering.{in_must, in_may, ids_with}
 use Rattle.cedar_language.specs.Uid.{Text}
-use Rattle.cedar_world.specs.Answers.{ids_with}
 use Rattle.cedar_evaluator.specs.Deciding.{has_any}
 use Rattle.cedar_evaluator.specs.Responses.{Holding, judged_held}
 use Rattle.cedar_evaluator.proofs.Deciding.{must_held, may_held}

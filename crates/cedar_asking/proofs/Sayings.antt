@@ -5,10 +5,9 @@ use Rattle.std.specs.FinMap as finite
 use Rattle.cedar_language.specs.Uid.{Text}
 use Rattle.cedar_language.specs.Tree.{Tree}
 use Rattle.cedar_language.specs.Answering as answering
-use Rattle.cedar_language.specs.Answering.{Effect, Permit, Forbid, Standing, Judged, is_permit, is_satisfied, is_residual, HasId, some, satisfied_permit, satisfied_forbid, residual_permit, residual_forbid, decision_by, decision, in_must, in_may}
+use Rattle.cedar_language.specs.Answering.{Effect, Permit, Forbid, Standing, Judged, is_permit, is_satisfied, is_residual, HasId, some, satisfied_permit, satisfied_forbid, residual_permit, residual_forbid, decision_by, decision, in_must, in_may, ids_with}
 use Rattle.cedar_world.specs.Answer.{Answer, ids_of, has_id}
 use Rattle.cedar_world.specs.Answers as world
-use Rattle.cedar_world.specs.Answers.{ids_with}
 use Rattle.cedar_asking.proofs.Lists.{IsAmong, contained, contains, mapped, unmapped, some_of, of_some, and_right, or_left, or_right, or_cases}
 use Rattle.cedar_world.specs.Standing.{Says, ErrOnce, AnswersAreMade}
 use Rattle.cedar_extensions.specs.Failures.{OfKind, LimitMet, MemoryRanOut}

@@ -20,7 +20,7 @@ use Rattle.cedar_grammar.specs.Calls.{calls_only}
 use Rattle.cedar_world.specs.Asking.{Question}
 use Rattle.cedar_world.specs.Question.{IsKnown}
 use Rattle.cedar_world.specs.Setting.{Setting, functions_alone}
-use Rattle.cedar_world.specs.Syntax.{condition}
+use Rattle.cedar_grammar.specs.Syntax.{condition}
 use Rattle.cedar_asking.proofs.Known.{all_known}
 use Rattle.cedar_policy_parts.specs.Bindings.{Bindings, binding_of, unbound}
 use Rattle.cedar_extensions.specs.Failures.{OfKind, LimitMet, MemoryRanOut}

@@ -14,7 +14,8 @@ use Rattle.cedar_language.specs.Tree.{MakeRecord, Tree, Apply, Trees, no_trees, 
 use Rattle.cedar_language.specs.Uid.{Text}
 use Rattle.cedar_language.specs.Value.{Value}
 use Rattle.cedar_world.specs.Asking.{Entries, NoContext, WithEntries}
-use Rattle.cedar_world.specs.Bodies.{Fields, zipped, fields_of, found, entries_of, ask_body, named, all_named, holds_call, hold_call, some_part}
+use Rattle.cedar_grammar.specs.UnknownCalls.{named, all_named, holds_call, hold_call}
+use Rattle.cedar_world.specs.Bodies.{Fields, zipped, fields_of, found, entries_of, ask_body, some_part}
 use Rattle.cedar_world.specs.Orders.{text_eq}
 use Rattle.cedar_world.specs.Setting.{Setting, functions_alone, value_of}
 use Rattle.cedar_world.specs.Values.{fails, holds_open, errs, errs_alone, context_errs, holds_bad_unknown}
@@ -24,12 +25,12 @@ use Rattle.cedar_extensions.specs.Failures.{failure_of}
 use Rattle.cedar_extensions.specs.declared.evaluation_error.EvaluationError.{EvaluationError}
 use Rattle.cedar_extensions.specs.Table.{Table}
 use Rattle.cedar_restricted_evaluation.specs.Evaluations.{part_answer}
-use Rattle.cedar_bodies.specs.Fields.{Serves, IsEvaluated}
-use Rattle.cedar_bodies.specs.Questions.{question_of, StandsAt, LendsContext}
-use Rattle.cedar_bodies.specs.Reading.{HasUnknown, TreesAreRead, IsRead}
-use Rattle.cedar_bodies.specs.Refusals.{refusal_by}
-use Rattle.cedar_bodies.specs.declared.questions.AskBody.{AskBody}
-use Rattle.cedar_bodies.proofs.Entries.{part_read, failure_is}
+use Rattle.cedar_held.specs.Fields.{Serves, IsEvaluated}
+use Rattle.cedar_held.specs.Questions.{question_of, StandsAt, LendsContext}
+use Rattle.cedar_held.specs.Reading.{HasUnknown, TreesAreRead, IsRead}
+use Rattle.cedar_held.specs.BodyRefusals.{refusal_by}
+use Rattle.cedar_held.specs.declared.questions.AskBody.{AskBody}
+use Rattle.cedar_held.proofs.Entries.{part_read, failure_is}
 use Rattle.cedar_replies.specs.declared.refusal.Refusal.{Refusal}
 use Rattle.cedar_replies.specs.declared.refusal.Refusal.TheVariants.{Depth, Evaluation, BadUnknown, Memory}
 use Rattle.cedar_requests.specs.Contexts.{context_part, is_record}

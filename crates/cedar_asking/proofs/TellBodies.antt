@@ -10,7 +10,8 @@ use Rattle.cedar_language.specs.Tree.{Tree}
 use Rattle.cedar_language.specs.Value.{Value}
 use Rattle.cedar_trees.specs.Bare.{record_tree}
 use Rattle.cedar_world.specs.Asking.{Question}
-use Rattle.cedar_world.specs.Bodies.{Fields, holds_call, ask_body, tell_body}
+use Rattle.cedar_grammar.specs.UnknownCalls.{holds_call}
+use Rattle.cedar_world.specs.Bodies.{Fields, ask_body, tell_body}
 use Rattle.cedar_world.specs.Question.{is_unknown}
 use Rattle.cedar_world.specs.Refusals.{some_key}
 use Rattle.cedar_world.specs.Setting.{Setting}
@@ -20,11 +21,11 @@ use Rattle.cedar_extensions.specs.Table.{Table}
 use Rattle.cedar_replies.specs.declared.refusal.Refusal.{Refusal}
 use Rattle.cedar_replies.specs.declared.refusal.Refusal.TheVariants as refusal
 use Rattle.cedar_restricted.specs.declared.partial_values.PartialValue.{PartialValue}
-use Rattle.cedar_bodies.specs.Built.{AreBuiltEntries}
-use Rattle.cedar_bodies.specs.Entities.{named_all}
-use Rattle.cedar_bodies.specs.Fields.{Serves, AreValues, AreEvaluated}
-use Rattle.cedar_bodies.specs.Questions.{question_of}
-use Rattle.cedar_bodies.specs.declared.questions.AskBody.{AskBody}
+use Rattle.cedar_held.specs.Built.{AreBuiltEntries}
+use Rattle.cedar_held.specs.Entities.{named_all}
+use Rattle.cedar_held.specs.Fields.{Serves, AreValues, AreEvaluated}
+use Rattle.cedar_held.specs.Questions.{question_of}
+use Rattle.cedar_held.specs.declared.questions.AskBody.{AskBody}
 use Rattle.cedar_asking.specs.Tells.{told_in, AreFine, AreNamed, AreNew, TellsBody}
 use Rattle.cedar_asking.specs.TellSteps.{some_misfit, with_attributes}
 use Rattle.cedar_asking.proofs.TellParts.{each_uncalled, record_higher, fields_named, same_keys, all_put, misfits_are, one_portion}

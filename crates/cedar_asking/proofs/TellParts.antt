@@ -27,7 +27,8 @@ use Rattle.cedar_grammar.specs.Build.{trees, keys}
 use Rattle.cedar_trees.specs.Bare.{bare, record_tree}
 use Rattle.cedar_trees.specs.declared.expr.Expr.{Expr}
 use Rattle.cedar_world.specs.Asking.{Question, Told}
-use Rattle.cedar_world.specs.Bodies.{Fields, zipped, fields_of, found, named, all_named, hold_call, holds_call, some_name_of}
+use Rattle.cedar_grammar.specs.UnknownCalls.{named, all_named, hold_call, holds_call}
+use Rattle.cedar_world.specs.Bodies.{Fields, zipped, fields_of, found, some_name_of}
 use Rattle.cedar_world.specs.Orders.{text_eq}
 use Rattle.cedar_world.specs.Question.{Portion, fits, told_with}
 use Rattle.cedar_world.specs.Refusals.{some_key, some_pair}
@@ -35,10 +36,10 @@ use Rattle.cedar_world.specs.Values.{some_field}
 use Rattle.cedar_entities.specs.Attributes.{Attribute, Entries, seen_entries}
 use Rattle.cedar_restricted.specs.PartialValues.{partial_of}
 use Rattle.cedar_restricted.specs.declared.partial_values.PartialValue.{PartialValue}
-use Rattle.cedar_bodies.specs.Entities.{named_all}
-use Rattle.cedar_bodies.specs.Fields.{unrestricted, deeper, as_entries}
-use Rattle.cedar_bodies.specs.Lent.{fields_in}
-use Rattle.cedar_bodies.specs.Questions.{StandsAt, LendsContext}
+use Rattle.cedar_held.specs.Entities.{named_all}
+use Rattle.cedar_held.specs.Fields.{unrestricted, deeper, as_entries}
+use Rattle.cedar_held.specs.Lent.{fields_in}
+use Rattle.cedar_held.specs.Questions.{StandsAt, LendsContext}
 use Rattle.cedar_asking.specs.Tells.{told_in}
 use Rattle.cedar_asking.specs.TellSteps.{IsGivenRestricted, some_misfit, with_attribute, with_attributes}
 use Rattle.cedar_asking.specs.UnknownNames.{stands_in_some}

@@ -16,8 +16,9 @@ use Rattle.cedar_trees.specs.Bare.{bare, bare_kind, bare_entries}
 use Rattle.cedar_trees.specs.declared.expr.Expr.{Expr}
 use Rattle.cedar_trees.specs.declared.expr.ExprKind.TheVariants as kind
 use Rattle.cedar_trees.proofs.Bares.{bare_is, bare-Record}
-use Rattle.cedar_world.specs.Bodies.{unknown_or, named_call, named, all_named, some_name, some_name_of}
-use Rattle.cedar_world.specs.Functions.{is_the_unknown}
+use Rattle.cedar_grammar.specs.UnknownCalls.{unknown_or, named_call, named, all_named}
+use Rattle.cedar_world.specs.Bodies.{some_name, some_name_of}
+use Rattle.cedar_grammar.specs.Functions.{is_the_unknown}
 use Rattle.cedar_asking.specs.Unknowns.{name_given}
 use Rattle.cedar_asking.specs.UnknownNames.{passes_or, stands_in, stands_in_some}
 use Rattle.cedar_asking.proofs.Named.{other_stays, named_no_text}

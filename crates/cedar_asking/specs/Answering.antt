@@ -2,15 +2,15 @@
 use Rattle.std.specs.Prelude.{◌≡◌, ℕ, false}
 use Rattle.cedar_world.specs.Setting.{Setting}
 use Rattle.cedar_world.specs.World.{World}
-use Rattle.cedar_entities.specs.Shown.{Shows}
+use Rattle.cedar_held.specs.Shown.{Shows}
 use Rattle.cedar_entities.specs.Store.{held_at, is_partial_store, IsClosed}
 use Rattle.cedar_entities.specs.declared.store.Entities.{Entities}
 use Rattle.cedar_extensions.specs.Table.{Table}
 use Rattle.cedar_policy_set.specs.Entries.{Entries}
 use Rattle.cedar_policy_set.specs.Texts.{AreToldBySlots, NameNoUnknown}
-use Rattle.cedar_policy_set.specs.Worlds.{policies_in}
+use Rattle.cedar_held.specs.PolicyWorlds.{policies_in}
 use Rattle.cedar_asking.specs.Answers.{IsSettingOf}
-use Rattle.cedar_bodies.specs.Built.{HoldBuilt}
+use Rattle.cedar_held.specs.Built.{HoldBuilt}
 
 -- the policies and the entities are those of the world, and the setting has these functions and this limit
 pub record AreOf (by : Setting) (world : World) (es : Entries) (s : Entities) (table : Table) (depth : ℕ) : Type 0 where

@@ -5,7 +5,7 @@ use Rattle.cedar_language.specs.Uid.{Text}
 use Rattle.cedar_extensions.specs.Table.{Table}
 use Rattle.cedar_interpreter.specs.Operating.{HasFunctions}
 use Rattle.cedar_world.specs.Setting.{Setting, functions_alone}
-use Rattle.cedar_world.specs.Syntax.{PolicySyntax, condition}
+use Rattle.cedar_grammar.specs.Syntax.{PolicySyntax, condition}
 use Rattle.cedar_world.specs.World.{World, in_force_at}
 
 -- the setting has the functions of this table, and this limit

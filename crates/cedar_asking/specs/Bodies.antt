@@ -9,14 +9,15 @@ use Rattle.cedar_language.specs.Tree.{MakeRecord, Tree, Apply, Trees}
 use Rattle.cedar_language.specs.Uid.{Text}
 use Rattle.cedar_trees.specs.Bare.{bare}
 use Rattle.cedar_trees.specs.declared.expr.Expr.{Expr}
-use Rattle.cedar_bodies.specs.Questions.{given_context}
+use Rattle.cedar_held.specs.Questions.{given_context}
 use Rattle.cedar_world.specs.Asking.{Entries, NoContext, Question}
-use Rattle.cedar_world.specs.Bodies.{ask_body, holds_call}
+use Rattle.cedar_grammar.specs.UnknownCalls.{holds_call}
+use Rattle.cedar_world.specs.Bodies.{ask_body}
 use Rattle.cedar_world.specs.Setting.{Setting}
 use Rattle.cedar_world.specs.Values.{context_errs, holds_bad_unknown}
 use Rattle.cedar_extensions.specs.Failures.{failure_of}
 use Rattle.cedar_extensions.specs.Table.{Table}
-use Rattle.cedar_bodies.specs.Refusals.{refusal_by}
+use Rattle.cedar_held.specs.BodyRefusals.{refusal_by}
 use Rattle.cedar_replies.specs.declared.refusal.Refusal.{Refusal}
 use Rattle.cedar_replies.specs.declared.refusal.Refusal.TheVariants.{Depth, Shape, Evaluation, BadUnknown, Memory}
 use Rattle.cedar_requests.specs.Contexts.{context_part}

@@ -8,7 +8,8 @@ use Rattle.cedar_language.specs.Tree.{MakeRecord, Tree, Apply, Trees}
 use Rattle.cedar_language.specs.Uid.{Text}
 use Rattle.cedar_language.specs.Value.{Value, Gives}
 use Rattle.cedar_world.specs.Asking.{Entries, NoContext, WithEntries, Question}
-use Rattle.cedar_world.specs.Bodies.{all_named, hold_call, some_name_of}
+use Rattle.cedar_grammar.specs.UnknownCalls.{all_named, hold_call}
+use Rattle.cedar_world.specs.Bodies.{some_name_of}
 use Rattle.cedar_world.specs.Setting.{Setting, value_of}
 use Rattle.cedar_extensions.specs.Table.{Table}
 use Rattle.cedar_restricted_evaluation.specs.Evaluations.{HasFunctions, answer_in, part_answer}

@@ -12,14 +12,14 @@ use Rattle.cedar_world.specs.Setting.{Setting}
 use Rattle.cedar_world.specs.Values.{holds_bad_unknown}
 use Rattle.cedar_world.specs.World.{World}
 use Rattle.cedar_world.specs.WorldFacts.{facts_of}
-use Rattle.cedar_telling.specs.Joined.{IsSteady}
+use Rattle.cedar_world.specs.Joined.{IsSteady}
 use Rattle.cedar_entities.specs.declared.store.Entities.{Entities}
 use Rattle.cedar_extensions.specs.Table.{Table}
 use Rattle.cedar_interpreter.specs.Asking.{untold}
 use Rattle.cedar_policy_set.specs.Entries.{Entries, IsWhole}
 use Rattle.cedar_requests.specs.Holding.{RequestParts}
 use Rattle.cedar_substitution.specs.Told.{told_for}
-use Rattle.cedar_bodies.specs.Built.{IsBuilt, GivesBuilt}
+use Rattle.cedar_held.specs.Built.{IsBuilt, GivesBuilt}
 use Rattle.cedar_evaluator.specs.Authorizing.{RespondsWithoutFalse}
 use Rattle.cedar_evaluator.specs.Holding.{holding_in}
 use Rattle.cedar_evaluator.specs.declared.partial_response.PartialResponse.{PartialResponse}

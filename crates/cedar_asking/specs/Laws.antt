@@ -3,10 +3,9 @@ use Rattle.std.specs.Prelude.{◌≡◌, ℕ, true, false, List, map}
 use Rattle.std.specs.FinMap as finite
 use Rattle.cedar_language.specs.Facts.{Facts}
 use Rattle.cedar_language.specs.Uid.{Text}
-use Rattle.cedar_language.specs.Answering.{decision, in_must, in_may}
+use Rattle.cedar_language.specs.Answering.{decision, in_must, in_may, ids_with}
 use Rattle.cedar_partial_evaluation.specs.MadeAgain.{HoldsMade}
 use Rattle.cedar_world.specs.Answer.{Answer, ids_of}
-use Rattle.cedar_world.specs.Answers.{ids_with}
 use Rattle.cedar_world.specs.Asking.{Question}
 use Rattle.cedar_world.specs.Question.{IsKnown}
 use Rattle.cedar_world.specs.Setting.{Setting, functions_alone}
@@ -14,8 +13,8 @@ use Rattle.cedar_world.specs.Standing.{StandsEarly}
 use Rattle.cedar_world.specs.Step.{IsFirstAnswer}
 use Rattle.cedar_world.specs.World.{World}
 use Rattle.cedar_world.specs.WorldFacts.{AreFactsOf}
-use Rattle.cedar_telling.specs.Lookups.{ListsStanding}
-use Rattle.cedar_entities.specs.Shown.{Shows}
+use Rattle.cedar_world.specs.Lookups.{ListsStanding}
+use Rattle.cedar_held.specs.Shown.{Shows}
 use Rattle.cedar_entities.specs.Store.{held_at, is_partial_store, IsClosed}
 use Rattle.cedar_entities.specs.declared.store.Entities.{Entities}
 use Rattle.cedar_extensions.specs.Table.{Table}
@@ -24,12 +23,12 @@ use Rattle.cedar_interpreter.specs.Operating.{HasFunctions}
 use Rattle.cedar_operators.specs.Store.{HasFacts}
 use Rattle.cedar_policy_set.specs.Entries.{Entries, IsWhole, policies_of}
 use Rattle.cedar_policy_set.specs.Texts.{AreToldBySlots, NameNoUnknown}
-use Rattle.cedar_policy_set.specs.Worlds.{policies_in}
+use Rattle.cedar_held.specs.PolicyWorlds.{policies_in}
 use Rattle.cedar_replies.specs.Erring.{have_kinds, with_kinds}
 use Rattle.cedar_replies.specs.declared.error_kind.ErrorKind.{ErrorKind}
 use Rattle.cedar_requests.specs.Holding.{RequestParts}
 use Rattle.cedar_asking.specs.Answers.{IsSettingOf, SomeTooHigh}
-use Rattle.cedar_bodies.specs.Built.{HoldBuilt, GivesBuilt}
+use Rattle.cedar_held.specs.Built.{HoldBuilt, GivesBuilt}
 use Rattle.cedar_asking.specs.Erring.{with_failure, SomeAtLimit}
 use Rattle.cedar_evaluator.specs.Evaluations.{Kept, AreKept}
 use Rattle.cedar_asking.specs.Requests.{IsRequestOf}

@@ -14,8 +14,8 @@ use Rattle.cedar_world.specs.Step.{IsFirstAnswer}
 use Rattle.cedar_world.specs.Values.{context_errs}
 use Rattle.cedar_world.specs.World.{World}
 use Rattle.cedar_world.specs.WorldFacts.{facts_of}
-use Rattle.cedar_telling.specs.Lookups.{ListsStanding}
-use Rattle.cedar_bodies.specs.Refusals.{refusal_by}
+use Rattle.cedar_world.specs.Lookups.{ListsStanding}
+use Rattle.cedar_held.specs.BodyRefusals.{refusal_by}
 use Rattle.cedar_evaluator.specs.Holding.{holding_in}
 use Rattle.cedar_evaluator.specs.declared.errors.ConcretizationError.TheVariants as concretization
 use Rattle.cedar_evaluator.specs.declared.errors.ReauthorizationError.{ReauthorizationError}

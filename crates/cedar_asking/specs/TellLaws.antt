@@ -13,9 +13,9 @@ use Rattle.cedar_world.specs.Step.{IsLaterAnswer}
 use Rattle.cedar_world.specs.Values.{context_errs}
 use Rattle.cedar_world.specs.World.{World}
 use Rattle.cedar_world.specs.WorldFacts.{facts_of}
-use Rattle.cedar_telling.specs.Again.{StandsAgain}
-use Rattle.cedar_telling.specs.Joined.{IsJoined}
-use Rattle.cedar_telling.specs.Lookups.{ListsStanding}
+use Rattle.cedar_world.specs.Again.{StandsAgain}
+use Rattle.cedar_world.specs.Joined.{IsJoined}
+use Rattle.cedar_world.specs.Lookups.{ListsStanding}
 use Rattle.cedar_entities.specs.declared.store.Entities.{Entities}
 use Rattle.cedar_extensions.specs.Failures.{Failure, OfKind, failure_of}
 use Rattle.cedar_extensions.specs.Table.{Table}
@@ -23,7 +23,7 @@ use Rattle.cedar_interpreter.specs.Asking.{untold}
 use Rattle.cedar_policy_set.specs.Entries.{Entries, IsWhole}
 use Rattle.cedar_replies.specs.declared.error_kind.ErrorKind.{ErrorKind}
 use Rattle.cedar_requests.specs.Holding.{RequestParts}
-use Rattle.cedar_bodies.specs.Built.{GivesBuilt}
+use Rattle.cedar_held.specs.Built.{GivesBuilt}
 use Rattle.cedar_evaluator.specs.Authorizing.{RespondsWithoutFalse}
 use Rattle.cedar_evaluator.specs.Holding.{holding_in}
 use Rattle.cedar_evaluator.specs.Reauthorizing.{Reauthorizes}

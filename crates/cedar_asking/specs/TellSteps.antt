@@ -10,7 +10,8 @@ use Rattle.cedar_trees.specs.Bare.{bare}
 use Rattle.cedar_trees.specs.declared.expr.Expr.{Expr}
 use Rattle.cedar_entities.specs.Attributes.{Attribute}
 use Rattle.cedar_world.specs.Asking.{Entries, NoContext, WithEntries, Question, Told}
-use Rattle.cedar_world.specs.Bodies.{Fields, all_named}
+use Rattle.cedar_grammar.specs.UnknownCalls.{all_named}
+use Rattle.cedar_world.specs.Bodies.{Fields}
 use Rattle.cedar_world.specs.Question.{fits}
 
 -- ---- the context of a question

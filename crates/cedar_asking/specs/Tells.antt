@@ -14,7 +14,7 @@ use Rattle.cedar_world.specs.Question.{Portion, is_unknown, fits, told_with}
 use Rattle.cedar_world.specs.Refusals.{some_pair, some_key}
 use Rattle.cedar_world.specs.Setting.{Setting}
 use Rattle.cedar_world.specs.Values.{some_field, errs_alone, holds_unknown, values}
-use Rattle.cedar_bodies.specs.Built.{AreBuiltEntries}
+use Rattle.cedar_held.specs.Built.{AreBuiltEntries}
 use Rattle.cedar_replies.specs.declared.refusal.Refusal.{Refusal}
 use Rattle.cedar_replies.specs.declared.refusal.Refusal.TheVariants as refusal
 

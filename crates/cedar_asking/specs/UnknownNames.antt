@@ -2,7 +2,7 @@
 use Rattle.std.specs.Prelude.{Bool, false, ◌||◌, Option, Some, None, if◌then◌else◌}
 use Rattle.cedar_language.specs.Tree.{MakeSet, MakeRecord, Call, Tree, Unknown, Apply, Trees, no_trees, a_tree}
 use Rattle.cedar_language.specs.Uid.{Text, Name}
-use Rattle.cedar_world.specs.Functions.{is_the_unknown}
+use Rattle.cedar_grammar.specs.Functions.{is_the_unknown}
 use Rattle.cedar_asking.specs.Unknowns.{name_given}
 
 -- whether the name that is given passes, or what else is said

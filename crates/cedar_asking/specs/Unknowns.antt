@@ -3,7 +3,7 @@ use Rattle.std.specs.Prelude.{Bool, true, false, ◌||◌, Option, Some, None, i
 use Rattle.cedar_language.specs.Tree.{MakeSet, MakeRecord, Call, Tree, Unknown, Apply, Trees, no_trees, a_tree}
 use Rattle.cedar_language.specs.Uid.{Text, Name}
 use Rattle.cedar_world.specs.Bodies.{string_of, is_one_of}
-use Rattle.cedar_world.specs.Functions.{is_the_unknown}
+use Rattle.cedar_grammar.specs.Functions.{is_the_unknown}
 use Rattle.cedar_world.specs.Values.{variable_names}
 
 -- the name that arguments of `unknown` give

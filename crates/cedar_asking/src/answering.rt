@@ -12,7 +12,7 @@ ghost use Rattle.cedar_policy_set.specs.Entries.{Entries};
 ghost use Rattle.cedar_replies.specs.Replies.{answer_of};
 ghost use Rattle.cedar_requests.specs.Holding.{request_parts};
 ghost use Rattle.cedar_world.specs.Answer.{ids_of};
-ghost use Rattle.cedar_world.specs.Answers.{ids_with};
+ghost use Rattle.cedar_language.specs.Answering.{ids_with};
 ghost use Rattle.cedar_world.specs.Asking.{Question};
 ghost use Rattle.cedar_world.specs.Setting.{Setting};
 ghost use Rattle.cedar_world.specs.World.{World};
@@ -28,13 +28,13 @@ use crate::{
     questions_are_kept, responses_answer_questions, tells_are_answered, tells_are_refused,
     worlds_are_shown,
 };
-use cedar_bodies::refusal;
 use cedar_entities::store::Entities;
 use cedar_evaluator::authorizer::Authorizer;
 use cedar_evaluator::errors::{ConcretizationError, ReauthorizationError};
 use cedar_evaluator::partial_response::PartialResponse;
 use cedar_extensions::extensions::Extensions;
 use cedar_extensions::objects::ExtensionFunctionObject;
+use cedar_held::refusal;
 use cedar_policy_set::sets::PolicySet;
 use cedar_replies::{Answer, Erring, PolicyIds, Refusal};
 use cedar_requests::Request;

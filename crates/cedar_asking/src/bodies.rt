@@ -1,20 +1,20 @@
 // The request that a body states.
 ghost use Rattle.std.specs.Prelude.{◌≡◌, IfOk};
-ghost use Rattle.cedar_bodies.specs.Fields.{Serves};
-ghost use Rattle.cedar_bodies.specs.Questions.{part_asked};
+ghost use Rattle.cedar_held.specs.Fields.{Serves};
+ghost use Rattle.cedar_held.specs.Questions.{part_asked};
 ghost use Rattle.cedar_extensions.specs.Table.{as_table};
 ghost use Rattle.cedar_requests.specs.Parts as requests;
 ghost use Rattle.cedar_restricted.specs.Views.{restricted_tree};
-ghost use Rattle.cedar_world.specs.Bodies.{holds_call};
+ghost use Rattle.cedar_grammar.specs.UnknownCalls.{holds_call};
 ghost use Rattle.cedar_world.specs.Setting.{Setting};
 ghost use Rattle.cedar_asking.specs.Bodies.{IsWrittenAsData, holds_call_in, IsWhyNone, EvaluatesContext, AsksBody};
 
 use crate::questions_are_asked;
 use crate::unknowns::is_badly_named;
-use cedar_bodies::version_laws::trees_are_read;
-use cedar_bodies::{AskedPart, ask_body, refusal};
 use cedar_extensions::extensions::Extensions;
 use cedar_extensions::objects::ExtensionFunctionObject;
+use cedar_held::version_laws::trees_are_read;
+use cedar_held::{AskedPart, ask_body, refusal};
 use cedar_replies::Refusal;
 use cedar_requests::{Context, ContextCreationError, EntityUIDEntry, Request};
 use cedar_restricted::borrowed::BorrowedRestrictedExpr;

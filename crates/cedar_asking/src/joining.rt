@@ -7,7 +7,7 @@ ghost use Rattle.cedar_language.specs.Uid.{Text};
 ghost use Rattle.cedar_policy_parts.specs.Decisions.{decision_of};
 ghost use Rattle.cedar_replies.specs.Replies.{answer_of};
 ghost use Rattle.cedar_world.specs.Answer.{has_id};
-ghost use Rattle.cedar_telling.specs.Joined.{IsJoined};
+ghost use Rattle.cedar_world.specs.Joined.{IsJoined};
 
 use cedar_policy_parts::{Decision, PolicyID};
 use cedar_replies::{Answer, Erring, ErrorKind, PolicyIds};

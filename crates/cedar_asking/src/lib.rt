@@ -44,7 +44,7 @@ pub fn responses_answer_questions()
     cedar_partial_evaluation::linking_is_writing_early();
     cedar_world::early_answers_stand();
     cedar_world::answers_are_made();
-    cedar_policy_set::worlds::policy_sets_are_worlds();
+    cedar_held::worlds::policy_sets_are_worlds();
 }
 
 /// A question that was just asked is kept by its response, where no limit was met.
@@ -55,9 +55,9 @@ pub fn questions_are_kept()
     cedar_partial_evaluation::linking_is_writing_early();
     cedar_world::worlds_have_facts();
     cedar_world::answers_are_made();
-    cedar_policy_set::worlds::policy_sets_are_worlds();
-    cedar_telling::early_stays_sound();
-    cedar_telling::first_answers_are_steady();
+    cedar_held::worlds::policy_sets_are_worlds();
+    cedar_world::telling::early_stays_sound();
+    cedar_world::telling::first_answers_are_steady();
 }
 
 /// Values told besides others are told with them.
@@ -77,12 +77,12 @@ pub fn tells_are_answered()
     cedar_world::worlds_have_facts();
     cedar_world::answers_are_made();
     cedar_world::unsatisfied_say_nothing();
-    cedar_policy_set::worlds::policy_sets_are_worlds();
+    cedar_held::worlds::policy_sets_are_worlds();
     cedar_requests::laws::told_contexts_are_evaluated();
-    cedar_telling::plain_answers();
-    cedar_telling::contexts_err_in_parts();
-    cedar_telling::again_is_sound();
-    cedar_telling::later_answers_stand();
+    cedar_world::telling::plain_answers();
+    cedar_world::telling::contexts_err_in_parts();
+    cedar_world::telling::again_is_sound();
+    cedar_world::telling::later_answers_stand();
 }
 
 /// Values that are of their unknowns' kinds are refused only where the question's context errs with them.
@@ -92,8 +92,8 @@ pub fn tells_are_refused()
     cedar_partial_evaluation::leaves_dont_matter();
     cedar_partial_evaluation::contexts_stay();
     cedar_world::worlds_have_facts();
-    cedar_policy_set::worlds::policy_sets_are_worlds();
+    cedar_held::worlds::policy_sets_are_worlds();
     cedar_requests::laws::told_contexts_are_evaluated();
-    cedar_telling::plain_answers();
-    cedar_telling::contexts_err_in_parts();
+    cedar_world::telling::plain_answers();
+    cedar_world::telling::contexts_err_in_parts();
 }

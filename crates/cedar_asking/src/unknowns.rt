@@ -4,12 +4,12 @@ ghost use Rattle.std.specs.Rc.{rc_str_bytes};
 ghost use Rattle.cedar_grammar.specs.Build.{trees};
 ghost use Rattle.cedar_trees.specs.Bare.{bare, bare_entries};
 ghost use Rattle.cedar_world.specs.Bodies.{is_one_of};
-ghost use Rattle.cedar_world.specs.Functions.{is_the_unknown};
+ghost use Rattle.cedar_grammar.specs.Functions.{is_the_unknown};
 ghost use Rattle.cedar_world.specs.Orders.{text_eq};
 ghost use Rattle.cedar_world.specs.Values.{variable_names};
 ghost use Rattle.cedar_asking.specs.Unknowns.{badly_named, call_badly_named, some_badly_named, name_given};
 
-use cedar_bodies::string_of;
+use cedar_held::string_of;
 use cedar_names::names::Name;
 use cedar_trees::expr::{Expr, ExprKind};
 use std::collections::BTreeMap;

@@ -7,14 +7,14 @@ ghost use Rattle.cedar_world.specs.Asking.{Missing, NoContext};
 ghost use Rattle.cedar_world.specs.Orders.{text_eq};
 ghost use Rattle.cedar_world.specs.Question as world;
 ghost use Rattle.cedar_world.specs.Values.{some_field};
-ghost use Rattle.cedar_bodies.specs.Fields.{unrestricted};
-ghost use Rattle.cedar_bodies.specs.Lent.{fields_in};
-ghost use Rattle.cedar_bodies.specs.Questions.{part_asked, question_of, given_context};
+ghost use Rattle.cedar_held.specs.Fields.{unrestricted};
+ghost use Rattle.cedar_held.specs.Lent.{fields_in};
+ghost use Rattle.cedar_held.specs.Questions.{part_asked, question_of, given_context};
 ghost use Rattle.cedar_asking.specs.TellSteps.{IsGivenRestricted, entries_as};
 
 use crate::unknown_names::some_entry_holds_name;
 use crate::unknowns::is_same;
-use cedar_bodies::{AskBody, AskedPart, entries_of};
+use cedar_held::{AskBody, AskedPart, entries_of};
 use cedar_literals::literals::Literal;
 use cedar_literals::uids::EntityType;
 use cedar_trees::expr::Expr;

@@ -5,15 +5,12 @@
 #![tactic(auto)]
 
 mod copying;
-mod running;
-#[cfg(test)]
-mod tests;
 
 ghost use Rattle.std.specs.Prelude.{◌≡◌, ◌↔◌, ◌⊎◌, ◌<◌, length, take, drop};
-ghost use Rattle.cedar_c.specs.Calls.{AnswersAll, AnswersToFault, AnswersInBytes};
+ghost use Rattle.cedar_session.specs.InMemory.{AnswersAll, AnswersToFault, AnswersInBytes};
 
 use copying::copy_out;
-use running::run_input;
+use cedar_session::run_input;
 use std::alloc::Global;
 
 /// The status where there is no memory.

@@ -13,10 +13,10 @@ use Rattle.cedar_grammar.specs.Loose as loose
 use Rattle.cedar_grammar.specs.Converting as converting
 use Rattle.cedar_grammar.specs.Converting.{named_slot, expr_tree, primary_head, access_head, exprs_trees, rec_inits_trees, rec_init_tree, head_tree, literal_tree, ref_entity, record_tree, ident_text, alone, primary_key, primary_text, called}
 use Rattle.cedar_builders.specs.Operations.{Operations}
-use Rattle.cedar_conversion_leaves.specs.declared.kinds.ToASTErrorKind.{ToASTErrorKind}
-use Rattle.cedar_conversion_leaves.specs.declared.errors.ConversionError.{ConversionError}
-use Rattle.cedar_conversion_leaves.specs.Telling.{Told, TellsOnly}
-use Rattle.cedar_conversion_leaves.proofs.Telling.{told_each, told_more}
+use Rattle.cedar_faults.specs.declared.kinds.ToASTErrorKind.{ToASTErrorKind}
+use Rattle.cedar_faults.specs.declared.errors.ConversionError.{ConversionError}
+use Rattle.cedar_faults.specs.Telling.{Told, TellsOnly}
+use Rattle.cedar_faults.proofs.Telling.{told_each, told_more}
 use Rattle.cedar_conversion.specs.declared.heads.Head.{Head}
 use Rattle.cedar_conversion.specs.declared.heads.Head.TheVariants as head
 use Rattle.cedar_conversion.specs.Building.{MakesTrees}

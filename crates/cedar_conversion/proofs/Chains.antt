@@ -16,9 +16,9 @@ use Rattle.cedar_cst.specs.declared.cst.Mult.{Mult, out-Mult}
 use Rattle.cedar_cst.specs.declared.cst.Unary.{Unary}
 use Rattle.cedar_cst.specs.declared.cst.RecInit.{RecInit}
 use Rattle.cedar_cst.specs.View.{shown_expr, shown_or, shown_and, shown_relation, shown_add, shown_mult, shown_unary, shown_rec_init}
-use Rattle.cedar_conversion_leaves.specs.declared.kinds.ToASTErrorKind.{ToASTErrorKind}
-use Rattle.cedar_conversion_leaves.specs.declared.errors.ConversionError.{ConversionError}
-use Rattle.cedar_conversion_leaves.specs.Telling.{Told, TellsOnly}
+use Rattle.cedar_faults.specs.declared.kinds.ToASTErrorKind.{ToASTErrorKind}
+use Rattle.cedar_faults.specs.declared.errors.ConversionError.{ConversionError}
+use Rattle.cedar_faults.specs.Telling.{Told, TellsOnly}
 use Rattle.cedar_conversion.specs.declared.applying.Joint.TheVariants as joint
 use Rattle.cedar_conversion.specs.SoFar.{ToldSoFar}
 use Rattle.cedar_conversion.specs.Shows.{joint_shows, expr_shows, or_shows, ands_show, and_shows, relations_show, relation_shows, add_shows, mults_show, mult_shows, unaries_show, unary_shows, exprs_show, rec_inits_show, rec_init_shows}

@@ -12,7 +12,7 @@ use Rattle.cedar_grammar.specs.Build.{trees, unary, binary, Comparison, compared
 use Rattle.cedar_trees.specs.Records.{record_made}
 use Rattle.cedar_grammar.specs.Loose as loose
 use Rattle.cedar_grammar.specs.Converting.{name_path, name_variable, str_text, literal_tree, sum, product, negated, signed, Head, a_tree, a_name, an_attribute, head_tree, called, record_tree}
-use Rattle.cedar_world.specs.Bodies.{calls_unknown}
+use Rattle.cedar_grammar.specs.UnknownCalls.{calls_unknown}
 use Rattle.cedar_conversion.proofs.Rising.{cond_holds, zipped, made_of_ordered}
 use Rattle.cedar_conversion.proofs.Holding.{Holds, Gives, given, all_given, then_holds, after_any, where_true}
 use Rattle.cedar_conversion.proofs.Fine.{Fine, AllFine, IsApplied, function_apart, method_apart, fine_literal, fine_variable, fine_conjunction, fine_apply, fine_unary, fine_binary}

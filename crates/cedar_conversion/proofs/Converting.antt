@@ -2,11 +2,11 @@
 use Rattle.std.proofs.Common.{◌≡◌, ◌⊎◌, inl, inr, Option, Some, None, Result, Ok, Err, refl, sym, ap, ◌∙◌, subst}
 use Rattle.std.specs.Prelude.{IfSome, IsErr, IsErrAnd}
 use Rattle.cedar_grammar.specs.Reading.{◌>>=◌}
-use Rattle.cedar_conversion_leaves.specs.declared.errors.ConversionError.{ConversionError}
-use Rattle.cedar_conversion_leaves.specs.declared.errors.ConversionError.TheVariants as error
-use Rattle.cedar_conversion_leaves.specs.Reasons.{Reason, means_nothing, refused, out_of_memory, reason, IsFault, Gathers}
-use Rattle.cedar_conversion_leaves.specs.Flat.{Flat}
-use Rattle.cedar_conversion_leaves.specs.Converts.{Given, Misses, Converts, Lacks, Finds}
+use Rattle.cedar_faults.specs.declared.errors.ConversionError.{ConversionError}
+use Rattle.cedar_faults.specs.declared.errors.ConversionError.TheVariants as error
+use Rattle.cedar_faults.specs.Reasons.{Reason, means_nothing, refused, out_of_memory, reason, IsFault, Gathers}
+use Rattle.cedar_faults.specs.Flat.{Flat}
+use Rattle.cedar_faults.specs.Converts.{Given, Misses, Converts, Lacks, Finds}
 use Rattle.cedar_conversion.specs.SoFar.{SoFar}
 
 -- ---- values that may be there

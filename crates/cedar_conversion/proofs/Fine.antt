@@ -8,8 +8,8 @@ use Rattle.cedar_grammar.specs.Names.{Names, is_among, is_function}
 use Rattle.cedar_grammar.specs.Build.{trees, unary, binary, conjunction, disjunction}
 use Rattle.cedar_builders.specs.Operations.{◌>>=◌, operated, made, built, built_all}
 use Rattle.cedar_builders.specs.Own.{own_operations}
-use Rattle.cedar_world.specs.Functions.{the_unknown, is_the_unknown}
-use Rattle.cedar_world.specs.Bodies.{calls_unknown, holds_call, hold_call}
+use Rattle.cedar_grammar.specs.Functions.{the_unknown, is_the_unknown}
+use Rattle.cedar_grammar.specs.UnknownCalls.{calls_unknown, holds_call, hold_call}
 use Rattle.cedar_conversion.proofs.Rising.{both_false}
 
 pub record LacksUnknown (names : Names) : Type 0 where

@@ -1,3 +1,5 @@
+pub mod Words
+pub mod Steps
 pub mod Converting
 pub mod Made
 pub mod Ordering

@@ -11,9 +11,9 @@ use Rattle.cedar_literals.specs.Operators.{binary_operator_of}
 use Rattle.cedar_grammar.specs.Build as build
 use Rattle.cedar_grammar.specs.Build.{without_argument, with_argument, trees, unary, binary, conjunction, disjunction}
 use Rattle.cedar_builders.specs.Operations.{Operations, IsLawful, OnRefusal, ◌>>=◌, operated, made, built, built_all}
-use Rattle.cedar_conversion_leaves.specs.declared.errors.ConversionError.{ConversionError}
-use Rattle.cedar_conversion_leaves.specs.Reasons.{Reason, means_nothing, refused, out_of_memory, reason}
-use Rattle.cedar_conversion_leaves.specs.Converts.{Misses}
+use Rattle.cedar_faults.specs.declared.errors.ConversionError.{ConversionError}
+use Rattle.cedar_faults.specs.Reasons.{Reason, means_nothing, refused, out_of_memory, reason}
+use Rattle.cedar_faults.specs.Converts.{Misses}
 use Rattle.cedar_conversion.specs.Building.{IsBuilt, IsRefused, MakesTree, TakesNot, Takes}
 use Rattle.cedar_conversion.proofs.Converting.{same_as}
 

@@ -1,9 +1,9 @@
 -- What a refusal is answered as, once the same tree was converted again.
 use Rattle.std.proofs.Common.{◌≡◌, Option, Some, Result, Ok, Err, refl, sym, subst}
 use Rattle.std.specs.Prelude.{IsSome}
-use Rattle.cedar_conversion_leaves.specs.declared.errors.ConversionError.{ConversionError}
-use Rattle.cedar_conversion_leaves.specs.Reasons.{Reason, means_nothing, refused, out_of_memory, reason}
-use Rattle.cedar_conversion_leaves.specs.Converts.{Misses, Converts}
+use Rattle.cedar_faults.specs.declared.errors.ConversionError.{ConversionError}
+use Rattle.cedar_faults.specs.Reasons.{Reason, means_nothing, refused, out_of_memory, reason}
+use Rattle.cedar_faults.specs.Converts.{Misses, Converts}
 use Rattle.cedar_conversion.specs.Meanings.{IsMeant, Weighs, WeighsNot}
 
 -- where something was given, any reason may stand

@@ -18,9 +18,9 @@ use Rattle.cedar_grammar.specs.Converting.{record_tree}
 use Rattle.cedar_builders.specs.Operations.{Operations, built, built_all}
 use Rattle.cedar_trees.specs.Records.{repeated_after, repeated, unless_repeated}
 use Rattle.cedar_trees.proofs.Records.{all_put, entries_put}
-use Rattle.cedar_conversion_leaves.specs.declared.errors.ConversionError.{ConversionError}
-use Rattle.cedar_conversion_leaves.specs.declared.errors.ConversionError.TheVariants as error
-use Rattle.cedar_conversion_leaves.specs.Reasons.{IsFault, reason}
+use Rattle.cedar_faults.specs.declared.errors.ConversionError.{ConversionError}
+use Rattle.cedar_faults.specs.declared.errors.ConversionError.TheVariants as error
+use Rattle.cedar_faults.specs.Reasons.{IsFault, reason}
 use Rattle.cedar_conversion.specs.Entries.{keyed, ordered, meant, EachIsBuilt, PutsNot}
 pub use Rattle.cedar_conversion.specs.Heads.{given}
 use Rattle.cedar_conversion.proofs.Made.{built_none, built_more, built_apply}

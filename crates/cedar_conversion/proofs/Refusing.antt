@@ -15,7 +15,7 @@ use Rattle.cedar_grammar.specs.Converting as converting
 use Rattle.cedar_grammar.specs.Converting.{head_tree, name_path, comparison_of, sum, product, record_tree}
 use Rattle.cedar_cst.specs.LeafView.{view_rel_op, view_add_op, view_mult_op}
 use Rattle.cedar_builders.specs.Operations.{Operations, ◌>>=◌, operated, made, built, built_all}
-use Rattle.cedar_conversion_leaves.specs.Converts.{and_then}
+use Rattle.cedar_faults.specs.Converts.{and_then}
 use Rattle.cedar_conversion.specs.declared.applying.Joint.{Joint}
 use Rattle.cedar_conversion.specs.declared.applying.Joint.TheVariants as joint
 use Rattle.cedar_conversion.specs.declared.signs.Sign.{Sign}

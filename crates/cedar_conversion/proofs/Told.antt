@@ -3,14 +3,14 @@ use Rattle.std.proofs.Common.{◌≡◌, ◌⊎◌, inl, inr, Option, Some, None
 use Rattle.std.specs.Prelude.{IfErr, IsErr, IsErrAnd, MatchOption}
 use Rattle.std.specs.Option.{option_map}
 use Rattle.cedar_names.specs.declared.places.Loc.{Loc}
-use Rattle.cedar_conversion_leaves.specs.declared.kinds.ToASTErrorKind.{ToASTErrorKind}
-use Rattle.cedar_conversion_leaves.specs.declared.errors.ConversionError.{ConversionError}
-use Rattle.cedar_conversion_leaves.specs.declared.errors.ConversionError.TheVariants as error
-use Rattle.cedar_conversion_leaves.specs.Reasons.{Reason, IsFaultOf, Gathers, reason, means_nothing, refused, out_of_memory, listed}
-use Rattle.cedar_conversion_leaves.specs.Telling.{AreOf, Tells, Told, TellsOnly}
-use Rattle.cedar_conversion_leaves.specs.Flat.{Flat}
-use Rattle.cedar_conversion_leaves.specs.Converts.{Lacks, Finds}
-use Rattle.cedar_conversion_leaves.proofs.Telling.{tells_one, tells_more, told_more, told_each, handed_on, memory_tells, failed_tells, flat_tells, gathered_tells}
+use Rattle.cedar_faults.specs.declared.kinds.ToASTErrorKind.{ToASTErrorKind}
+use Rattle.cedar_faults.specs.declared.errors.ConversionError.{ConversionError}
+use Rattle.cedar_faults.specs.declared.errors.ConversionError.TheVariants as error
+use Rattle.cedar_faults.specs.Reasons.{Reason, IsFaultOf, Gathers, reason, means_nothing, refused, out_of_memory, listed}
+use Rattle.cedar_faults.specs.Telling.{AreOf, Tells, Told, TellsOnly}
+use Rattle.cedar_faults.specs.Flat.{Flat}
+use Rattle.cedar_faults.specs.Converts.{Lacks, Finds}
+use Rattle.cedar_faults.proofs.Telling.{tells_one, tells_more, told_more, told_each, handed_on, memory_tells, failed_tells, flat_tells, gathered_tells}
 use Rattle.cedar_conversion.specs.Heads.{given}
 use Rattle.cedar_conversion.specs.SoFar.{ToldSoFar}
 

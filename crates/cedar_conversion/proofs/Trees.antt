@@ -25,8 +25,8 @@ use Rattle.cedar_cst.specs.declared.cst.MemAccess.{MemAccess}
 use Rattle.cedar_cst.specs.declared.cst.RecInit.{RecInit}
 use Rattle.cedar_cst.specs.declared.cst.Primary.{Primary}
 use Rattle.cedar_cst.specs.View.{shown_expr, shown_or, shown_and, shown_relation, shown_add, shown_mult, shown_unary, shown_member, shown_mem_access, shown_primary, shown_rec_init}
-use Rattle.cedar_conversion_leaves.specs.declared.errors.ConversionError.{ConversionError}
-use Rattle.cedar_conversion_leaves.specs.Converts.{Converts}
+use Rattle.cedar_faults.specs.declared.errors.ConversionError.{ConversionError}
+use Rattle.cedar_faults.specs.Converts.{Converts}
 use Rattle.cedar_conversion.specs.SoFar.{SoFar}
 use Rattle.cedar_conversion.specs.Joints.{joined}
 use Rattle.cedar_conversion.specs.declared.applying.Joint.TheVariants as joint

@@ -6,7 +6,7 @@ use Rattle.std.specs.Cmp.Lexicographic.{slice_cmp, bytes_decides}
 use Rattle.cedar_language.specs.Uid.{Text}
 use Rattle.cedar_grammar.specs.Names.{is_text, is_among}
 use Rattle.cedar_grammar.specs.Build.{Keyed, keys, put}
-use Rattle.cedar_conversion_leaves.specs.declared.kinds.ToASTErrorKind.{ToASTErrorKind}
+use Rattle.cedar_faults.specs.declared.kinds.ToASTErrorKind.{ToASTErrorKind}
 use Rattle.cedar_conversion.specs.Entries.{StandsTwice, IsRepeated, repeated_key}
 use Rattle.cedar_conversion.proofs.Told.{in_some}
 

@@ -5,9 +5,9 @@ use Rattle.std.specs.Global.{Global}
 use Rattle.cedar_language.specs.Tree.{Tree}
 use Rattle.cedar_grammar.specs.Build.{trees}
 use Rattle.cedar_builders.specs.Operations.{Operations, OnRefusal, built, built_all}
-use Rattle.cedar_conversion_leaves.specs.declared.errors.ConversionError.{ConversionError}
-use Rattle.cedar_conversion_leaves.specs.Reasons.{Reason, means_nothing, refused, out_of_memory, reason}
-use Rattle.cedar_conversion_leaves.specs.Converts.{Converts}
+use Rattle.cedar_faults.specs.declared.errors.ConversionError.{ConversionError}
+use Rattle.cedar_faults.specs.Reasons.{Reason, means_nothing, refused, out_of_memory, reason}
+use Rattle.cedar_faults.specs.Converts.{Converts}
 
 abbrev pub IsBuilt : {E M R : Type 0} → Operations M R → (E → M) → E → Tree → Type 0
 IsBuilt o meaning e t = built o t ≡ Ok (meaning e)

@@ -8,9 +8,9 @@ use Rattle.cedar_grammar.specs.Loose as loose
 use Rattle.cedar_grammar.specs.Converting.{name_path, name_variable}
 use Rattle.cedar_names.specs.Names.{is_unqualified, basename_of, name_text}
 use Rattle.cedar_literals.specs.Variables.{variable_of}
-use Rattle.cedar_conversion_leaves.specs.declared.kinds.ToASTErrorKind.{ToASTErrorKind}
-use Rattle.cedar_conversion_leaves.specs.declared.kinds.ToASTErrorKind.TheVariants as kinds
-use Rattle.cedar_conversion_leaves.specs.Shown.{name_shows}
+use Rattle.cedar_faults.specs.declared.kinds.ToASTErrorKind.{ToASTErrorKind}
+use Rattle.cedar_faults.specs.declared.kinds.ToASTErrorKind.TheVariants as kinds
+use Rattle.cedar_conversion.specs.Shown.{name_shows}
 use Rattle.cedar_conversion.specs.declared.heads.Use.{Use}
 use Rattle.cedar_conversion.specs.declared.heads.Use.TheVariants as use_
 

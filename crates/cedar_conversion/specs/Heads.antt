@@ -5,9 +5,9 @@ use Rattle.cedar_builders.specs.Operations.{Operations}
 use Rattle.cedar_grammar.specs.Names.{Names}
 use Rattle.cedar_grammar.specs.Converting as converting
 use Rattle.cedar_cst.specs.LeafView.{shown_name}
-use Rattle.cedar_conversion_leaves.specs.declared.kinds.ToASTErrorKind.{ToASTErrorKind}
-use Rattle.cedar_conversion_leaves.specs.declared.errors.ConversionError.{ConversionError}
-use Rattle.cedar_conversion_leaves.specs.Converts.{Converts}
+use Rattle.cedar_faults.specs.declared.kinds.ToASTErrorKind.{ToASTErrorKind}
+use Rattle.cedar_faults.specs.declared.errors.ConversionError.{ConversionError}
+use Rattle.cedar_faults.specs.Converts.{Converts}
 use Rattle.cedar_conversion.specs.declared.heads.Head.{Head}
 use Rattle.cedar_conversion.specs.declared.heads.Head.TheVariants as head
 use Rattle.cedar_conversion.specs.Building.{IsBuilt, IsRefused}

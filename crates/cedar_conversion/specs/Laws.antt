@@ -6,8 +6,8 @@ use Rattle.cedar_grammar.specs.Loose as loose
 use Rattle.cedar_grammar.specs.Converting.{expr_tree}
 use Rattle.cedar_builders.specs.Operations.{built}
 use Rattle.cedar_builders.specs.Own.{own_operations}
-use Rattle.cedar_world.specs.Functions.{the_unknown}
-use Rattle.cedar_world.specs.Bodies.{holds_call}
+use Rattle.cedar_grammar.specs.Functions.{the_unknown}
+use Rattle.cedar_grammar.specs.UnknownCalls.{holds_call}
 
 -- what the own builder makes of a tree that a text writes is that tree
 abbrev pub TreesAreBuilt : Type 0

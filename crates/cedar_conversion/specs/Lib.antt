@@ -1,3 +1,7 @@
+pub mod Shown
+pub mod Words
+pub mod Fields
+pub mod Alone
 pub mod Building
 pub mod Choices
 pub mod Entries

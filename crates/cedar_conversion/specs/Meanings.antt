@@ -1,7 +1,7 @@
 -- When a builder's refusal is answered: where the tree has a meaning.
 use Rattle.std.specs.Prelude.{◌≡◌, ⊤, Option, IsSome, Result, Ok, Err}
-use Rattle.cedar_conversion_leaves.specs.declared.errors.ConversionError.{ConversionError}
-use Rattle.cedar_conversion_leaves.specs.Reasons.{Reason, means_nothing, refused, out_of_memory, reason}
+use Rattle.cedar_faults.specs.declared.errors.ConversionError.{ConversionError}
+use Rattle.cedar_faults.specs.Reasons.{Reason, means_nothing, refused, out_of_memory, reason}
 
 -- the builder's own error stands only where there is something that it could have built
 abbrev pub IsMeant : {B W : Type 0} → Reason B → Option W → Type 0

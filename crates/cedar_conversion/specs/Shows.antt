@@ -8,9 +8,9 @@ use Rattle.cedar_grammar.specs.Converting.{alone, ident_text, lone_number, prima
 use Rattle.cedar_literals.specs.declared.operators.UnaryOp.{UnaryOp}
 use Rattle.cedar_literals.specs.declared.operators.UnaryOp.TheVariants as signs
 use Rattle.cedar_cst.specs.LeafView.{view_rel_op, view_mult_op}
-use Rattle.cedar_conversion_leaves.specs.declared.kinds.ToASTErrorKind.{ToASTErrorKind}
-use Rattle.cedar_conversion_leaves.specs.declared.kinds.ToASTErrorKind.TheVariants as kinds
-use Rattle.cedar_conversion_leaves.specs.Shown.{missing_shows, ident_shows, literal_shows, ref_shows, slot_shows, key_shows, index_shows, type_shows, pattern_shows, attributes_show}
+use Rattle.cedar_faults.specs.declared.kinds.ToASTErrorKind.{ToASTErrorKind}
+use Rattle.cedar_faults.specs.declared.kinds.ToASTErrorKind.TheVariants as kinds
+use Rattle.cedar_conversion.specs.Shown.{missing_shows, ident_shows, literal_shows, ref_shows, slot_shows, key_shows, index_shows, type_shows, pattern_shows, attributes_show}
 use Rattle.cedar_conversion.specs.declared.applying.Joint.{Joint}
 use Rattle.cedar_conversion.specs.declared.applying.Joint.TheVariants as joint
 use Rattle.cedar_conversion.specs.Choices.{Used, by_itself, by_attribute, by_method, by_text, misuse_shows, function_shows, method_shows}

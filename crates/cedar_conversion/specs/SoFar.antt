@@ -3,10 +3,10 @@ use Rattle.std.specs.Prelude.{◌≡◌, Option, Result, Bool}
 use Rattle.cedar_grammar.specs.Names.{Names}
 use Rattle.cedar_grammar.specs.Reading.{◌>>=◌}
 use Rattle.cedar_grammar.specs.Loose as loose
-use Rattle.cedar_conversion_leaves.specs.declared.kinds.ToASTErrorKind.{ToASTErrorKind}
-use Rattle.cedar_conversion_leaves.specs.declared.errors.ConversionError.{ConversionError}
-use Rattle.cedar_conversion_leaves.specs.Converts.{Converts}
-use Rattle.cedar_conversion_leaves.specs.Telling.{Told}
+use Rattle.cedar_faults.specs.declared.kinds.ToASTErrorKind.{ToASTErrorKind}
+use Rattle.cedar_faults.specs.declared.errors.ConversionError.{ConversionError}
+use Rattle.cedar_faults.specs.Converts.{Converts}
+use Rattle.cedar_faults.specs.Telling.{Told}
 use Rattle.cedar_conversion.specs.declared.heads.Head.{Head}
 use Rattle.cedar_conversion.specs.Shows.{Before, a_name, calls_method, accesses_show}
 use Rattle.cedar_conversion.specs.Heads.{IsBefore}

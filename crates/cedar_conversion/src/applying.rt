@@ -1,16 +1,16 @@
 // Operators of two operands.
 ghost use Rattle.std.specs.Prelude.{◌⊎◌, Option, Some, IfErr};
 ghost use Rattle.cedar_language.specs.Tree.{Tree};
-ghost use Rattle.cedar_conversion_leaves.specs.Converts.{and_then};
-ghost use Rattle.cedar_conversion_leaves.specs.Telling.{Told, TellsOnly};
+ghost use Rattle.cedar_faults.specs.Converts.{and_then};
+ghost use Rattle.cedar_faults.specs.Telling.{Told, TellsOnly};
 ghost use Rattle.cedar_conversion.specs.Building.{IsBuilt, MakesTree};
 ghost use Rattle.cedar_conversion.specs.Joints.{joined};
 ghost use Rattle.cedar_conversion.specs.Shows.{joint_shows};
 
 use crate::building::{builder_at, taken};
 use cedar_builders::expr_builder::ExprBuilder;
-use cedar_conversion_leaves::{ConversionError, ToASTErrorKind, flatten_tuple_2};
 use cedar_cst::cst::{AddOp, MultOp, RelOp};
+use cedar_faults::{ConversionError, ToASTErrorKind, flatten_tuple_2};
 use cedar_names::places::Loc;
 use std::alloc::Global;
 

@@ -2,13 +2,13 @@
 ghost use Rattle.std.specs.Prelude.{◌≡◌, ◌⊎◌, List, [], ◌∷◌, ◌++◌, Option, Some, Result, IfErr};
 ghost use Rattle.cedar_language.specs.Tree.{Tree};
 ghost use Rattle.cedar_builders.specs.Operations.{Gives};
-ghost use Rattle.cedar_conversion_leaves.specs.Reasons.{reason, out_of_memory};
-ghost use Rattle.cedar_conversion_leaves.specs.Converts.{and_then};
-ghost use Rattle.cedar_conversion_leaves.specs.Telling.{Told, TellsOnly};
+ghost use Rattle.cedar_faults.specs.Reasons.{reason, out_of_memory};
+ghost use Rattle.cedar_faults.specs.Converts.{and_then};
+ghost use Rattle.cedar_faults.specs.Telling.{Told, TellsOnly};
 ghost use Rattle.cedar_conversion.specs.Building.{MakesTree, MakesTrees, Takes};
 
 use cedar_builders::expr_builder::ExprBuilder;
-use cedar_conversion_leaves::{ConversionError, flatten_tuple_2};
+use cedar_faults::{ConversionError, flatten_tuple_2};
 use cedar_names::places::Loc;
 use std::alloc::Global;
 

@@ -4,8 +4,8 @@ ghost use Rattle.cedar_grammar.specs.Loose as loose;
 ghost use Rattle.cedar_grammar.specs.Converting as converting;
 ghost use Rattle.cedar_grammar.specs.Converting.{expr_tree, or_tree, and_tree, relation_tree, add_tree, mult_tree, unary_tree, member_tree, access_head, primary_head, rec_init_tree};
 ghost use Rattle.cedar_cst.specs.View.{shown_expr, shown_or, shown_and, shown_relation, shown_add, shown_mult, shown_unary, shown_member, shown_mem_access, shown_primary, shown_rec_init};
-ghost use Rattle.cedar_conversion_leaves.specs.Converts.{and_then};
-ghost use Rattle.cedar_conversion_leaves.specs.Telling.{Told, TellsOnly};
+ghost use Rattle.cedar_faults.specs.Converts.{and_then};
+ghost use Rattle.cedar_faults.specs.Telling.{Told, TellsOnly};
 ghost use Rattle.cedar_conversion.specs.Building.{MakesTree};
 ghost use Rattle.cedar_conversion.specs.Entries.{MakesEntry};
 ghost use Rattle.cedar_conversion.specs.Heads.{MakesHead, IsBefore};
@@ -13,15 +13,12 @@ ghost use Rattle.cedar_conversion.specs.Shows.{Before, is_call, calls_method, ex
 
 use crate::{
     Head, Joint, Sign, attribute, call, entity_to_head, expr_to_head, has, head_to_expr, index,
-    is_type, is_type_in, ite, join, like, literal_to_head, negative, pushed, pushed_entry,
-    record_to_head, set_to_head, signed, slot_to_head,
+    is_type, is_type_in, ite, join, like, literal_to_head, lone_comparison, lone_number, negative,
+    pushed, pushed_entry, record_to_head, set_to_head, signed, slot_to_head, to_entity_type,
+    to_fields, to_index, to_key, to_like_pattern, to_literal, to_ref, to_slot, to_unreserved_ident,
 };
 use cedar_builders::expr_builder::ExprBuilder;
-use cedar_conversion_leaves::{
-    ConversionError, ExtStyles, ToASTErrorKind, flatten_tuple_2, lone_comparison, lone_number,
-    to_entity_type, to_fields, to_index, to_key, to_like_pattern, to_literal, to_ref, to_slot,
-    to_unreserved_ident,
-};
+use cedar_faults::{ConversionError, ExtStyles, ToASTErrorKind, flatten_tuple_2};
 use cedar_cst::cst::{
     Add, And, Expr, ExprData, MemAccess, Member, Mult, NegOp, Or, Primary, RecInit, Relation, Unary,
 };

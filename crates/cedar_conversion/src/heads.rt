@@ -10,21 +10,21 @@ ghost use Rattle.cedar_grammar.specs.Build.{trees, unary};
 ghost use Rattle.cedar_grammar.specs.Converting as converting;
 ghost use Rattle.cedar_grammar.specs.Converting.{head_tree};
 ghost use Rattle.cedar_cst.specs.LeafView.{shown_name};
-ghost use Rattle.cedar_conversion_leaves.specs.Reasons.{IsFault};
-ghost use Rattle.cedar_conversion_leaves.specs.Converts.{and_then, Finds};
-ghost use Rattle.cedar_conversion_leaves.specs.Telling.{Told, TellsOnly};
+ghost use Rattle.cedar_faults.specs.Reasons.{IsFault};
+ghost use Rattle.cedar_faults.specs.Converts.{and_then, Finds};
+ghost use Rattle.cedar_faults.specs.Telling.{Told, TellsOnly};
 ghost use Rattle.cedar_conversion.specs.Building.{IsBuilt, MakesTree, MakesTrees};
 ghost use Rattle.cedar_conversion.specs.Choices.{IsNoVariable, used_as, by_itself, no_variable_shows, misuse_shows};
 ghost use Rattle.cedar_conversion.specs.Heads.{MakesHead, given, head_shows};
 ghost use Rattle.cedar_conversion.specs.Shows.{used_before, used_at};
 
 use crate::building::{builder_at, taken};
+use crate::names::to_name;
+use crate::variables::to_variable;
 use cedar_builders::expr_builder::ExprBuilder;
-use cedar_conversion_leaves::{
-    ConversionError, ToASTErrorKind, flatten_tuple_2, to_name, to_variable,
-};
 use cedar_cst::cst::Name;
 use cedar_cst::node::Node;
+use cedar_faults::{ConversionError, ToASTErrorKind, flatten_tuple_2};
 use cedar_literals::literals::Literal;
 use cedar_literals::slots;
 use cedar_literals::uids::EntityUID;

@@ -3,8 +3,8 @@
 ghost use Rattle.std.specs.Prelude.{◌⊎◌, IfErr};
 ghost use Rattle.cedar_grammar.specs.Converting.{expr_tree, primary_tree};
 ghost use Rattle.cedar_cst.specs.View.{shown_expr, shown_primary};
-ghost use Rattle.cedar_conversion_leaves.specs.Reasons.{reason};
-ghost use Rattle.cedar_conversion_leaves.specs.Telling.{Tells, Told, TellsOnly};
+ghost use Rattle.cedar_faults.specs.Reasons.{reason};
+ghost use Rattle.cedar_faults.specs.Telling.{Tells, Told, TellsOnly};
 ghost use Rattle.cedar_conversion.specs.Building.{MakesTree};
 ghost use Rattle.cedar_conversion.specs.Meanings.{IsMeant, Weighs};
 ghost use Rattle.cedar_conversion.specs.Shows.{expr_shows, operand_shows};
@@ -13,9 +13,9 @@ use crate::expressions::{expr_to_expr, primary_to_head};
 use crate::heads::head_to_expr;
 use cedar_builders::expr_builder::ExprBuilder;
 use cedar_builders::own_builder;
-use cedar_conversion_leaves::{ConversionError, ExtStyles};
 use cedar_cst::cst::{Expr, Primary};
 use cedar_cst::node::Node;
+use cedar_faults::{ConversionError, ExtStyles};
 use std::alloc::Global;
 
 // What a builder's refusal is answered as, once the tree was converted again by a builder that refuses no

@@ -6,15 +6,15 @@ ghost use Rattle.cedar_grammar.specs.Names.{is_among};
 ghost use Rattle.cedar_grammar.specs.Build.{Keyed, keys};
 ghost use Rattle.cedar_grammar.specs.Converting as converting;
 ghost use Rattle.cedar_grammar.specs.Converting.{record_tree};
-ghost use Rattle.cedar_conversion_leaves.specs.Converts.{and_then, Finds};
-ghost use Rattle.cedar_conversion_leaves.specs.Telling.{Told, TellsOnly};
+ghost use Rattle.cedar_faults.specs.Converts.{and_then, Finds};
+ghost use Rattle.cedar_faults.specs.Telling.{Told, TellsOnly};
 ghost use Rattle.cedar_conversion.specs.Entries.{keyed, ordered, MakesEntries, MakesEntry, Puts, repeated_key, IsRepeated, entries_show};
 ghost use Rattle.cedar_conversion.specs.Heads.{MakesHead};
 
 use crate::building::{builder_at, taken};
 use crate::heads::{Head, expr_to_head};
 use cedar_builders::expr_builder::ExprBuilder;
-use cedar_conversion_leaves::{ConversionError, ToASTErrorKind, flatten_tuple_2};
+use cedar_faults::{ConversionError, ToASTErrorKind, flatten_tuple_2};
 use cedar_names::places::Loc;
 use cedar_trees::errors::{DuplicateKeyError, ExpressionConstructionError};
 use std::alloc::Global;

@@ -5,14 +5,14 @@ ghost use Rattle.cedar_language.specs.Tree.{Tree, PatternElem};
 ghost use Rattle.cedar_language.specs.Uid.{Text, Name};
 ghost use Rattle.cedar_grammar.specs.Build as build;
 ghost use Rattle.cedar_grammar.specs.Build.{unary, is_in};
-ghost use Rattle.cedar_conversion_leaves.specs.Converts.{and_then, Finds};
-ghost use Rattle.cedar_conversion_leaves.specs.Telling.{Told, TellsOnly};
+ghost use Rattle.cedar_faults.specs.Converts.{and_then, Finds};
+ghost use Rattle.cedar_faults.specs.Telling.{Told, TellsOnly};
 ghost use Rattle.cedar_conversion.specs.Building.{MakesTree};
-ghost use Rattle.cedar_conversion_leaves.specs.Fields.{path_texts};
+ghost use Rattle.cedar_conversion.specs.Fields.{path_texts};
 
 use crate::building::{builder_at, taken};
 use cedar_builders::expr_builder::ExprBuilder;
-use cedar_conversion_leaves::{ConversionError, flatten_tuple_2};
+use cedar_faults::{ConversionError, flatten_tuple_2};
 use cedar_literals::patterns::Pattern;
 use cedar_literals::uids::EntityType;
 use cedar_names::names;

@@ -3,15 +3,15 @@ ghost use Rattle.std.specs.Prelude.{◌≡◌, Option, Some, IfErr};
 ghost use Rattle.std.specs.Option.{option_map};
 ghost use Rattle.cedar_language.specs.Tree.{Tree, Lit};
 ghost use Rattle.cedar_literals.specs.Literals.{literal_of};
-ghost use Rattle.cedar_conversion_leaves.specs.Converts.{and_then};
-ghost use Rattle.cedar_conversion_leaves.specs.Telling.{Told, TellsOnly};
+ghost use Rattle.cedar_faults.specs.Converts.{and_then};
+ghost use Rattle.cedar_faults.specs.Telling.{Told, TellsOnly};
 ghost use Rattle.cedar_conversion.specs.Building.{IsBuilt, MakesTree};
 ghost use Rattle.cedar_conversion.specs.Joints.{repeated, minus_long};
 ghost use Rattle.cedar_conversion.specs.Shows.{minus_shows};
 
 use crate::building::{builder_at, taken};
 use cedar_builders::expr_builder::ExprBuilder;
-use cedar_conversion_leaves::{ConversionError, ToASTErrorKind};
+use cedar_faults::{ConversionError, ToASTErrorKind};
 use cedar_literals::literals::Literal;
 use cedar_names::places::Loc;
 use std::alloc::Global;

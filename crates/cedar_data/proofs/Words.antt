@@ -6,7 +6,7 @@ use Rattle.cedar_grammar.specs.Token.{word_of, id_of}
 use Rattle.cedar_grammar.specs.Loose as loose
 use Rattle.cedar_grammar.specs.Converting.{ident_text}
 use Rattle.cedar_names.specs.Identifiers.{is_identifier, is_keyword, IsUnreservedId}
-use Rattle.cedar_conversion_leaves.proofs.Words.{written_is}
+use Rattle.cedar_conversion.proofs.Words.{written_is}
 
 and_left : (a b : Bool) → (a && b) ≡ true → a ≡ true
 and_left true b h = refl

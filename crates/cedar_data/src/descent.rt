@@ -9,7 +9,7 @@ use crate::leaves::{Path, boolean, entity};
 use crate::reader::Reader;
 use crate::texts::Sign;
 use crate::unread::Unread;
-use cedar_conversion_leaves::ExtStyles;
+use cedar_faults::ExtStyles;
 use cedar_literals::literals::Literal;
 use cedar_names::identifiers::is_normalized_ident;
 use cedar_trees::errors::ExpressionConstructionError;

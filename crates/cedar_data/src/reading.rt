@@ -4,7 +4,7 @@ ghost use Rattle.cedar_data.specs.Data.{IsDataText};
 
 use crate::reader::Reader;
 use crate::unread::Unread;
-use cedar_conversion_leaves::ExtStyles;
+use cedar_faults::ExtStyles;
 use cedar_restricted::restricted::RestrictedExpr;
 use std::alloc::{AllocError, Global};
 

@@ -1,3 +1,6 @@
+pub mod UidSets
+mod Listed
+pub mod Distinct
 pub mod UidLemmas
 mod Entries
 mod SameMaps
@@ -12,9 +15,6 @@ mod Edited
 mod Giving
 mod Refusing
 mod Joined
-pub mod Shown
-mod EditedWorlds
-mod Fitting
 pub mod Untouched
 mod Beside
 pub mod Gathering

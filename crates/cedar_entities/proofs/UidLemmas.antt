@@ -10,9 +10,9 @@ use Rattle.cedar_language.specs.Order.{uid_cmp, same_uid}
 use Rattle.cedar_literals.specs.Laws.{uid_cmp_total, uid_cmp_ties, same_uid_equiv}
 use Rattle.std.specs.Prelude.{if◌then◌else◌}
 use Rattle.cedar_closure.specs.Graph.{SameKeys}
-use Rattle.cedar_uid_lists.specs.Lists.{AreRising, AreInTurn}
-use Rattle.cedar_uid_lists.proofs.Distinct.{rising_distinct, members_in_turn, distinct_in_turn}
-pub use Rattle.cedar_uid_lists.proofs.UidSets.{contains-listed, contains-items, same_uids, contains-both, uid_is, none_passes, difference_apart}
+use Rattle.cedar_entities.specs.Lists.{AreRising, AreInTurn}
+use Rattle.cedar_entities.proofs.Distinct.{rising_distinct, members_in_turn, distinct_in_turn}
+pub use Rattle.cedar_entities.proofs.UidSets.{contains-listed, contains-items, same_uids, contains-both, uid_is, none_passes, difference_apart}
 use Rattle.cedar_entities.specs.Data.{EntityData, UidSet, IsListOf, IsSameEntity, ancestors_of, without}
 
 -- the same uids in another order

@@ -1,3 +1,4 @@
+pub mod Lists
 pub mod Codes
 pub mod Attributes
 pub mod Data
@@ -14,5 +15,3 @@ pub mod Evaluated
 pub mod Refused
 pub mod Calls
 pub mod Validated
-pub mod Shown
-pub mod Laws

@@ -8,13 +8,14 @@ ghost use Rattle.std.specs.Rc.{rc_str_bytes};
 ghost use Rattle.cedar_language.specs.Uid.{Uid};
 ghost use Rattle.cedar_restricted.specs.PartialValues.{partial_of};
 ghost use Rattle.cedar_entities.specs.Attributes.{attributes_of, seen_entries};
-ghost use Rattle.cedar_uid_lists.specs.Lists.{AreRising, AreInTurn};
+ghost use Rattle.cedar_entities.specs.Lists.{AreRising, AreInTurn};
 ghost use Rattle.cedar_entities.specs.Data.{EntityData, bare_entity, ancestors_of, IsListOf, IsSameEntity, without};
 
 use crate::attributes::{Attributes, same_attributes};
 use cedar_literals::uids::EntityUID;
 use cedar_restricted::partial_values::PartialValue;
-use cedar_uid_lists::{EntityUIDs, Uids};
+use crate::iteration::Uids;
+use crate::uid_lists::EntityUIDs;
 use std::alloc::{AllocError, Global};
 use std::collections::{BTreeMap, HashSet, btree_map};
 use std::hash::{Hash, Hasher};

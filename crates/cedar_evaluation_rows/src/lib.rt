@@ -21,7 +21,7 @@ use cedar_expressions::ast::{Expr, Value};
 use cedar_expressions_rows::{partial_values, substitution};
 use cedar_policy_set::sets::PolicySet;
 use cedar_rows::{Answer, Step, no_case};
-use cedar_tree_rows::trees;
+use cedar_rows::trees;
 use std::alloc::{AllocError, Global};
 use std::collections::HashMap;
 use std::rc::RcStr;

@@ -6,7 +6,7 @@ use cedar_names::places::Loc;
 use cedar_operators::{get_attr, get_tag, has_attr, has_path, has_tag, is_in};
 use cedar_rows::{Answer, no_case};
 use cedar_trees::unknowns::NonEmpty;
-use cedar_value_rows::names::loc;
+use cedar_rows::names::loc;
 use cedar_values::values::Value;
 use std::alloc::{AllocError, Global};
 use std::rc::RcStr;

@@ -9,7 +9,7 @@ use cedar_expressions::evaluator::EvaluationError;
 use cedar_policy_parts::annotations::Annotations;
 use cedar_policy_parts::{Decision, PolicyID};
 use cedar_rows::{Answer, no_case, tell};
-use cedar_tree_rows::registers::top;
+use cedar_rows::stack::top;
 use indexmap::IndexSet;
 use std::alloc::{AllocError, Global};
 use std::mem;

@@ -2,8 +2,7 @@
 use Rattle.std.proofs.Common.{◌≡◌, Bool, true, false, ◌&&◌, ◌||◌, cond, List, [], ◌∷◌, ◌++◌, map, filter, refl, ◌∙◌, ap}
 use Rattle.std.proofs.lemmas.List.{append-nil}
 use Rattle.cedar_language.specs.Uid.{Text}
-use Rattle.cedar_language.specs.Answering.{Effect, Permit, Forbid, Standing, Satisfied, Unsatisfied, Residual, Judged, some, satisfied_permit, satisfied_forbid, residual_permit, residual_forbid, decision, decision_by, in_must, in_may}
-use Rattle.cedar_world.specs.Answers.{ids_with}
+use Rattle.cedar_language.specs.Answering.{Effect, Permit, Forbid, Standing, Satisfied, Unsatisfied, Residual, Judged, some, satisfied_permit, satisfied_forbid, residual_permit, residual_forbid, decision, decision_by, in_must, in_may, ids_with}
 use Rattle.cedar_evaluator.specs.Responses.{Holding, judged_held, stands}
 use Rattle.cedar_evaluator.specs.Deciding.{has_any}
 

@@ -3,7 +3,7 @@ use Rattle.std.proofs.Common.{◌≡◌, Option, Some, None, refl, sym}
 use Rattle.std.specs.Option.{ForNone}
 use Rattle.cedar_language.specs.Uid.{Text}
 use Rattle.cedar_grammar.specs.Policy as grammar
-use Rattle.cedar_world.specs.Syntax.{Bindings}
+use Rattle.cedar_grammar.specs.Bindings.{Bindings}
 use Rattle.cedar_policy_parts.specs.Bindings.{unbound}
 use Rattle.cedar_policy_set.specs.Bounds.{entry_by}
 use Rattle.cedar_policy_set.specs.Texts.{syntax_in}

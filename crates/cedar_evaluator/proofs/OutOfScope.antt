@@ -10,8 +10,8 @@ use Rattle.cedar_language.specs.Facts.{Facts}
 use Rattle.cedar_grammar.specs.Build.{conjunction}
 use Rattle.cedar_grammar.specs.Policy.{Policy, constraint_tree, action_tree, scope_tree}
 use Rattle.cedar_partial_evaluation.specs.Partial.{Evaluated, LeafAnswers, partial_in}
-use Rattle.cedar_world.specs.Scope.{and_then_met, action_meets}
-use Rattle.cedar_world.specs.Syntax.{Bindings}
+use Rattle.cedar_grammar.specs.Scopes.{and_then_met, action_meets}
+use Rattle.cedar_grammar.specs.Bindings.{Bindings}
 use Rattle.cedar_policy_parts.specs.Bindings.{unbound}
 use Rattle.cedar_entities.specs.declared.store.Entities.{Entities}
 use Rattle.cedar_operators.specs.Store.{HasFacts}

@@ -2,9 +2,8 @@
 use Rattle.std.proofs.Common.{◌≡◌, Bool, ◌||◌, cond, List, [], ◌∷◌, ◌++◌, map, refl, sym, ◌∙◌, ap}
 use Rattle.std.specs.Map.{keys_of}
 use Rattle.cedar_language.specs.Uid.{Text}
-use Rattle.cedar_language.specs.Answering.{decision, decision_by, in_must, in_may}
+use Rattle.cedar_language.specs.Answering.{decision, decision_by, in_must, in_may, ids_with}
 use Rattle.cedar_trees.specs.Bare.{bare}
-use Rattle.cedar_world.specs.Answers.{ids_with}
 use Rattle.cedar_evaluator.specs.Deciding.{has_any}
 use Rattle.cedar_evaluator.specs.Holding.{holding_in}
 use Rattle.cedar_evaluator.specs.Responses.{judged_held}

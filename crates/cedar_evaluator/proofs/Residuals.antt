@@ -3,12 +3,11 @@ use Rattle.std.proofs.Common.{◌≡◌, Bool, true, false, ◌||◌, cond, List
 use Rattle.std.specs.Map.{keys_of}
 use Rattle.std.proofs.lemmas.List.{append-nil, map-append}
 use Rattle.std.proofs.lemmas.List.Elements.{filter-append}
-use Rattle.cedar_language.specs.Answering.{Effect, Permit, Forbid, Satisfied, Unsatisfied, Residual, Judged, satisfied_permit, satisfied_forbid, residual_permit, residual_forbid, in_must, in_may}
+use Rattle.cedar_language.specs.Answering.{Effect, Permit, Forbid, Satisfied, Unsatisfied, Residual, Judged, satisfied_permit, satisfied_forbid, residual_permit, residual_forbid, in_must, in_may, ids_with}
 use Rattle.cedar_language.specs.Tree.{Tree}
 use Rattle.cedar_language.specs.Uid.{Text}
 use Rattle.cedar_policy_set.specs.Entries.{Entry, Entries}
 use Rattle.cedar_trees.specs.Bare.{bare}
-use Rattle.cedar_world.specs.Answers.{ids_with}
 use Rattle.cedar_evaluator.specs.Deciding.{has_any}
 use Rattle.cedar_evaluator.specs.Holding.{holding_in}
 use Rattle.cedar_evaluator.specs.Residuals.{left_satisfied, left_false, left_open, judged_satisfied, judged_false, judged_open, residuals_with, is_any, is_satisfied, is_residual}

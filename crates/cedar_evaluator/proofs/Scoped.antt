@@ -12,8 +12,8 @@ use Rattle.cedar_language.specs.Operators.{applied, is_within, within_members}
 use Rattle.cedar_grammar.specs.Build.{trees, unary, binary, conjunction}
 use Rattle.cedar_grammar.specs.Policy.{Target, the_entity, the_slot, Constraint, anything, equals, within, of_type, of_type_within, ActionConstraint, any_action, action_equals, action_within_any, target_tree, constraint_tree, action_tree, with_body}
 use Rattle.cedar_partial_evaluation.specs.Partial.{Evaluated, AllEvaluated, and_answer, and_next, last_answer, answer_of, apply_answer, LeafAnswers, partial_in}
-use Rattle.cedar_world.specs.Scope.{and_then_met, action_meets}
-use Rattle.cedar_world.proofs.Scope.{entity_equal, conjoined, entities, all_listed, rising_uids}
+use Rattle.cedar_grammar.specs.Scopes.{and_then_met, action_meets}
+use Rattle.cedar_partial_evaluation.proofs.Scopes.{entity_equal, conjoined, entities, all_listed, rising_uids}
 use Rattle.cedar_policy_parts.specs.References.{target_bound}
 use Rattle.cedar_entities.specs.Data.{EntityData}
 use Rattle.cedar_entities.specs.declared.store.Entities.{Entities}

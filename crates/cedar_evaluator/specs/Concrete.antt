@@ -2,7 +2,7 @@
 use Rattle.std.specs.Prelude.{◌≡◌, ℕ, List, ◌++◌, map}
 use Rattle.std.specs.declared.alloc.Global.{Global}
 use Rattle.std.specs.declared.rc.Rc.{Rc}
-use Rattle.cedar_language.specs.Answering.{known_decision, in_must}
+use Rattle.cedar_language.specs.Answering.{known_decision, in_must, ids_with}
 use Rattle.cedar_language.specs.Tree.{Tree}
 use Rattle.cedar_language.specs.Uid.{Text}
 use Rattle.cedar_language.specs.Value.{NonValue}
@@ -15,7 +15,6 @@ use Rattle.cedar_policy_parts.specs.Decisions.{decision_of}
 use Rattle.cedar_policy_set.specs.Entries.{Entries, policies_of}
 use Rattle.cedar_trees.specs.Bare.{bare}
 use Rattle.cedar_trees.specs.declared.expr.Expr.{Expr}
-use Rattle.cedar_world.specs.Answers.{ids_with}
 use Rattle.cedar_evaluator.specs.Evaluations.{Kept, AreKept}
 use Rattle.cedar_evaluator.specs.Given.{Noted}
 use Rattle.cedar_evaluator.specs.Holding.{error_seen}

@@ -7,7 +7,7 @@ use Rattle.cedar_language.specs.Tree.{Boolean, Entity, Principal, Action, Resour
 use Rattle.cedar_language.specs.Value.{Plain}
 use Rattle.cedar_language.specs.Facts.{Facts}
 use Rattle.cedar_grammar.specs.Policy.{Constraint, anything, equals, within, of_type, of_type_within}
-use Rattle.cedar_world.specs.Scope.{and_then_met}
+use Rattle.cedar_grammar.specs.Scopes.{and_then_met}
 use Rattle.cedar_partial_evaluation.specs.Partial.{Answer, Evaluated, LeafAnswers, partial_in}
 use Rattle.cedar_entities.specs.declared.store.Entities.{Entities}
 use Rattle.cedar_interpreter.specs.Asking.{Inquiry, variable_asked}

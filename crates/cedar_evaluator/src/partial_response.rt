@@ -5,7 +5,7 @@ ghost use Rattle.std.specs.Prelude.{◌≡◌, ◌++◌, ◌||◌, IfOk, OnOk, o
 ghost use Rattle.std.specs.Map.{keys_of};
 ghost use Rattle.cedar_language.specs.Answering.{decision, decision_by, in_must, in_may};
 ghost use Rattle.cedar_policy_parts.specs.Decisions.{decision_of};
-ghost use Rattle.cedar_world.specs.Answers.{ids_with};
+ghost use Rattle.cedar_language.specs.Answering.{ids_with};
 ghost use Rattle.cedar_evaluator.specs.Given.{gathered, AreGiven};
 ghost use Rattle.cedar_evaluator.specs.Deciding.{has_any};
 ghost use Rattle.cedar_evaluator.specs.Responses.{judged_held};

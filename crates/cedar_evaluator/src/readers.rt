@@ -9,7 +9,7 @@ ghost use Rattle.cedar_language.specs.Tree.{Lit, Boolean};
 ghost use Rattle.cedar_policy_parts.specs.Effects.{effect_of};
 ghost use Rattle.cedar_policy_set.specs.Bounds.{policy_seen};
 ghost use Rattle.cedar_policies.specs.Bodies.{shared_tree};
-ghost use Rattle.cedar_world.specs.Answers.{ids_with};
+ghost use Rattle.cedar_language.specs.Answering.{ids_with};
 ghost use Rattle.cedar_evaluator.specs.Holding.{has_erred, holding_in};
 ghost use Rattle.cedar_evaluator.specs.Residuals.{residual_policy, left_satisfied, left_false, left_open, residuals_with, is_any, is_satisfied, is_residual, of_effect, residual_at, erring_ids, IsFound};
 ghost use Rattle.cedar_evaluator.specs.Responses.{judged_held};

@@ -8,7 +8,7 @@ ghost use Rattle.cedar_policy_parts.specs.Decisions.{decision_of};
 ghost use Rattle.cedar_interpreter.specs.Asking.{untold};
 ghost use Rattle.cedar_requests.specs.Holding.{request_parts};
 ghost use Rattle.cedar_trees.specs.Bare.{bare};
-ghost use Rattle.cedar_world.specs.Answers.{ids_with};
+ghost use Rattle.cedar_language.specs.Answering.{ids_with};
 ghost use Rattle.cedar_evaluator.specs.Authorizing.{table_of, limit_of};
 ghost use Rattle.cedar_evaluator.specs.Concrete.{cause_seen, without_value, left_of, all_causes, IsConcrete, Answers};
 ghost use Rattle.cedar_evaluator.specs.Holding.{holding_in};

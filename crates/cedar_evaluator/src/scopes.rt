@@ -10,7 +10,7 @@ ghost use Rattle.cedar_language.specs.Order.{same_name, same_uid};
 ghost use Rattle.cedar_language.specs.Tree.{Variable, Principal, Action, Resource, SlotId as Slot, PrincipalSlot, ResourceSlot};
 ghost use Rattle.cedar_grammar.specs.Policy.{constraint_tree, action_tree, scope_tree};
 ghost use Rattle.cedar_partial_evaluation.specs.Partial.{LeafAnswers, answer_of};
-ghost use Rattle.cedar_world.specs.Scope.{action_meets};
+ghost use Rattle.cedar_grammar.specs.Scopes.{action_meets};
 ghost use Rattle.cedar_literals.specs.Variables.{variable_of};
 ghost use Rattle.cedar_policy_parts.specs.Actions.{action_of, held_uids};
 ghost use Rattle.cedar_policy_parts.specs.Asked.{constraint_of};

@@ -17,7 +17,7 @@ use cedar_expressions::extensions::{
 };
 use cedar_expressions::{Extensions, FromNormalizedStr};
 use cedar_rows::{Answer, explain, no_case, refused, refused_for, said, separate, tell};
-use cedar_tree_rows::trees::type_of;
+use cedar_rows::trees::type_of;
 use std::alloc::{AllocError, Global};
 use std::collections::HashMap;
 

@@ -7,7 +7,7 @@ use cedar_operators::{
     unary_app,
 };
 use cedar_rows::{Answer, no_case};
-use cedar_tree_rows::trees::pattern;
+use cedar_rows::trees::pattern;
 use std::alloc::Global;
 
 /// The value, or the kind of the error.

@@ -6,8 +6,8 @@ use cedar_expressions::ast::{
     split,
 };
 use cedar_rows::{Answer, count_of, mapped, no_case, number, paired, put, said, separate, taken};
-use cedar_tree_rows::registers::{place, told_place, top};
-use cedar_tree_rows::trees::{literal, unknown};
+use cedar_rows::stack::{place, told_place, top};
+use cedar_rows::trees::{literal, unknown};
 use either::Either;
 use std::alloc::{AllocError, Global};
 use std::fmt::Display;

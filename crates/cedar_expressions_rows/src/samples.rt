@@ -11,7 +11,7 @@ use cedar_expressions::ast::{
 };
 use cedar_expressions::entities::SchemaType;
 use cedar_rows::{Answer, maybe, no_case, refused_for, said, tell};
-use cedar_tree_rows::shapes;
+use cedar_rows::shapes;
 use std::alloc::{AllocError, Global};
 
 /// The table of an extension with all samples, once one was made.

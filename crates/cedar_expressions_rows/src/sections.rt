@@ -5,7 +5,7 @@ use crate::{
     validation,
 };
 use cedar_rows::Answer;
-use cedar_tree_rows::{builders, shapes, trees};
+use cedar_rows::{builders, shapes, trees};
 use std::alloc::Global;
 
 pub(crate) fn answer(

@@ -4,8 +4,8 @@ use cedar_expressions::ast::{
     SubstitutionFunction, TypedSubstitution, Unknown, UntypedSubstitution, Value,
 };
 use cedar_rows::{Answer, hold, no_case, put, tell};
-use cedar_tree_rows::registers::top;
-use cedar_tree_rows::trees::unknown;
+use cedar_rows::stack::top;
+use cedar_rows::trees::unknown;
 use std::alloc::Global;
 use std::collections::HashMap;
 use std::rc::RcStr;

@@ -6,7 +6,7 @@ use Rattle.cedar_language.specs.Facts.{Function}
 use Rattle.cedar_language.specs.Value.{Value, FailedExtensionFunctionExecution, WrongNumArguments, Fails}
 use Rattle.cedar_language.specs.Order.{all_of}
 use Rattle.cedar_language.specs.Operators.{count, called, or_fails, takes}
-use Rattle.cedar_world.specs.Functions.{one_string, unknown_function}
+use Rattle.cedar_grammar.specs.Functions.{one_string, unknown_function}
 
 count_all : (vs : List Value) → count (all_of vs) ≡ length vs
 count_all [] = refl

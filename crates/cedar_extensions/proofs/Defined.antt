@@ -6,7 +6,7 @@ use Rattle.cedar_language.specs.Uid.{Name}
 use Rattle.cedar_language.specs.Order.{same_name}
 use Rattle.cedar_names.specs.Laws.{same_name_equiv}
 use Rattle.cedar_names.proofs.Sameness.{names_same}
-use Rattle.cedar_world.specs.Functions.{NamedFunction, the_unknown, is_the_unknown, unknown_function, first_named, callers_functions, function_of}
+use Rattle.cedar_grammar.specs.Functions.{NamedFunction, the_unknown, is_the_unknown, unknown_function, first_named, callers_functions, function_of}
 use Rattle.cedar_extensions.specs.Answering.{FunctionAnswers}
 use Rattle.cedar_extensions.specs.Functions.{function_name, meaning_in, meaning_of, names_unknown, is_unknown, named_function}
 use Rattle.cedar_extensions.specs.Holding.{found_in, is_named, are_named}

@@ -1,7 +1,7 @@
 -- Functions of a table, as the definitions have them.
 use Rattle.std.specs.Prelude.{List, map}
 use Rattle.std.specs.List.{list_any}
-use Rattle.cedar_world.specs.Functions.{Functions}
+use Rattle.cedar_grammar.specs.Functions.{Functions}
 use Rattle.cedar_extensions.specs.Answering.{FunctionAnswers}
 use Rattle.cedar_extensions.specs.Functions.{is_unknown, named_function}
 use Rattle.cedar_extensions.specs.declared.functions.ExtensionFunction.{ExtensionFunction}

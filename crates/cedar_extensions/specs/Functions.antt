@@ -13,8 +13,8 @@ use Rattle.cedar_literals.specs.declared.types.Type as code
 use Rattle.cedar_extensions.specs.Answering.{FunctionAnswers}
 use Rattle.cedar_extensions.specs.Causes.{Cause, OtherCount, NoAnswer, OutOfMemory}
 use Rattle.cedar_trees.specs.Unknowns.{unknown_name, unknown_type}
-use Rattle.cedar_world.specs.Functions as world
-use Rattle.cedar_world.specs.Functions.{NamedFunction, unknown_function}
+use Rattle.cedar_grammar.specs.Functions as world
+use Rattle.cedar_grammar.specs.Functions.{NamedFunction, unknown_function}
 use Rattle.cedar_extensions.specs.declared.functions.CallStyle.{CallStyle}
 use Rattle.cedar_extensions.specs.declared.functions.CallStyle.TheVariants.{FunctionStyle, MethodStyle}
 use Rattle.cedar_extensions.specs.declared.functions.ExtensionOutputValue.{ExtensionOutputValue}

@@ -3,7 +3,7 @@ use Rattle.std.specs.Prelude.{List, find, Bool, not, cond, Option}
 use Rattle.std.specs.List.{list_all}
 use Rattle.cedar_language.specs.Uid.{Name}
 use Rattle.cedar_language.specs.Order.{same_name}
-use Rattle.cedar_world.specs.Functions.{is_the_unknown}
+use Rattle.cedar_grammar.specs.Functions.{is_the_unknown}
 use Rattle.cedar_extensions.specs.Functions.{function_name, is_unknown}
 use Rattle.cedar_extensions.specs.declared.functions.ExtensionFunction.{ExtensionFunction}
 use Rattle.cedar_extensions.specs.declared.extension.Extension.{Extension}

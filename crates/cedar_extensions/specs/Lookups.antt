@@ -3,7 +3,7 @@ use Rattle.std.specs.Prelude.{◌≡◌, ⊤, List, [], ◌∷◌, true, Option,
 use Rattle.std.specs.Borrow.{Bor}
 use Rattle.cedar_language.specs.Uid.{Name}
 use Rattle.cedar_language.specs.Tree.{StringType}
-use Rattle.cedar_world.specs.Functions.{the_unknown, as_function}
+use Rattle.cedar_grammar.specs.Functions.{the_unknown, as_function}
 use Rattle.cedar_extensions.specs.Causes.{name_sought}
 use Rattle.cedar_extensions.specs.declared.lookups.ExtensionFunctionLookupError.{ExtensionFunctionLookupError}
 use Rattle.cedar_extensions.specs.declared.lookups.ExtensionFunctionLookupError.TheVariants.{FuncDoesNotExist, Memory}

@@ -164,7 +164,7 @@ impl<F> Extensions<'_, F> {
 
 impl<F: ExtensionFunctionObject> Extensions<'_, F> {
     ghost use Rattle.cedar_language.specs.Uid as language;
-    ghost use Rattle.cedar_world.specs.Functions.{function_of};
+    ghost use Rattle.cedar_grammar.specs.Functions.{function_of};
     ghost use Rattle.cedar_extensions.specs.Defining.{defined};
     ghost use Rattle.cedar_extensions.specs.Tables.{functions_in, function_called};
 

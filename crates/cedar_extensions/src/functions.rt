@@ -6,7 +6,7 @@ ghost use Rattle.cedar_language.specs.Operators.{called, or_fails};
 ghost use Rattle.cedar_language.specs.Value as language;
 ghost use Rattle.cedar_language.specs.Value.{a_value, no_values, FailedExtensionFunctionExecution};
 ghost use Rattle.cedar_literals.specs.Types.{value_type_of};
-ghost use Rattle.cedar_world.specs.Functions.{one_string, unknown_function};
+ghost use Rattle.cedar_grammar.specs.Functions.{one_string, unknown_function};
 ghost use Rattle.cedar_extensions.specs.Causes.{cause_of};
 ghost use Rattle.cedar_extensions.specs.Giving.{Gives};
 ghost use Rattle.cedar_extensions.specs.Failures.{OfKind, failure_of};

@@ -16,3 +16,8 @@ pub mod LooseReading
 pub mod Converting
 pub mod LooseLaws
 pub mod Calls
+pub mod Functions
+pub mod UnknownCalls
+pub mod Syntax
+pub mod Bindings
+pub mod Scopes

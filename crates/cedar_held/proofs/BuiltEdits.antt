@@ -8,7 +8,7 @@ use Rattle.cedar_world.specs.World as world
 use Rattle.cedar_world.specs.EditLaws.{last_version, or_first}
 use Rattle.cedar_world.specs.EntityEdits.{Version, IsListed, first, later, first_of, put, add, remove, without}
 use Rattle.cedar_world.proofs.Edits.{edits, same_uid}
-use Rattle.cedar_bodies.specs.Built.{IsBuiltData, IsBuiltVersion, AreBuiltVersions, HoldBuilt}
+use Rattle.cedar_held.specs.Built.{IsBuiltData, IsBuiltVersion, AreBuiltVersions, HoldBuilt}
 
 -- ---- what is left at a uid
 

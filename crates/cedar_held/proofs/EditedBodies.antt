@@ -15,12 +15,12 @@ use Rattle.cedar_entities.specs.Held.{held_of}
 use Rattle.cedar_entities.specs.InPlace.{left_by}
 use Rattle.cedar_entities.specs.Store.{found_in, held_at}
 use Rattle.cedar_entities.specs.declared.store.Entities.{Entities}
-use Rattle.cedar_entities.specs.Shown.{as_held, as_entities, Shows}
-use Rattle.cedar_entities.specs.Laws.{IsTaken}
+use Rattle.cedar_held.specs.Shown.{as_held, as_entities, Shows}
+use Rattle.cedar_held.specs.StoreWorlds.{IsTaken}
 use Rattle.cedar_replies.specs.declared.refusal.Refusal.{Refusal}
 use Rattle.cedar_replies.specs.declared.refusal.Refusal.TheVariants.{Shape, Evaluation, NotAValue, Duplicate, Cycle, Depth, Memory}
-use Rattle.cedar_bodies.specs.Built.{HoldBuilt}
-use Rattle.cedar_bodies.specs.Listing.{AreVersions, AreListed}
+use Rattle.cedar_held.specs.Built.{HoldBuilt}
+use Rattle.cedar_held.specs.Listing.{AreVersions, AreListed}
 use Rattle.cedar_held.specs.EntityEdits.{ListsVersions, PutsBody, AddsBody, RemovesBody}
 use Rattle.cedar_held.specs.HoldingEntities.{IsShown, ShowsBuilt, shown_is_one}
 use Rattle.cedar_held.specs.Stores.{PutsVersions, AddsVersions, RemovesUids}

@@ -10,8 +10,8 @@ use Rattle.cedar_entities.specs.Store.{held_at, IsClosed, Leaves, Adds}
 use Rattle.cedar_entities.specs.declared.errors.EntitiesError.{EntitiesError}
 use Rattle.cedar_entities.specs.declared.errors.EntitiesError.TheVariants.{Duplicate, TransitiveClosureError, Memory}
 use Rattle.cedar_entities.specs.declared.store.Entities.{Entities}
-use Rattle.cedar_entities.specs.Shown.{as_entities, Shows}
-use Rattle.cedar_entities.specs.Laws.{IsPut, IsAdded, IsRemoved, PutsAreTheWorlds, AddsAreTheWorlds, RemovesAreTheWorlds}
+use Rattle.cedar_held.specs.Shown.{as_entities, Shows}
+use Rattle.cedar_held.specs.StoreWorlds.{IsPut, IsAdded, IsRemoved, PutsAreTheWorlds, AddsAreTheWorlds, RemovesAreTheWorlds}
 use Rattle.cedar_held.specs.Refusals.{refusal_of}
 use Rattle.cedar_held.specs.Stores.{PutsVersions, AddsVersions, RemovesUids}
 

@@ -7,8 +7,9 @@ use Rattle.std.proofs.lemmas.Map.{lookup-remove_entry}
 use Rattle.cedar_language.specs.Uid.{Text}
 use Rattle.cedar_language.specs.Order.{same_text}
 use Rattle.cedar_grammar.specs.Calls.{calls_only}
-use Rattle.cedar_world.specs.Functions.{is_the_unknown}
-use Rattle.cedar_world.specs.Syntax.{PolicySyntax, Bindings, is_template, condition}
+use Rattle.cedar_grammar.specs.Functions.{is_the_unknown}
+use Rattle.cedar_grammar.specs.Bindings.{Bindings}
+use Rattle.cedar_grammar.specs.Syntax.{PolicySyntax, is_template, condition}
 use Rattle.cedar_policy_set.specs.Entries.{Entry, static_policy, template, link, Entries, bound_at, without}
 use Rattle.cedar_policy_set.specs.Texts.{text_entries, syntax_in}
 use Rattle.cedar_policy_set.proofs.Finding.{same_id, some_apart, found_first, found_later}

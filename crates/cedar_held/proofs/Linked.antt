@@ -7,8 +7,9 @@ use Rattle.cedar_language.specs.Uid as uid
 use Rattle.cedar_world.specs.Bodies.{LinkBody}
 use Rattle.cedar_world.specs.Commands as commands
 use Rattle.cedar_world.specs.Commands.{rank, NoSuchTemplate, NotTemplate, Arity, IdConflict}
-use Rattle.cedar_world.specs.Refusals.{LinkCases, binds_exactly}
-use Rattle.cedar_world.specs.Syntax.{PolicySyntax}
+use Rattle.cedar_grammar.specs.Bindings.{binds_exactly}
+use Rattle.cedar_world.specs.Refusals.{LinkCases}
+use Rattle.cedar_grammar.specs.Syntax.{PolicySyntax}
 use Rattle.cedar_world.specs.World.{template_at}
 use Rattle.cedar_policies.specs.Policies.{policy_id}
 use Rattle.cedar_policies.specs.declared.policies.Policy.{Policy}
@@ -16,7 +17,7 @@ use Rattle.cedar_policy_set.specs.Entries.{Entry, template, link, Entries, bound
 use Rattle.cedar_policy_set.specs.EntryNodes.{same_entry, entries_decide}
 use Rattle.cedar_policy_set.specs.Bounds.{policy_entry}
 use Rattle.cedar_policy_set.specs.Refused.{in_the_way, taken, clashes, added}
-use Rattle.cedar_policy_set.specs.Worlds.{policies_in, FindsAsWorlds, BindsAsWorlds}
+use Rattle.cedar_held.specs.PolicyWorlds.{policies_in, FindsAsWorlds, BindsAsWorlds}
 use Rattle.cedar_replies.specs.declared.refusal.Refusal.{Refusal}
 use Rattle.cedar_replies.specs.declared.refusal.Refusal.TheVariants as replies
 use Rattle.cedar_held.specs.PolicyEdits.{LinksBody}

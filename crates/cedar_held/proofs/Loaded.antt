@@ -2,12 +2,12 @@
 use Rattle.std.proofs.Common.{◌≡◌, ◌∙◌, ℕ, suc, ◌^◌, ◌<◌, List, [], ◌∷◌, map, length, refl, sym, ap, subst, arith}
 use Rattle.std.specs.Map.{keys_of}
 use Rattle.cedar_language.specs.Uid.{Text}
-use Rattle.cedar_world.specs.PolicyEdits.{numbered, own_ids, Loads}
-use Rattle.cedar_world.specs.Syntax.{PolicySyntax}
+use Rattle.cedar_grammar.specs.Syntax.{numbered, PolicySyntax}
+use Rattle.cedar_world.specs.PolicyEdits.{own_ids, Loads}
 use Rattle.cedar_policy_set.specs.Entries.{Entries, IsWhole}
 use Rattle.cedar_policy_set.specs.Texts.{text_entries}
-use Rattle.cedar_policy_set.specs.Worlds.{policies_in}
-use Rattle.cedar_store.specs.Loading.{LoadsAsWorlds}
+use Rattle.cedar_held.specs.PolicyWorlds.{policies_in}
+use Rattle.cedar_held.specs.LoadWorlds.{LoadsAsWorlds}
 use Rattle.cedar_store.specs.Merged.{joined}
 use Rattle.cedar_store.specs.Renaming.{NewIds, IsRenaming, new_id}
 use Rattle.cedar_held.specs.HoldingPolicies.{IsHeld, IsText}

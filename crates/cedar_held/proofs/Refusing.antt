@@ -5,11 +5,11 @@ use Rattle.std.specs.Option.{option_map}
 use Rattle.std.specs.Prelude.{IsSome}
 use Rattle.cedar_language.specs.Uid.{Text}
 use Rattle.cedar_world.specs.Commands.{Refusal, rank}
-use Rattle.cedar_world.specs.Syntax.{PolicySyntax}
+use Rattle.cedar_grammar.specs.Syntax.{PolicySyntax}
 use Rattle.cedar_world.specs.World.{template_of, template_at}
 use Rattle.cedar_policy_set.specs.Entries.{Entry, static_policy, template, link, Entries, bound_at}
 use Rattle.cedar_policy_set.specs.Refused.{is_template_at}
-use Rattle.cedar_policy_set.specs.Worlds.{world_bound, policies_in, FindsAsWorlds}
+use Rattle.cedar_held.specs.PolicyWorlds.{world_bound, policies_in, FindsAsWorlds}
 use Rattle.cedar_held.specs.PolicyEdits.{IsLeast}
 use Rattle.cedar_held.specs.HoldingPolicies.{IsHeld}
 

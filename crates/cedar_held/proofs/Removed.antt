@@ -9,14 +9,15 @@ use Rattle.cedar_world.specs.Commands as commands
 use Rattle.cedar_world.specs.Commands.{rank, NoSuchTemplate, NotTemplate, NotLink, NoSuchPolicy, HasLinks, NotStatic}
 use Rattle.cedar_world.specs.Refusals as refusals
 use Rattle.cedar_world.specs.Refusals.{UnlinkCases, RemoveStaticCases, RemoveTemplateCases}
-use Rattle.cedar_world.specs.Syntax.{PolicySyntax, Bindings}
+use Rattle.cedar_grammar.specs.Bindings.{Bindings}
+use Rattle.cedar_grammar.specs.Syntax.{PolicySyntax}
 use Rattle.cedar_world.specs.World as world
 use Rattle.cedar_world.specs.World.{template_at}
 use Rattle.cedar_policy_set.specs.Entries.{Entry, static_policy, template, link, Entries, bound_at, without, IsWhole, is_link_to, has_links}
 use Rattle.cedar_policy_set.specs.Refused.{is_template_at, is_link_at, is_static_at, is_policy_at, IsPolicyRefusal}
 use Rattle.cedar_policy_set.specs.declared.errors.PolicySetPolicyRemovalError.{PolicySetPolicyRemovalError}
 use Rattle.cedar_policy_set.specs.declared.errors.PolicySetPolicyRemovalError.TheVariants.{RemovePolicyNoLinkError, RemovePolicyNoTemplateError, Memory}
-use Rattle.cedar_policy_set.specs.Worlds.{world_bound, policies_in, FindsAsWorlds, RemovesAsWorlds}
+use Rattle.cedar_held.specs.PolicyWorlds.{world_bound, policies_in, FindsAsWorlds, RemovesAsWorlds}
 use Rattle.cedar_policy_set.proofs.Finding.{same_id, id_itself, any_found}
 use Rattle.cedar_replies.specs.declared.refusal.Refusal.TheVariants as replies
 use Rattle.cedar_store.proofs.Wholes.{all_of}

@@ -12,7 +12,7 @@ use Rattle.cedar_world.specs.World as world
 use Rattle.cedar_world.specs.World.{IsCyclic}
 use Rattle.cedar_replies.specs.declared.refusal.Refusal.{Refusal}
 use Rattle.cedar_replies.specs.declared.refusal.Refusal.TheVariants.{Shape, Evaluation, NotAValue, Duplicate, Cycle, Depth, Memory}
-use Rattle.cedar_bodies.specs.Listing.{AreOpen, Lists}
+use Rattle.cedar_held.specs.Listing.{AreOpen, Lists}
 use Rattle.cedar_held.specs.Stores.{SomeMisfit}
 
 -- no attribute or tag errs, and none holds an unknown

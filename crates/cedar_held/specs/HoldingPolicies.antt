@@ -6,13 +6,13 @@ use Rattle.std.specs.List.{list_all}
 use Rattle.cedar_language.specs.OrderLaws.{text_code}
 use Rattle.cedar_grammar.specs.Calls.{calls_only}
 use Rattle.cedar_grammar.specs.Policy.{Permit, anything, any_action}
-use Rattle.cedar_world.specs.Functions.{is_the_unknown}
-use Rattle.cedar_world.specs.Syntax.{PolicySyntax, condition}
+use Rattle.cedar_grammar.specs.Functions.{is_the_unknown}
+use Rattle.cedar_grammar.specs.Syntax.{PolicySyntax, condition}
 use Rattle.cedar_world.specs.World as world
 use Rattle.cedar_policy_set.specs.Entries.{Entry, static_policy, link, Entries}
 use Rattle.cedar_policy_set.specs.EntryNodes.{entry_code}
 use Rattle.cedar_policy_set.specs.Texts.{text_entries, AreToldBySlots, NameNoUnknown}
-use Rattle.cedar_policy_set.specs.Worlds.{world_bound}
+use Rattle.cedar_held.specs.PolicyWorlds.{world_bound}
 
 -- each template has slots, no static policy has any, and nothing names an unknown
 pub record IsHeld (es : Entries) : Type 0 where

@@ -1,3 +1,17 @@
+pub mod Shown
+pub mod StoreWorlds
+pub mod PolicyWorlds
+pub mod LoadWorlds
+pub mod Lent
+pub mod LinkBodies
+pub mod Questions
+pub mod Entities
+pub mod Reading
+pub mod BodyRefusals
+pub mod Built
+pub mod Fields
+pub mod Making
+pub mod Listing
 pub mod HoldingPolicies
 pub mod Links
 pub mod PolicyEdits

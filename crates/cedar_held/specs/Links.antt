@@ -4,8 +4,8 @@ use Rattle.std.specs.declared.alloc.Global.{Global}
 use Rattle.std.specs.declared.rc.Rc.{Rc}
 use Rattle.cedar_language.specs.Uid.{Text}
 use Rattle.cedar_world.specs.Bodies.{LinkBody}
-use Rattle.cedar_world.specs.Refusals.{binds_exactly}
-use Rattle.cedar_world.specs.Syntax.{PolicySyntax}
+use Rattle.cedar_grammar.specs.Bindings.{binds_exactly}
+use Rattle.cedar_grammar.specs.Syntax.{PolicySyntax}
 use Rattle.cedar_policies.specs.Templates.{template_id, syntax_of}
 use Rattle.cedar_policies.specs.declared.templates.Template.{Template}
 use Rattle.cedar_policies.specs.Policies.{policy_id}

@@ -6,7 +6,7 @@ use Rattle.cedar_world.specs.World.{IsCyclic}
 use Rattle.cedar_world.specs.EntityEdits as world_edits
 use Rattle.cedar_world.specs.EntityEdits.{Version, IsListed, FitsIn, CanAdd}
 use Rattle.cedar_entities.specs.declared.store.Entities.{Entities}
-use Rattle.cedar_entities.specs.Laws.{IsTaken}
+use Rattle.cedar_held.specs.StoreWorlds.{IsTaken}
 use Rattle.cedar_replies.specs.declared.refusal.Refusal.{Refusal}
 use Rattle.cedar_replies.specs.declared.refusal.Refusal.TheVariants.{Duplicate, Cycle, Memory}
 

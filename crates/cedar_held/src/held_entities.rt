@@ -2,18 +2,18 @@
 ghost use Rattle.std.specs.Prelude.{◌≡◌, false};
 ghost use Rattle.std.specs.FinMap as finite;
 ghost use Rattle.cedar_restricted.specs.Views.{borrowed_tree};
-ghost use Rattle.cedar_world.specs.Bodies.{holds_call};
+ghost use Rattle.cedar_grammar.specs.UnknownCalls.{holds_call};
 ghost use Rattle.cedar_world.specs.Setting.{Setting};
 ghost use Rattle.cedar_extensions.specs.Table.{as_table};
 ghost use Rattle.cedar_entities.specs.Store.{held_at, is_partial_store, IsClosed};
-ghost use Rattle.cedar_entities.specs.Shown.{Shows};
-ghost use Rattle.cedar_bodies.specs.Built.{HoldBuilt};
-ghost use Rattle.cedar_bodies.specs.Fields.{Serves};
+ghost use Rattle.cedar_held.specs.Shown.{Shows};
+ghost use Rattle.cedar_held.specs.Built.{HoldBuilt};
+ghost use Rattle.cedar_held.specs.Fields.{Serves};
 ghost use Rattle.cedar_held.specs.EntityEdits.{PutsBody, AddsBody, RemovesBody};
 ghost use Rattle.cedar_held.specs.HoldingEntities.{IsShown, IsWhole, ShowsBuilt, shown_prop};
 
 use crate::stores::{add_to, put_into, remove_from};
-use cedar_bodies::{listed_entities, set_of, uids_of};
+use crate::{listed_entities, set_of, uids_of};
 use cedar_entities::store::Entities;
 use cedar_extensions::extensions::Extensions;
 use cedar_extensions::objects::ExtensionFunctionObject;

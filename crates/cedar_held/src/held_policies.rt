@@ -3,17 +3,17 @@ ghost use Rattle.std.specs.Prelude.{◌≡◌, List, IfOk, OnErr};
 ghost use Rattle.std.specs.FinMap as finite;
 ghost use Rattle.std.specs.Rc.{rc_str_bytes};
 ghost use Rattle.cedar_world.specs.PolicyEdits.{Loads};
-ghost use Rattle.cedar_world.specs.Syntax.{PolicySyntax};
+ghost use Rattle.cedar_grammar.specs.Syntax.{PolicySyntax};
 ghost use Rattle.cedar_policy_set.specs.Texts.{text_entries, AreToldBySlots, NameNoUnknown};
-ghost use Rattle.cedar_policy_set.specs.Worlds.{policies_in};
-ghost use Rattle.cedar_bodies.specs.Links.{link_of};
+ghost use Rattle.cedar_held.specs.PolicyWorlds.{policies_in};
+ghost use Rattle.cedar_held.specs.LinkBodies.{link_of};
 ghost use Rattle.cedar_held.specs.PolicyEdits.{LinksBody, UnlinksId, RemovesStatic, RemovesTemplate};
 ghost use Rattle.cedar_held.specs.HoldingPolicies.{IsHeld, IsText};
 
+use crate::LinkBody;
 use crate::linking::link;
 use crate::loading::load;
 use crate::removing::{remove_static, remove_template, unlink};
-use cedar_bodies::LinkBody;
 use cedar_policy_parts::PolicyID;
 use cedar_policy_set::sets::PolicySet;
 use cedar_replies::Refusal;
@@ -32,7 +32,7 @@ pub struct HeldPolicies {
 
 impl Model for HeldPolicies {
     ghost use Rattle.cedar_world.specs.World as world;
-    ghost use Rattle.cedar_policy_set.specs.Worlds.{policies_in};
+    ghost use Rattle.cedar_held.specs.PolicyWorlds.{policies_in};
     ghost use Rattle.cedar_held.specs.HoldingPolicies.{IsHeld, policies_code};
 
     ghost Value = { world.Policies };

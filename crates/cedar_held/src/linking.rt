@@ -1,13 +1,14 @@
 // Links of the templates of a policy set.
 ghost use Rattle.std.specs.Prelude.{◌≡◌, IfOk};
 ghost use Rattle.std.specs.Rc.{rc_str_bytes};
-ghost use Rattle.cedar_policy_set.specs.Worlds.{policies_in};
-ghost use Rattle.cedar_bodies.specs.Links.{link_of};
+ghost use Rattle.cedar_held.specs.PolicyWorlds.{policies_in};
+ghost use Rattle.cedar_held.specs.LinkBodies.{link_of};
 ghost use Rattle.cedar_held.specs.PolicyEdits.{LinksBody};
 ghost use Rattle.cedar_held.specs.HoldingPolicies.{IsHeld};
 ghost use Rattle.cedar_held.specs.Links.{FindsTemplate, MakesLink};
 
-use cedar_bodies::LinkBody;
+use crate::LinkBody;
+use crate::worlds::policy_sets_are_worlds;
 use cedar_literals::slots::SlotId;
 use cedar_policies::errors::LinkingError;
 use cedar_policies::linking::TemplateLinks;
@@ -18,7 +19,6 @@ use cedar_policy_parts::bindings::SlotEnv;
 use cedar_policy_set::bounds::Bound;
 use cedar_policy_set::errors::PolicySetError;
 use cedar_policy_set::sets::PolicySet;
-use cedar_policy_set::worlds::policy_sets_are_worlds;
 use cedar_replies::Refusal;
 use std::alloc::{AllocError, Global};
 use std::rc::{Rc, RcStr};

@@ -2,16 +2,16 @@
 ghost use Rattle.std.specs.Prelude.{◌≡◌, List, map, IfOk, OnErr};
 ghost use Rattle.std.specs.Map.{keys_of};
 ghost use Rattle.cedar_world.specs.PolicyEdits.{Loads};
-ghost use Rattle.cedar_world.specs.Syntax.{PolicySyntax};
+ghost use Rattle.cedar_grammar.specs.Syntax.{PolicySyntax};
 ghost use Rattle.cedar_policy_set.specs.Texts.{text_entries};
-ghost use Rattle.cedar_policy_set.specs.Worlds.{policies_in};
+ghost use Rattle.cedar_held.specs.PolicyWorlds.{policies_in};
 ghost use Rattle.cedar_store.specs.Renaming.{new_id};
 ghost use Rattle.cedar_held.specs.HoldingPolicies.{IsHeld, IsText};
 
+use crate::worlds::texts_are_loaded;
 use cedar_policy_parts::PolicyID;
 use cedar_policy_set::sets::PolicySet;
 use cedar_store::ast::{Merging, Renaming, renamed_id, renaming_of};
-use cedar_store::laws::merging::texts_are_loaded;
 use std::alloc::{AllocError, Global};
 
 // Puts the policies of a text to those of the set; answers the ids under which they now stand.

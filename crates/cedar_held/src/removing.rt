@@ -1,6 +1,6 @@
 // Links, static policies and templates taken out of a policy set.
 ghost use Rattle.std.specs.Rc.{rc_str_bytes};
-ghost use Rattle.cedar_policy_set.specs.Worlds.{policies_in};
+ghost use Rattle.cedar_held.specs.PolicyWorlds.{policies_in};
 ghost use Rattle.cedar_held.specs.PolicyEdits.{UnlinksId, RemovesStatic, RemovesTemplate};
 ghost use Rattle.cedar_held.specs.HoldingPolicies.{IsHeld};
 
@@ -8,8 +8,8 @@ use cedar_policy_parts::PolicyID;
 use cedar_policy_set::errors::{
     PolicySetPolicyRemovalError, PolicySetTemplateRemovalError, PolicySetUnlinkError,
 };
+use crate::worlds::policy_sets_are_worlds;
 use cedar_policy_set::sets::PolicySet;
-use cedar_policy_set::worlds::policy_sets_are_worlds;
 use cedar_replies::Refusal;
 use std::rc::RcStr;
 

@@ -7,15 +7,15 @@ ghost use Rattle.cedar_world.specs.EntityEdits.{Version};
 ghost use Rattle.cedar_world.specs.World as world;
 ghost use Rattle.cedar_entities.specs.InPlace.{left_by};
 ghost use Rattle.cedar_entities.specs.Store.{held_at};
-ghost use Rattle.cedar_entities.specs.Shown.{as_entities, Shows};
+ghost use Rattle.cedar_held.specs.Shown.{as_entities, Shows};
 ghost use Rattle.cedar_held.specs.HoldingEntities.{IsWhole};
 ghost use Rattle.cedar_held.specs.Refusals.{refusal_of};
 ghost use Rattle.cedar_held.specs.Stores.{PutsVersions, AddsVersions, RemovesUids};
 
+use crate::worlds::{adds_are_the_worlds, puts_are_the_worlds, removes_are_the_worlds};
 use cedar_entities::entity::Entity;
 use cedar_entities::errors::EntitiesError;
 use cedar_entities::store::Entities;
-use cedar_entities::{adds_are_the_worlds, puts_are_the_worlds, removes_are_the_worlds};
 use cedar_literals::uids::EntityUID;
 use cedar_replies::Refusal;
 use std::alloc::Global;

@@ -10,7 +10,7 @@ use Rattle.cedar_language.specs.Uid.{Name}
 use Rattle.cedar_language.specs.Value.{Value, Values}
 use Rattle.cedar_partial_evaluation.specs.Partial.{answer_of}
 use Rattle.cedar_partial_evaluation.specs.ReadUnknowns.{calls_unknown, some_calls_unknown}
-use Rattle.cedar_world.specs.Functions.{is_the_unknown}
+use Rattle.cedar_grammar.specs.Functions.{is_the_unknown}
 use Rattle.cedar_extensions.specs.Failures.{failure_of}
 use Rattle.cedar_extensions.specs.Giving.{fails_on}
 use Rattle.cedar_extensions.specs.Table.{Table}

@@ -1,3 +1,4 @@
+pub mod Booleans
 mod Graph
 pub mod Answering
 mod Pattern

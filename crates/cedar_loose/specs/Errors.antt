@@ -1,22 +1,20 @@
--- What errors of the parser say.
-
+-- What errors of the loose parser say.
 use Rattle.cedar_names.specs.declared.places.Span.{Span}
 use Rattle.cedar_tokens.specs.declared.expected_kinds.Kinds.{Kinds}
 use Rattle.cedar_loose.specs.declared.error.Met.{Met}
 use Rattle.cedar_loose.specs.declared.errors.ToCSTError.{ToCSTError}
-use Rattle.cedar_loose.specs.declared.errors.ParseError.{ParseError}
-use Rattle.cedar_loose.specs.declared.errors.ParseError.TheVariants as error
+use Rattle.cedar_loose.specs.declared.errors.LooseError.{LooseError}
+use Rattle.cedar_loose.specs.declared.errors.LooseError.TheVariants as error
 
--- why a text isn't parsed
+-- why a text isn't parsed; that a part of it means nothing, its conversion alone tells
 pub data Cause : Type 0 where
   outside_the_grammar : Cause
   means_nothing : Cause
   nested_too_deep : Cause
   out_of_memory : Cause
 
-abbrev pub cause_of : ParseError → Cause
+abbrev pub cause_of : LooseError → Cause
 cause_of (error.ToCST e) = outside_the_grammar
-cause_of (error.ToAST e) = means_nothing
 cause_of error.Depth = nested_too_deep
 cause_of error.Memory = out_of_memory
 

@@ -9,7 +9,7 @@ use Rattle.cedar_loose.specs.declared.error.ReadError.{ReadError}
 use Rattle.cedar_loose.specs.declared.error.ReadError.TheVariants as stop
 use Rattle.cedar_loose.specs.Gives.{Fails}
 use Rattle.cedar_loose.specs.Errors.{Cause, outside_the_grammar, means_nothing, nested_too_deep, out_of_memory, cause_of}
-use Rattle.cedar_loose.specs.declared.errors.ParseErrors.{ParseErrors}
+use Rattle.cedar_loose.specs.declared.errors.LooseError.{LooseError}
 
 -- the loose tree that the text's tokens read as, with a nesting of at most n
 abbrev pub IsRead : {A : Type 0} → (ℕ → List Token → Result A Fault) → ℕ → Text → A → Type 0
@@ -29,12 +29,12 @@ IsOutside read bytes means_nothing = ⊥
 IsOutside read bytes nested_too_deep = ⊥
 IsOutside read bytes out_of_memory = ⊤
 
--- the first error says so
-abbrev pub Refuses : {A : Type 0} → (ℕ → List Token → Result A Fault) → ℕ → Text → ParseErrors → Type 0
-Refuses read limit bytes errors = IsRefused read limit bytes (cause_of errors.0.head)
+-- the error says so
+abbrev pub Refuses : {A : Type 0} → (ℕ → List Token → Result A Fault) → ℕ → Text → LooseError → Type 0
+Refuses read limit bytes error = IsRefused read limit bytes (cause_of error)
 
-abbrev pub RefusesFlat : {A : Type 0} → (ℕ → List Token → Result A Fault) → Text → ParseErrors → Type 0
-RefusesFlat read bytes errors = IsOutside read bytes (cause_of errors.0.head)
+abbrev pub RefusesFlat : {A : Type 0} → (ℕ → List Token → Result A Fault) → Text → LooseError → Type 0
+RefusesFlat read bytes error = IsOutside read bytes (cause_of error)
 
 -- what nothing nests in is read alike within every nesting
 abbrev pub flat : {A : Type 0} → (List Token → Result A Fault) → ℕ → List Token → Result A Fault

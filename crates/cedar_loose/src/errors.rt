@@ -1,18 +1,16 @@
 // Why a text has no tree.
-ghost use Rattle.std.specs.Prelude.{◌≡◌, [], Some, IfOk, is_some};
+ghost use Rattle.std.specs.Prelude.{◌≡◌, Some, IfOk, is_some};
 ghost use Rattle.cedar_tokens.specs.Kinds.{names_of};
 ghost use Rattle.cedar_tokens.specs.Shown.{shows};
 ghost use Rattle.cedar_loose.specs.Errors.{met_of, span_of, expected_of};
 
 use crate::Met;
-use cedar_conversion_leaves::ToASTError;
 use cedar_names::places::{Loc, Span};
 use cedar_tokens::{ExpectedTokenConfig, Kinds, expected_to_string};
-use cedar_trees::unknowns::NonEmpty;
+use thiserror::Error;
 use std::alloc::{AllocError, Global};
 use std::error::Error;
 use std::fmt;
-use thiserror::Error;
 
 /// The text is outside the loose grammar. `==` compares places and expected kinds too.
 #[derive(Debug, PartialEq, Eq, Drop)]
@@ -108,50 +106,16 @@ impl fmt::Display for ToCSTError {
     }
 }
 
-/// Why a text isn't parsed.
+/// Why a text has no loose tree.
 #[derive(Debug, PartialEq, Eq, Drop, Error)]
-pub enum ParseError {
+pub enum LooseError {
     /// The text is outside the loose grammar.
     #[error(transparent)]
     ToCST(ToCSTError),
-    /// It is inside it, but a part of it means nothing.
-    #[error(transparent)]
-    ToAST(ToASTError),
     /// The text's nesting passes the limit.
     #[error("the text is nested too deep")]
     Depth,
     /// Memory ran out.
     #[error("out of memory")]
     Memory,
-}
-
-/// Errors of one text: at least one.
-#[derive(Debug, PartialEq, Eq, Drop)]
-pub struct ParseErrors(pub NonEmpty<ParseError>);
-
-impl ParseErrors {
-    /// One error alone. It takes no memory.
-    pub fn one(alloc: Global, error: ParseError) -> ParseErrors
-        ensures first { result.0.head ≡ error }
-        ensures alone { result.0.tail.items ≡ [] }
-    {
-        ParseErrors(NonEmpty {
-            head: error,
-            tail: Vec::new(alloc),
-        })
-    }
-}
-
-impl Error for ParseErrors {}
-
-impl fmt::Display for ParseErrors {
-    fn fmt<W: fmt::Write>(&self, f: &mut fmt::Formatter<W>) -> fmt::Result {
-        self.0.head.fmt(f)
-    }
-}
-
-impl AsRef<NonEmpty<ParseError>> for ParseErrors {
-    fn as_ref(&self) -> &NonEmpty<ParseError> {
-        &self.0
-    }
 }

@@ -6,7 +6,6 @@ pub mod cursor;
 pub mod error;
 mod errors;
 mod expressions;
-mod iteration;
 mod kinds;
 mod leaves;
 mod names;
@@ -18,8 +17,7 @@ mod refusal;
 
 pub use cursor::Cursor;
 pub use error::{Met, ReadError, Unexpected};
-pub use errors::{ParseError, ParseErrors, ToCSTError};
-pub use iteration::{IntoIter, Iter};
+pub use errors::{LooseError, ToCSTError};
 pub use parse::{
     parse_expr, parse_ident, parse_name, parse_policies, parse_policy, parse_primary, parse_ref,
 };

@@ -1,5 +1,5 @@
 // Whole texts.
-ghost use Rattle.std.specs.Prelude.{◌≡◌, [], IfOk, IfErr};
+ghost use Rattle.std.specs.Prelude.{◌≡◌, IfOk, IfErr};
 ghost use Rattle.cedar_grammar.specs.LooseReading.{read_policies, read_policy, read_expr, read_primary, read_ref, read_name, read_ident};
 ghost use Rattle.cedar_cst.specs.LeafView.{shown_ident, shown_name, shown_ref};
 ghost use Rattle.cedar_cst.specs.View.{shown_policies, shown_policy, shown_expr, shown_primary};
@@ -7,7 +7,7 @@ ghost use Rattle.cedar_loose.specs.Texts.{IsRead, IsRefused, IsOutside, Refuses,
 
 use crate::policies::{policies, policy};
 use crate::refusal::refusal;
-use crate::{Cursor, ParseError, ParseErrors, ReadError};
+use crate::{Cursor, LooseError, ReadError};
 use cedar_cst::cst::{Expr, Ident, Name, Policies, Policy, Primary, Ref};
 use cedar_cst::node::Node;
 use cedar_grammar::{limits_are_met_where_constructs_open, wider_limits_change_nothing};
@@ -17,7 +17,7 @@ use std::rc::RcStr;
 
 /// Reads a text of policies loosely: the tree of its tokens, each node with its place.
 ///
-/// The first error is `ToCST`, with a place, where the text is none within any nesting; `Depth` where it
+/// The error is `ToCST`, with a place, where the text is none within any nesting; `Depth` where it
 /// is none within a nesting of `depth`, and more than `depth` places in it open a bracket or say `if`;
 /// and `Memory` for want of memory alone.
 #[tactic(auto, using(crate::proofs::Telling::told_refusal))]
@@ -25,13 +25,12 @@ pub fn parse_policies(
     alloc: Global,
     text: &str,
     depth: u32,
-) -> Result<Node<Option<Policies>>, ParseErrors>
+) -> Result<Node<Option<Policies>>, LooseError>
     ensures read { IfOk result (λ tree. IsRead read_policies depth text.now (shown_policies tree)) }
     ensures refused { IfErr result (Refuses read_policies depth text.now) }
-    ensures alone { IfErr result (λ errors. errors.0.tail.items ≡ []) }
 {
     let Ok(source) = RcStr::from_str(alloc, text) else {
-        return Err(ParseErrors::one(alloc, ParseError::Memory));
+        return Err(LooseError::Memory);
     };
     match policies_in(alloc, text, &source, depth) {
         Ok(tree) => Ok(tree),
@@ -78,7 +77,7 @@ fn policies_of(
 
 /// Reads one policy loosely: the tree of its tokens, each node with its place.
 ///
-/// The first error is `ToCST`, with a place, where the text is none within any nesting; `Depth` where it
+/// The error is `ToCST`, with a place, where the text is none within any nesting; `Depth` where it
 /// is none within a nesting of `depth`, and more than `depth` places in it open a bracket or say `if`;
 /// and `Memory` for want of memory alone.
 #[tactic(auto, using(crate::proofs::Telling::told_refusal))]
@@ -86,13 +85,12 @@ pub fn parse_policy(
     alloc: Global,
     text: &str,
     depth: u32,
-) -> Result<Node<Option<Policy>>, ParseErrors>
+) -> Result<Node<Option<Policy>>, LooseError>
     ensures read { IfOk result (λ tree. IsRead read_policy depth text.now (shown_policy tree)) }
     ensures refused { IfErr result (Refuses read_policy depth text.now) }
-    ensures alone { IfErr result (λ errors. errors.0.tail.items ≡ []) }
 {
     let Ok(source) = RcStr::from_str(alloc, text) else {
-        return Err(ParseErrors::one(alloc, ParseError::Memory));
+        return Err(LooseError::Memory);
     };
     match policy_in(alloc, text, &source, depth) {
         Ok(tree) => Ok(tree),
@@ -138,17 +136,16 @@ fn policy_of(
 
 /// Reads one expression loosely: the tree of its tokens, each node with its place.
 ///
-/// The first error is `ToCST`, with a place, where the text is none within any nesting; `Depth` where it
+/// The error is `ToCST`, with a place, where the text is none within any nesting; `Depth` where it
 /// is none within a nesting of `depth`, and more than `depth` places in it open a bracket or say `if`;
 /// and `Memory` for want of memory alone.
 #[tactic(auto, using(crate::proofs::Telling::told_refusal))]
-pub fn parse_expr(alloc: Global, text: &str, depth: u32) -> Result<Node<Option<Expr>>, ParseErrors>
+pub fn parse_expr(alloc: Global, text: &str, depth: u32) -> Result<Node<Option<Expr>>, LooseError>
     ensures read { IfOk result (λ tree. IsRead read_expr depth text.now (shown_expr tree)) }
     ensures refused { IfErr result (Refuses read_expr depth text.now) }
-    ensures alone { IfErr result (λ errors. errors.0.tail.items ≡ []) }
 {
     let Ok(source) = RcStr::from_str(alloc, text) else {
-        return Err(ParseErrors::one(alloc, ParseError::Memory));
+        return Err(LooseError::Memory);
     };
     match expr_in(alloc, text, &source, depth) {
         Ok(tree) => Ok(tree),
@@ -191,7 +188,7 @@ fn expr_of(
 
 /// Reads an operand without signs and accesses loosely: the tree of its tokens, each node with its place.
 ///
-/// The first error is `ToCST`, with a place, where the text is none within any nesting; `Depth` where it
+/// The error is `ToCST`, with a place, where the text is none within any nesting; `Depth` where it
 /// is none within a nesting of `depth`, and more than `depth` places in it open a bracket or say `if`;
 /// and `Memory` for want of memory alone.
 #[tactic(auto, using(crate::proofs::Telling::told_refusal))]
@@ -199,13 +196,12 @@ pub fn parse_primary(
     alloc: Global,
     text: &str,
     depth: u32,
-) -> Result<Node<Option<Primary>>, ParseErrors>
+) -> Result<Node<Option<Primary>>, LooseError>
     ensures read { IfOk result (λ tree. IsRead read_primary depth text.now (shown_primary tree)) }
     ensures refused { IfErr result (Refuses read_primary depth text.now) }
-    ensures alone { IfErr result (λ errors. errors.0.tail.items ≡ []) }
 {
     let Ok(source) = RcStr::from_str(alloc, text) else {
-        return Err(ParseErrors::one(alloc, ParseError::Memory));
+        return Err(LooseError::Memory);
     };
     match primary_in(alloc, text, &source, depth) {
         Ok(tree) => Ok(tree),
@@ -251,15 +247,14 @@ fn primary_of(
 
 /// Reads an entity loosely: the tree of its tokens, each node with its place.
 ///
-/// The first error is `ToCST`, with a place, where the text is none, and `Memory` for want of memory alone.
+/// The error is `ToCST`, with a place, where the text is none, and `Memory` for want of memory alone.
 #[tactic(auto, using(crate::proofs::Telling::told_outside))]
-pub fn parse_ref(alloc: Global, text: &str) -> Result<Node<Option<Ref>>, ParseErrors>
+pub fn parse_ref(alloc: Global, text: &str) -> Result<Node<Option<Ref>>, LooseError>
     ensures read { IfOk result (λ tree. IsRead (flat read_ref) 0 text.now (shown_ref tree)) }
     ensures refused { IfErr result (RefusesFlat (flat read_ref) text.now) }
-    ensures alone { IfErr result (λ errors. errors.0.tail.items ≡ []) }
 {
     let Ok(source) = RcStr::from_str(alloc, text) else {
-        return Err(ParseErrors::one(alloc, ParseError::Memory));
+        return Err(LooseError::Memory);
     };
     match ref_in(alloc, text, &source) {
         Ok(tree) => Ok(tree),
@@ -288,15 +283,14 @@ fn ref_of(alloc: Global, tokens: Tokens<'_>, source: &RcStr) -> Result<Node<Opti
 
 /// Reads a name loosely: the tree of its tokens, each node with its place.
 ///
-/// The first error is `ToCST`, with a place, where the text is none, and `Memory` for want of memory alone.
+/// The error is `ToCST`, with a place, where the text is none, and `Memory` for want of memory alone.
 #[tactic(auto, using(crate::proofs::Telling::told_outside))]
-pub fn parse_name(alloc: Global, text: &str) -> Result<Node<Option<Name>>, ParseErrors>
+pub fn parse_name(alloc: Global, text: &str) -> Result<Node<Option<Name>>, LooseError>
     ensures read { IfOk result (λ tree. IsRead (flat read_name) 0 text.now (shown_name tree)) }
     ensures refused { IfErr result (RefusesFlat (flat read_name) text.now) }
-    ensures alone { IfErr result (λ errors. errors.0.tail.items ≡ []) }
 {
     let Ok(source) = RcStr::from_str(alloc, text) else {
-        return Err(ParseErrors::one(alloc, ParseError::Memory));
+        return Err(LooseError::Memory);
     };
     match name_in(alloc, text, &source) {
         Ok(tree) => Ok(tree),
@@ -329,15 +323,14 @@ fn name_of(
 
 /// Reads a word loosely: the tree of its tokens, each node with its place.
 ///
-/// The first error is `ToCST`, with a place, where the text is none, and `Memory` for want of memory alone.
+/// The error is `ToCST`, with a place, where the text is none, and `Memory` for want of memory alone.
 #[tactic(auto, using(crate::proofs::Telling::told_outside))]
-pub fn parse_ident(alloc: Global, text: &str) -> Result<Node<Option<Ident>>, ParseErrors>
+pub fn parse_ident(alloc: Global, text: &str) -> Result<Node<Option<Ident>>, LooseError>
     ensures read { IfOk result (λ tree. IsRead (flat read_ident) 0 text.now (shown_ident tree)) }
     ensures refused { IfErr result (RefusesFlat (flat read_ident) text.now) }
-    ensures alone { IfErr result (λ errors. errors.0.tail.items ≡ []) }
 {
     let Ok(source) = RcStr::from_str(alloc, text) else {
-        return Err(ParseErrors::one(alloc, ParseError::Memory));
+        return Err(LooseError::Memory);
     };
     match ident_in(alloc, text, &source) {
         Ok(tree) => Ok(tree),

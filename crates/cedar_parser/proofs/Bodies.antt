@@ -8,8 +8,8 @@ use Rattle.cedar_language.specs.Restricted.{is_restricted}
 use Rattle.cedar_language.specs.Tree.{Tree}
 use Rattle.cedar_grammar.specs.Names.{Names}
 use Rattle.cedar_grammar.specs.Policies.{ReadsExpr}
-use Rattle.cedar_loose.specs.Errors as cause
-use Rattle.cedar_loose.specs.Errors.{Cause}
+use Rattle.cedar_parser.specs.Errors as cause
+use Rattle.cedar_parser.specs.Errors.{Cause}
 use Rattle.cedar_restricted.specs.Offences.{OffencesAreWhatIsNotRestricted, offence, Restricts}
 use Rattle.cedar_restricted.specs.Views.{restricted_tree}
 use Rattle.cedar_restricted.specs.declared.errors.RestrictedExpressionError.{RestrictedExpressionError}

@@ -5,9 +5,9 @@ use Rattle.std.proofs.lemmas.List.{append_assoc}
 use Rattle.std.specs.Prelude.{IfOk}
 use Rattle.cedar_language.specs.Uid.{Text, Name}
 use Rattle.cedar_language.specs.Tree.{Tree}
-use Rattle.cedar_world.specs.Bodies.{holds_call}
+use Rattle.cedar_grammar.specs.UnknownCalls.{holds_call}
 use Rattle.cedar_names.specs.Names.{basename_of}
-use Rattle.cedar_world.specs.Functions.{CallStyle, as_function, as_method, is_the_unknown, with_function, function_names, with_method, method_names}
+use Rattle.cedar_grammar.specs.Functions.{CallStyle, as_function, as_method, is_the_unknown, with_function, function_names, with_method, method_names}
 use Rattle.cedar_extensions.specs.Answering.{FunctionAnswers}
 use Rattle.cedar_extensions.specs.Functions.{function_name, function_style, is_unknown, named_function}
 use Rattle.cedar_extensions.specs.Holding.{is_named, are_named}

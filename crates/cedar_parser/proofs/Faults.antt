@@ -5,15 +5,16 @@ use Rattle.cedar_language.specs.Uid.{Text}
 use Rattle.cedar_grammar.specs.Token.{Token}
 use Rattle.cedar_grammar.specs.LooseReading.{Fault}
 use Rattle.cedar_cst.specs.declared.errors.PlacedError.{PlacedError}
-use Rattle.cedar_conversion_leaves.specs.Reasons.{listed, faults_of}
-use Rattle.cedar_conversion_leaves.specs.Telling.{AreOf, TellsOnly}
-use Rattle.cedar_conversion_leaves.specs.declared.kinds.ToASTErrorKind.{ToASTErrorKind}
-use Rattle.cedar_conversion_leaves.specs.declared.errors.ConversionError.{ConversionError}
-use Rattle.cedar_loose.specs.Errors.{means_nothing, cause_of}
-use Rattle.cedar_loose.specs.Texts.{IsRead, IsRefused, IsOutside, Refuses, RefusesFlat}
-use Rattle.cedar_loose.specs.declared.errors.ParseError.{ParseError}
-use Rattle.cedar_loose.specs.declared.errors.ParseError.TheVariants as error
-use Rattle.cedar_loose.specs.declared.errors.ParseErrors.{ParseErrors}
+use Rattle.cedar_faults.specs.Reasons.{listed, faults_of}
+use Rattle.cedar_faults.specs.Telling.{AreOf, TellsOnly}
+use Rattle.cedar_faults.specs.declared.kinds.ToASTErrorKind.{ToASTErrorKind}
+use Rattle.cedar_faults.specs.declared.errors.ConversionError.{ConversionError}
+use Rattle.cedar_parser.specs.Errors.{means_nothing, cause_of}
+use Rattle.cedar_parser.specs.LooseTexts.{Refuses, RefusesFlat}
+use Rattle.cedar_loose.specs.Texts.{IsRead, IsRefused, IsOutside}
+use Rattle.cedar_parser.specs.declared.errors.ParseError.{ParseError}
+use Rattle.cedar_parser.specs.declared.errors.ParseError.TheVariants as error
+use Rattle.cedar_parser.specs.declared.errors.ParseErrors.{ParseErrors}
 use Rattle.cedar_language.specs.Tree.{Tree}
 use Rattle.cedar_literals.specs.declared.literals.Literal.{Literal}
 use Rattle.cedar_restricted.specs.declared.restricted.RestrictedExpr.{RestrictedExpr}

@@ -9,10 +9,10 @@ use Rattle.cedar_grammar.specs.Reading.{◌>>=◌, if_none, without_slots}
 use Rattle.cedar_shapes.specs.Leaves.{slots_among}
 use Rattle.cedar_shapes.specs.Positions.{positions}
 use Rattle.cedar_shapes.proofs.HeldSlots.{slots_met}
-use Rattle.cedar_conversion_leaves.specs.declared.kinds.ToASTErrorKind.{ToASTErrorKind}
-use Rattle.cedar_loose.specs.Errors as cause
-use Rattle.cedar_loose.specs.Errors.{Cause}
-use Rattle.cedar_loose.specs.declared.errors.ParseErrors.{ParseErrors}
+use Rattle.cedar_faults.specs.declared.kinds.ToASTErrorKind.{ToASTErrorKind}
+use Rattle.cedar_parser.specs.Errors as cause
+use Rattle.cedar_parser.specs.Errors.{Cause}
+use Rattle.cedar_parser.specs.declared.errors.ParseErrors.{ParseErrors}
 use Rattle.cedar_trees.specs.Bare.{bare}
 use Rattle.cedar_trees.specs.declared.expr.Expr.{Expr}
 use Rattle.cedar_parser.specs.Faults.{IsSlotFault, slots_show, TellOnly}

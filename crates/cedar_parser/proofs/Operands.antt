@@ -14,13 +14,14 @@ use Rattle.cedar_grammar.specs.LooseReading.{Fault, read_primary}
 use Rattle.cedar_builders.specs.Own.{own_operations}
 use Rattle.cedar_conversion.specs.Building.{IsBuilt}
 use Rattle.cedar_conversion.specs.Laws.{TreesAreBuilt}
-use Rattle.cedar_conversion_leaves.specs.Converts.{Given}
+use Rattle.cedar_faults.specs.Converts.{Given}
 use Rattle.cedar_literals.specs.Literals.{literal_of}
 use Rattle.cedar_literals.specs.declared.literals.Literal as code
-use Rattle.cedar_loose.specs.Errors as cause
-use Rattle.cedar_loose.specs.Errors.{Cause, cause_of}
-use Rattle.cedar_loose.specs.Texts.{IsRead, Refuses}
-use Rattle.cedar_loose.specs.declared.errors.ParseErrors.{ParseErrors}
+use Rattle.cedar_parser.specs.Errors as cause
+use Rattle.cedar_parser.specs.Errors.{Cause, cause_of}
+use Rattle.cedar_parser.specs.LooseTexts.{Refuses}
+use Rattle.cedar_loose.specs.Texts.{IsRead}
+use Rattle.cedar_parser.specs.declared.errors.ParseErrors.{ParseErrors}
 use Rattle.cedar_trees.specs.Bare.{bare}
 use Rattle.cedar_trees.specs.declared.expr.Expr.{Expr}
 use Rattle.cedar_parser.specs.Literals.{literal_in, free_operand, ReadsLiteral, TakesLiteral, WritesLiteral}

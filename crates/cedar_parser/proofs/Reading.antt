@@ -13,13 +13,14 @@ use Rattle.cedar_grammar.specs.LooseReading.{read_expr, read_policies, read_ref}
 use Rattle.cedar_builders.specs.Own.{own_operations}
 use Rattle.cedar_conversion.specs.Building.{IsBuilt}
 use Rattle.cedar_conversion.specs.Laws.{TreesAreBuilt}
-use Rattle.cedar_conversion_leaves.specs.Reasons as reasons
-use Rattle.cedar_conversion_leaves.specs.Reasons.{Reason}
-use Rattle.cedar_conversion_leaves.specs.Converts.{Given, Lacks, Misses}
-use Rattle.cedar_loose.specs.Texts.{IsRead, Refuses, RefusesFlat, flat}
-use Rattle.cedar_loose.specs.Errors as cause
-use Rattle.cedar_loose.specs.Errors.{Cause, cause_of}
-use Rattle.cedar_loose.specs.declared.errors.ParseErrors.{ParseErrors}
+use Rattle.cedar_faults.specs.Reasons as reasons
+use Rattle.cedar_faults.specs.Reasons.{Reason}
+use Rattle.cedar_faults.specs.Converts.{Given, Lacks, Misses}
+use Rattle.cedar_parser.specs.LooseTexts.{Refuses, RefusesFlat}
+use Rattle.cedar_loose.specs.Texts.{IsRead, flat}
+use Rattle.cedar_parser.specs.Errors as cause
+use Rattle.cedar_parser.specs.Errors.{Cause, cause_of}
+use Rattle.cedar_parser.specs.declared.errors.ParseErrors.{ParseErrors}
 use Rattle.cedar_policy_set.specs.Entries.{Entries}
 use Rattle.cedar_policy_set.specs.Texts.{text_entries}
 use Rattle.cedar_trees.specs.Bare.{bare}

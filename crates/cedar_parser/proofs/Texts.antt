@@ -9,8 +9,8 @@ use Rattle.cedar_grammar.specs.Converting.{converted}
 use Rattle.cedar_grammar.specs.LooseReading.{Fault, depth}
 use Rattle.cedar_loose.specs.Texts as loosely
 use Rattle.cedar_loose.specs.Texts.{IsRead, IsOutside}
-use Rattle.cedar_loose.specs.Errors as cause
-use Rattle.cedar_loose.specs.Errors.{Cause}
+use Rattle.cedar_parser.specs.Errors as cause
+use Rattle.cedar_parser.specs.Errors.{Cause}
 use Rattle.cedar_parser.specs.Strict.{IsRefused, IsNothing, WritesNot}
 
 converted_some : {A B : Type 0} {y : B} (f : A → Option B) (r : Result A Fault) → converted f r ≡ Some y → (x : A) × (r ≡ Ok x) × (f x ≡ Some y)

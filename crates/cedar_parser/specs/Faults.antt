@@ -12,14 +12,14 @@ use Rattle.cedar_grammar.specs.Policy.{is_slot}
 use Rattle.cedar_grammar.specs.Token.{Token}
 use Rattle.cedar_grammar.specs.LooseReading.{Fault}
 use Rattle.cedar_literals.specs.Slots.{slot_text}
-use Rattle.cedar_conversion_leaves.specs.Reasons.{listed}
-use Rattle.cedar_conversion_leaves.specs.declared.kinds.ToASTErrorKind.{ToASTErrorKind}
-use Rattle.cedar_conversion_leaves.specs.declared.kinds.ToASTErrorKind.TheVariants as kinds
+use Rattle.cedar_faults.specs.Reasons.{listed}
+use Rattle.cedar_faults.specs.declared.kinds.ToASTErrorKind.{ToASTErrorKind}
+use Rattle.cedar_faults.specs.declared.kinds.ToASTErrorKind.TheVariants as kinds
 use Rattle.cedar_conversion.specs.Shows.{expr_shows, operand_shows}
 use Rattle.cedar_loose.specs.Texts.{IsRead}
-use Rattle.cedar_loose.specs.declared.errors.ParseError.{ParseError}
-use Rattle.cedar_loose.specs.declared.errors.ParseError.TheVariants as error
-use Rattle.cedar_loose.specs.declared.errors.ParseErrors.{ParseErrors}
+use Rattle.cedar_parser.specs.declared.errors.ParseError.{ParseError}
+use Rattle.cedar_parser.specs.declared.errors.ParseError.TheVariants as error
+use Rattle.cedar_parser.specs.declared.errors.ParseErrors.{ParseErrors}
 use Rattle.cedar_parser.specs.declared.literals.LiteralParseError.{LiteralParseError}
 use Rattle.cedar_parser.specs.declared.literals.LiteralParseError.TheVariants as literal
 use Rattle.cedar_parser.specs.declared.restricted.RestrictedExpressionParseError.{RestrictedExpressionParseError}

@@ -13,7 +13,7 @@ use Rattle.cedar_grammar.specs.Token.{Token}
 use Rattle.cedar_grammar.specs.Tokens.{IsTokens}
 use Rattle.cedar_literals.specs.Literals.{literal_of}
 use Rattle.cedar_literals.specs.declared.literals.Literal.{Literal}
-use Rattle.cedar_loose.specs.Errors.{cause_of}
+use Rattle.cedar_parser.specs.Errors.{cause_of}
 use Rattle.cedar_trees.specs.Bare.{bare}
 use Rattle.cedar_parser.specs.Strict.{IsRefused, WritesNot}
 use Rattle.cedar_parser.specs.declared.literals.LiteralParseError.{LiteralParseError}

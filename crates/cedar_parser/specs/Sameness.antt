@@ -1,7 +1,7 @@
 -- Equality of why a text is no literal: equal errors, or expressions of one tree.
 use Rattle.std.specs.Prelude.{◌≡◌, refl, Bool, false, true}
 use Rattle.std.specs.Cmp.{IsPartialEquivalence, IsEquivalence, partial_equiv_from_equiv}
-use Rattle.cedar_loose.specs.declared.errors.ParseErrors.{ParseErrors}
+use Rattle.cedar_parser.specs.declared.errors.ParseErrors.{ParseErrors}
 use Rattle.cedar_restricted.specs.Sameness.{same_tree, same_tree_equiv}
 use Rattle.cedar_trees.specs.Bare.{bare}
 use Rattle.cedar_parser.specs.declared.literals.LiteralParseError.{LiteralParseError}

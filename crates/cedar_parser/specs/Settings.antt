@@ -1,9 +1,8 @@
--- What texts may call and how deep they may be, by the table that an evaluation knows.
-use Rattle.std.specs.Prelude.{ℕ, Bool, false}
+-- What texts may call, by the table that an evaluation knows.
+use Rattle.std.specs.Prelude.{Bool, false}
 use Rattle.cedar_language.specs.Uid.{Name}
 use Rattle.cedar_names.specs.Names.{is_unqualified}
-use Rattle.cedar_world.specs.Functions.{Functions, CallStyle, as_function, as_method}
-use Rattle.cedar_world.specs.Setting.{Setting}
+use Rattle.cedar_grammar.specs.Functions.{Functions, CallStyle, as_function, as_method}
 use Rattle.cedar_extensions.specs.Answering.{FunctionAnswers}
 use Rattle.cedar_extensions.specs.Defining.{defined}
 use Rattle.cedar_extensions.specs.Tables.{functions_in}
@@ -12,9 +11,6 @@ use Rattle.cedar_extensions.specs.declared.extensions.Extensions.{Extensions}
 -- the functions of the table
 abbrev pub functions_of : {F : Type 0} → (F → FunctionAnswers) → Extensions F → Functions
 functions_of answers extensions = defined answers (functions_in extensions)
-
-abbrev pub setting_with : {F : Type 0} → (F → FunctionAnswers) → Extensions F → ℕ → Setting
-setting_with answers extensions depth = record { functions = functions_of answers extensions; depth = depth }
 
 -- what is called behind its first argument; a method has no namespace
 abbrev pub is_method : CallStyle → Name → Bool

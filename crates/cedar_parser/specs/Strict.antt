@@ -11,11 +11,11 @@ use Rattle.cedar_grammar.specs.Policies.{Reads, ReadsExpr}
 use Rattle.cedar_grammar.specs.Policy.{Policy}
 use Rattle.cedar_grammar.specs.Token.{Token}
 use Rattle.cedar_grammar.specs.Tokens.{IsTokens}
-use Rattle.cedar_world.specs.Functions.{the_unknown}
-use Rattle.cedar_conversion_leaves.specs.Reasons as reasons
-use Rattle.cedar_conversion_leaves.specs.Reasons.{Reason}
-use Rattle.cedar_loose.specs.Errors.{Cause, outside_the_grammar, means_nothing, nested_too_deep, out_of_memory, cause_of}
-use Rattle.cedar_loose.specs.declared.errors.ParseErrors.{ParseErrors}
+use Rattle.cedar_grammar.specs.Functions.{the_unknown}
+use Rattle.cedar_faults.specs.Reasons as reasons
+use Rattle.cedar_faults.specs.Reasons.{Reason}
+use Rattle.cedar_parser.specs.Errors.{Cause, outside_the_grammar, means_nothing, nested_too_deep, out_of_memory, cause_of}
+use Rattle.cedar_parser.specs.declared.errors.ParseErrors.{ParseErrors}
 use Rattle.cedar_policy_set.specs.Entries.{Entries}
 use Rattle.cedar_policy_set.specs.Texts.{text_entries}
 use Rattle.cedar_restricted.specs.Views.{restricted_tree}

@@ -3,10 +3,8 @@
 //! expression, which any builder builds; the others convert parts of these.
 
 pub use cedar_conversion::to_expr;
-pub use cedar_conversion_leaves::{
-    flatten_tuple_2, flatten_tuple_3, flatten_tuple_4, to_any_ident, to_lit, to_ref,
-    to_string_literal, to_valid_ident,
-};
+pub use cedar_conversion::{to_any_ident, to_lit, to_ref, to_string_literal, to_valid_ident};
+pub use cedar_faults::{flatten_tuple_2, flatten_tuple_3, flatten_tuple_4};
 pub use cedar_policy_conversion::{
     NumberedPolicies, OneOrMultipleRefs, extract_scope, get_ast_annotations, to_kv_pair, to_policy,
     to_policy_or_template, to_policy_template, to_policyset, to_ref_or_slot, to_refs, to_template,

@@ -2,11 +2,13 @@
 //! says whether the text is outside the loose grammar (`ToCSTError`), means nothing (`ToASTError`), is nested
 //! too deep, or met want of memory; the conversion of a tree alone gives a `ConversionError`.
 
+pub use crate::errors::{ParseError, ParseErrors};
+pub use crate::iteration::{IntoIter, Iter};
 pub use crate::literals::LiteralParseError;
 pub use crate::restricted::RestrictedExpressionParseError;
-pub use cedar_conversion_leaves::{ConversionError, ToASTError, ToASTErrorKind};
+pub use cedar_faults::{ConversionError, ToASTError, ToASTErrorKind};
 pub use cedar_cst::errors::{EmptyNodeError, PlacedError};
-pub use cedar_loose::{IntoIter, Iter, ParseError, ParseErrors, ToCSTError};
+pub use cedar_loose::ToCSTError;
 pub use cedar_policy_conversion::PolicyError;
 pub use cedar_policy_parts::{
     ExpectedStaticPolicy, ExpectedTemplate, InvalidActionType, Ref, SlotsInConditionClause,

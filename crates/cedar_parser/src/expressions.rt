@@ -4,19 +4,20 @@ ghost use Rattle.cedar_grammar.specs.Converting.{free_tree};
 ghost use Rattle.cedar_grammar.specs.LooseReading.{read_expr};
 ghost use Rattle.cedar_cst.specs.View.{shown_expr};
 ghost use Rattle.cedar_trees.specs.Bare.{bare};
-ghost use Rattle.cedar_world.specs.Bodies.{holds_call};
+ghost use Rattle.cedar_grammar.specs.UnknownCalls.{holds_call};
 ghost use Rattle.cedar_parser.specs.Faults.{TellOnly, strict_shows, text_shows};
 ghost use Rattle.cedar_parser.specs.Strict.{LacksUnknown, Writes, ReadsTree};
 
+use crate::errors::ParseErrors;
 use crate::refusals::refused;
 use crate::slots::without_slots;
+use crate::text_to_cst::parse_expr;
 use cedar_builders::own_builder::ExprBuilder;
 use cedar_conversion::{calls_are_named, to_expr, trees_are_built};
-use cedar_conversion_leaves::ExtStyles;
 use cedar_cst::cst;
 use cedar_cst::node::Node;
+use cedar_faults::ExtStyles;
 use cedar_grammar::{at_most_one_meaning, converting_is_the_grammar, wider_limits_change_nothing};
-use cedar_loose::{ParseErrors, parse_expr};
 use cedar_trees::expr::Expr;
 use std::alloc::Global;
 

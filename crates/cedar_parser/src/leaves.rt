@@ -3,18 +3,19 @@ ghost use Rattle.std.specs.Prelude.{IfErr};
 ghost use Rattle.cedar_grammar.specs.Converting.{ref_entity};
 ghost use Rattle.cedar_grammar.specs.LooseReading.{read_ref};
 ghost use Rattle.cedar_cst.specs.LeafView.{shown_ref};
-ghost use Rattle.cedar_conversion_leaves.specs.Shown.{ref_shows};
+ghost use Rattle.cedar_conversion.specs.Shown.{ref_shows};
 ghost use Rattle.cedar_loose.specs.Texts.{flat};
 ghost use Rattle.cedar_parser.specs.Faults.{TellOnly, text_shows};
 ghost use Rattle.cedar_parser.specs.Strict.{Writes, ReadsUid};
 
+use crate::errors::ParseErrors;
 use crate::refusals::refused;
-use cedar_conversion_leaves::to_ref;
+use crate::text_to_cst::parse_ref;
+use cedar_conversion::to_ref;
 use cedar_cst::cst::Ref;
 use cedar_cst::node::Node;
 use cedar_grammar::{at_most_one_meaning, converting_is_the_grammar};
 use cedar_literals::uids::EntityUID;
-use cedar_loose::{ParseErrors, parse_ref};
 use cedar_trees::errors::ExpressionConstructionError;
 use std::alloc::Global;
 

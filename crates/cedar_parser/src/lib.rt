@@ -7,8 +7,10 @@
 pub mod cst;
 pub mod cst_to_ast;
 pub mod err;
+mod errors;
 mod expressions;
 mod height;
+mod iteration;
 mod leaves;
 mod literals;
 pub mod prelude;
@@ -21,6 +23,6 @@ mod styles;
 pub mod text_to_cst;
 pub mod unescape;
 
-pub use cedar_conversion_leaves::ExtStyles;
+pub use cedar_faults::ExtStyles;
 pub use cedar_cst::node::Node;
 pub use cedar_names::places::Loc;

@@ -7,20 +7,21 @@ ghost use Rattle.cedar_parser.specs.Faults.{TellOnly, LiteralTellsOnly, strict_o
 ghost use Rattle.cedar_parser.specs.Literals.{free_operand, ReadsLiteral, TakesLiteral, WritesLiteral};
 ghost use Rattle.cedar_parser.specs.Strict.{Writes};
 
+use crate::errors::ParseErrors;
 use crate::refusals::refused;
 use crate::slots::without_slots;
+use crate::text_to_cst::parse_primary;
 use cedar_builders::own_builder::ExprBuilder;
 use cedar_conversion::{primary_to_expr, trees_are_built};
-use cedar_conversion_leaves::ExtStyles;
 use cedar_cst::cst::Primary;
 use cedar_cst::node::Node;
+use cedar_faults::ExtStyles;
 use cedar_grammar::{at_most_one_meaning, converting_is_the_grammar, wider_limits_change_nothing};
 use cedar_literals::literals::Literal;
-use cedar_loose::{ParseErrors, parse_primary};
 use cedar_shapes::shapes::ExprShape;
 use cedar_trees::expr::{Expr, ExprKind};
-use std::alloc::Global;
 use thiserror::Error;
+use std::alloc::Global;
 
 /// Why a text isn't read as a literal. `==` compares expressions by their shapes, and not by places.
 #[derive(Debug, Drop, Error)]
@@ -34,7 +35,7 @@ pub enum LiteralParseError {
 }
 
 impl PartialEq for LiteralParseError {
-    ghost use Rattle.cedar_loose.specs.contracts.errors.ParseErrorsEq.TheImpl.Laws as errors_eq;
+    ghost use Rattle.cedar_parser.specs.contracts.errors.ParseErrorsEq.TheImpl.Laws as errors_eq;
     ghost use Rattle.cedar_parser.specs.Sameness.{same_refusal, same_refusal_partial};
 
     ghost eq = { same_refusal ⟦<ParseErrors as PartialEq>⟧.eq };
@@ -55,7 +56,7 @@ impl PartialEq for LiteralParseError {
 }
 
 impl Eq for LiteralParseError {
-    ghost use Rattle.cedar_loose.specs.contracts.errors.ParseErrorsEq.TheImpl.Laws as errors_eq;
+    ghost use Rattle.cedar_parser.specs.contracts.errors.ParseErrorsEq.TheImpl.Laws as errors_eq;
     ghost use Rattle.cedar_parser.specs.Sameness.{same_refusal_equiv};
 
     ghost laws = { same_refusal_equiv ⟦<ParseErrors as PartialEq>⟧.eq errors_eq.laws-law };

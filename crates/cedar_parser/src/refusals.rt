@@ -1,11 +1,11 @@
 // Faults of trees, as errors of their texts.
 ghost use Rattle.std.specs.Prelude.{◌≡◌, [], map, IfOk};
-ghost use Rattle.cedar_conversion_leaves.specs.Reasons.{reason, listed, faults_of};
-ghost use Rattle.cedar_loose.specs.Errors.{cause_of, means_nothing};
+ghost use Rattle.cedar_faults.specs.Reasons.{reason, listed, faults_of};
+ghost use Rattle.cedar_parser.specs.Errors.{cause_of, means_nothing};
 ghost use Rattle.cedar_parser.specs.Strict.{IsToldAs};
 
-use cedar_conversion_leaves::{ConversionError, ToASTError};
-use cedar_loose::{ParseError, ParseErrors};
+use crate::errors::{ParseError, ParseErrors};
+use cedar_faults::{ConversionError, ToASTError};
 use cedar_trees::unknowns::NonEmpty;
 use std::alloc::{AllocError, Global};
 

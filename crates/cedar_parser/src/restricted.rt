@@ -2,21 +2,21 @@
 ghost use Rattle.std.specs.Prelude.{◌≡◌, IfOk, IfErr, false};
 ghost use Rattle.cedar_restricted.specs.Views.{restricted_tree};
 ghost use Rattle.cedar_trees.specs.Bare.{bare};
-ghost use Rattle.cedar_world.specs.Bodies.{holds_call};
+ghost use Rattle.cedar_grammar.specs.UnknownCalls.{holds_call};
 ghost use Rattle.cedar_grammar.specs.LooseReading.{read_expr};
 ghost use Rattle.cedar_parser.specs.Faults.{RestrictedTellsOnly, strict_shows, text_shows};
 ghost use Rattle.cedar_parser.specs.Strict.{LacksUnknown, Keeps, ReadsRestricted};
 
+use crate::errors::{ParseError, ParseErrors};
 use crate::expressions::parse_expr_strict;
 use crate::height::is_low;
-use cedar_conversion_leaves::ExtStyles;
-use cedar_loose::{ParseError, ParseErrors};
+use cedar_faults::ExtStyles;
 use cedar_restricted::errors::RestrictedExpressionError;
 use cedar_restricted::restricted::RestrictedExpr;
 use cedar_restricted::restricted_laws::offences_are_what_is_not_restricted;
 use cedar_trees::expr::Expr;
-use std::alloc::Global;
 use thiserror::Error;
+use std::alloc::Global;
 
 /// Why a text isn't read as a restricted expression.
 #[derive(Debug, PartialEq, Eq, Drop, Error)]

@@ -9,12 +9,13 @@ ghost use Rattle.cedar_policy_conversion.specs.Shows.{policies_show};
 ghost use Rattle.cedar_parser.specs.Faults.{TellOnly, text_shows};
 ghost use Rattle.cedar_parser.specs.Strict.{Writes, ReadsSet};
 
+use crate::errors::ParseErrors;
 use crate::refusals::refused;
-use cedar_conversion_leaves::ExtStyles;
+use crate::text_to_cst::parse_policies;
 use cedar_cst::cst;
 use cedar_cst::node::Node;
+use cedar_faults::ExtStyles;
 use cedar_grammar::{at_most_one_meaning, converting_is_the_grammar, wider_limits_change_nothing};
-use cedar_loose::{ParseErrors, parse_policies};
 use cedar_policy_conversion::to_policyset;
 use cedar_policy_set::sets::PolicySet;
 use std::alloc::Global;

@@ -7,8 +7,8 @@ ghost use Rattle.cedar_trees.specs.Bare.{bare};
 ghost use Rattle.cedar_parser.specs.Faults.{IsSlotFault, slots_show, TellOnly};
 ghost use Rattle.cedar_parser.specs.Strict.{Writes};
 
-use cedar_conversion_leaves::{ToASTError, ToASTErrorKind};
-use cedar_loose::{ParseError, ParseErrors};
+use crate::errors::{ParseError, ParseErrors};
+use cedar_faults::{ToASTError, ToASTErrorKind};
 use cedar_shapes::iteration::SlotRef;
 use cedar_shapes::readers::ExprReaders;
 use cedar_trees::expr::Expr;

@@ -1,13 +1,13 @@
 // The names that texts may call, from the table that an evaluation knows.
 ghost use Rattle.std.specs.Prelude.{◌≡◌, ◌++◌, IfOk};
 ghost use Rattle.cedar_extensions.specs.Functions.{function_name, function_style};
-ghost use Rattle.cedar_world.specs.Functions.{body_names, policy_names, the_unknown};
+ghost use Rattle.cedar_grammar.specs.Functions.{body_names, policy_names, the_unknown};
 ghost use Rattle.cedar_parser.specs.Settings.{functions_of, is_method};
 
-use cedar_conversion_leaves::ExtStyles;
 use cedar_extensions::extensions::Extensions;
 use cedar_extensions::functions::{CallStyle, ExtensionFunction};
 use cedar_extensions::objects::ExtensionFunctionObject;
+use cedar_faults::ExtStyles;
 use cedar_names::identifiers::UnreservedId;
 use cedar_names::names::Name;
 use std::alloc::{AllocError, Global};

@@ -1,14 +1,12 @@
 // Texts that are read and converted, and printed again; and texts that mean nothing, with their faults.
 use crate::refusing::NoCalls;
 use cedar_builders::own_builder::ExprBuilder;
-use cedar_conversion::to_expr;
-use cedar_conversion_leaves::{
-    ConversionError, ExtStyles, ToASTError, to_any_ident, to_text, to_valid_ident,
-};
+use cedar_conversion::{to_any_ident, to_expr, to_text, to_valid_ident};
 use cedar_cst::cst;
 use cedar_cst::cst::{Ident, Str};
 use cedar_cst::node::Node;
-use cedar_loose::{parse_expr, parse_ident, parse_policies, parse_policy};
+use cedar_faults::{ConversionError, ExtStyles, ToASTError};
+use cedar_parser::text_to_cst::{parse_expr, parse_ident, parse_policies, parse_policy};
 use cedar_names::errors::ParseNameError;
 use cedar_names::reading::FromNormalizedStr;
 use cedar_policies::static_policies::StaticPolicy;

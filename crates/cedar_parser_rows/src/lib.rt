@@ -14,7 +14,7 @@ mod tokens;
 
 use crate::loose::Told;
 use crate::nodes::Nodes;
-use cedar_conversion_leaves::ExtStyles;
+use cedar_faults::ExtStyles;
 use cedar_rows::{Answer, cut, number, plain, tell};
 use std::alloc::{AllocError, Global};
 use std::mem;

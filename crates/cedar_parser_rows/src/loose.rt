@@ -1,8 +1,8 @@
 // Texts that are read into loose trees and printed again, or refused with a place.
 use cedar_cst::node::Node;
-use cedar_loose::{
-    ParseError, ParseErrors, ToCSTError, parse_expr, parse_ident, parse_name, parse_policies,
-    parse_policy, parse_primary, parse_ref,
+use cedar_parser::err::{ParseError, ParseErrors, ToCSTError};
+use cedar_parser::text_to_cst::{
+    parse_expr, parse_ident, parse_name, parse_policies, parse_policy, parse_primary, parse_ref,
 };
 use cedar_rows::{Answer, no_case, number, tell};
 use cedar_tokens::POLICY_TOKEN_CONFIG;

@@ -1,10 +1,9 @@
 // Texts that are read by the strict grammar, with no function of an extension but `unknown` in bodies.
-use cedar_conversion_leaves::ExtStyles;
 use cedar_data::read_data;
 use cedar_extensions::extensions::Extensions;
+use cedar_faults::ExtStyles;
 use cedar_literals::literals::Literal;
-use cedar_loose::{ParseError, ParseErrors};
-use cedar_parser::err::{LiteralParseError, RestrictedExpressionParseError};
+use cedar_parser::err::{LiteralParseError, ParseError, ParseErrors, RestrictedExpressionParseError};
 use cedar_parser::prelude::StylesOfExtensions;
 use cedar_parser::strict::{
     parse_euid_strict, parse_expr_strict, parse_literal_strict, parse_policyset_strict,

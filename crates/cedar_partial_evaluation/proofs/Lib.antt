@@ -19,3 +19,4 @@ mod ReadUnknowns
 mod LinkingEarly
 pub mod Alike
 mod DataErrors
+pub mod Scopes

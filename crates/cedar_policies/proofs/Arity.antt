@@ -5,8 +5,8 @@ use Rattle.std.specs.List.{list_any}
 use Rattle.cedar_language.specs.Uid.{Uid}
 use Rattle.cedar_language.specs.Tree.{SlotId, PrincipalSlot, ResourceSlot}
 use Rattle.cedar_grammar.specs.Policy.{Policy, holds_slot, where_held}
-use Rattle.cedar_world.specs.Syntax.{Bindings, binding_of, is_slot}
-use Rattle.cedar_world.specs.Refusals.{same_flag, binds_exactly}
+use Rattle.cedar_grammar.specs.Bindings.{Bindings, binding_of, same_flag, binds_exactly}
+use Rattle.cedar_grammar.specs.Syntax.{is_slot}
 use Rattle.cedar_policy_parts.specs.Bindings.{bound_slots}
 use Rattle.cedar_policies.specs.Linking.{lacking, extra, IsArityRefusal, are_none, ChecksArity}
 use Rattle.cedar_policies.specs.declared.errors.LinkingError.{LinkingError}

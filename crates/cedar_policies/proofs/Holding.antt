@@ -7,7 +7,7 @@ use Rattle.cedar_grammar.specs.Policy.{Policy, scope_slots, is_slot, where_held,
 use Rattle.cedar_shapes.proofs.HeldSlots.{slots_met}
 use Rattle.cedar_shapes.specs.Leaves.{slots_among}
 use Rattle.cedar_shapes.specs.Positions.{positions}
-use Rattle.cedar_world.proofs.Slots.{principal_free, resource_free}
+use Rattle.cedar_grammar.proofs.HeldSlots.{principal_free, resource_free}
 use Rattle.cedar_policies.specs.Templates.{syntax_of, listed_slots}
 use Rattle.cedar_policies.specs.declared.templates.Template.{Template}
 

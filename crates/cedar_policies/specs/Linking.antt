@@ -2,8 +2,8 @@
 use Rattle.std.specs.Prelude.{◌≡◌, ⊤, Bool, true, false, ◌&&◌, ◌==◌, not, List, length, filter, is_some, Result, Ok, Err}
 use Rattle.cedar_language.specs.Tree.{SlotId}
 use Rattle.cedar_grammar.specs.Policy.{Policy, slots}
-use Rattle.cedar_world.specs.Syntax.{Bindings, binding_of, has_slot}
-use Rattle.cedar_world.specs.Refusals.{binds_exactly}
+use Rattle.cedar_grammar.specs.Bindings.{Bindings, binding_of, binds_exactly}
+use Rattle.cedar_grammar.specs.Syntax.{has_slot}
 use Rattle.cedar_policy_parts.specs.Bindings.{bound_slots}
 use Rattle.cedar_policies.specs.declared.errors.LinkingError.{LinkingError}
 use Rattle.cedar_policies.specs.declared.errors.LinkingError.TheVariants.{ArityError, NoSuchTemplate, PolicyIdConflict, Memory}

@@ -2,7 +2,7 @@
 use Rattle.std.specs.Prelude.{◌≡◌, ⊤, [], Option, Some, None, unwrap_or, Result, Ok, Err}
 use Rattle.cedar_language.specs.Uid.{Text}
 use Rattle.cedar_grammar.specs.Policy as grammar
-use Rattle.cedar_world.specs.Syntax.{Bindings, linked}
+use Rattle.cedar_grammar.specs.Bindings.{Bindings, linked}
 use Rattle.cedar_policy_parts.specs.Bindings.{unbound}
 use Rattle.cedar_policy_parts.specs.declared.errors.UnexpectedSlotError.{UnexpectedSlotError}
 use Rattle.cedar_policy_parts.specs.declared.errors.UnexpectedSlotError.TheVariants.{FoundSlot, Memory}

@@ -1,8 +1,9 @@
 // Links of templates.
 ghost use Rattle.std.specs.Prelude.{◌≡◌, ◌++◌, IfOk, IfErr, OnOk, filter, is_some, not, true};
 ghost use Rattle.std.specs.List.{list_any};
-ghost use Rattle.cedar_world.specs.Syntax.{binding_of, is_slot};
-ghost use Rattle.cedar_world.specs.Refusals.{binds_exactly};
+ghost use Rattle.cedar_grammar.specs.Bindings.{binding_of};
+ghost use Rattle.cedar_grammar.specs.Syntax.{is_slot};
+ghost use Rattle.cedar_grammar.specs.Bindings.{binds_exactly};
 ghost use Rattle.cedar_policy_parts.specs.Bindings.{where_bound, bound_slots};
 ghost use Rattle.cedar_policies.specs.Slots.{slot_ids};
 ghost use Rattle.cedar_policies.specs.Templates.{syntax_of};

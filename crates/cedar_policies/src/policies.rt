@@ -4,7 +4,7 @@ ghost use Rattle.std.specs.Option.{option_copied, ForNone, ForSome};
 ghost use Rattle.std.specs.Map.{lookup};
 ghost use Rattle.cedar_language.specs.Order.{same_text};
 ghost use Rattle.cedar_grammar.specs.Policy.{condition, anything, any_action};
-ghost use Rattle.cedar_world.specs.Refusals.{binds_exactly};
+ghost use Rattle.cedar_grammar.specs.Bindings.{binds_exactly};
 ghost use Rattle.cedar_trees.specs.Bare.{bare};
 ghost use Rattle.cedar_policy_parts.specs.Effects.{effect_of};
 ghost use Rattle.cedar_policy_parts.specs.Actions.{action_of};

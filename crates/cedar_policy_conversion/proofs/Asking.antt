@@ -17,7 +17,7 @@ use Rattle.cedar_cst.specs.View.{shown_add, shown_expr, view_variable_def, shown
 use Rattle.cedar_cst.proofs.Views.{seen}
 use Rattle.cedar_policy_parts.specs.Asked.{variable_asked}
 use Rattle.cedar_policy_parts.specs.declared.constraints.PrincipalOrResource.{PrincipalOrResource}
-use Rattle.cedar_conversion_leaves.specs.Words.{ident_variable}
+use Rattle.cedar_conversion.specs.Words.{ident_variable}
 use Rattle.cedar_policy_conversion.specs.Own.{own_word, asked_of, without}
 use Rattle.cedar_policy_conversion.proofs.Owning.{constraint_is, constraint_other, constraint_unasked, constraint_named, action_is, action_other, action_unasked, action_named, action_typed}
 

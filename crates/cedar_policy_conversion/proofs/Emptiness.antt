@@ -25,7 +25,7 @@ use Rattle.cedar_cst.specs.declared.cst.Unary.{Unary}
 use Rattle.cedar_cst.specs.LeafView.{shown}
 use Rattle.cedar_cst.specs.View.{view_expr, view_expr_data, view_or, view_and, view_relation, view_add, view_mult, view_unary, view_member, shown_expr, shown_or, shown_and, shown_relation, shown_add, shown_mult, shown_unary, shown_member}
 use Rattle.cedar_cst.proofs.Views.{seen, view_expr_expr, view_expr_impl_out, view_expr_data_or, view_expr_data_if, view_or_out, view_and_out, view_relation_common, view_relation_has, view_relation_like, view_relation_is_type, view_relation_is_type_in, view_add_out, view_mult_out, view_unary_out, view_member_out}
-use Rattle.cedar_conversion_leaves.specs.Alone.{only_or, only_and, only_relation, only_add, only_mult, only_unary, unsigned}
+use Rattle.cedar_conversion.specs.Alone.{only_or, only_and, only_relation, only_add, only_mult, only_unary, unsigned}
 use Rattle.cedar_policy_conversion.specs.PartsShow.{is_empty_member, is_empty_unary, is_empty_mult, is_empty_add, is_empty_relation, is_empty_and, is_empty_or, is_empty_expr, is_type_relation, is_type_test}
 
 -- ---- what stands alone in a node is missing exactly where it is in the node

@@ -2,12 +2,12 @@
 use Rattle.std.proofs.Common.{◌≡◌, List, [], ◌∷◌, ◌++◌, Option, Some, None, Result, Ok, Err, refl, sym, ap, subst}
 use Rattle.std.specs.Prelude.{⊤, IsErr, IsErrAnd}
 use Rattle.cedar_grammar.specs.Reading.{◌>>=◌}
-use Rattle.cedar_conversion_leaves.specs.declared.errors.ConversionError.{ConversionError}
-use Rattle.cedar_conversion_leaves.specs.declared.errors.ConversionError.TheVariants as error
-use Rattle.cedar_conversion_leaves.specs.Reasons.{Reason, IsFault, gathered, means_nothing, refused, out_of_memory, reason}
-use Rattle.cedar_conversion_leaves.specs.Flat.{Flat, FailsByAll, Attains, all_gathered, failing}
-use Rattle.cedar_conversion_leaves.proofs.Gathering.{two_fail}
-use Rattle.cedar_conversion_leaves.specs.Converts.{Finds, Lacks}
+use Rattle.cedar_faults.specs.declared.errors.ConversionError.{ConversionError}
+use Rattle.cedar_faults.specs.declared.errors.ConversionError.TheVariants as error
+use Rattle.cedar_faults.specs.Reasons.{Reason, IsFault, gathered, means_nothing, refused, out_of_memory, reason}
+use Rattle.cedar_faults.specs.Flat.{Flat, FailsByAll, Attains, all_gathered, failing}
+use Rattle.cedar_faults.proofs.Gathering.{two_fail}
+use Rattle.cedar_faults.specs.Converts.{Finds, Lacks}
 
 -- faults where there is nothing
 pub nothing : {B W : Type 0} (e : ConversionError B) (want : Option W) → IsFault e → want ≡ None → Lacks (reason e) want

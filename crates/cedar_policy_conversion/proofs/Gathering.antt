@@ -3,11 +3,11 @@ use Rattle.std.proofs.Common.{◌≡◌, ◌+◌, ◌<◌, ℕ, List, [], ◌∷
 use Rattle.std.proofs.lemmas.List.{map-append, take_more}
 use Rattle.std.specs.Prelude.{IsErr, IsErrAnd}
 use Rattle.cedar_grammar.specs.Reading.{◌>>=◌}
-use Rattle.cedar_conversion_leaves.specs.declared.errors.ConversionError.{ConversionError}
-use Rattle.cedar_conversion_leaves.specs.declared.errors.ConversionError.TheVariants as error
-use Rattle.cedar_conversion_leaves.specs.Reasons.{Reason, means_nothing, refused, out_of_memory, reason, IsFault, Gathers}
-use Rattle.cedar_conversion_leaves.specs.Flat.{Flat}
-use Rattle.cedar_conversion_leaves.specs.Converts.{Lacks, Finds}
+use Rattle.cedar_faults.specs.declared.errors.ConversionError.{ConversionError}
+use Rattle.cedar_faults.specs.declared.errors.ConversionError.TheVariants as error
+use Rattle.cedar_faults.specs.Reasons.{Reason, means_nothing, refused, out_of_memory, reason, IsFault, Gathers}
+use Rattle.cedar_faults.specs.Flat.{Flat}
+use Rattle.cedar_faults.specs.Converts.{Lacks, Finds}
 
 -- both values, where both are there
 abbrev pub paired : {V W : Type 0} → Option V → Option W → Option (V × W)

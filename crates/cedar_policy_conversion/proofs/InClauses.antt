@@ -9,10 +9,10 @@ use Rattle.cedar_cst.specs.declared.cst.Cond.{Cond}
 use Rattle.cedar_cst.specs.LeafView.{shown_ident}
 use Rattle.cedar_cst.specs.View.{shown_expr, view_cond, shown_cond}
 use Rattle.cedar_cst.proofs.Views.{seen}
-use Rattle.cedar_conversion_leaves.specs.declared.errors.ConversionError.{ConversionError}
-use Rattle.cedar_conversion_leaves.specs.Telling.{TellsOnly}
-use Rattle.cedar_conversion_leaves.specs.Flat.{Flat}
-use Rattle.cedar_conversion_leaves.proofs.Telling.{flat_shows}
+use Rattle.cedar_faults.specs.declared.errors.ConversionError.{ConversionError}
+use Rattle.cedar_faults.specs.Telling.{TellsOnly}
+use Rattle.cedar_faults.specs.Flat.{Flat}
+use Rattle.cedar_faults.proofs.Telling.{flat_shows}
 use Rattle.cedar_policy_conversion.specs.ClausesShow.{clause_word_shows, condition_shows, clause_shows}
 
 module _ {A B E : Type 0} (names : Names) (n : Node (Option Cond)) (d : Cond) (is : n.node ≡ Some d) (a : Result A (ConversionError E)) (b : Result B (ConversionError E)) (e : ConversionError E) where

@@ -18,9 +18,9 @@ use Rattle.cedar_cst.specs.LeafView.{shown_ident, shown_str}
 use Rattle.cedar_cst.specs.View.{view_annotation, shown_annotation}
 use Rattle.cedar_cst.specs.declared.cst.Annotation.{Annotation}
 use Rattle.cedar_cst.specs.declared.node.Node.{Node}
-use Rattle.cedar_conversion_leaves.specs.declared.errors.ConversionError.{ConversionError}
-use Rattle.cedar_conversion_leaves.specs.Converts.{Given, Lacks, Finds}
-use Rattle.cedar_conversion_leaves.specs.Reasons.{reason}
+use Rattle.cedar_faults.specs.declared.errors.ConversionError.{ConversionError}
+use Rattle.cedar_faults.specs.Converts.{Given, Lacks, Finds}
+use Rattle.cedar_faults.specs.Reasons.{reason}
 use Rattle.cedar_policy_conversion.specs.Notes.{Handed, Making, IsMadeAt, AreMade, Makes, put_new, written_value, written_note, placed_note}
 use Rattle.cedar_policy_conversion.specs.PartsShow.{annotation_key}
 use Rattle.cedar_policy_conversion.proofs.Gathering.{lacks_more}

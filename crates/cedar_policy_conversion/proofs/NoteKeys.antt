@@ -8,9 +8,9 @@ use Rattle.cedar_language.specs.Uid.{Text}
 use Rattle.cedar_grammar.specs.Names.{is_text, is_among}
 use Rattle.cedar_grammar.specs.Build.{Keyed, keys, put}
 use Rattle.cedar_grammar.specs.Loose as loose
-use Rattle.cedar_conversion_leaves.proofs.Telling.{at_item}
-use Rattle.cedar_conversion_leaves.specs.declared.kinds.ToASTErrorKind.{ToASTErrorKind}
-use Rattle.cedar_conversion_leaves.specs.declared.kinds.ToASTErrorKind.TheVariants as kinds
+use Rattle.cedar_faults.proofs.Telling.{at_item}
+use Rattle.cedar_faults.specs.declared.kinds.ToASTErrorKind.{ToASTErrorKind}
+use Rattle.cedar_faults.specs.declared.kinds.ToASTErrorKind.TheVariants as kinds
 use Rattle.cedar_policy_conversion.specs.PartsShow.{annotation_key, HasKey, HasKeyTwice, annotation_shows, again_shows, each_annotation_shows, twice_shows, annotations_show}
 
 -- ---- keys among others

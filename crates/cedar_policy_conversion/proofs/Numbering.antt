@@ -11,9 +11,9 @@ use Rattle.cedar_grammar.specs.Policy.{Policy}
 use Rattle.cedar_grammar.specs.Reading.{◌>>=◌}
 use Rattle.cedar_grammar.specs.Converting.{each, policy_syntax}
 use Rattle.cedar_grammar.specs.Loose as loose
-use Rattle.cedar_world.specs.PolicyEdits.{numbered}
-use Rattle.cedar_conversion_leaves.specs.declared.errors.ConversionError.{ConversionError}
-use Rattle.cedar_conversion_leaves.specs.Converts.{Finds}
+use Rattle.cedar_grammar.specs.Syntax.{numbered}
+use Rattle.cedar_faults.specs.declared.errors.ConversionError.{ConversionError}
+use Rattle.cedar_faults.specs.Converts.{Finds}
 use Rattle.cedar_policy_conversion.proofs.Joining.{each_last}
 use Rattle.cedar_policy_set.specs.Entries.{Entries, bound_at}
 use Rattle.cedar_policy_set.specs.Refused.{taken}

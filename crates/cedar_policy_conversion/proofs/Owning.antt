@@ -15,7 +15,7 @@ use Rattle.cedar_cst.specs.Slots.{own_slot}
 use Rattle.cedar_policy_parts.specs.Asked.{variable_asked}
 use Rattle.cedar_policy_parts.specs.declared.constraints.PrincipalOrResource.{PrincipalOrResource}
 use Rattle.cedar_policy_parts.specs.declared.constraints.PrincipalOrResource.TheVariants.{Principal, Resource}
-use Rattle.cedar_conversion_leaves.specs.Words.{ident_variable}
+use Rattle.cedar_conversion.specs.Words.{ident_variable}
 use Rattle.cedar_policy_conversion.specs.Own.{own_word, asked_of, without}
 
 -- ---- slots

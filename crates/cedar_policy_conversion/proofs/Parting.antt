@@ -11,9 +11,9 @@ use Rattle.cedar_cst.specs.declared.leaves.RelOp.TheVariants as relations
 use Rattle.cedar_policy_parts.specs.Asked.{variable_asked}
 use Rattle.cedar_policy_parts.specs.declared.constraints.PrincipalOrResource.{PrincipalOrResource}
 use Rattle.cedar_policy_parts.specs.declared.constraints.PrincipalOrResource.TheVariants.{Principal, Resource}
-use Rattle.cedar_conversion_leaves.specs.declared.kinds.ToASTErrorKind.{ToASTErrorKind}
-use Rattle.cedar_conversion_leaves.specs.declared.kinds.ToASTErrorKind.TheVariants as kinds
-use Rattle.cedar_conversion_leaves.specs.Words.{ident_variable}
+use Rattle.cedar_faults.specs.declared.kinds.ToASTErrorKind.{ToASTErrorKind}
+use Rattle.cedar_faults.specs.declared.kinds.ToASTErrorKind.TheVariants as kinds
+use Rattle.cedar_conversion.specs.Words.{ident_variable}
 use Rattle.cedar_policy_conversion.specs.Own.{own_word}
 use Rattle.cedar_policy_conversion.specs.PartsShow.{asked_shows, asked_of_shows, asked_there_shows, other_variable_shows, constraint_shows}
 

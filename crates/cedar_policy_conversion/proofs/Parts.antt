@@ -13,10 +13,10 @@ use Rattle.cedar_grammar.specs.Loose as loose
 use Rattle.cedar_grammar.specs.Converting.{constraint, action_constraint, scope_syntax}
 use Rattle.cedar_policy_parts.specs.Actions.{action_of}
 use Rattle.cedar_policy_parts.specs.declared.actions.ActionConstraint.{ActionConstraint}
-use Rattle.cedar_conversion_leaves.specs.declared.errors.ConversionError.{ConversionError}
-use Rattle.cedar_conversion_leaves.specs.Flat.{Flat4, failing}
-use Rattle.cedar_conversion_leaves.specs.Reasons.{reason}
-use Rattle.cedar_conversion_leaves.specs.Converts.{Finds, Lacks}
+use Rattle.cedar_faults.specs.declared.errors.ConversionError.{ConversionError}
+use Rattle.cedar_faults.specs.Flat.{Flat4, failing}
+use Rattle.cedar_faults.specs.Reasons.{reason}
+use Rattle.cedar_faults.specs.Converts.{Finds, Lacks}
 use Rattle.cedar_policy_conversion.specs.Scopes.{no_more, scope_of}
 use Rattle.cedar_policy_conversion.proofs.Finding.{found, one_lacks, more_lack, together_lack}
 

@@ -3,14 +3,14 @@ use Rattle.std.proofs.Common.{◌≡◌, ◌⊎◌, inl, inr, List, [], ◌∷�
 use Rattle.std.specs.Prelude.{IfErr}
 use Rattle.cedar_names.specs.declared.places.Loc.{Loc}
 use Rattle.cedar_cst.specs.declared.errors.PlacedError.{PlacedError}
-use Rattle.cedar_conversion_leaves.specs.declared.kinds.ToASTErrorKind.{ToASTErrorKind}
-use Rattle.cedar_conversion_leaves.specs.declared.errors.ConversionError.{ConversionError}
-use Rattle.cedar_conversion_leaves.specs.declared.errors.ConversionError.TheVariants as error
-use Rattle.cedar_conversion_leaves.specs.Reasons.{IsFaultOf, reason, means_nothing, faults_of}
-use Rattle.cedar_conversion_leaves.specs.Telling.{AreOf, Tells, Told, TellsOnly}
-use Rattle.cedar_conversion_leaves.specs.Flat.{Flat, Flat4, FailsByAll, failing, all_faults}
-use Rattle.cedar_conversion_leaves.specs.Converts.{Finds}
-use Rattle.cedar_conversion_leaves.proofs.Telling.{tells_one, told_each, gathered_tells, flat_shows}
+use Rattle.cedar_faults.specs.declared.kinds.ToASTErrorKind.{ToASTErrorKind}
+use Rattle.cedar_faults.specs.declared.errors.ConversionError.{ConversionError}
+use Rattle.cedar_faults.specs.declared.errors.ConversionError.TheVariants as error
+use Rattle.cedar_faults.specs.Reasons.{IsFaultOf, reason, means_nothing, faults_of}
+use Rattle.cedar_faults.specs.Telling.{AreOf, Tells, Told, TellsOnly}
+use Rattle.cedar_faults.specs.Flat.{Flat, Flat4, FailsByAll, failing, all_faults}
+use Rattle.cedar_faults.specs.Converts.{Finds}
+use Rattle.cedar_faults.proofs.Telling.{tells_one, told_each, gathered_tells, flat_shows}
 
 -- what is told where nothing is found
 pub lacking_tells : {A E W : Type 0} (seen : A → W) (r : Result A (ConversionError E)) (want : Option W) (p : ToASTErrorKind → Type 0) → Finds seen r want → IfErr r (λ e. TellsOnly e p) → IfErr r (λ e. TellsOnly e (λ k. (want ≡ None) × p k))

@@ -9,7 +9,7 @@ use Rattle.cedar_grammar.specs.Loose as loose
 use Rattle.cedar_grammar.specs.Converting.{ident_spelling, effect}
 use Rattle.cedar_names.specs.Identifiers.{is_identifier}
 use Rattle.cedar_cst.specs.LeafView.{written_ident}
-use Rattle.cedar_conversion_leaves.proofs.Words.{word_spelled}
+use Rattle.cedar_conversion.proofs.Words.{word_spelled}
 use Rattle.cedar_policy_conversion.specs.Clauses.{clause_word}
 
 effect_at : (w : Word) (s : Text) → spelled w ≡ s → (s ≡ codes "permit" → ⊥) → (s ≡ codes "forbid" → ⊥) → effect_of w ≡ None

@@ -4,9 +4,9 @@ use Rattle.std.specs.Option.{option_map, unwrap_or}
 use Rattle.cedar_grammar.specs.Names.{Names}
 use Rattle.cedar_grammar.specs.Loose as loose
 use Rattle.cedar_cst.specs.LeafView.{view_ident}
-use Rattle.cedar_conversion_leaves.specs.declared.kinds.ToASTErrorKind.{ToASTErrorKind}
-use Rattle.cedar_conversion_leaves.specs.declared.kinds.ToASTErrorKind.TheVariants as kinds
-use Rattle.cedar_conversion_leaves.specs.Shown.{missing_shows}
+use Rattle.cedar_faults.specs.declared.kinds.ToASTErrorKind.{ToASTErrorKind}
+use Rattle.cedar_faults.specs.declared.kinds.ToASTErrorKind.TheVariants as kinds
+use Rattle.cedar_conversion.specs.Shown.{missing_shows}
 use Rattle.cedar_conversion.specs.Shows.{expr_shows}
 use Rattle.cedar_policy_conversion.specs.Clauses.{clause_word}
 

@@ -4,7 +4,7 @@ use Rattle.either.specs.declared.Either.{Either}
 use Rattle.either.specs.declared.Either.TheVariants.{Left, Right}
 use Rattle.cedar_language.specs.Uid.{Text}
 use Rattle.cedar_grammar.specs.Policy.{Policy, slots}
-use Rattle.cedar_world.specs.Syntax.{is_template}
+use Rattle.cedar_grammar.specs.Syntax.{is_template}
 use Rattle.cedar_policy_set.specs.Entries.{Entry, static_policy, template}
 use Rattle.cedar_policies.specs.StaticPolicies.{static_id, static_syntax}
 use Rattle.cedar_policies.specs.Templates.{template_id, listed_slots, syntax_of}

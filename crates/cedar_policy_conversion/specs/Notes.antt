@@ -17,9 +17,9 @@ use Rattle.cedar_cst.specs.View.{shown_annotation}
 use Rattle.cedar_cst.specs.declared.cst.Annotation.{Annotation}
 use Rattle.cedar_cst.specs.declared.node.Node.{Node}
 use Rattle.cedar_conversion.specs.Entries.{ordered}
-use Rattle.cedar_conversion_leaves.specs.declared.errors.ConversionError.{ConversionError}
-use Rattle.cedar_conversion_leaves.specs.Converts.{Given, Lacks}
-use Rattle.cedar_conversion_leaves.specs.Reasons.{reason}
+use Rattle.cedar_faults.specs.declared.errors.ConversionError.{ConversionError}
+use Rattle.cedar_faults.specs.Converts.{Given, Lacks}
+use Rattle.cedar_faults.specs.Reasons.{reason}
 
 -- their keys in rising order, each with its text; none where a key stands twice
 abbrev pub notes_of : List loose.Annotation → Option (List (Keyed Text))

@@ -3,7 +3,7 @@ use Rattle.std.specs.Prelude.{◌≡◌, ◌+◌, ℕ, [], ◌∷◌, List, drop
 use Rattle.std.specs.Borrow.{Bor}
 use Rattle.std.specs.declared.alloc.AllocError.{AllocError}
 use Rattle.cedar_language.specs.Uid.{Text}
-use Rattle.cedar_world.specs.PolicyEdits.{numbered}
+use Rattle.cedar_grammar.specs.Syntax.{numbered}
 use Rattle.cedar_cst.specs.declared.node.Node.{Node}
 use Rattle.cedar_cst.specs.declared.cst.Policies.{Policies}
 use Rattle.cedar_cst.specs.declared.cst.Policy.{Policy}

@@ -17,11 +17,11 @@ use Rattle.cedar_cst.specs.LeafView.{view_ident, view_rel_op}
 use Rattle.cedar_policy_parts.specs.declared.arguments.Ref.{Ref}
 use Rattle.cedar_policy_parts.specs.declared.arguments.Ref.TheVariants.{Single, Set, Template}
 use Rattle.cedar_policy_parts.specs.Actions.{held_uids}
-use Rattle.cedar_conversion_leaves.specs.declared.kinds.ToASTErrorKind.{ToASTErrorKind}
-use Rattle.cedar_conversion_leaves.specs.declared.kinds.ToASTErrorKind.TheVariants as kinds
-use Rattle.cedar_conversion_leaves.specs.Reasons.{listed}
-use Rattle.cedar_conversion_leaves.specs.Shown.{missing_shows, ident_shows, str_shows, ref_shows, type_shows}
-use Rattle.cedar_conversion_leaves.specs.Words.{ident_variable}
+use Rattle.cedar_faults.specs.declared.kinds.ToASTErrorKind.{ToASTErrorKind}
+use Rattle.cedar_faults.specs.declared.kinds.ToASTErrorKind.TheVariants as kinds
+use Rattle.cedar_faults.specs.Reasons.{listed}
+use Rattle.cedar_conversion.specs.Shown.{missing_shows, ident_shows, str_shows, ref_shows, type_shows}
+use Rattle.cedar_conversion.specs.Words.{ident_variable}
 use Rattle.cedar_policy_conversion.specs.Own.{asked_of}
 use Rattle.cedar_policy_conversion.specs.Entities.{entity, others}
 use Rattle.cedar_policy_conversion.specs.Entities as entities

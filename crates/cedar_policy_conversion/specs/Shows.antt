@@ -4,11 +4,11 @@ use Rattle.cedar_grammar.specs.Names.{Names}
 use Rattle.cedar_grammar.specs.Loose as loose
 use Rattle.cedar_grammar.specs.Policy.{Policy, slots}
 use Rattle.cedar_grammar.specs.Converting.{policy_syntax}
-use Rattle.cedar_world.specs.Syntax.{is_template}
+use Rattle.cedar_grammar.specs.Syntax.{is_template}
 use Rattle.cedar_policies.specs.StaticPolicies.{IsFirstSlot}
-use Rattle.cedar_conversion_leaves.specs.declared.kinds.ToASTErrorKind.{ToASTErrorKind}
-use Rattle.cedar_conversion_leaves.specs.declared.kinds.ToASTErrorKind.TheVariants as kinds
-use Rattle.cedar_conversion_leaves.specs.Shown.{missing_shows}
+use Rattle.cedar_faults.specs.declared.kinds.ToASTErrorKind.{ToASTErrorKind}
+use Rattle.cedar_faults.specs.declared.kinds.ToASTErrorKind.TheVariants as kinds
+use Rattle.cedar_conversion.specs.Shown.{missing_shows}
 use Rattle.cedar_policy_conversion.specs.PartsShow.{effect_shows, annotations_show, scope_shows}
 use Rattle.cedar_policy_conversion.specs.ClausesShow.{clauses_show}
 

@@ -6,15 +6,15 @@ ghost use Rattle.cedar_grammar.specs.Converting.{alone, actions_among, action_as
 ghost use Rattle.cedar_cst.specs.LeafView.{view_rel_op};
 ghost use Rattle.cedar_cst.specs.View.{shown_expr, shown_variable_def};
 ghost use Rattle.cedar_policy_parts.specs.Actions.{action_of};
-ghost use Rattle.cedar_conversion_leaves.specs.Converts.{and_then, Finds};
-ghost use Rattle.cedar_conversion_leaves.specs.Telling.{TellsOnly};
+ghost use Rattle.cedar_faults.specs.Converts.{and_then, Finds};
+ghost use Rattle.cedar_faults.specs.Telling.{TellsOnly};
 ghost use Rattle.cedar_policy_conversion.specs.PartsShow.{actions_show, type_test_shows, action_asked_shows, action_constraint_shows};
 
 use crate::entities::{to_action, to_refs};
 use crate::variables::{no_type_name, to_var, unless_inverted};
-use cedar_conversion_leaves::{ConversionError, ToASTErrorKind};
 use cedar_cst::cst::{Expr, RelOp, VariableDef};
 use cedar_cst::node::Node;
+use cedar_faults::{ConversionError, ToASTErrorKind};
 use cedar_literals::variables::Var;
 use cedar_names::places::Loc;
 use cedar_policy_parts::actions::ActionConstraint;

@@ -7,17 +7,16 @@ ghost use Rattle.cedar_grammar.specs.Names.{is_among};
 ghost use Rattle.cedar_grammar.specs.Build.{Keyed, keys};
 ghost use Rattle.cedar_cst.specs.LeafView.{shown_str};
 ghost use Rattle.cedar_cst.specs.View.{shown_annotation};
-ghost use Rattle.cedar_conversion_leaves.specs.Converts.{and_then, Finds};
-ghost use Rattle.cedar_conversion_leaves.specs.Telling.{Told, TellsOnly};
+ghost use Rattle.cedar_faults.specs.Converts.{and_then, Finds};
+ghost use Rattle.cedar_faults.specs.Telling.{Told, TellsOnly};
 ghost use Rattle.cedar_policy_conversion.specs.Notes.{notes_of, put_new, written_value, placed_note, placed_notes, Handed, IsMadeAt, AreMade, Makes};
 ghost use Rattle.cedar_policy_conversion.specs.PartsShow.{note_text_shows, annotation_key, annotation_shows, again_shows, annotations_show};
 
-use cedar_conversion_leaves::{
-    ConversionError, ToASTErrorKind, flatten_tuple_2, to_any_ident, to_text,
-};
+use cedar_conversion::{to_any_ident, to_text};
 use cedar_cst::cst;
 use cedar_cst::cst::Str;
 use cedar_cst::node::Node;
+use cedar_faults::{ConversionError, ToASTErrorKind, flatten_tuple_2};
 use cedar_names::identifiers::AnyId;
 use cedar_names::places::Loc;
 use cedar_policy_parts::annotations::{Annotation, Annotations};

@@ -6,21 +6,19 @@ ghost use Rattle.cedar_grammar.specs.Converting.{clause, expr_tree};
 ghost use Rattle.cedar_cst.specs.LeafView.{shown_ident, view_ident, written_ident};
 ghost use Rattle.cedar_cst.specs.View.{shown_cond, shown_expr};
 ghost use Rattle.cedar_trees.specs.Bare.{bare};
-ghost use Rattle.cedar_conversion_leaves.specs.Telling.{Told, TellsOnly};
-ghost use Rattle.cedar_conversion_leaves.specs.Converts.{and_then, Finds};
+ghost use Rattle.cedar_faults.specs.Telling.{Told, TellsOnly};
+ghost use Rattle.cedar_faults.specs.Converts.{and_then, Finds};
 ghost use Rattle.cedar_conversion.specs.Shows.{expr_shows};
 ghost use Rattle.cedar_policy_conversion.specs.Clauses.{clause_word, word_of, condition_tree, clauses_of, one_more};
 ghost use Rattle.cedar_policy_conversion.specs.ClausesShow.{clause_word_shows, condition_shows, clause_shows, clauses_show};
 
 use crate::copies::{copied, copied_if_any};
 use cedar_builders::own_builder::ExprBuilder;
-use cedar_conversion::{to_expr, trees_are_built};
-use cedar_conversion_leaves::{
-    ConversionError, ExtStyles, ToASTErrorKind, flatten_tuple_2, spelling,
-};
+use cedar_conversion::{spelling, to_expr, trees_are_built};
 use cedar_cst::cst;
 use cedar_cst::cst::{Cond, Ident};
 use cedar_cst::node::Node;
+use cedar_faults::{ConversionError, ExtStyles, ToASTErrorKind, flatten_tuple_2};
 use cedar_names::places::Loc;
 use cedar_trees::errors::ExpressionConstructionError;
 use cedar_trees::expr::Expr;

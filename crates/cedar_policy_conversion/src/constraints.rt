@@ -8,18 +8,19 @@ ghost use Rattle.cedar_cst.specs.View.{shown_expr, shown_add, shown_variable_def
 ghost use Rattle.cedar_literals.specs.Variables.{variable_of};
 ghost use Rattle.cedar_policy_parts.specs.Asked.{constraint_of};
 ghost use Rattle.cedar_policy_parts.specs.References.{target_of};
-ghost use Rattle.cedar_conversion_leaves.specs.Reasons.{IsFault};
-ghost use Rattle.cedar_conversion_leaves.specs.Converts.{and_then, Finds};
-ghost use Rattle.cedar_conversion_leaves.specs.Telling.{TellsOnly};
-ghost use Rattle.cedar_conversion_leaves.specs.Shown.{type_shows};
+ghost use Rattle.cedar_faults.specs.Reasons.{IsFault};
+ghost use Rattle.cedar_faults.specs.Converts.{and_then, Finds};
+ghost use Rattle.cedar_faults.specs.Telling.{TellsOnly};
+ghost use Rattle.cedar_conversion.specs.Shown.{type_shows};
 ghost use Rattle.cedar_policy_conversion.specs.Own.{own_word};
 ghost use Rattle.cedar_policy_conversion.specs.PartsShow.{operator_shows, typed_shows, type_alone_shows, compared_shows, asked_shows, asked_of_shows, constraint_shows};
 
 use crate::references::to_ref_or_slot;
 use crate::variables::{no_type_name, stands_for, to_var, unless_inverted};
-use cedar_conversion_leaves::{ConversionError, ToASTErrorKind, to_entity_type};
+use cedar_conversion::to_entity_type;
 use cedar_cst::cst::{Add, Expr, RelOp, VariableDef};
 use cedar_cst::node::Node;
+use cedar_faults::{ConversionError, ToASTErrorKind};
 use cedar_literals::uids::EntityType;
 use cedar_literals::variables::Var;
 use cedar_names::places::Loc;

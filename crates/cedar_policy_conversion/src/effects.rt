@@ -4,14 +4,15 @@ ghost use Rattle.std.specs.Option.{option_map};
 ghost use Rattle.cedar_grammar.specs.Converting.{effect};
 ghost use Rattle.cedar_cst.specs.LeafView.{shown_ident, view_ident, written_ident};
 ghost use Rattle.cedar_policy_parts.specs.Effects.{effect_of};
-ghost use Rattle.cedar_conversion_leaves.specs.Converts.{Finds};
-ghost use Rattle.cedar_conversion_leaves.specs.Telling.{TellsOnly};
+ghost use Rattle.cedar_faults.specs.Converts.{Finds};
+ghost use Rattle.cedar_faults.specs.Telling.{TellsOnly};
 ghost use Rattle.cedar_policy_conversion.specs.PartsShow.{effect_shows};
 
 use crate::copies::copied;
-use cedar_conversion_leaves::{ConversionError, ToASTErrorKind, spelling};
+use cedar_conversion::spelling;
 use cedar_cst::cst::Ident;
 use cedar_cst::node::Node;
+use cedar_faults::{ConversionError, ToASTErrorKind};
 use cedar_policy_parts::Effect;
 use std::alloc::Global;
 

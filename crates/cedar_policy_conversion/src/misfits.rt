@@ -1,17 +1,15 @@
 // The faults of what stands in a scope where an entity should.
 ghost use Rattle.std.specs.Prelude.{◌≡◌, is_none};
 ghost use Rattle.cedar_cst.specs.View.{shown_expr, shown_relation, shown_add, shown_primary};
-ghost use Rattle.cedar_conversion_leaves.specs.Reasons.{IsFault};
-ghost use Rattle.cedar_conversion_leaves.specs.Telling.{TellsOnly};
+ghost use Rattle.cedar_faults.specs.Reasons.{IsFault};
+ghost use Rattle.cedar_faults.specs.Telling.{TellsOnly};
 ghost use Rattle.cedar_policy_conversion.specs.PartsShow.{is_empty_expr, is_empty_add, IsWrongNode, IsWrongArgument, misfit_shows, no_entity_shows};
 ghost use Rattle.cedar_policy_conversion.specs.PartsShow as shows;
 
-use cedar_conversion_leaves::{
-    ConversionError, ToASTErrorKind, only_add, only_and, only_mult, only_or, only_relation,
-    only_unary, unsigned,
-};
+use cedar_conversion::{only_add, only_and, only_mult, only_or, only_relation, only_unary, unsigned};
 use cedar_cst::cst::{Add, Expr, NegOp, Primary, Relation, Unary};
 use cedar_cst::node::Node;
+use cedar_faults::{ConversionError, ToASTErrorKind};
 use cedar_names::places::Loc;
 use cedar_policy_parts::{Ref, WrongEntityArgument};
 use either::Either;

@@ -1,14 +1,14 @@
 // The policies of a text under their numbers.
 ghost use Rattle.std.specs.Prelude.{◌≡◌, None, Some, IfOk, IfErr};
-ghost use Rattle.cedar_world.specs.PolicyEdits.{numbered};
-ghost use Rattle.cedar_conversion_leaves.specs.Telling.{TellsOnly};
-ghost use Rattle.cedar_conversion_leaves.specs.Shown.{missing_shows};
+ghost use Rattle.cedar_grammar.specs.Syntax.{numbered};
+ghost use Rattle.cedar_faults.specs.Telling.{TellsOnly};
+ghost use Rattle.cedar_conversion.specs.Shown.{missing_shows};
 ghost use Rattle.cedar_policy_conversion.specs.Numbered.{number_next, policies_left, HoldsPolicies};
 
 use crate::PolicyError;
-use cedar_conversion_leaves::ConversionError;
 use cedar_cst::cst;
 use cedar_cst::node::Node;
+use cedar_faults::ConversionError;
 use cedar_policy_parts::PolicyID;
 use std::alloc::{AllocError, Global};
 

@@ -6,7 +6,7 @@ ghost use Rattle.cedar_cst.specs.View.{shown_expr, shown_primary};
 ghost use Rattle.cedar_policy_conversion.specs.Entities as entities;
 ghost use Rattle.cedar_policy_conversion.specs.PartsShow.{is_empty_expr, is_empty_inside};
 
-use cedar_conversion_leaves::alone;
+use cedar_conversion::alone;
 use cedar_cst::cst::{Expr, Primary};
 use cedar_cst::node::Node;
 

@@ -3,21 +3,21 @@ ghost use Rattle.std.specs.Prelude.{◌≡◌, ◌⊎◌, ◌<◌, ◌^◌, [], 
 ghost use Rattle.std.specs.Option.{option_map};
 ghost use Rattle.cedar_grammar.specs.Converting.{each, policies_syntax, policy_syntax};
 ghost use Rattle.cedar_cst.specs.View.{shown_policies, shown_policy};
-ghost use Rattle.cedar_world.specs.PolicyEdits.{numbered};
-ghost use Rattle.cedar_conversion_leaves.specs.Converts.{and_then, Finds};
+ghost use Rattle.cedar_grammar.specs.Syntax.{numbered};
+ghost use Rattle.cedar_faults.specs.Converts.{and_then, Finds};
 ghost use Rattle.cedar_policy_set.specs.Entries.{Entries, bound_at};
 ghost use Rattle.cedar_policy_set.specs.Refused.{IsOccupied, taken};
 ghost use Rattle.cedar_policy_set.specs.Texts.{text_entry, text_entries};
-ghost use Rattle.cedar_conversion_leaves.specs.Telling.{Told, TellsOnly};
+ghost use Rattle.cedar_faults.specs.Telling.{Told, TellsOnly};
 ghost use Rattle.cedar_policy_conversion.specs.Kinds.{entry_made, id_made};
 ghost use Rattle.cedar_policy_conversion.specs.Shows.{policy_shows, each_policy_shows, policies_show};
 
 use crate::PolicyError;
 use crate::numbers::numbered_id;
 use crate::policies::to_policy_or_template;
-use cedar_conversion_leaves::{ConversionError, ExtStyles, flatten_tuple_2};
 use cedar_cst::cst;
 use cedar_cst::node::Node;
+use cedar_faults::{ConversionError, ExtStyles, flatten_tuple_2};
 use cedar_policies::static_policies::StaticPolicy;
 use cedar_policies::templates::Template;
 use cedar_policy_set::errors::PolicySetError;

@@ -2,7 +2,7 @@
 use Rattle.std.specs.Prelude.{List, [], ◌∷◌, ◌++◌, Option, Some, None}
 use Rattle.cedar_language.specs.Uid.{Uid}
 use Rattle.cedar_language.specs.Tree.{SlotId, PrincipalSlot, ResourceSlot}
-pub use Rattle.cedar_world.specs.Syntax.{Bindings, binding_of}
+pub use Rattle.cedar_grammar.specs.Bindings.{Bindings, binding_of}
 
 abbrev pub unbound : Bindings
 unbound = record { principal = None; resource = None }

@@ -15,7 +15,7 @@ use Rattle.std.proofs.lemmas.Cmp.{on_total}
 use Rattle.cedar_language.specs.Order.{Head, head, head_cmp, same_name, same_uid}
 use Rattle.cedar_literals.specs.Uids.{uid_hash}
 use Rattle.cedar_literals.specs.Heads.{head_cmp_total, order_decides, by_head_same}
-use Rattle.cedar_world.specs.Syntax.{Bindings}
+use Rattle.cedar_grammar.specs.Bindings.{Bindings}
 use Rattle.cedar_policy_parts.specs.References.{target_of}
 use Rattle.cedar_policy_parts.specs.declared.references.EntityReference.{EntityReference}
 use Rattle.cedar_grammar.specs.Policy.{Target, the_entity, the_slot, Constraint, anything, equals, within, of_type, of_type_within, ActionConstraint, any_action, action_equals, action_within_any}

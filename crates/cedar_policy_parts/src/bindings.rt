@@ -1,7 +1,7 @@
 // The entities that the slots of a template are bound to.
 ghost use Rattle.std.specs.Prelude.{◌≡◌, ◌==◌, Option, None, Some, IfOk, length, is_some};
 ghost use Rattle.std.specs.Option.{option_copied};
-ghost use Rattle.cedar_world.specs.Syntax.{binding_of};
+ghost use Rattle.cedar_grammar.specs.Bindings.{binding_of};
 ghost use Rattle.cedar_policy_parts.specs.Bindings.{unbound, with_entity, bound_slots};
 
 use cedar_literals::slots::SlotId;
@@ -28,7 +28,7 @@ impl Drop for SlotEnv {
 }
 
 impl Model for SlotEnv {
-    ghost use Rattle.cedar_world.specs.Syntax.{Bindings};
+    ghost use Rattle.cedar_grammar.specs.Bindings.{Bindings};
 
     ghost Value = { Bindings };
 

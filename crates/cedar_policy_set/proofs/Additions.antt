@@ -9,8 +9,7 @@ use Rattle.std.proofs.lemmas.Map.Made.{is_some-lookup}
 use Rattle.cedar_language.specs.Uid.{Text}
 use Rattle.cedar_language.specs.Order.{same_text}
 use Rattle.cedar_grammar.specs.Policy.{Policy, scope_slots}
-use Rattle.cedar_world.specs.Syntax.{Bindings}
-use Rattle.cedar_world.specs.Refusals.{binds_exactly}
+use Rattle.cedar_grammar.specs.Bindings.{Bindings, binds_exactly}
 use Rattle.cedar_policy_set.specs.Entries.{Entry, static_policy, template, link, Entries, bound_at, is_bound, IsFull, IsWhole}
 use Rattle.cedar_policy_set.specs.EntryNodes.{same_entry, entries_decide}
 use Rattle.cedar_policy_set.specs.Bounds.{entry_by}

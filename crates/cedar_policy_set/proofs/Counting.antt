@@ -1,7 +1,7 @@
 -- What is known of the ids policy0, policy1, .. stays known when ids are bound, and of the others when one is taken away.
 use Rattle.std.proofs.Common.{◌≡◌, ◌≢◌, ℕ, true, cond, ◌++◌, refl, sym, ap, ◌∙◌, true≢false, Option, None, Some, is_some, arith}
 use Rattle.cedar_language.specs.Uid.{Text}
-use Rattle.cedar_world.specs.PolicyEdits.{numbered}
+use Rattle.cedar_grammar.specs.Syntax.{numbered}
 use Rattle.cedar_policy_set.specs.Entries.{Entry, Entries, bound_at, is_bound, without, IsWhole}
 use Rattle.cedar_policy_set.specs.Numbers.{Counts, AreBound}
 use Rattle.cedar_policy_set.specs.declared.numbers.Numbers.{Numbers}

@@ -7,7 +7,7 @@ use Rattle.std.proofs.Math.Dec.{eqb}
 use Rattle.std.proofs.lemmas.Bool.Decides.{eqb_tells}
 use Rattle.cedar_language.specs.Uid.{Text}
 use Rattle.cedar_grammar.specs.Policy as grammar
-use Rattle.cedar_world.specs.Syntax.{Bindings}
+use Rattle.cedar_grammar.specs.Bindings.{Bindings}
 use Rattle.cedar_policy_parts.specs.Bindings.{unbound}
 use Rattle.cedar_policies.specs.Policies.{policy_template, policy_syntax, link_of, bindings_of}
 use Rattle.cedar_policies.specs.declared.policies.Policy.{Policy}

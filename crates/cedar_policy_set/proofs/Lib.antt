@@ -9,4 +9,3 @@ pub mod SameBound
 pub mod Sameness
 pub mod Views
 pub mod Wholes
-pub mod WorldLaws

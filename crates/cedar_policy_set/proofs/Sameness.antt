@@ -6,7 +6,7 @@ use Rattle.std.proofs.lemmas.Bool.Decides.{same_from_decides}
 use Rattle.cedar_language.specs.Uid.{Text}
 use Rattle.cedar_language.specs.Order.{same_text}
 use Rattle.cedar_grammar.specs.Policy.{Policy}
-use Rattle.cedar_world.specs.Syntax.{Bindings}
+use Rattle.cedar_grammar.specs.Bindings.{Bindings}
 use Rattle.cedar_policy_parts.specs.SameScopes.{same_bindings, bindings_decide}
 use Rattle.cedar_policy_set.specs.Entries.{Entry, static_policy, template, link, is_link}
 use Rattle.cedar_policy_set.specs.Bounds.{entry_by}

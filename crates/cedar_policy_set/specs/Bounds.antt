@@ -4,7 +4,7 @@ use Rattle.std.specs.List.{AllByRecursion}
 use Rattle.std.specs.Map.{keys_of, values_of}
 use Rattle.cedar_language.specs.Uid.{Text}
 use Rattle.cedar_grammar.specs.Policy as grammar
-use Rattle.cedar_world.specs.Syntax.{Bindings}
+use Rattle.cedar_grammar.specs.Bindings.{Bindings}
 use Rattle.cedar_policies.specs.Templates.{template_id, syntax_of, listed_slots}
 use Rattle.cedar_policies.specs.Policies.{policy_template, policy_syntax, link_of, bindings_of, policy_id}
 use Rattle.cedar_policies.specs.declared.templates.Template.{Template as ATemplate}

@@ -5,8 +5,8 @@ use Rattle.std.specs.List.{IsDistinct, list_any, filter_map}
 use Rattle.cedar_language.specs.Uid.{Text}
 use Rattle.cedar_language.specs.Order.{same_text}
 use Rattle.cedar_grammar.specs.Policy.{Policy, scope_slots}
-use Rattle.cedar_world.specs.Syntax.{Bindings, is_template}
-use Rattle.cedar_world.specs.Refusals.{binds_exactly}
+use Rattle.cedar_grammar.specs.Bindings.{Bindings, binds_exactly}
+use Rattle.cedar_grammar.specs.Syntax.{is_template}
 
 -- What an id is bound to: a static policy or a template by its syntax, or a link by its template, which is
 -- here with its id and its syntax, and the entities in the places of the slots.

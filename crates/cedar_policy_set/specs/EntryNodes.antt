@@ -16,7 +16,7 @@ use Rattle.cedar_grammar.specs.Build.{Keyed}
 use Rattle.cedar_grammar.specs.Policy.{Target, the_entity, the_slot, Constraint, anything, equals, within, of_type, of_type_within, ActionConstraint, any_action, action_equals, action_within_any, Policy}
 use Rattle.cedar_shapes.specs.ShapeOrder.{shape}
 use Rattle.cedar_shapes.specs.ShapeLaws.{tree_cmp_same}
-use Rattle.cedar_world.specs.Syntax.{Bindings}
+use Rattle.cedar_grammar.specs.Bindings.{Bindings}
 use Rattle.cedar_policy_set.specs.Entries.{Entry, static_policy, template, link}
 
 -- ---- the parts as nodes

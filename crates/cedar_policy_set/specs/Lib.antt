@@ -7,5 +7,4 @@ pub mod Refused
 pub mod Scopes
 pub mod Validated
 pub mod BoundsLeft
-pub mod Worlds
 pub mod Texts

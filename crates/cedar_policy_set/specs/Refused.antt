@@ -3,8 +3,7 @@ use Rattle.std.specs.Prelude.{◌≡◌, ◌⊎◌, ⊤, Bool, true, false, ◌+
 use Rattle.std.specs.Option.{option_map_or}
 use Rattle.cedar_language.specs.Uid.{Text}
 use Rattle.cedar_grammar.specs.Policy.{Policy}
-use Rattle.cedar_world.specs.Syntax.{Bindings}
-use Rattle.cedar_world.specs.Refusals.{binds_exactly}
+use Rattle.cedar_grammar.specs.Bindings.{Bindings, binds_exactly}
 use Rattle.cedar_policies.specs.Linking.{lacking, extra}
 use Rattle.cedar_policies.specs.declared.errors.LinkingError as linking
 use Rattle.cedar_policies.specs.declared.errors.LinkingError.TheVariants.{ArityError, NoSuchTemplate, PolicyIdConflict, Memory as LinkingMemory}

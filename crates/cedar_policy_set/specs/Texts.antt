@@ -4,9 +4,8 @@ use Rattle.cedar_language.specs.Tree.{Tree}
 use Rattle.cedar_language.specs.Uid.{Text}
 use Rattle.cedar_grammar.specs.Calls.{calls_only}
 use Rattle.cedar_grammar.specs.Policy.{Policy, condition}
-use Rattle.cedar_world.specs.Functions.{is_the_unknown}
-use Rattle.cedar_world.specs.Syntax.{is_template}
-use Rattle.cedar_world.specs.PolicyEdits.{numbered}
+use Rattle.cedar_grammar.specs.Functions.{is_the_unknown}
+use Rattle.cedar_grammar.specs.Syntax.{is_template, numbered}
 use Rattle.cedar_policy_set.specs.Entries.{Entry, static_policy, template, link, Entries, bound_at}
 
 abbrev pub text_entry : Policy → Entry

@@ -14,4 +14,3 @@ mod removing;
 mod scopes;
 pub mod sets;
 mod validating;
-pub mod worlds;

@@ -1,6 +1,6 @@
 // The ids `policy0`, `policy1`, .. of a policy set.
 ghost use Rattle.std.specs.Prelude.{◌≡◌, ◌≢◌, ◌≤◌, ◌<◌, ◌^◌, ℕ, length, IfOk, IsTrue, Some, true};
-ghost use Rattle.cedar_world.specs.PolicyEdits.{numbered};
+ghost use Rattle.cedar_grammar.specs.Syntax.{numbered};
 ghost use Rattle.cedar_policy_set.specs.Entries.{is_bound};
 ghost use Rattle.cedar_policy_set.specs.Bounds.{entries_of};
 ghost use Rattle.cedar_policy_set.specs.Numbers.{BindsNumbers};

@@ -19,7 +19,7 @@ use Rattle.cedar_language.specs.Restricted.{is_restricted, are_restricted}
 use Rattle.cedar_partial_evaluation.specs.Partial.{ResidualTree, Answers, AllEvaluated, SomeResiduals, SomeFailed, answer_of, residual_answer, apply_answer, partial_in}
 use Rattle.cedar_partial_evaluation.specs.Question.{name_held}
 use Rattle.cedar_grammar.specs.Build.{trees, keys}
-use Rattle.cedar_world.specs.Functions.{is_the_unknown, one_string, unknown_function}
+use Rattle.cedar_grammar.specs.Functions.{is_the_unknown, one_string, unknown_function}
 use Rattle.cedar_trees.specs.Bare.{bare, bare_kind, bare_entries, record_tree}
 use Rattle.cedar_trees.specs.declared.expr.Expr.{Expr}
 use Rattle.cedar_trees.specs.declared.expr.ExprKind.TheVariants as kind

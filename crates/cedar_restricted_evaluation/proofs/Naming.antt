@@ -12,7 +12,7 @@ use Rattle.cedar_language.specs.Operators.{called, or_fails}
 use Rattle.either.specs.declared.Either.{Either}
 use Rattle.either.specs.declared.Either.TheVariants.{Left, Right}
 use Rattle.cedar_names.proofs.Sameness.{names_same}
-use Rattle.cedar_world.specs.Functions.{the_unknown, is_the_unknown, unknown_function}
+use Rattle.cedar_grammar.specs.Functions.{the_unknown, is_the_unknown, unknown_function}
 use Rattle.cedar_extensions.specs.Answering.{FunctionAnswers}
 use Rattle.cedar_extensions.specs.Functions.{function_name, meaning_of, is_unknown, output_value, IsOutput}
 use Rattle.cedar_extensions.specs.Tables.{functions_in, function_called, holds_unknown}

@@ -7,8 +7,8 @@ use Rattle.cedar_language.specs.Value.{Plain, no_values, a_value}
 use Rattle.cedar_language.specs.Facts.{Facts}
 use Rattle.cedar_language.specs.Restricted.{is_restricted, are_restricted}
 use Rattle.cedar_partial_evaluation.specs.Partial.{Answers, AllEvaluated, SomeResiduals, SomeFailed, and_next, apply_answer, partial_in, all_partial_in}
-use Rattle.cedar_world.specs.Bodies.{unknown_or, named, all_named, named_call, holds_call, hold_call}
-use Rattle.cedar_world.specs.Functions.{is_the_unknown}
+use Rattle.cedar_grammar.specs.UnknownCalls.{unknown_or, named, all_named, named_call, holds_call, hold_call}
+use Rattle.cedar_grammar.specs.Functions.{is_the_unknown}
 use Rattle.cedar_extensions.specs.Table.{Table}
 use Rattle.cedar_restricted_evaluation.specs.Evaluations.{nothing_told, one_text, name_called, named_or, answer_in, answers_in, named_by, WrittenNamesAreRead}
 use Rattle.cedar_restricted_evaluation.proofs.Arms.{still_unknown, parts_answered}

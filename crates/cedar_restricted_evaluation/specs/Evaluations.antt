@@ -13,8 +13,8 @@ use Rattle.cedar_language.specs.Restricted.{is_restricted}
 use Rattle.cedar_partial_evaluation.specs.Partial as partial
 use Rattle.cedar_partial_evaluation.specs.Partial.{Answer, Evaluated, ResidualTree, Failed, AllEvaluated, LeafAnswers, and_next, apply_answer, partial_in}
 use Rattle.cedar_partial_evaluation.specs.Question.{held_names}
-use Rattle.cedar_world.specs.Bodies.{named, holds_call}
-use Rattle.cedar_world.specs.Functions.{is_the_unknown}
+use Rattle.cedar_grammar.specs.UnknownCalls.{named, holds_call}
+use Rattle.cedar_grammar.specs.Functions.{is_the_unknown}
 use Rattle.cedar_extensions.specs.Giving.{GivesBy}
 use Rattle.cedar_extensions.specs.declared.evaluation_error.EvaluationError.{EvaluationError}
 pub use Rattle.cedar_extensions.specs.Table.{Table, HasFunctions}

@@ -11,7 +11,7 @@ use Rattle.cedar_language.specs.Operators.{called}
 use Rattle.cedar_language.specs.Restricted.{is_restricted}
 use Rattle.cedar_partial_evaluation.specs.Partial.{Evaluated, ResidualTree, Failed, SomeFailed}
 use Rattle.cedar_grammar.specs.Build.{trees}
-use Rattle.cedar_world.specs.Functions.{is_the_unknown}
+use Rattle.cedar_grammar.specs.Functions.{is_the_unknown}
 use Rattle.cedar_extensions.specs.Giving.{GivesBy}
 use Rattle.cedar_extensions.specs.declared.evaluation_error.EvaluationError.{EvaluationError}
 use Rattle.cedar_extensions.specs.Table.{Table}

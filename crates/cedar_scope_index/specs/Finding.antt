@@ -6,7 +6,7 @@ use Rattle.std.specs.Option.{option_map_or}
 use Rattle.cedar_language.specs.Uid.{Uid}
 use Rattle.cedar_language.specs.Order.{same_uid}
 use Rattle.cedar_grammar.specs.Policy.{Policy}
-use Rattle.cedar_world.specs.Syntax.{Bindings}
+use Rattle.cedar_grammar.specs.Bindings.{Bindings}
 use Rattle.cedar_scope_index.specs.Naming.{named, is_settled, named_action}
 use Rattle.cedar_scope_index.specs.declared.positions.Positions.{Positions}
 use Rattle.cedar_scope_index.specs.declared.index.ScopeIndex.{ScopeIndex}

@@ -2,7 +2,7 @@
 use Rattle.std.specs.Prelude.{◌≡◌, ⊤, true, Option, Some}
 use Rattle.cedar_language.specs.Uid.{Uid}
 use Rattle.cedar_grammar.specs.Policy.{Policy, Constraint}
-use Rattle.cedar_world.specs.Syntax.{Bindings}
+use Rattle.cedar_grammar.specs.Bindings.{Bindings}
 use Rattle.cedar_scope_index.specs.Naming.{named, is_settled, named_action}
 use Rattle.cedar_scope_index.specs.declared.keys.Asked.{Asked}
 use Rattle.cedar_scope_index.specs.declared.keys.Asked.TheVariants.{Equal, Within, Unnamed, Open}

@@ -1,7 +1,7 @@
 // The index of scopes.
 ghost use Rattle.std.specs.Prelude.{◌≡◌, ◌+◌, ◌<◌, ◌^◌, [], ◌∷◌, ◌++◌, OnOk, OnErr};
 ghost use Rattle.cedar_grammar.specs.Policy.{Policy as PolicySyntax};
-ghost use Rattle.cedar_world.specs.Syntax.{Bindings};
+ghost use Rattle.cedar_grammar.specs.Bindings.{Bindings};
 ghost use Rattle.cedar_policies.specs.Policies.{bindings_of, policy_syntax};
 ghost use Rattle.cedar_scope_index.specs.Finding.{IsFound, KeepsFound, covered, others_of};
 ghost use Rattle.cedar_scope_index.specs.Keys.{IsKey};

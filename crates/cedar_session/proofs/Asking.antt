@@ -26,7 +26,7 @@ use Rattle.cedar_replies.specs.declared.refusal.Refusal.{Refusal}
 use Rattle.cedar_replies.specs.declared.refusal.Refusal.TheVariants.{Text, Depth, NotRestricted, Shape, Evaluation, BadUnknown, Memory}
 use Rattle.cedar_replies.specs.Refusals.{refusal_of}
 use Rattle.cedar_replies.specs.Replies.{answer_of}
-use Rattle.cedar_texts.specs.Reading.{ReadsBody}
+use Rattle.cedar_session.specs.TextReading.{ReadsBody}
 use Rattle.cedar_asking.specs.Bodies.{AsksBody}
 use Rattle.cedar_asking.specs.Responses.{AnswersAsked}
 use Rattle.cedar_asking.specs.Tells.{told_in}

@@ -21,7 +21,7 @@ use Rattle.cedar_replies.specs.declared.refusal.Refusal.{Refusal}
 use Rattle.cedar_replies.specs.declared.refusal.Refusal.TheVariants.{Text, Depth, NotRestricted, Shape, Evaluation, NotAValue, Duplicate, Cycle, Memory}
 use Rattle.cedar_replies.specs.Refusals.{refusal_of}
 use Rattle.cedar_held.specs.EntityEdits.{AreFine, PutsBody, AddsBody, RemovesBody}
-use Rattle.cedar_texts.specs.Reading.{ReadsBody}
+use Rattle.cedar_session.specs.TextReading.{ReadsBody}
 
 pub not_both : (b : Bool) → b ≡ false → b ≡ true → ⊥
 not_both b f t = true≢false (sym t ∙ f)

@@ -22,12 +22,12 @@ use Rattle.cedar_world.specs.Session.{Command, IsReached}
 use Rattle.cedar_world.specs.Setting.{Setting, IsBodyWithin, IsBody, BodiesAreOne}
 use Rattle.cedar_world.specs.Step.{Step, IsLaterAnswer, opens}
 use Rattle.cedar_world.specs.World.{World, Policies, Entities}
-use Rattle.cedar_telling.specs.Lookups.{IsAskedBy, AnswersErrOrdinarily}
+use Rattle.cedar_world.specs.Lookups.{IsAskedBy, AnswersErrOrdinarily}
 use Rattle.cedar_world.proofs.Parts.{not_none}
 use Rattle.cedar_asking.specs.Answering.{AreOf}
 use Rattle.cedar_asking.specs.Answers.{IsSettingOf}
-use Rattle.cedar_bodies.specs.Built.{HoldBuilt}
-use Rattle.cedar_entities.specs.Shown.{Shows}
+use Rattle.cedar_held.specs.Built.{HoldBuilt}
+use Rattle.cedar_held.specs.Shown.{Shows}
 use Rattle.cedar_entities.specs.Store.{held_at, is_partial_store, IsClosed}
 use Rattle.cedar_asking.specs.Keeping.{AreTold, KeepsQuestion}
 use Rattle.cedar_asking.specs.Responses.{AnswersTold}

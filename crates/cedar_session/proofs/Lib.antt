@@ -1,3 +1,7 @@
+mod Bodies
+mod Callers
+mod Readings
+mod Unknowns
 pub mod Asking
 pub mod Telling
 pub mod Untyped
@@ -8,3 +12,4 @@ pub mod Statuses
 pub mod Texts
 pub mod Edits
 pub mod PolicyCommands
+pub mod ReadBack

@@ -18,7 +18,7 @@ use Rattle.cedar_replies.specs.declared.refusal.Refusal.TheVariants.{Text, Depth
 use Rattle.cedar_replies.specs.Refusals.{refusal_of}
 use Rattle.cedar_held.specs.PolicyEdits.{Edits, LinksBody}
 use Rattle.cedar_session.specs.Reading.{ReadsId, IsValueBody}
-use Rattle.cedar_texts.specs.Reading.{ReadsBody}
+use Rattle.cedar_session.specs.TextReading.{ReadsBody}
 
 -- the world refuses so, or there was no memory
 abbrev pub MayBe : (commands.Refusal → Type 0) → Refusal → Type 0

@@ -21,7 +21,7 @@ use Rattle.cedar_asking.specs.Tells.{TellsBody, TellMore, are_of_other_kinds}
 use Rattle.cedar_replies.specs.declared.refusal.Refusal.{Refusal}
 use Rattle.cedar_replies.specs.declared.refusal.Refusal.TheVariants.{Text, Depth, NotRestricted, Shape, Evaluation, NotAValue, NoSuchUnknown, AlreadyTold, WrongKind, Memory}
 use Rattle.cedar_replies.specs.Refusals.{refusal_of}
-use Rattle.cedar_texts.specs.Reading.{ReadsBody}
+use Rattle.cedar_session.specs.TextReading.{ReadsBody}
 use Rattle.cedar_session.proofs.Edits.{not_both}
 
 -- where no question is open

@@ -3,10 +3,10 @@ use Rattle.std.proofs.Common.{◌≡◌, ◌≤◌, false, cond, ◌∙◌, ℕ,
 use Rattle.cedar_language.specs.Uid as uid
 use Rattle.cedar_language.specs.Tree.{Tree}
 use Rattle.cedar_language.specs.Height.{height}
-use Rattle.cedar_world.specs.Syntax.{PolicySyntax}
+use Rattle.cedar_grammar.specs.Syntax.{PolicySyntax}
 use Rattle.cedar_world.specs.World.{World, Policies}
 use Rattle.cedar_world.specs.PolicyEdits.{Loads}
-use Rattle.cedar_world.specs.Bodies.{holds_call}
+use Rattle.cedar_grammar.specs.UnknownCalls.{holds_call}
 use Rattle.cedar_world.specs.Setting.{Setting, ArePoliciesWithin, PoliciesAreOne, IsBodyWithin}
 use Rattle.cedar_world.specs.Commands as commands
 use Rattle.cedar_world.specs.Commands.{Load, Named, Refused}
@@ -15,17 +15,17 @@ use Rattle.cedar_world.proofs.LoadAndAsk.{load_lacks_memory, load_is_no_text, lo
 use Rattle.cedar_replies.specs.declared.refusal.Refusal.{Refusal}
 use Rattle.cedar_replies.specs.declared.refusal.Refusal.TheVariants.{Text, Depth, Memory}
 use Rattle.cedar_replies.specs.Refusals.{refusal_of}
-use Rattle.cedar_texts.specs.PolicyReading.{ReadsPolicies}
-use Rattle.cedar_texts.specs.Reading.{IsLowBody}
-use Rattle.cedar_texts.specs.Settings.{setting_with}
+use Rattle.cedar_session.specs.PolicyReading.{ReadsPolicies}
+use Rattle.cedar_session.specs.TextReading.{IsLowBody}
+use Rattle.cedar_session.specs.Settings.{setting_with}
 use Rattle.cedar_language.specs.Constructing.{is_the_constructor, constructor_function}
-use Rattle.cedar_world.specs.Functions.{function_of}
+use Rattle.cedar_grammar.specs.Functions.{function_of}
 use Rattle.cedar_extensions.specs.Answering.{FunctionAnswers}
 use Rattle.cedar_extensions.specs.Defining.{defined}
 use Rattle.cedar_extensions.specs.Table.{as_table}
 use Rattle.cedar_extensions.specs.Tables.{functions_in, holds_unknown, function_called}
 use Rattle.cedar_extensions.specs.declared.extensions.Extensions.{Extensions}
-use Rattle.cedar_bodies.specs.Fields.{Serves}
+use Rattle.cedar_held.specs.Fields.{Serves}
 
 -- ---- steps
 

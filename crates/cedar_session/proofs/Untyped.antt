@@ -8,8 +8,9 @@ use Rattle.cedar_language.specs.Tree.{ValueType, String, Operator, MakeRecord, C
 use Rattle.cedar_partial_evaluation.specs.Unknowns.{EachUnknown, EachUnknownOf}
 use Rattle.cedar_grammar.specs.Calls.{calls_none_but, calls_only, all_call_only}
 use Rattle.cedar_world.specs.Asking.{Part, Entries, NoContext, WithEntries, Question}
-use Rattle.cedar_world.specs.Bodies.{Fields, zipped, found, if_there, entries_of, unknown_or, named_call, named, all_named, question_with, question_fields, question_keys, are_among, ask_body}
-use Rattle.cedar_world.specs.Functions.{is_the_unknown}
+use Rattle.cedar_grammar.specs.UnknownCalls.{unknown_or, named_call, named, all_named}
+use Rattle.cedar_world.specs.Bodies.{Fields, zipped, found, if_there, entries_of, question_with, question_fields, question_keys, are_among, ask_body}
+use Rattle.cedar_grammar.specs.Functions.{is_the_unknown}
 use Rattle.cedar_world.specs.Orders.{text_eq}
 use Rattle.cedar_world.proofs.Parts.{same_some}
 use Rattle.cedar_asking.specs.Keeping.{StatesNoTypes}

@@ -1,3 +1,7 @@
+pub mod Settings
+pub mod Told
+pub mod TextReading
+pub mod PolicyReading
 pub mod Commands
 pub mod Open
 pub mod OrdinaryErrors
@@ -5,3 +9,4 @@ pub mod Programs
 pub mod Reading
 pub mod Running
 pub mod Sessions
+pub mod InMemory

@@ -7,7 +7,7 @@ use Rattle.cedar_world.specs.Session.{Command, IsReached}
 use Rattle.cedar_world.specs.Setting.{Setting}
 use Rattle.cedar_world.specs.World.{World}
 use Rattle.cedar_frames.specs.declared.verb.Verb.{Verb}
-use Rattle.cedar_telling.specs.Lookups.{ClausesHoldNoSlot, NamesOrdinaryErrors, NamesFoundErrors}
+use Rattle.cedar_world.specs.Lookups.{ClausesHoldNoSlot, NamesOrdinaryErrors, NamesFoundErrors}
 
 -- an answer to a question that is asked, in a world to which commands lead
 abbrev pub AnswersOrdinarily : Setting → World → Answer → Type 0

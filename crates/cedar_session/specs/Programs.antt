@@ -8,7 +8,7 @@ use Rattle.cedar_extensions.specs.Lookups.{IsUnknownAlone}
 use Rattle.cedar_extensions.specs.Tables.{functions_in}
 use Rattle.cedar_extensions.specs.declared.extensions.Extensions.{Extensions}
 use Rattle.cedar_extensions.specs.declared.objects.NoFunction.{NoFunction}
-use Rattle.cedar_texts.specs.Settings.{setting_with}
+use Rattle.cedar_session.specs.Settings.{setting_with}
 use Rattle.cedar_world.specs.RunText.{RunText, TextBeforeFailure, TextCutShort}
 use Rattle.cedar_world.specs.Setting.{Setting}
 use Rattle.cedar_world.specs.World.{World, new_world}

@@ -9,7 +9,7 @@ use Rattle.cedar_world.specs.Bodies.{is_restricted, string_of}
 use Rattle.cedar_world.specs.Setting.{Setting}
 use Rattle.cedar_replies.specs.declared.refusal.Refusal.{Refusal}
 use Rattle.cedar_replies.specs.declared.refusal.Refusal.TheVariants.{Shape}
-use Rattle.cedar_texts.specs.Reading.{IsLowBody, ReadsBody}
+use Rattle.cedar_session.specs.TextReading.{IsLowBody, ReadsBody}
 
 -- the text is a body that may hold no more than values and calls, and that says this
 abbrev pub IsValueBody : Setting → uid.Text → (Tree → Type 0) → Type 0

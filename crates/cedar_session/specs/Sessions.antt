@@ -7,7 +7,7 @@ use Rattle.cedar_restricted.specs.Views.{restricted_tree}
 use Rattle.cedar_world.specs.World as world
 use Rattle.cedar_world.specs.World.{World}
 use Rattle.cedar_extensions.specs.declared.objects.ExtensionFunctionObject.{Ghosts}
-use Rattle.cedar_texts.specs.Settings.{setting_with}
+use Rattle.cedar_session.specs.Settings.{setting_with}
 use Rattle.cedar_world.specs.Setting.{Setting}
 use Rattle.cedar_world.specs.Commands as commands
 use Rattle.cedar_replies.specs.declared.answer.Answer.{Answer}

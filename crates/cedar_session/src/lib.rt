@@ -11,7 +11,11 @@ mod asked;
 mod command;
 mod entry;
 mod finishing;
+mod in_memory;
 mod naming;
+mod policy_reading;
+mod reading;
+mod refusals;
 mod running;
 mod session;
 
@@ -21,5 +25,6 @@ pub use cedar_policy_parts::{Decision, PolicyID};
 pub use cedar_replies::{Answer, Erring, ErrorKind, PolicyIds, Refusal, Reply, put_line};
 pub use command::Command;
 pub use entry::program;
+pub use in_memory::{Outcome, run_input};
 pub use running::{End, RunError, run};
 pub use session::Session;

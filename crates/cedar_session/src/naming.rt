@@ -1,12 +1,12 @@
 // The id that a body states.
-ghost use Rattle.cedar_texts.specs.Settings.{setting_with};
+ghost use Rattle.cedar_session.specs.Settings.{setting_with};
 ghost use Rattle.cedar_session.specs.Reading.{ReadsId};
 
-use cedar_bodies::string_of;
+use crate::reading::read_body;
 use cedar_extensions::extensions::Extensions;
 use cedar_extensions::objects::ExtensionFunctionObject;
+use cedar_held::string_of;
 use cedar_replies::Refusal;
-use cedar_texts::read_body;
 use std::alloc::Global;
 use std::rc::RcStr;
 

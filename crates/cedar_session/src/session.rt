@@ -6,19 +6,19 @@ ghost use Rattle.cedar_replies.specs.Replies.{answer_of, reply_of};
 ghost use Rattle.cedar_session.specs.Commands.{command_verb, command_text};
 ghost use Rattle.cedar_session.specs.Open.{KeepsOpen};
 ghost use Rattle.cedar_session.specs.OrdinaryErrors.{AnswersOrdinarily, AnswersToldOrdinarily, RepliesOrdinarily};
-ghost use Rattle.cedar_texts.specs.Settings.{setting_with};
+ghost use Rattle.cedar_session.specs.Settings.{setting_with};
 
 use crate::asked::{Asked, close, go_on};
 use crate::command::Command;
 use crate::naming::read_id;
+use crate::policy_reading::read_policies;
+use crate::reading::read_body;
 use cedar_asking::{answer, answer_told, request_of, told_by};
-use cedar_bodies::link_body;
 use cedar_extensions::extensions::Extensions;
 use cedar_extensions::objects::{ExtensionFunctionObject, NoFunction};
-use cedar_held::{HeldEntities, HeldPolicies};
+use cedar_held::{HeldEntities, HeldPolicies, link_body};
 use cedar_policy_parts::PolicyID;
 use cedar_replies::{Answer, Refusal, Reply};
-use cedar_texts::{read_body, read_policies};
 use std::alloc::Global;
 use std::collections::HashMap;
 
@@ -295,7 +295,7 @@ impl<'e, 'f, F: ExtensionFunctionObject> Session<'e, 'f, F> {
     {
         cedar_world::texts_are_one();
         cedar_world::calls_are_found();
-        cedar_telling::answers_err_ordinarily();
+        cedar_world::telling::answers_err_ordinarily();
         self.extensions.names_are_defined();
         let body = read_body(self.allocator, text, self.extensions, self.depth)?;
         let request = request_of(self.allocator, &body, self.extensions, self.depth)?;
@@ -345,7 +345,7 @@ impl<'e, 'f, F: ExtensionFunctionObject> Session<'e, 'f, F> {
     {
         cedar_world::texts_are_one();
         cedar_world::answers_read_what_is_in_force();
-        cedar_telling::answers_err_ordinarily();
+        cedar_world::telling::answers_err_ordinarily();
         cedar_asking::more_is_told();
         self.extensions.names_are_defined();
         let Some(asked) = &self.asked else {

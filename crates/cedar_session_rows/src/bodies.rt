@@ -1,6 +1,6 @@
 // Trees that are put on a stack, and what the one on its top says as the body of a command.
 use crate::ranks::Ranks;
-use cedar_bodies::{
+use cedar_held::{
     AskBody, AskedPart, EntityBody, ask_body, entity_bodies, listed_entities, uids_of,
 };
 use cedar_entities::entity::Entity;

@@ -3,7 +3,7 @@ use crate::devices::{Asking, Broken, Drip, Hearing, Narrow};
 use crate::ranks::Ranks;
 use crate::words::{bytes, one_line};
 use cedar_rows::{Answer, cut, number};
-use cedar_session::{End, RunError, Session, Watched, program, run};
+use cedar_session::{End, RunError, Session, Watched, program, run, run_input};
 use std::alloc::{AllocError, Global};
 use std::cell::Cell;
 use std::io::{Read, Write};
@@ -118,13 +118,17 @@ fn status_told(alloc: Global, status: u8, written: &[u8], errors: &[u8]) -> Answ
     format!(in alloc; "{status}|{written}|{errors}")
 }
 
-/// The program's work with so many arguments; or with none, at a writer that has room for so many bytes,
-/// and at a reader that breaks behind its bytes or does not.
+/// The program's work with so many arguments; or with none, over an input in memory, or at a writer that has room
+/// for so many bytes and at a reader that breaks behind its bytes or does not.
 pub(crate) fn of_program(alloc: Global, text: &str) -> Answer {
     let (device, text) = cut(text);
     let (count, text) = cut(text);
     let given = bytes(alloc, text)?;
     let mut errors = Vec::new(alloc);
+    if device == "memory" {
+        let outcome = run_input(alloc, given.as_slice())?;
+        return status_told(alloc, outcome.status, outcome.text.as_slice(), errors.as_slice());
+    }
     if device == "whole" {
         let mut written = Vec::new(alloc);
         let given = given.as_slice();

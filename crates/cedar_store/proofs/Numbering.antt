@@ -10,7 +10,7 @@ use Rattle.std.proofs.lemmas.Map.Entries.{length-keys_of}
 use Rattle.std.proofs.lemmas.Map.Made.{is_some-lookup, IsDistinct-keys_filter}
 use Rattle.cedar_language.specs.Uid.{Text}
 use Rattle.cedar_language.specs.Order.{same_text}
-use Rattle.cedar_world.specs.PolicyEdits.{numbered}
+use Rattle.cedar_grammar.specs.Syntax.{numbered}
 use Rattle.cedar_policy_set.specs.Entries.{Entry, Entries, bound_at, is_bound}
 use Rattle.cedar_policy_set.specs.EntryNodes.{same_entry}
 use Rattle.cedar_policy_set.proofs.Distinct.{distinct_apart}

@@ -8,7 +8,7 @@ use Rattle.std.proofs.lemmas.List.{append_cancel_left}
 use Rattle.std.proofs.lemmas.Map.Made.{length-le_from_is_member}
 use Rattle.cedar_language.specs.Uid.{Text}
 use Rattle.cedar_language.specs.Order.{same_text}
-use Rattle.cedar_world.specs.PolicyEdits.{numbered}
+use Rattle.cedar_grammar.specs.Syntax.{numbered}
 use Rattle.cedar_policy_set.specs.Entries.{Entries}
 use Rattle.cedar_policy_set.proofs.Finding.{same_id, id_apart}
 use Rattle.cedar_store.specs.Renaming.{is_taken}

@@ -5,7 +5,7 @@ use Rattle.std.specs.Set.{is_member}
 use Rattle.std.proofs.lemmas.Map.Made.{is_some-lookup}
 use Rattle.cedar_language.specs.Uid.{Text}
 use Rattle.cedar_language.specs.Order.{same_text}
-use Rattle.cedar_world.specs.PolicyEdits.{numbered}
+use Rattle.cedar_grammar.specs.Syntax.{numbered}
 use Rattle.cedar_policy_set.specs.Entries.{Entry, Entries, is_bound}
 use Rattle.cedar_policy_set.proofs.Finding.{same_id, id_apart, or_right}
 use Rattle.cedar_store.specs.Renaming.{NewIds, is_taken, conflicting, Numbers, IsRenaming, IsNextFree, new_id}

@@ -11,7 +11,6 @@ pub use Rattle.cedar_entities.specs.Store
 pub use Rattle.cedar_entities.specs.Evaluated
 pub use Rattle.cedar_entities.specs.Calls
 pub use Rattle.cedar_entities.specs.Validated as ValidatedCalls
-pub use Rattle.cedar_entities.specs.Shown
 pub use Rattle.cedar_policy_parts.specs.Effects
 pub use Rattle.cedar_policy_parts.specs.Annotations
 pub use Rattle.cedar_policy_parts.specs.Actions
@@ -28,9 +27,7 @@ pub use Rattle.cedar_policy_set.specs.Bounds
 pub use Rattle.cedar_policy_set.specs.Entries
 pub use Rattle.cedar_policy_set.specs.Texts
 pub use Rattle.cedar_policy_set.specs.Validated
-pub use Rattle.cedar_policy_set.specs.Worlds
 pub mod Renaming
 pub mod Room
 pub mod Merged
 pub mod Laws
-pub mod Loading

@@ -5,7 +5,7 @@ use Rattle.std.specs.Map.{lookup, keys_of}
 use Rattle.std.specs.Option.{option_map_or}
 use Rattle.cedar_language.specs.Uid.{Text}
 use Rattle.cedar_language.specs.Order.{same_text}
-use Rattle.cedar_world.specs.PolicyEdits.{numbered}
+use Rattle.cedar_grammar.specs.Syntax.{numbered}
 use Rattle.cedar_policy_set.specs.Entries.{Entry, static_policy, template, link, Entries, bound_at, is_bound}
 use Rattle.cedar_policy_set.specs.EntryNodes.{same_entry}
 

@@ -2,7 +2,7 @@
 ghost use Rattle.std.specs.Prelude.{◌≡◌, ◌-◌, ◌^◌, ◌<◌, ◌++◌, [], ◌∷◌, IfNone, IfOk, IfSome, None, OnOk};
 ghost use Rattle.std.specs.Map.{lookup};
 ghost use Rattle.cedar_language.specs.Order.{same_text};
-ghost use Rattle.cedar_world.specs.PolicyEdits.{numbered};
+ghost use Rattle.cedar_grammar.specs.Syntax.{numbered};
 ghost use Rattle.cedar_policy_set.specs.Bounds.{bound_id, entry_of};
 ghost use Rattle.cedar_store.specs.Renaming.{IsNextFree, IsRenaming, conflicts, new_id};
 ghost use Rattle.cedar_store.specs.Room.{HasRoom};

@@ -12,8 +12,8 @@ use Rattle.cedar_partial_evaluation.specs.Settling.{Settling, Open, Errs, Is, Se
 use Rattle.cedar_partial_evaluation.specs.Fair.{IsOfType}
 use Rattle.cedar_partial_evaluation.specs.Mentions.{mentions_only, all_mention_only}
 use Rattle.cedar_partial_evaluation.specs.Unknowns.{types_differ, EachUnknown, EachUnknownOf}
-use Rattle.cedar_world.proofs.Lists.{and_left, and_right}
-use Rattle.cedar_world.proofs.Scope.{entity_equal}
+use Rattle.cedar_language.proofs.Booleans.{and_left, and_right}
+use Rattle.cedar_partial_evaluation.proofs.Scopes.{entity_equal}
 
 -- where something is settled it is the result, kinds of errors aside
 abbrev pub Agrees : Settling → Outcome → Type 0

@@ -11,7 +11,7 @@ use Rattle.cedar_world.specs.Asking.{Question, Told}
 use Rattle.cedar_world.specs.Setting.{Setting}
 use Rattle.cedar_world.specs.Answers.{judge, answer_of, known_answer, IsKnownAnswer, IsDecided, IsOut, AllOut, SomeHolds, SaysDecided, SaysKinds, IsFair, NamesNoGhosts, IsPromptButKinds}
 use Rattle.cedar_world.specs.LinkLaws.{LinkingIsWriting}
-use Rattle.cedar_world.specs.Syntax.{linked}
+use Rattle.cedar_grammar.specs.Bindings.{linked}
 use Rattle.cedar_world.specs.Step.{IsFirstAnswer, IsLaterAnswer}
 use Rattle.cedar_world.specs.InForce.{AreAlike, AnswerAlike, AnswersReadWhatIsInForce, LinksAreAnsweredAsWritten}
 use Rattle.cedar_world.proofs.InForce.{listed, found_in_force, one_list}

@@ -14,10 +14,10 @@ use Rattle.cedar_partial_evaluation.specs.Partial.{found_tree}
 use Rattle.cedar_partial_evaluation.specs.Question.{settled_names, only_value, entry_settled, has_settled, are_simple, context_settled, in_context, has_in_context, settled_of}
 use Rattle.cedar_world.specs.Asking.{Entries, NoContext, WithEntries, Question, Told}
 use Rattle.cedar_world.specs.Bodies.{is_restricted, are_restricted}
-use Rattle.cedar_world.specs.Functions.{Functions}
+use Rattle.cedar_grammar.specs.Functions.{Functions}
 use Rattle.cedar_world.specs.Setting.{Setting, functions_alone, value_of}
 use Rattle.cedar_world.specs.First.{IsData}
-use Rattle.cedar_world.proofs.Lists.{and_left, and_right}
+use Rattle.cedar_language.proofs.Booleans.{and_left, and_right}
 use Rattle.cedar_world.proofs.Agreeing.{Agrees, LeavesAgree, IsTold, each_passes, tree_agrees}
 use Rattle.cedar_world.proofs.Errors.{context_entry}
 

@@ -20,7 +20,7 @@ use Rattle.cedar_partial_evaluation.specs.Mentions.{mentions_only, is_known, Nam
 use Rattle.cedar_partial_evaluation.specs.Early.{standing_of_answer}
 use Rattle.cedar_partial_evaluation.specs.Leaves.{MentionedIsMeant}
 use Rattle.cedar_world.specs.Orders.{text_cmp}
-use Rattle.cedar_world.specs.Syntax.{PolicySyntax, condition}
+use Rattle.cedar_grammar.specs.Syntax.{PolicySyntax, condition}
 use Rattle.cedar_world.specs.World.{World, in_force_at}
 use Rattle.cedar_world.specs.Asking.{Entries, NoContext, WithEntries, Question, Told}
 use Rattle.cedar_world.specs.Question.{IsKnown}
@@ -29,7 +29,7 @@ use Rattle.cedar_world.specs.Setting.{Setting, functions_alone, means, Settles}
 use Rattle.cedar_world.specs.Standing.{StandsEarly}
 use Rattle.cedar_world.specs.WorldFacts.{AreFactsOf}
 use Rattle.cedar_world.specs.First.{IsData, NamesNoUnknown, EarlyAnswersStand}
-use Rattle.cedar_world.proofs.Lists.{and_left, and_right}
+use Rattle.cedar_language.proofs.Booleans.{and_left, and_right}
 use Rattle.cedar_world.proofs.Parts.{not_none}
 use Rattle.cedar_world.proofs.Leaves.{all_known}
 use Rattle.cedar_world.proofs.Standings.{Becomes, comes_itself, settled_as}

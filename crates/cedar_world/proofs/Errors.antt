@@ -10,7 +10,7 @@ use Rattle.cedar_language.specs.Meaning.{Request, GivesAll, OneFails, slot_outco
 use Rattle.cedar_partial_evaluation.specs.Settling.{Settling, Open, Errs, Is, Settlings, SomeErrs, AllAre, boolean, and_settled, or_settled, if_settled, and_more, LeafSettlings, or_entry, or_type, settled_in, all_settled_in, types_in}
 use Rattle.cedar_partial_evaluation.specs.Prompt.{ErrsAs, unbound, and_left, and_right, and_left_type, and_right_type, or_left, or_right, or_left_type, or_right_type, if_test, if_type, if_then, if_else, operands, operator, no_entry, FirstErrsAs, here, behind_value, behind_open, behind_erring}
 use Rattle.cedar_partial_evaluation.specs.Mentions.{mentions_only, all_mention_only}
-use Rattle.cedar_world.proofs.Lists as lists
+use Rattle.cedar_language.proofs.Booleans as booleans
 use Rattle.cedar_world.proofs.Agreeing.{LeavesAgree, IsTold, none_stands, none_stand, tree_agrees, trees_agree}
 
 -- ---- what is not Boolean
@@ -115,22 +115,22 @@ module _ (facts : Facts) (around : LeafSettlings) (request : Request) (everywher
   all_give ts vs c e = rw e at (trees_agree facts around request leaves ts (none_stand (IsTold around) known true ts c))
 
   first_of_two : (a b : Tree) → (mentions_only known true a && mentions_only known true b) ≡ true → Closed a
-  first_of_two a b c = lists.and_left (mentions_only known true a) _ c
+  first_of_two a b c = booleans.and_left (mentions_only known true a) _ c
 
   second_of_two : (a b : Tree) → (mentions_only known true a && mentions_only known true b) ≡ true → Closed b
-  second_of_two a b c = lists.and_right (mentions_only known true a) _ c
+  second_of_two a b c = booleans.and_right (mentions_only known true a) _ c
 
   first_closed : (t : Tree) (ts : Trees) → AllClosed (a_tree t ts) → Closed t
-  first_closed t ts c = lists.and_left (mentions_only known true t) _ c
+  first_closed t ts c = booleans.and_left (mentions_only known true t) _ c
 
   later_closed : (t : Tree) (ts : Trees) → AllClosed (a_tree t ts) → AllClosed ts
-  later_closed t ts c = lists.and_right (mentions_only known true t) _ c
+  later_closed t ts c = booleans.and_right (mentions_only known true t) _ c
 
   test_closed : (t y n : Tree) → Closed (If t y n) → Closed t
-  test_closed t y n c = lists.and_left (mentions_only known true t) _ c
+  test_closed t y n c = booleans.and_left (mentions_only known true t) _ c
 
   branches_closed : (t y n : Tree) → Closed (If t y n) → (mentions_only known true y && mentions_only known true n) ≡ true
-  branches_closed t y n c = lists.and_right (mentions_only known true t) _ c
+  branches_closed t y n c = booleans.and_right (mentions_only known true t) _ c
 
   mutual
     pub fails : {t : Tree} {k : Kind} → ErrsAs facts around everywhere t k → Closed t → meaning facts request t ≡ Fails k

@@ -8,7 +8,7 @@ use Rattle.cedar_language.specs.Answering as rules
 use Rattle.cedar_language.specs.Answering.{Standing, Judged, is_reason, in_must, in_may}
 use Rattle.cedar_language.specs.Authorization.{Known}
 use Rattle.cedar_partial_evaluation.specs.Filling as early
-use Rattle.cedar_world.specs.Syntax.{PolicySyntax}
+use Rattle.cedar_grammar.specs.Syntax.{PolicySyntax}
 use Rattle.cedar_world.specs.Answer.{Answer}
 use Rattle.cedar_world.specs.World.{World}
 use Rattle.cedar_world.specs.Asking.{Question, Told}

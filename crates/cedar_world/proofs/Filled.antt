@@ -7,7 +7,7 @@ use Rattle.cedar_language.specs.Answering.{Standing, Unsatisfied, is_residual, J
 use Rattle.cedar_language.specs.Authorization.{Known, standing_of}
 use Rattle.cedar_language.proofs.Answering.{rules_are_fair}
 use Rattle.cedar_partial_evaluation.specs.Filling as early
-use Rattle.cedar_world.specs.Syntax.{PolicySyntax, condition}
+use Rattle.cedar_grammar.specs.Syntax.{PolicySyntax, condition}
 use Rattle.cedar_world.specs.World.{World, in_force, in_force_at}
 use Rattle.cedar_world.specs.Asking.{Question, Told}
 use Rattle.cedar_world.specs.Setting.{Setting, functions_alone, means}

@@ -6,7 +6,7 @@ use Rattle.cedar_language.specs.Facts.{Facts}
 use Rattle.cedar_language.specs.Answering.{Standing, Erring, Judged}
 use Rattle.cedar_language.specs.Authorization.{standing_of}
 use Rattle.cedar_partial_evaluation.specs.Mentions.{KnownTreesSettle}
-use Rattle.cedar_world.specs.Syntax.{PolicySyntax, condition}
+use Rattle.cedar_grammar.specs.Syntax.{PolicySyntax, condition}
 use Rattle.cedar_world.specs.Answer.{Answer}
 use Rattle.cedar_world.specs.World.{World}
 use Rattle.cedar_world.specs.Asking.{Question}

@@ -10,7 +10,7 @@ use Rattle.cedar_language.specs.Authorization.{standing_of}
 use Rattle.cedar_grammar.specs.Build.{truth}
 use Rattle.cedar_world.specs.Orders.{text_cmp}
 use Rattle.cedar_world.specs.Answer.{Answer, ids_of, has_id}
-use Rattle.cedar_world.specs.Syntax.{PolicySyntax, condition}
+use Rattle.cedar_grammar.specs.Syntax.{PolicySyntax, condition}
 use Rattle.cedar_world.specs.World.{Bound, Policy, standing, in_force_as, in_force_at, new_world}
 use Rattle.cedar_world.specs.Asking.{Question, Told}
 use Rattle.cedar_world.specs.Question.{IsKnown}

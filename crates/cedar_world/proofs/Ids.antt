@@ -6,10 +6,10 @@ use Rattle.std.specs.FinMap.Entries.{find}
 use Rattle.cedar_language.specs.Uid.{Text}
 use Rattle.cedar_language.specs.Value.{Kind}
 use Rattle.cedar_language.specs.OrderLaws.{text_cmp_total, text_cmp_same}
-use Rattle.cedar_language.specs.Answering.{Standing, Satisfied, Unsatisfied, Erring, Residual, Judged, in_must, in_may, HasId, HasErred}
+use Rattle.cedar_language.specs.Answering.{Standing, Satisfied, Unsatisfied, Erring, Residual, Judged, in_must, in_may, HasId, HasErred, ids_with}
 use Rattle.cedar_world.specs.Orders.{text_cmp, text_eq, TextMap}
 use Rattle.cedar_world.specs.Answer.{Ids, ids_of, has_id}
-use Rattle.cedar_world.specs.Answers.{ids_with, erring_as, errors_of}
+use Rattle.cedar_world.specs.Answers.{erring_as, errors_of}
 use Rattle.cedar_world.specs.Standing.{answer_by, AnswersAreMade}
 use Rattle.cedar_world.proofs.Lists.{same_option, IsAmong, contained, contains, mapped, unmapped}
 use Rattle.cedar_world.proofs.InForce.{text_itself, entry_found}

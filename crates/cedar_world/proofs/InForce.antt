@@ -10,7 +10,7 @@ use Rattle.std.specs.FinMap.Entries.{find, below_all, is_sorted, same_entries}
 use Rattle.cedar_language.specs.Uid.{Text}
 use Rattle.cedar_language.specs.OrderLaws.{text_cmp_total, text_cmp_same}
 use Rattle.cedar_world.specs.Orders.{text_cmp, text_eq}
-use Rattle.cedar_world.specs.Syntax.{PolicySyntax}
+use Rattle.cedar_grammar.specs.Syntax.{PolicySyntax}
 use Rattle.cedar_world.specs.World.{World, Bound, Policies, standing_for, and_more, standing, in_force, in_force_as, in_force_at}
 use Rattle.cedar_world.specs.InForce.{AreInForce}
 use Rattle.cedar_world.proofs.Lists.{IsAmong, contained, contains, same_option}

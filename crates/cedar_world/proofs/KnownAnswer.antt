@@ -7,7 +7,7 @@ use Rattle.cedar_language.specs.Facts.{Facts}
 use Rattle.cedar_language.specs.Answering.{Standing, Erring, is_permit, is_residual, Judged, satisfied_forbid, satisfied_permit, residual_forbid, residual_permit, some, Allow, Deny, known_decision, is_reason, decision_by, decision, in_must, in_may}
 use Rattle.cedar_language.specs.Authorization.{Known}
 use Rattle.cedar_partial_evaluation.specs.Filling as early
-use Rattle.cedar_world.specs.Syntax.{PolicySyntax}
+use Rattle.cedar_grammar.specs.Syntax.{PolicySyntax}
 use Rattle.cedar_world.specs.Answer.{Answer}
 use Rattle.cedar_world.specs.World.{World, in_force, in_force_at}
 use Rattle.cedar_world.specs.Asking.{Question}
@@ -15,7 +15,8 @@ use Rattle.cedar_world.specs.Question.{IsKnown}
 use Rattle.cedar_world.specs.Setting.{Setting, functions_alone}
 use Rattle.cedar_world.specs.Answers.{judge, known_answer}
 use Rattle.cedar_world.specs.Standing.{Judges, Says}
-use Rattle.cedar_world.proofs.Lists.{or_false, IsAmong, mapped, unmapped, AreAlike, some_alike, not_some}
+use Rattle.cedar_language.proofs.Booleans.{or_false}
+use Rattle.cedar_world.proofs.Lists.{IsAmong, mapped, unmapped, AreAlike, some_alike, not_some}
 use Rattle.cedar_world.proofs.InForce.{listed_in_force}
 use Rattle.cedar_world.proofs.Ids.{the_value, HasPassed, passed, has_passed, with_id, id_with, same_ids, HasFailed, failed, has_failed, with_error, error_with, same_kinds}
 use Rattle.cedar_world.proofs.Ways.{IsSound}

@@ -12,15 +12,16 @@ use Rattle.cedar_grammar.specs.Calls.{calls_none_but, calls_only, all_call_only}
 use Rattle.cedar_grammar.specs.Laws.{LinkConditions}
 use Rattle.cedar_grammar.specs.Policy.{Policy, slots, condition}
 use Rattle.cedar_language.specs.Constructing.{is_the_constructor, constructor_function}
-use Rattle.cedar_world.specs.Functions.{function_of, is_the_unknown}
+use Rattle.cedar_grammar.specs.Functions.{function_of, is_the_unknown}
 use Rattle.cedar_world.specs.KnownKinds.{IsOrdinary, ErrsOrdinarily, TextsErrOrdinarily}
 use Rattle.cedar_world.specs.LinkLaws.{LinksAreStatic}
 use Rattle.cedar_world.specs.NameLaws.{is_answered, CallsAreFound}
 use Rattle.cedar_world.specs.Setting.{Setting}
-use Rattle.cedar_world.specs.Syntax.{binding_of, linked}
-use Rattle.cedar_world.proofs.Lists.{IsAmong, contained, and_left, and_right}
+use Rattle.cedar_grammar.specs.Bindings.{binding_of, linked}
+use Rattle.cedar_language.proofs.Booleans.{and_left, and_right}
+use Rattle.cedar_world.proofs.Lists.{IsAmong, contained}
 use Rattle.cedar_world.proofs.OrdinaryErrors.{applied_fine}
-use Rattle.cedar_world.proofs.Slots.{first_empty, second_empty, none_left, condition_free}
+use Rattle.cedar_grammar.proofs.HeldSlots.{first_empty, second_empty, none_left, condition_free}
 
 -- ---- lazy operators
 

@@ -20,7 +20,7 @@ use Rattle.cedar_world.specs.Question.{is_missing, has_name, IsKnown}
 use Rattle.cedar_world.specs.Bodies.{is_restricted, are_restricted, some_name, some_name_of}
 use Rattle.cedar_world.specs.Setting.{Setting, functions_alone, means}
 use Rattle.cedar_world.specs.First.{IsData}
-use Rattle.cedar_world.proofs.Lists.{and_left, and_right, and_both}
+use Rattle.cedar_language.proofs.Booleans.{and_left, and_right, and_both}
 use Rattle.cedar_world.proofs.InForce.{text_itself}
 use Rattle.cedar_world.proofs.Agreeing.{Agrees, LeavesAgree, IsTold, none_stands, tree_agrees}
 use Rattle.cedar_world.proofs.Errors.{fails}

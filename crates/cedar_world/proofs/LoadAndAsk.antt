@@ -4,7 +4,7 @@ use Rattle.std.specs.FinMap as map
 use Rattle.cedar_language.specs.Uid as uid
 use Rattle.cedar_language.specs.Tree.{Tree}
 use Rattle.cedar_language.specs.Height.{height}
-use Rattle.cedar_world.specs.Syntax.{PolicySyntax}
+use Rattle.cedar_grammar.specs.Syntax.{PolicySyntax}
 use Rattle.cedar_world.specs.Answer.{Answer}
 use Rattle.cedar_world.specs.World.{World, Policies}
 use Rattle.cedar_world.specs.PolicyEdits.{HaveRoom, own_ids, Names, joined, Loads}

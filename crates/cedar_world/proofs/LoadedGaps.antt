@@ -3,9 +3,9 @@ use Rattle.std.proofs.Common.{inl, inr, ◌++◌, List, sym, subst}
 use Rattle.cedar_language.specs.Uid as uid
 use Rattle.cedar_grammar.specs.Gaps.{AreReadAlike}
 use Rattle.cedar_grammar.specs.Laws.{GapsChangeNoText, WhiteTextsAreGaps}
-use Rattle.cedar_world.specs.Syntax.{PolicySyntax}
+use Rattle.cedar_grammar.specs.Syntax.{PolicySyntax}
 use Rattle.cedar_world.specs.World.{World}
-use Rattle.cedar_world.specs.Functions.{policy_names}
+use Rattle.cedar_grammar.specs.Functions.{policy_names}
 use Rattle.cedar_world.specs.Setting.{Setting, ArePolicies, PoliciesNestWithin}
 use Rattle.cedar_world.specs.Commands.{Load, Refusal, Text, Depth}
 use Rattle.cedar_world.specs.Refusals.{LoadStands, FirstOrDeep}

@@ -8,11 +8,11 @@ use Rattle.cedar_language.specs.Tree.{String, Operator, Call, Tree, Lit, Var, Sl
 use Rattle.cedar_language.specs.Facts.{Function}
 use Rattle.cedar_grammar.specs.Calls.{is_method, is_in_table, calls_none_but, calls_only, all_call_only, ExprsCallTheTable, ConditionsCallTheTable}
 use Rattle.cedar_grammar.specs.Names.{Names, is_text, is_name, is_among, is_function}
-use Rattle.cedar_world.specs.Functions.{CallStyle, as_function, as_method, NamedFunction, Functions, the_unknown, is_the_unknown, unknown_function, callers_functions, with_function, function_names, with_method, method_names, policy_names, body_names, first_named, function_of}
+use Rattle.cedar_grammar.specs.Functions.{CallStyle, as_function, as_method, NamedFunction, Functions, the_unknown, is_the_unknown, unknown_function, callers_functions, with_function, function_names, with_method, method_names, policy_names, body_names, first_named, function_of}
 use Rattle.cedar_partial_evaluation.specs.ReadUnknowns.{unknown_or_call, read_call, UnknownsAreRead}
-use Rattle.cedar_world.specs.Bodies.{unknown_or, named, all_named}
+use Rattle.cedar_grammar.specs.UnknownCalls.{unknown_or, named, all_named}
 use Rattle.cedar_world.specs.Setting.{Setting}
-use Rattle.cedar_world.specs.Syntax.{PolicySyntax, condition}
+use Rattle.cedar_grammar.specs.Syntax.{PolicySyntax, condition}
 use Rattle.cedar_world.specs.NameLaws.{NamesAreFound, NamesAreRead, is_answered, CallsAreFound}
 
 names_equiv : IsEquivalence is_name

@@ -9,8 +9,8 @@ use Rattle.cedar_grammar.specs.Grammar.{IsExpr}
 use Rattle.cedar_grammar.specs.Policies as policies
 use Rattle.cedar_grammar.specs.Nesting.{IsNestingOfPolicies, IsNestingOfExpr, loose_nesting, body_nesting}
 use Rattle.cedar_grammar.specs.Laws.{OneList, OneExpr, OnePolicies, ExprsGrow, PoliciesGrow}
-use Rattle.cedar_world.specs.Functions.{policy_names, body_names}
-use Rattle.cedar_world.specs.Syntax.{PolicySyntax}
+use Rattle.cedar_grammar.specs.Functions.{policy_names, body_names}
+use Rattle.cedar_grammar.specs.Syntax.{PolicySyntax}
 use Rattle.cedar_world.specs.Setting.{Setting, ArePolicies, PoliciesNestWithin, IsBody, BodyNestsWithin}
 use Rattle.cedar_world.specs.NestingLaws.{NestingIsLeast}
 use Rattle.cedar_world.proofs.Readings.{reads_once}

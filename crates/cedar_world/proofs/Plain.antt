@@ -14,7 +14,7 @@ use Rattle.cedar_language.specs.Operators.{is_within}
 use Rattle.cedar_language.specs.Answering.{Erring, Judged}
 use Rattle.cedar_language.specs.Authorization.{Known}
 use Rattle.cedar_partial_evaluation.specs.Mentions.{is_given, is_known, KnownTreesSettle}
-use Rattle.cedar_world.specs.Syntax.{PolicySyntax}
+use Rattle.cedar_grammar.specs.Syntax.{PolicySyntax}
 use Rattle.cedar_world.specs.World.{World, in_force_at}
 use Rattle.cedar_world.specs.Asking.{Part, Given, Missing, Entries, WithEntries, Question}
 use Rattle.cedar_world.specs.Setting.{Setting}

@@ -5,7 +5,7 @@ use Rattle.cedar_language.specs.Uid.{Text}
 use Rattle.cedar_language.specs.Value.{Kind}
 use Rattle.cedar_language.specs.Facts.{Facts}
 use Rattle.cedar_language.specs.Answering.{Effect, Permit, Forbid, Standing, Satisfied, Unsatisfied, Erring, Residual, is_permit, is_satisfied, is_residual, Judged, CountsForNothing, ComesTo, StillErrs, satisfied_forbid, satisfied_permit, residual_forbid, residual_permit, some, Allow, Deny, decision_by, in_must, in_may}
-use Rattle.cedar_world.specs.Syntax.{PolicySyntax}
+use Rattle.cedar_grammar.specs.Syntax.{PolicySyntax}
 use Rattle.cedar_world.specs.Answer.{Answer}
 use Rattle.cedar_world.specs.World.{World, in_force_at}
 use Rattle.cedar_world.specs.Asking.{Question}

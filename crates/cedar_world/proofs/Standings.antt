@@ -10,7 +10,7 @@ use Rattle.cedar_language.specs.Authorization.{Known, standing_of}
 use Rattle.cedar_partial_evaluation.specs.Settling.{Settling, Open, kindless}
 use Rattle.cedar_partial_evaluation.specs.Mentions.{mentions_only, is_known, KnownTreesSettle}
 use Rattle.cedar_partial_evaluation.specs.Filling as early
-use Rattle.cedar_world.specs.Syntax.{PolicySyntax, condition}
+use Rattle.cedar_grammar.specs.Syntax.{PolicySyntax, condition}
 use Rattle.cedar_world.specs.Asking.{Question, Told}
 use Rattle.cedar_world.specs.Setting.{Setting, functions_alone, means, Settles}
 use Rattle.cedar_world.specs.Standing.{settled_so_far, StandsSoFar, still_open, decided}

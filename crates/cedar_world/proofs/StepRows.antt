@@ -14,10 +14,10 @@ use Rattle.cedar_grammar.specs.ReadingPolicies as policies
 use Rattle.cedar_grammar.specs.ReadingPolicies.{read_policies}
 use Rattle.cedar_grammar.specs.Laws.{ReadsTokens, ReadsExprs, ReadsPolicies, OneList, OneExpr, OnePolicies}
 use Rattle.cedar_world.specs.Orders.{text_cmp}
-use Rattle.cedar_world.specs.Syntax.{PolicySyntax}
-use Rattle.cedar_world.specs.Functions.{Functions, policy_names, body_names}
+use Rattle.cedar_grammar.specs.Syntax.{PolicySyntax, numbered}
+use Rattle.cedar_grammar.specs.Functions.{Functions, policy_names, body_names}
 use Rattle.cedar_world.specs.World.{new_world}
-use Rattle.cedar_world.specs.PolicyEdits.{numbered, own_ids, joined}
+use Rattle.cedar_world.specs.PolicyEdits.{own_ids, joined}
 use Rattle.cedar_world.specs.Setting.{Setting, ArePoliciesWithin, ArePolicies, IsBodyWithin}
 use Rattle.cedar_frames.specs.Frames.{IsHeadLine, IsFrame}
 use Rattle.cedar_world.specs.Commands.{Load, Ask, Named, Answered}

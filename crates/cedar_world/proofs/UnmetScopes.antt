@@ -12,7 +12,8 @@ use Rattle.cedar_partial_evaluation.specs.Settling.{Is, kindless, MeaningIsSettl
 use Rattle.cedar_partial_evaluation.specs.Question.{part_settled, settled_of}
 use Rattle.cedar_partial_evaluation.specs.Filling as early
 use Rattle.cedar_world.specs.Answer.{Answer}
-use Rattle.cedar_world.specs.Syntax.{PolicySyntax, condition, is_template, linked}
+use Rattle.cedar_grammar.specs.Bindings.{linked}
+use Rattle.cedar_grammar.specs.Syntax.{PolicySyntax, condition, is_template}
 use Rattle.cedar_world.specs.World.{World, Bound, Policy, Link, template_of, template_at, standing_for, in_force, in_force_as, in_force_at}
 use Rattle.cedar_world.specs.Asking.{Part, Given, Missing, Question, Told}
 use Rattle.cedar_world.specs.Setting.{Setting, means}

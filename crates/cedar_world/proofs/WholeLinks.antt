@@ -3,13 +3,14 @@ use Rattle.std.proofs.Common.{◌≡◌, ◌⊎◌, inl, inr, ℕ, suc, Bool, tr
 use Rattle.std.specs.FinMap as map
 use Rattle.cedar_language.specs.Uid as uid
 use Rattle.cedar_language.specs.Tree.{Tree}
-use Rattle.cedar_world.specs.Syntax.{PolicySyntax, Bindings, is_template}
+use Rattle.cedar_grammar.specs.Bindings.{Bindings, binds_exactly}
+use Rattle.cedar_grammar.specs.Syntax.{PolicySyntax, is_template}
 use Rattle.cedar_world.specs.World.{World, Policies, Bound, Policy, Link as LinkOf, template_of, template_at}
 use Rattle.cedar_world.specs.PolicyEdits.{HasRoom, Names, joined, Loads}
 use Rattle.cedar_world.specs.Bodies.{LinkBody, link_body, string_of}
 use Rattle.cedar_world.specs.Setting.{Setting, IsBody}
 use Rattle.cedar_world.specs.Commands.{Load, Link, Unlink, RemoveStatic, RemoveTemplate, Add, Put, Remove, Ask, Tell, Refusal, Text, Depth, NotRestricted, Shape, NoSuchTemplate, NotTemplate, Arity, IdConflict, NotLink, NoSuchPolicy, HasLinks, NotStatic, Done, Named, Answered, Refused}
-use Rattle.cedar_world.specs.Refusals.{binds_exactly, is_link, is_static, LinkCases, Stands}
+use Rattle.cedar_world.specs.Refusals.{is_link, is_static, LinkCases, Stands}
 use Rattle.cedar_world.specs.LinkLaws.{LinksAreWhole, LinksStayWhole}
 use Rattle.cedar_world.proofs.Parts.{not_none, same_some}
 use Rattle.cedar_world.proofs.Maps.{same_or_not, put_there, put_elsewhere, gone_there, gone_elsewhere}

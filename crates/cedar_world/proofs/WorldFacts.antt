@@ -13,7 +13,7 @@ use Rattle.cedar_world.specs.World.{World, EntityData, Entities, parents_of, par
 use Rattle.cedar_world.specs.Setting.{Setting}
 use Rattle.cedar_world.proofs.Edits.{same_uid}
 use Rattle.cedar_world.specs.WorldFacts.{AreFactsOf, leads_through, facts_of, WorldsHaveFacts}
-use Rattle.cedar_world.proofs.Lists.{or_cases, or_left, or_right, and_left, and_right, and_both}
+use Rattle.cedar_language.proofs.Booleans.{or_cases, or_left, or_right, and_left, and_right, and_both}
 
 module _ (parents : Uid → UidSet) where
   abbrev Leads : List Uid → Uid → Uid → Type 0

@@ -8,10 +8,11 @@ use Rattle.cedar_grammar.specs.Policies.{PolicyWithin, ArePolicies, IsWrittenLin
 use Rattle.cedar_grammar.specs.Policy.{Policy, bound}
 use Rattle.cedar_grammar.specs.Token.{Token}
 use Rattle.cedar_grammar.specs.Tokens.{IsTokens}
-use Rattle.cedar_world.specs.Functions.{policy_names}
+use Rattle.cedar_grammar.specs.Functions.{policy_names}
 use Rattle.cedar_world.specs.InForce.{LinksAreAnsweredAsWritten, WrittenLinksAreAnswered}
 use Rattle.cedar_world.specs.Setting.{Setting}
-use Rattle.cedar_world.specs.Syntax.{PolicySyntax, Bindings, binding_of, linked}
+use Rattle.cedar_grammar.specs.Bindings.{Bindings, binding_of, linked}
+use Rattle.cedar_grammar.specs.Syntax.{PolicySyntax}
 
 one_policy : (names : Names) (n : ℕ) (ts : List Token) (p : Policy) → PolicyWithin names n ts p [] → ArePolicies names n ts (p ∷ [])
 one_policy names zero ts p is = elim is [ ]

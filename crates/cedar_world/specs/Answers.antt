@@ -1,14 +1,14 @@
 -- What an answer may say of a question: of a known one all that Cedar's rules say, and of another what stays so
 -- whatever is told. (Cedar language reference, "Authorization".)
-use Rattle.std.specs.Prelude.{◌≡◌, ◌≢◌, Bool, Some, is_some, IsTrue, IsSome, List, [], ◌∷◌, map, filter}
+use Rattle.std.specs.Prelude.{◌≡◌, ◌≢◌, Some, is_some, IsTrue, IsSome, List, [], ◌∷◌, map}
 use Rattle.std.specs.FinMap as finite
 use Rattle.cedar_language.specs.Uid.{Text}
 use Rattle.cedar_language.specs.Value.{Kind, Outcome}
 use Rattle.cedar_language.specs.Facts.{Facts}
-use Rattle.cedar_language.specs.Answering.{Effect, Permit, Forbid, Decision, Allow, Deny, Standing, Satisfied, Erring, Judged, known_decision, is_reason}
+use Rattle.cedar_language.specs.Answering.{Effect, Permit, Forbid, Decision, Allow, Deny, Standing, Satisfied, Erring, Judged, known_decision, is_reason, ids_with}
 use Rattle.cedar_language.specs.Authorization.{Known, standing_of}
 use Rattle.cedar_world.specs.Answer.{Ids, ids_of, has_id, Answer}
-use Rattle.cedar_world.specs.Syntax.{PolicySyntax, condition}
+use Rattle.cedar_grammar.specs.Syntax.{PolicySyntax, condition}
 use Rattle.cedar_world.specs.World.{World, in_force, in_force_at, AreFacts}
 use Rattle.cedar_world.specs.Asking.{Question, Told}
 use Rattle.cedar_world.specs.Setting.{Setting, Settles, means}
@@ -18,9 +18,6 @@ use Rattle.cedar_world.specs.Fillings.{IsFilling, Agrees}
 
 abbrev pub judge : Facts → Known → Text × PolicySyntax → Judged
 judge facts request p = record { id = p.0; effect = p.1.effect; standing = standing_of (means facts request (condition p.1)) }
-
-abbrev pub ids_with : (Judged → Bool) → List Judged → List Text
-ids_with test js = map (λ (j : Judged). j.id) (filter test js)
 
 abbrev pub erring_as : Text → Standing → List (Text × Kind) → List (Text × Kind)
 erring_as id (Erring k) rest = (id, k) ∷ rest

@@ -10,13 +10,13 @@ use Rattle.cedar_grammar.specs.Tokens.{IsTokens}
 use Rattle.cedar_grammar.specs.Policies.{IsWrittenLink}
 use Rattle.cedar_world.specs.Orders.{text_cmp}
 use Rattle.cedar_world.specs.Answer.{Answer}
-use Rattle.cedar_world.specs.Functions.{policy_names}
-use Rattle.cedar_world.specs.Syntax.{PolicySyntax, Bindings, binding_of, linked}
+use Rattle.cedar_grammar.specs.Functions.{policy_names}
+use Rattle.cedar_grammar.specs.Bindings.{Bindings, binding_of, linked, binds_exactly}
+use Rattle.cedar_grammar.specs.Syntax.{PolicySyntax}
 use Rattle.cedar_world.specs.World.{World, Asked, Policy, Link, Policies, template_at, in_force, in_force_at}
 use Rattle.cedar_world.specs.Asking.{Question, Told}
 use Rattle.cedar_world.specs.Setting.{Setting, ArePolicies}
 use Rattle.cedar_world.specs.Answers.{known_answer}
-use Rattle.cedar_world.specs.Refusals.{binds_exactly}
 use Rattle.cedar_world.specs.Step.{IsFirstAnswer, IsLaterAnswer}
 
 -- just the policies in force, in any order

@@ -4,9 +4,9 @@ use Rattle.cedar_language.specs.Uid.{Text}
 use Rattle.cedar_language.specs.Value.{Kind, FailedExtensionFunctionLookup, UnlinkedSlot, Outcome, Gives, Fails}
 use Rattle.cedar_language.specs.Facts.{Facts}
 use Rattle.cedar_language.specs.Authorization.{Known}
-use Rattle.cedar_world.specs.Syntax.{PolicySyntax, Bindings, condition, linked}
+use Rattle.cedar_grammar.specs.Bindings.{Bindings, linked, binds_exactly}
+use Rattle.cedar_grammar.specs.Syntax.{PolicySyntax, condition}
 use Rattle.cedar_world.specs.World.{Entities, AreFacts}
-use Rattle.cedar_world.specs.Refusals.{binds_exactly}
 use Rattle.cedar_world.specs.Setting.{Setting, ArePolicies, means}
 
 -- neither a failed look-up of a function nor a slot that isn't linked

@@ -6,10 +6,11 @@ use Rattle.cedar_language.specs.Tree.{Tree}
 use Rattle.cedar_partial_evaluation.specs.ReadUnknowns.{read_unknowns}
 use Rattle.cedar_grammar.specs.Calls.{calls_only}
 use Rattle.cedar_grammar.specs.Names.{is_among, is_function}
-use Rattle.cedar_world.specs.Bodies.{named, is_restricted}
-use Rattle.cedar_world.specs.Functions.{Functions, the_unknown, is_the_unknown, policy_names, body_names, function_of}
+use Rattle.cedar_grammar.specs.UnknownCalls.{named}
+use Rattle.cedar_world.specs.Bodies.{is_restricted}
+use Rattle.cedar_grammar.specs.Functions.{Functions, the_unknown, is_the_unknown, policy_names, body_names, function_of}
 use Rattle.cedar_world.specs.Setting.{Setting, ArePolicies, IsBody}
-use Rattle.cedar_world.specs.Syntax.{PolicySyntax, condition}
+use Rattle.cedar_grammar.specs.Syntax.{PolicySyntax, condition}
 
 -- Each function and each method that policies or bodies may call is found. No policy calls `unknown`.
 pub record NamesAreFound (functions : Functions) : Type 0 where

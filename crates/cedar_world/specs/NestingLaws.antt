@@ -5,8 +5,8 @@ use Rattle.cedar_language.specs.Tree.{Tree}
 use Rattle.cedar_grammar.specs.Token.{Token}
 use Rattle.cedar_grammar.specs.Tokens.{IsTokens}
 use Rattle.cedar_grammar.specs.Nesting.{IsNestingOfPolicies, IsNestingOfExpr, loose_nesting, body_nesting}
-use Rattle.cedar_world.specs.Functions.{policy_names, body_names}
-use Rattle.cedar_world.specs.Syntax.{PolicySyntax}
+use Rattle.cedar_grammar.specs.Functions.{policy_names, body_names}
+use Rattle.cedar_grammar.specs.Syntax.{PolicySyntax}
 use Rattle.cedar_world.specs.Setting.{Setting, ArePolicies, PoliciesNestWithin, IsBody, BodyNestsWithin}
 
 -- `limit` is any limit, the session's own among them

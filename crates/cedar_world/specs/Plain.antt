@@ -8,7 +8,7 @@ use Rattle.cedar_language.specs.Facts.{Facts}
 use Rattle.cedar_language.specs.Operators.{is_within}
 use Rattle.cedar_language.specs.Answering.{Judged}
 use Rattle.cedar_world.specs.Answer.{Answer}
-use Rattle.cedar_world.specs.Syntax.{PolicySyntax, is_template}
+use Rattle.cedar_grammar.specs.Syntax.{PolicySyntax, is_template}
 use Rattle.cedar_world.specs.World.{World, in_force_at}
 use Rattle.cedar_world.specs.Asking.{Entries, NoContext, WithEntries, Question}
 use Rattle.cedar_world.specs.Setting.{Setting}

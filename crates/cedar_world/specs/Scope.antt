@@ -1,7 +1,6 @@
 -- How far the scope of a policy is settled: principal, action and resource are compared with what the scope names, from the
 -- left, up to the first one that is missing, unless its type decides. (Cedar language reference, "Scope".)
-use Rattle.std.specs.Prelude.{◌≡◌, ◌↔◌, Bool, true, false, ◌&&◌, Option, Some, None, IsTrue}
-use Rattle.std.specs.List.{list_any}
+use Rattle.std.specs.Prelude.{◌≡◌, ◌↔◌, Bool, true, false, Option, Some, None, IsTrue}
 use Rattle.std.specs.FinMap as map
 use Rattle.cedar_language.specs.Uid.{Name, Uid}
 use Rattle.cedar_language.specs.Tree.{Tree}
@@ -12,10 +11,11 @@ use Rattle.cedar_language.specs.Answering.{Standing, Satisfied, Unsatisfied, Res
 use Rattle.cedar_partial_evaluation.specs.Settling.{and_settled, LeafSettlings, settled_in}
 use Rattle.cedar_partial_evaluation.specs.Mentions.{mentions_only}
 use Rattle.cedar_grammar.specs.Build.{conjunction}
-use Rattle.cedar_grammar.specs.Policy.{the_entity, Constraint, anything, equals, within, of_type, of_type_within, ActionConstraint, any_action, action_equals, action_within_any}
-use Rattle.cedar_world.specs.Syntax.{PolicySyntax, condition, is_template}
+use Rattle.cedar_grammar.specs.Policy.{the_entity, Constraint, anything, equals, of_type, of_type_within, ActionConstraint, any_action, action_equals}
+use Rattle.cedar_grammar.specs.Syntax.{PolicySyntax, condition, is_template}
 use Rattle.cedar_world.specs.Asking.{Part, Given, Missing, Question}
 use Rattle.cedar_world.specs.Standing.{StandsSoFar}
+use Rattle.cedar_grammar.specs.Scopes.{meets, action_meets, and_then_met}
 
 -- whether a type that is stated of what is missing decides: what has another type isn't what is named
 abbrev pub unless_other : Bool → Option Bool
@@ -35,29 +35,15 @@ action_by_type (action_equals e) (Some ty) = unless_other (same_name ty e.type_n
 action_by_type c type = None
 
 module _ (is_in : Uid → Uid → Bool) where
-  -- whether a principal or a resource is what the scope asks; a slot that isn't bound is nothing
-  abbrev pub meets : Constraint → Uid → Bool
-  meets anything u = true
-  meets (equals (the_entity e)) u = same_uid u e
-  meets (within (the_entity e)) u = is_in u e
-  meets (of_type name) u = same_name u.type_name name
-  meets (of_type_within name (the_entity e)) u = same_name u.type_name name && is_in u e
-  meets _ u = false
-
-  abbrev pub action_meets : ActionConstraint → Uid → Bool
-  action_meets any_action u = true
-  action_meets (action_equals e) u = same_uid u e
-  action_meets (action_within_any es) u = list_any (is_in u) es
-
   -- whether a part of a question is what the scope asks, where that is known
   abbrev pub met : Constraint → Part → Option Bool
   met anything part = Some true
-  met c (Given u) = Some (meets c u)
+  met c (Given u) = Some (meets is_in c u)
   met c (Missing type) = None
 
   abbrev pub action_met : ActionConstraint → Part → Option Bool
   action_met any_action part = Some true
-  action_met c (Given u) = Some (action_meets c u)
+  action_met c (Given u) = Some (action_meets is_in c u)
   action_met c (Missing type) = None
 
   -- the same by the type as well, where it is missing
@@ -68,12 +54,6 @@ module _ (is_in : Uid → Uid → Bool) where
   abbrev pub action_known_of : ActionConstraint → Part → Option Bool
   action_known_of c (Given u) = action_met c (Given u)
   action_known_of c (Missing type) = action_by_type c type
-
--- from the left: what is false decides, and what isn't known leaves it open
-abbrev pub and_then_met : Option Bool → Option Bool → Option Bool
-and_then_met (Some true) next = next
-and_then_met (Some false) next = Some false
-and_then_met None next = None
 
 abbrev pub scope_met : (Uid → Uid → Bool) → PolicySyntax → Question → Option Bool
 scope_met is_in s q = and_then_met (and_then_met (met is_in s.principal q.principal) (action_met is_in s.action q.action)) (met is_in s.resource q.resource)

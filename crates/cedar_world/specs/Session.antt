@@ -5,7 +5,7 @@ use Rattle.std.specs.FinSet as set
 use Rattle.cedar_language.specs.Uid.{Text, Uid}
 use Rattle.cedar_language.specs.Tree.{Tree}
 use Rattle.cedar_language.specs.Authorization.{Known}
-use Rattle.cedar_world.specs.Syntax.{PolicySyntax}
+use Rattle.cedar_grammar.specs.Syntax.{PolicySyntax}
 use Rattle.cedar_world.specs.Answer.{Answer}
 use Rattle.cedar_world.specs.World.{World, Asked, Policies, Entities, IsCyclic, new_world}
 use Rattle.cedar_world.specs.EntityEdits.{Version, Puts, Adds, Removes}

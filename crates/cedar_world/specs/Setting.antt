@@ -13,9 +13,9 @@ use Rattle.cedar_partial_evaluation.specs.Question.{settled_of}
 use Rattle.cedar_partial_evaluation.specs.Filling.{names_told, ErrsEverywhere}
 use Rattle.cedar_grammar.specs.Policies.{Reads, ReadsExpr}
 use Rattle.cedar_grammar.specs.Nesting.{loose_nesting}
-use Rattle.cedar_world.specs.Syntax.{PolicySyntax}
+use Rattle.cedar_grammar.specs.Syntax.{PolicySyntax}
 use Rattle.cedar_world.specs.Asking.{Question, Told}
-use Rattle.cedar_world.specs.Functions.{Functions, policy_names, body_names, evaluated_function}
+use Rattle.cedar_grammar.specs.Functions.{Functions, policy_names, body_names, evaluated_function}
 
 -- the functions that texts may call, and the limit of depth
 pub record Setting : Type 0 where

@@ -5,18 +5,18 @@ use Rattle.cedar_language.specs.Uid.{Text}
 use Rattle.cedar_language.specs.Tree.{Tree}
 use Rattle.cedar_language.specs.Value.{Kind, Outcome}
 use Rattle.cedar_language.specs.Facts.{Facts}
-use Rattle.cedar_language.specs.Answering.{Standing, Unsatisfied, Residual, Judged, decision, in_must, in_may, HasErred, IsOpenAnswer}
+use Rattle.cedar_language.specs.Answering.{Standing, Unsatisfied, Residual, Judged, decision, in_must, in_may, HasErred, IsOpenAnswer, ids_with}
 use Rattle.cedar_language.specs.Authorization.{standing_of}
 use Rattle.cedar_partial_evaluation.specs.Settling.{Settling, Open, settled_in}
 use Rattle.cedar_partial_evaluation.specs.Question.{settled_of, held_of}
 use Rattle.cedar_partial_evaluation.specs.Partial.{partial_in}
 use Rattle.cedar_partial_evaluation.specs.Early.{standing_of_answer}
 use Rattle.cedar_world.specs.Answer.{ids_of, has_id, Answer}
-use Rattle.cedar_world.specs.Syntax.{PolicySyntax, condition}
+use Rattle.cedar_grammar.specs.Syntax.{PolicySyntax, condition}
 use Rattle.cedar_world.specs.World.{World, in_force_at}
 use Rattle.cedar_world.specs.Asking.{Question, Told}
 use Rattle.cedar_world.specs.Setting.{Settles}
-use Rattle.cedar_world.specs.Answers.{ids_with, errors_of}
+use Rattle.cedar_world.specs.Answers.{errors_of}
 
 -- what is settled of a tree without slots once these values are told, kinds of errors aside
 abbrev pub settled_so_far : Facts → Question → Told → Tree → Settling

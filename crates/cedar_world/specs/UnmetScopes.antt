@@ -6,7 +6,7 @@ use Rattle.cedar_language.specs.Facts.{Facts}
 use Rattle.cedar_language.specs.Operators.{is_within}
 use Rattle.cedar_language.specs.Authorization.{Known}
 use Rattle.cedar_world.specs.Answer.{Answer}
-use Rattle.cedar_world.specs.Syntax.{PolicySyntax, is_template}
+use Rattle.cedar_grammar.specs.Syntax.{PolicySyntax, is_template}
 use Rattle.cedar_world.specs.World.{World, Policy, AreFacts}
 use Rattle.cedar_world.specs.Asking.{Given, NoContext, Question, Told}
 use Rattle.cedar_world.specs.Setting.{Setting}

@@ -1,8 +1,8 @@
 -- The text stands at the front of the output, or would take so many bytes.
 use Rattle.std.proofs.Common.{◌≡◌, ℕ, List, ◌++◌, length, take, drop, sym, ap, ◌∙◌, subst}
 use Rattle.std.proofs.Math.Seq.{take-append_seam}
-use Rattle.cedar_c.specs.Calls.{AnswersAll}
-use Rattle.cedar_c.proofs.ReadBack.{one_of_both}
+use Rattle.cedar_session.specs.InMemory.{AnswersAll}
+use Rattle.cedar_session.proofs.ReadBack.{one_of_both}
 use Rattle.cedar_c.proofs.cedar_run.Goals as goal
 
 pub returns-then-copy_out-clause-end : goal.returns-then-copy_out-clause-end

@@ -1,8 +1,7 @@
 -- Where no policy is open, one list is both.
 use Rattle.std.proofs.Common.{rules, ◌≡◌, sym, ap, ◌∙◌}
-use Rattle.cedar_language.specs.Answering.{in_must}
+use Rattle.cedar_language.specs.Answering.{in_must, ids_with}
 use Rattle.cedar_world.specs.Answer.{ids_of}
-use Rattle.cedar_world.specs.Answers.{ids_with}
 use Rattle.cedar_evaluator.specs.Holding.{holding_in}
 use Rattle.cedar_evaluator.specs.Responses.{judged_held}
 use Rattle.cedar_asking.proofs.SameReasons.{none_seen, same_reasons}

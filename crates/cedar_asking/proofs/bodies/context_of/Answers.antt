@@ -1,6 +1,6 @@
 -- What the record is evaluated to, by what partial evaluation says of the trees of bodies.
 use Rattle.std.proofs.Common.{sym, ◌∙◌}
-use Rattle.cedar_bodies.proofs.Entries.{has_unknown}
+use Rattle.cedar_held.proofs.Entries.{has_unknown}
 use Rattle.cedar_extensions.specs.Table.{as_table}
 use Rattle.cedar_restricted.specs.Views.{borrowed_tree}
 use Rattle.cedar_asking.proofs.Stated.{not_given, named_well, named_badly, not_made}

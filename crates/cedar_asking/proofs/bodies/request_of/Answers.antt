@@ -1,7 +1,7 @@
 -- The parts of the body's question, and what its context is evaluated to.
 use Rattle.std.proofs.Common.{◌≡◌, sym, ◌∙◌, ap, subst, Some, None}
 use Rattle.std.proofs.lemmas.Result.{err_from_is_err_and}
-use Rattle.cedar_bodies.specs.Questions.{question_of, LendsContext}
+use Rattle.cedar_held.specs.Questions.{question_of, LendsContext}
 use Rattle.cedar_extensions.specs.Table.{as_table}
 use Rattle.cedar_language.specs.Tree.{Tree}
 use Rattle.cedar_restricted.specs.Views.{restricted_tree}

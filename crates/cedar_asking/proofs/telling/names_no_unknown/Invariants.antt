@@ -3,7 +3,7 @@ use Rattle.std.proofs.Common.{◌≡◌, not}
 use Rattle.cedar_trees.specs.Bare.{bare_entries}
 use Rattle.cedar_world.specs.Question.{is_unknown}
 use Rattle.cedar_world.specs.Refusals.{some_key}
-use Rattle.cedar_bodies.specs.Questions.{question_of}
+use Rattle.cedar_held.specs.Questions.{question_of}
 use Rattle.cedar_asking.proofs.telling.names_no_unknown.Given as goal
 
 abbrev pub invariant-loop-name : goal.invariant-loop-name

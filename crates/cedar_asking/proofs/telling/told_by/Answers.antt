@@ -1,9 +1,9 @@
 -- What the body tells, by what its trees are evaluated to and by the parts of the question.
 use Rattle.std.proofs.Common.{◌≡◌, ◌∙◌, sym, ap, None, Some, Ok}
 use Rattle.std.proofs.lemmas.Result.{err_from_is_err_and}
-use Rattle.cedar_bodies.specs.Fields.{AreEvaluated}
-use Rattle.cedar_bodies.specs.Lent.{fields_in}
-use Rattle.cedar_bodies.specs.Questions.{question_of, LendsContext}
+use Rattle.cedar_held.specs.Fields.{AreEvaluated}
+use Rattle.cedar_held.specs.Lent.{fields_in}
+use Rattle.cedar_held.specs.Questions.{question_of, LendsContext}
 use Rattle.cedar_extensions.specs.Table.{as_table}
 use Rattle.cedar_restricted.specs.Views.{restricted_tree}
 use Rattle.cedar_trees.specs.Bare.{bare, record_tree}

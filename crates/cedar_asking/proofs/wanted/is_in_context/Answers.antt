@@ -3,7 +3,7 @@ use Rattle.std.proofs.Common.{◌∙◌, ap}
 use Rattle.cedar_world.specs.Asking.{Entries}
 use Rattle.cedar_world.specs.Orders.{text_eq}
 use Rattle.cedar_world.specs.Question.{has_name}
-use Rattle.cedar_bodies.specs.Lent.{fields_in}
+use Rattle.cedar_held.specs.Lent.{fields_in}
 use Rattle.cedar_asking.proofs.TellParts.{stands_in_context}
 use Rattle.cedar_asking.proofs.wanted.is_in_context.Goals as goal
 

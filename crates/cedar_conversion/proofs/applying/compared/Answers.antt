@@ -9,7 +9,7 @@ use Rattle.cedar_conversion.proofs.Converting.{same_as, faulty}
 use Rattle.cedar_conversion.proofs.Made.{took, built_unary, built_binary}
 use Rattle.cedar_cst.specs.LeafView.{view_rel_op}
 use Rattle.cedar_conversion.specs.Shows.{joint_shows}
-use Rattle.cedar_conversion_leaves.proofs.Telling.{tells_one}
+use Rattle.cedar_faults.proofs.Telling.{tells_one}
 use Rattle.cedar_conversion.proofs.Told.{quiet}
 use Rattle.cedar_conversion.proofs.applying.compared.Goals as goal
 

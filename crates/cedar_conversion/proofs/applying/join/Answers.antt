@@ -4,7 +4,7 @@ use Rattle.cedar_conversion.specs.Joints.{joined}
 use Rattle.cedar_conversion.proofs.Converting.{same_as, passed, flat_err, flat_ok, both_some}
 use Rattle.cedar_conversion.proofs.Refusing.{joined_left, joined_right}
 use Rattle.std.proofs.Common.{inl, inr}
-use Rattle.cedar_conversion_leaves.proofs.Telling.{told_more}
+use Rattle.cedar_faults.proofs.Telling.{told_more}
 use Rattle.cedar_conversion.proofs.Told.{by_both}
 use Rattle.cedar_conversion.proofs.applying.join.Goals as goal
 

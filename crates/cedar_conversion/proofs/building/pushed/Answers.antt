@@ -5,8 +5,8 @@ use Rattle.cedar_conversion.specs.Building.{IsBuilt, IsRefused, AreBuilt, AreRef
 use Rattle.cedar_conversion.proofs.Converting.{passed, flat_err, flat_ok, both_some}
 use Rattle.cedar_conversion.proofs.Made.{built_last}
 use Rattle.cedar_conversion.proofs.Refusing.{refused_list, refused_early, refused_last}
-use Rattle.cedar_conversion_leaves.specs.declared.errors.ConversionError.TheVariants as error
-use Rattle.cedar_conversion_leaves.proofs.Telling.{handed_on}
+use Rattle.cedar_faults.specs.declared.errors.ConversionError.TheVariants as error
+use Rattle.cedar_faults.proofs.Telling.{handed_on}
 use Rattle.cedar_conversion.proofs.Told.{by_both}
 use Rattle.cedar_conversion.proofs.building.pushed.Goals as goal
 

@@ -2,13 +2,13 @@
 use Rattle.std.proofs.Common.{List, Option, Some, subst, inl, inr}
 use Rattle.cedar_language.specs.Tree.{Tree}
 use Rattle.cedar_grammar.specs.Converting as converting
-use Rattle.cedar_conversion_leaves.specs.Reasons.{reason}
-use Rattle.cedar_conversion_leaves.specs.Converts.{and_then, Converts}
+use Rattle.cedar_faults.specs.Reasons.{reason}
+use Rattle.cedar_faults.specs.Converts.{and_then, Converts}
 use Rattle.cedar_conversion.specs.Building.{AreBuilt, AreRefused}
 use Rattle.cedar_conversion.specs.Heads.{IsHead, IsHeadRefused, called_shows}
 use Rattle.cedar_conversion.proofs.Converting.{first_misses, second_misses, misses_both}
 use Rattle.cedar_conversion.proofs.Refusing.{call_of_head, call_of_arguments}
-use Rattle.cedar_conversion_leaves.proofs.Telling.{tells_more, failed_tells, gathered_tells}
+use Rattle.cedar_faults.proofs.Telling.{tells_more, failed_tells, gathered_tells}
 use Rattle.cedar_conversion.proofs.Told.{both_told}
 use Rattle.cedar_conversion.proofs.calls.call.Goals as goal
 

@@ -9,7 +9,7 @@ use Rattle.cedar_cst.specs.LeafView.{shown_name}
 use Rattle.cedar_conversion.proofs.Converting.{then_some}
 use Rattle.cedar_conversion.proofs.Made.{took_some, built_apply}
 use Rattle.cedar_conversion.specs.Choices.{IsNoFunction}
-use Rattle.cedar_conversion_leaves.proofs.Telling.{handed_on, tells_more}
+use Rattle.cedar_faults.proofs.Telling.{handed_on, tells_more}
 use Rattle.cedar_conversion.proofs.Told.{in_some, by_memory, quiet}
 use Rattle.cedar_conversion.proofs.calls.call_function.Goals as goal
 

@@ -4,7 +4,7 @@ use Rattle.std.specs.Prelude.{cond}
 use Rattle.cedar_language.specs.Tree as tree
 use Rattle.cedar_grammar.specs.Build.{trees}
 use Rattle.cedar_conversion.proofs.Made.{took_some, built_apply, built_more}
-use Rattle.cedar_conversion_leaves.proofs.Telling.{tells_more}
+use Rattle.cedar_faults.proofs.Telling.{tells_more}
 use Rattle.cedar_conversion.proofs.Told.{by_memory, quiet}
 use Rattle.cedar_conversion.proofs.calls.call_table_method.Goals as goal
 

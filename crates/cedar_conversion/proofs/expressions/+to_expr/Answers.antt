@@ -21,15 +21,15 @@ use borrow.Enum.Total.{values_d}
 use Rattle.cedar_cst.specs.contracts.cst.Expr.{enum}
 use Rattle.cedar_cst.specs.declared.leaves.NegOp.TheVariants as signs
 use Rattle.cedar_conversion.specs.declared.applying.Joint.TheVariants as joint
-use Rattle.cedar_conversion_leaves.specs.Telling.{Told}
-use Rattle.cedar_conversion_leaves.proofs.Telling.{told_each, tells_more}
+use Rattle.cedar_faults.specs.Telling.{Told}
+use Rattle.cedar_faults.proofs.Telling.{told_each, tells_more}
 use Rattle.cedar_conversion.specs.SoFar.{AccessedSoFar}
 use Rattle.cedar_conversion.specs.Shows.{calls_method, joint_shows, expr_shows, or_shows, and_shows, relation_shows, add_shows, mult_shows, unary_shows, member_shows, access_shows, primary_shows, rec_init_shows, used_before, used_at, exprs_show}
 use Rattle.cedar_conversion.proofs.Seen.{none_seen, or_expr_seen, if_expr_seen, common_seen, has_seen, like_seen, is_seen, is_in_seen, unary_seen, member_seen, field_seen, call_seen, index_seen, literal_seen, ref_seen, slot_seen, expr_seen, list_seen, record_seen, rec_init_seen}
 use Rattle.cedar_conversion.proofs.Told.{seen_as, fault_seen, of_two, of_two_and, of_part_and, pair_told, none_told, all_told}
 use Rattle.cedar_conversion.proofs.Behind.{is_first, is_after, used_behind, called_behind, are_counted, keys_behind, dashes_alone, no_dashes, dashes_number, access_at, in_access, accessed_start, accessed_more, accessed_end}
 use Rattle.cedar_conversion.proofs.Chains.{or_begun, or_goes_on, and_begun, and_goes_on, add_begun, add_goes_on, mult_begun, mult_goes_on, items_go_on, entries_go_on}
-use Rattle.cedar_conversion_leaves.specs.Shown.{ident_shows, index_shows}
+use Rattle.cedar_conversion.specs.Shown.{ident_shows, index_shows}
 use Rattle.cedar_conversion.proofs.expressions.+to_expr.Goals as goal
 
 pub expr_to_expr-returns-in-None-clause-tree : goal.expr_to_expr-returns-in-None-clause-tree

@@ -3,15 +3,15 @@ use Rattle.std.proofs.Common.{◌≡◌, Some, sym, ◌∙◌, subst, ◌⊎◌,
 use Rattle.cedar_grammar.specs.Reading.{◌>>=◌}
 use Rattle.cedar_grammar.specs.Converting as converting
 use Rattle.cedar_grammar.specs.Converting.{head_tree}
-use Rattle.cedar_conversion_leaves.specs.Reasons.{reason}
-use Rattle.cedar_conversion_leaves.specs.Converts.{Misses}
+use Rattle.cedar_faults.specs.Reasons.{reason}
+use Rattle.cedar_faults.specs.Converts.{Misses}
 use Rattle.cedar_conversion.specs.Building.{IsBuilt, IsRefused}
 use Rattle.cedar_conversion.specs.Heads.{IsHead, IsHeadRefused, given, head_shows}
 use Rattle.cedar_conversion.proofs.Converting.{passed, found, both_some, flat_err, flat_ok, then_then}
 use Rattle.std.specs.Prelude.{IfErr}
-use Rattle.cedar_conversion_leaves.specs.Telling.{Told, TellsOnly}
+use Rattle.cedar_faults.specs.Telling.{Told, TellsOnly}
 use Rattle.cedar_conversion.specs.Shows.{used_before}
-use Rattle.cedar_conversion_leaves.proofs.Telling.{handed_on}
+use Rattle.cedar_faults.proofs.Telling.{handed_on}
 use Rattle.cedar_conversion.proofs.Told.{flat_used, itself}
 use Rattle.cedar_conversion.proofs.heads.attribute.Goals as goal
 

@@ -2,13 +2,13 @@
 use Rattle.std.proofs.Common.{◌≡◌, Some, Ok, sym, ap, ◌∙◌, subst}
 use Rattle.cedar_language.specs.Tree as tree
 use Rattle.cedar_grammar.specs.Converting as converting
-use Rattle.cedar_conversion_leaves.specs.Reasons.{reason}
-use Rattle.cedar_conversion_leaves.specs.Converts.{Finds}
+use Rattle.cedar_faults.specs.Reasons.{reason}
+use Rattle.cedar_faults.specs.Converts.{Finds}
 use Rattle.cedar_conversion.specs.Heads.{IsHead, IsHeadRefused}
 use Rattle.cedar_conversion.proofs.Converting.{same_as, passed, lacks_more, then_some, early}
 use Rattle.cedar_conversion.proofs.Made.{took, built_literal}
-use Rattle.cedar_conversion_leaves.specs.declared.errors.ConversionError.TheVariants as error
-use Rattle.cedar_conversion_leaves.proofs.Telling.{handed_on}
+use Rattle.cedar_faults.specs.declared.errors.ConversionError.TheVariants as error
+use Rattle.cedar_faults.proofs.Telling.{handed_on}
 use Rattle.cedar_conversion.proofs.Told.{by_part, by_memory, quiet_part}
 use Rattle.cedar_conversion.proofs.heads.entity_to_head.Goals as goal
 

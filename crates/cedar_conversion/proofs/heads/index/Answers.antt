@@ -6,17 +6,17 @@ use Rattle.cedar_grammar.specs.Reading.{◌>>=◌}
 use Rattle.cedar_grammar.specs.Build.{unary}
 use Rattle.cedar_grammar.specs.Converting as converting
 use Rattle.cedar_grammar.specs.Converting.{head_tree}
-use Rattle.cedar_conversion_leaves.specs.Reasons.{reason}
-use Rattle.cedar_conversion_leaves.specs.Converts.{Misses}
+use Rattle.cedar_faults.specs.Reasons.{reason}
+use Rattle.cedar_faults.specs.Converts.{Misses}
 use Rattle.cedar_conversion.specs.Building.{IsBuilt, IsRefused}
 use Rattle.cedar_conversion.specs.Heads.{IsHead, IsHeadRefused, head_shows}
 use Rattle.cedar_conversion.proofs.Converting.{same_as, passed, found, both_some, flat_err, flat_ok, then_then}
 use Rattle.cedar_conversion.proofs.Made.{took, built_unary}
 use Rattle.cedar_conversion.proofs.Refusing.{tree_head, refused_as, refused_unary}
 use Rattle.std.specs.Prelude.{IfErr}
-use Rattle.cedar_conversion_leaves.specs.Telling.{Told, TellsOnly}
+use Rattle.cedar_faults.specs.Telling.{Told, TellsOnly}
 use Rattle.cedar_conversion.specs.Shows.{used_at}
-use Rattle.cedar_conversion_leaves.proofs.Telling.{handed_on}
+use Rattle.cedar_faults.proofs.Telling.{handed_on}
 use Rattle.cedar_conversion.proofs.Told.{flat_used, by_memory, quiet_part}
 use Rattle.cedar_conversion.proofs.heads.index.Goals as goal
 

@@ -3,8 +3,8 @@ use Rattle.std.proofs.Common.{◌≡◌, Some, subst}
 use Rattle.cedar_language.specs.Tree as tree
 use Rattle.cedar_literals.specs.Literals.{literal_of}
 use Rattle.cedar_grammar.specs.Converting as converting
-use Rattle.cedar_conversion_leaves.specs.Reasons.{reason}
-use Rattle.cedar_conversion_leaves.specs.Converts.{Finds}
+use Rattle.cedar_faults.specs.Reasons.{reason}
+use Rattle.cedar_faults.specs.Converts.{Finds}
 use Rattle.cedar_conversion.specs.Heads.{IsHead, IsHeadRefused}
 use Rattle.cedar_conversion.proofs.Converting.{passed, lacks_more, early}
 use Rattle.cedar_conversion.proofs.Made.{took_some, built_literal}

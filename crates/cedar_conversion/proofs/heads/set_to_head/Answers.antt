@@ -3,8 +3,8 @@ use Rattle.std.proofs.Common.{Some, subst}
 use Rattle.cedar_language.specs.Tree as tree
 use Rattle.cedar_grammar.specs.Build.{trees}
 use Rattle.cedar_grammar.specs.Converting as converting
-use Rattle.cedar_conversion_leaves.specs.Reasons.{reason}
-use Rattle.cedar_conversion_leaves.specs.Converts.{Converts}
+use Rattle.cedar_faults.specs.Reasons.{reason}
+use Rattle.cedar_faults.specs.Converts.{Converts}
 use Rattle.cedar_conversion.specs.Building.{AreBuilt, AreRefused}
 use Rattle.cedar_conversion.specs.Heads.{IsHead, IsHeadRefused}
 use Rattle.cedar_conversion.proofs.Converting.{same_as, passed, failed, then_some}

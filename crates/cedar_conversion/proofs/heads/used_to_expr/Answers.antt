@@ -1,13 +1,13 @@
 -- Where the operations refuse what a head holds, they refuse the tree that it is used as.
 use Rattle.std.proofs.Common.{subst, inl}
 use Rattle.cedar_grammar.specs.Converting.{head_tree}
-use Rattle.cedar_conversion_leaves.specs.Reasons.{reason}
-use Rattle.cedar_conversion_leaves.specs.Converts.{Converts}
+use Rattle.cedar_faults.specs.Reasons.{reason}
+use Rattle.cedar_faults.specs.Converts.{Converts}
 use Rattle.cedar_conversion.specs.Building.{IsRefused}
 use Rattle.cedar_conversion.specs.Heads.{IsHead, IsHeadRefused}
 use Rattle.cedar_conversion.proofs.Converting.{failed}
 use Rattle.cedar_conversion.proofs.Refusing.{refused_head}
-use Rattle.cedar_conversion_leaves.proofs.Telling.{tells_more, failed_tells}
+use Rattle.cedar_faults.proofs.Telling.{tells_more, failed_tells}
 use Rattle.cedar_conversion.proofs.heads.used_to_expr.Goals as goal
 
 pub returns-in-Err-clause-tree : goal.returns-in-Err-clause-tree

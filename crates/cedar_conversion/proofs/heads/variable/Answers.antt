@@ -4,7 +4,7 @@ use Rattle.cedar_language.specs.Tree as tree
 use Rattle.cedar_literals.specs.Variables.{variable_of}
 use Rattle.cedar_conversion.proofs.Converting.{then_some}
 use Rattle.cedar_conversion.proofs.Made.{took_some, built_variable}
-use Rattle.cedar_conversion_leaves.proofs.Telling.{tells_more}
+use Rattle.cedar_faults.proofs.Telling.{tells_more}
 use Rattle.cedar_conversion.proofs.Told.{by_memory, quiet}
 use Rattle.cedar_conversion.proofs.heads.variable.Goals as goal
 

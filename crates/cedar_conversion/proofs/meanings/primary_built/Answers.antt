@@ -5,7 +5,7 @@ use Rattle.std.proofs.Common.{inl, inr}
 use Rattle.cedar_conversion.specs.Choices.{by_itself}
 use Rattle.cedar_conversion.specs.Heads.{head_shows}
 use Rattle.cedar_conversion.specs.Shows.{first, primary_shows}
-use Rattle.cedar_conversion_leaves.proofs.Telling.{told_more}
+use Rattle.cedar_faults.proofs.Telling.{told_more}
 use Rattle.cedar_conversion.proofs.Told.{of_part_and}
 use Rattle.cedar_conversion.proofs.Behind.{is_first, used_behind}
 use Rattle.cedar_conversion.proofs.meanings.primary_built.Goals as goal

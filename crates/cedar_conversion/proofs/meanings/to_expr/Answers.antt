@@ -3,10 +3,10 @@ use Rattle.cedar_grammar.specs.Converting.{expr_tree}
 use Rattle.cedar_cst.specs.View.{shown_expr}
 use Rattle.cedar_trees.specs.Bare.{bare}
 use Rattle.cedar_builders.specs.Own.{own_operations}
-use Rattle.cedar_conversion_leaves.specs.Reasons.{reason}
+use Rattle.cedar_faults.specs.Reasons.{reason}
 use Rattle.cedar_conversion.specs.Building.{IsBuilt, IsRefused}
 use Rattle.cedar_conversion.proofs.Meant.{weighed_misses, weighed_meant}
-use Rattle.cedar_conversion_leaves.proofs.Telling.{tells_more}
+use Rattle.cedar_faults.proofs.Telling.{tells_more}
 use Rattle.cedar_conversion.proofs.Told.{of_either}
 use Rattle.cedar_conversion.proofs.meanings.to_expr.Goals as goal
 

@@ -1,6 +1,6 @@
 -- The refusal tells what it tells, and faults are those that were found again.
 use Rattle.std.proofs.Common.{Err, inl, inr, sym, ap, ◌∙◌, subst}
-use Rattle.cedar_conversion_leaves.specs.Telling.{Told}
+use Rattle.cedar_faults.specs.Telling.{Told}
 use Rattle.cedar_conversion.proofs.meanings.weighed.Goals as goal
 
 pub returns-in-Ok-clause-shown : goal.returns-in-Ok-clause-shown

@@ -5,7 +5,7 @@ use Rattle.cedar_grammar.specs.Build.{keys}
 use Rattle.cedar_grammar.specs.Names.{is_among}
 use Rattle.cedar_conversion.specs.Entries.{keyed}
 use Rattle.cedar_conversion.proofs.Ordering.{insert_is_put, found_is_among, puts_not}
-use Rattle.cedar_conversion_leaves.proofs.Telling.{tells_one}
+use Rattle.cedar_faults.proofs.Telling.{tells_one}
 use Rattle.cedar_conversion.proofs.records.insert_new.Goals as goal
 
 pub returns-then-contains_key-clause-put : goal.returns-then-contains_key-clause-put

@@ -4,7 +4,7 @@ use Rattle.std.specs.Prelude.{cond}
 use Rattle.std.specs.Rc.{rc_str_bytes}
 use Rattle.cedar_grammar.specs.Build.{keys, put}
 use Rattle.cedar_trees.proofs.Records.{all_put}
-use Rattle.cedar_conversion_leaves.proofs.Telling.{handed_on, tells_more}
+use Rattle.cedar_faults.proofs.Telling.{handed_on, tells_more}
 use Rattle.cedar_conversion.specs.Entries.{keyed}
 use Rattle.cedar_conversion.proofs.Ordering.{given, ordered_put}
 use Rattle.cedar_conversion.proofs.Twice.{TwiceSoFar, none_twice, more_twice, is_twice}

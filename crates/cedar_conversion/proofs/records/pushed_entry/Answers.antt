@@ -7,8 +7,8 @@ use Rattle.cedar_conversion.specs.Entries.{meant, AreEntries, IsEntry, EachIsBui
 use Rattle.cedar_conversion.proofs.Converting.{passed, both_some, flat_err, flat_ok}
 use Rattle.cedar_conversion.proofs.Ordering.{each_last}
 use Rattle.cedar_conversion.proofs.Refusing.{entries_early, entries_last}
-use Rattle.cedar_conversion_leaves.specs.declared.errors.ConversionError.TheVariants as error
-use Rattle.cedar_conversion_leaves.proofs.Telling.{handed_on}
+use Rattle.cedar_faults.specs.declared.errors.ConversionError.TheVariants as error
+use Rattle.cedar_faults.proofs.Telling.{handed_on}
 use Rattle.cedar_conversion.proofs.Told.{by_both}
 use Rattle.cedar_conversion.proofs.records.pushed_entry.Goals as goal
 

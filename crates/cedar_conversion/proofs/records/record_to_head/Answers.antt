@@ -4,15 +4,15 @@ use Rattle.cedar_grammar.specs.Reading.{◌>>=◌}
 use Rattle.cedar_grammar.specs.Build.{keys, record_of}
 use Rattle.cedar_grammar.specs.Converting as converting
 use Rattle.cedar_grammar.specs.Converting.{record_tree}
-use Rattle.cedar_conversion_leaves.specs.Reasons.{reason}
-use Rattle.cedar_conversion_leaves.specs.Converts.{Converts}
+use Rattle.cedar_faults.specs.Reasons.{reason}
+use Rattle.cedar_faults.specs.Converts.{Converts}
 use Rattle.cedar_conversion.specs.Entries.{keyed, meant, ordered, AreEntries, AreEntriesRefused, entries_show}
 use Rattle.cedar_conversion.specs.Heads.{IsHead, IsHeadRefused}
 use Rattle.cedar_conversion.proofs.Converting.{same_as, passed, failed, lacks_more, then_some, early}
 use Rattle.cedar_conversion.proofs.Made.{took}
 use Rattle.cedar_conversion.proofs.Ordering.{each_keys, keyed_keys, no_record, a_record, meant_in_order, built_record}
 use Rattle.cedar_conversion.proofs.Refusing.{tree_head, refused_record}
-use Rattle.cedar_conversion_leaves.proofs.Telling.{handed_on, tells_more}
+use Rattle.cedar_faults.proofs.Telling.{handed_on, tells_more}
 use Rattle.cedar_conversion.proofs.Told.{by_part, by_memory, lacks_none, quiet_part}
 use Rattle.cedar_conversion.proofs.records.record_to_head.Goals as goal
 

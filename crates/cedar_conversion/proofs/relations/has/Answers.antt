@@ -4,7 +4,7 @@ use Rattle.std.specs.Rc.{rc_str_bytes}
 use Rattle.cedar_language.specs.Tree as tree
 use Rattle.cedar_grammar.specs.Build as build
 use Rattle.cedar_grammar.specs.Build.{unary}
-use Rattle.cedar_conversion_leaves.specs.Fields.{path_texts}
+use Rattle.cedar_conversion.specs.Fields.{path_texts}
 use Rattle.cedar_conversion.specs.Building.{IsBuilt, IsRefused}
 use Rattle.cedar_conversion.proofs.Converting.{passed, found, both_some, flat_err, flat_ok}
 use Rattle.cedar_conversion.proofs.Made.{took_some, built_unary, none_more, some_more, has_path}

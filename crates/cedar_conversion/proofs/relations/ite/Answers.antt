@@ -1,8 +1,8 @@
 -- A choice is built of its three parts, and refused where the test or one of the branches is.
 use Rattle.std.proofs.Common.{Some, sym, ◌∙◌, subst, inl, inr}
 use Rattle.cedar_language.specs.Tree as tree
-use Rattle.cedar_conversion_leaves.specs.Reasons.{reason}
-use Rattle.cedar_conversion_leaves.specs.Converts.{Misses}
+use Rattle.cedar_faults.specs.Reasons.{reason}
+use Rattle.cedar_faults.specs.Converts.{Misses}
 use Rattle.cedar_conversion.specs.Building.{IsBuilt, IsRefused}
 use Rattle.cedar_conversion.proofs.Converting.{passed, both_some, three, flat_err, flat_ok, flat_both}
 use Rattle.cedar_conversion.proofs.Made.{took_some, built_if}

@@ -4,7 +4,7 @@ use Rattle.cedar_language.specs.Tree as tree
 use Rattle.cedar_literals.specs.Literals.{literal_of}
 use Rattle.cedar_conversion.proofs.Made.{took_some, built_literal}
 use Rattle.cedar_conversion.specs.Shows.{minus_shows}
-use Rattle.cedar_conversion_leaves.proofs.Telling.{tells_one}
+use Rattle.cedar_faults.proofs.Telling.{tells_one}
 use Rattle.cedar_conversion.proofs.Told.{by_memory, quiet}
 use Rattle.cedar_conversion.proofs.Nodes.{too_large}
 use Rattle.cedar_conversion.proofs.signs.negative.Goals as goal

@@ -1,13 +1,13 @@
 -- After each round one more sign stands before the operand; where fewer signs are refused, so are all.
 use Rattle.std.proofs.Common.{Some, sym, subst}
 use Rattle.std.specs.Prelude.{IfSome}
-use Rattle.cedar_conversion_leaves.specs.Reasons.{reason}
-use Rattle.cedar_conversion_leaves.specs.Converts.{Converts}
+use Rattle.cedar_faults.specs.Reasons.{reason}
+use Rattle.cedar_faults.specs.Converts.{Converts}
 use Rattle.cedar_conversion.specs.Building.{IsBuilt, IsRefused}
 use Rattle.cedar_conversion.specs.Joints.{repeated}
 use Rattle.cedar_conversion.proofs.Converting.{passed, failed, misses_more, then_some}
 use Rattle.cedar_conversion.proofs.Refusing.{refused_as, refused_repeated, refused_under}
-use Rattle.cedar_conversion_leaves.proofs.Telling.{handed_on, tells_more}
+use Rattle.cedar_faults.proofs.Telling.{handed_on, tells_more}
 use Rattle.cedar_conversion.proofs.Told.{by_part}
 use Rattle.cedar_conversion.proofs.signs.signed.Goals as goal
 

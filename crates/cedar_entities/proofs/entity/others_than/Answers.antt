@@ -4,7 +4,7 @@ use Rattle.std.specs.FinSet as set
 use Rattle.std.proofs.lemmas.Fn.{filter_same}
 use Rattle.cedar_language.specs.Uid.{Uid}
 use Rattle.cedar_language.specs.Order.{uid_cmp}
-use Rattle.cedar_uid_lists.proofs.UidSets.{beside_set}
+use Rattle.cedar_entities.proofs.UidSets.{beside_set}
 use Rattle.cedar_entities.proofs.entity.others_than.Goals as goal
 
 pub returns : goal.returns

@@ -6,7 +6,7 @@ use Rattle.std.specs.declared.alloc.Global.{Global}
 use Rattle.std.specs.declared.rc.RcStr.{RcStr}
 use Rattle.cedar_language.specs.Tree.{String}
 use Rattle.cedar_language.specs.Value.{Value, Plain, no_values, a_value}
-use Rattle.cedar_world.specs.Functions.{one_string}
+use Rattle.cedar_grammar.specs.Functions.{one_string}
 use Rattle.cedar_values.specs.Readers.{text_in}
 use Rattle.cedar_extensions.specs.Functions.{string_value}
 use Rattle.cedar_extensions.proofs.functions.text_of.Goals as goal

@@ -1,8 +1,8 @@
 -- Refusals are tried in the order of the world's cases; where none stands, the link is bound under its own id.
 use Rattle.std.proofs.Common.{sym, subst, Err}
 use Rattle.std.proofs.lemmas.Result.{err_from_is_err_and}
-use Rattle.cedar_bodies.specs.Links.{link_of}
-use Rattle.cedar_policy_set.specs.Worlds.{policies_in}
+use Rattle.cedar_held.specs.LinkBodies.{link_of}
+use Rattle.cedar_held.specs.PolicyWorlds.{policies_in}
 use Rattle.cedar_replies.specs.declared.refusal.Refusal.TheVariants as replies
 use Rattle.cedar_held.specs.PolicyEdits.{LinksBody}
 use Rattle.cedar_held.proofs.Linked.{link_refused, link_conflicts, link_done, link_held}

@@ -1,7 +1,7 @@
 -- What is bound and isn't removed is no static policy, in the world as in the set.
 use Rattle.std.proofs.Common.{◌∙◌, sym, subst, Err}
 use Rattle.std.specs.Rc.{rc_str_bytes}
-use Rattle.cedar_policy_set.specs.Worlds.{policies_in}
+use Rattle.cedar_held.specs.PolicyWorlds.{policies_in}
 use Rattle.cedar_replies.specs.declared.refusal.Refusal.TheVariants as replies
 use Rattle.cedar_held.specs.PolicyEdits.{RemovesStatic}
 use Rattle.cedar_held.specs.HoldingPolicies.{IsHeld}

@@ -3,7 +3,7 @@ use Rattle.std.proofs.Common.{◌∙◌, sym, subst, Ok, Err}
 use Rattle.std.specs.Rc.{rc_str_bytes}
 use Rattle.cedar_policies.specs.Templates.{syntax_of}
 use Rattle.cedar_policy_set.specs.Entries.{without}
-use Rattle.cedar_policy_set.specs.Worlds.{policies_in}
+use Rattle.cedar_held.specs.PolicyWorlds.{policies_in}
 use Rattle.cedar_replies.specs.declared.refusal.Refusal.TheVariants as replies
 use Rattle.cedar_held.specs.PolicyEdits.{RemovesTemplate}
 use Rattle.cedar_held.specs.HoldingPolicies.{IsHeld}

@@ -1,7 +1,7 @@
 -- A set without one of its entries may still be held, and what is bound here as no link is none in the world.
 use Rattle.std.proofs.Common.{◌∙◌, sym, subst, Err}
 use Rattle.std.specs.Rc.{rc_str_bytes}
-use Rattle.cedar_policy_set.specs.Worlds.{policies_in}
+use Rattle.cedar_held.specs.PolicyWorlds.{policies_in}
 use Rattle.cedar_replies.specs.declared.refusal.Refusal.TheVariants as replies
 use Rattle.cedar_held.specs.PolicyEdits.{UnlinksId}
 use Rattle.cedar_held.specs.HoldingPolicies.{IsHeld}

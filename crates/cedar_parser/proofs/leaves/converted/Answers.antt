@@ -1,8 +1,8 @@
 -- That a reference means no entity is told by the first error, which else tells of memory.
 use Rattle.cedar_grammar.specs.Converting.{ref_entity}
 use Rattle.cedar_cst.specs.LeafView.{shown_ref}
-use Rattle.cedar_conversion_leaves.specs.Reasons.{reason}
-use Rattle.cedar_loose.specs.Errors.{cause_of}
+use Rattle.cedar_faults.specs.Reasons.{reason}
+use Rattle.cedar_parser.specs.Errors.{cause_of}
 use Rattle.cedar_parser.proofs.Reading.{told_lacks}
 use Rattle.cedar_parser.proofs.Faults.{refused_tells}
 use Rattle.cedar_parser.proofs.leaves.converted.Goals as goal

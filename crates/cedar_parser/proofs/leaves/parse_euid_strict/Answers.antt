@@ -1,7 +1,7 @@
 -- References of both grammars are the same entities, and a text has one list of tokens.
 use Rattle.cedar_cst.specs.LeafView.{shown_ref}
 use Rattle.cedar_grammar.specs.LooseReading.{read_ref}
-use Rattle.cedar_conversion_leaves.specs.Shown.{ref_shows}
+use Rattle.cedar_conversion.specs.Shown.{ref_shows}
 use Rattle.cedar_loose.specs.Texts.{flat}
 use Rattle.cedar_parser.proofs.Reading.{uid_unread, uid_read}
 use Rattle.cedar_parser.proofs.Faults.{outside_tells, text_told}

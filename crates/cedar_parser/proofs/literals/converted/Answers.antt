@@ -2,9 +2,9 @@
 use Rattle.std.proofs.Common.{inl}
 use Rattle.cedar_grammar.specs.Converting.{primary_tree}
 use Rattle.cedar_cst.specs.View.{shown_primary}
-use Rattle.cedar_conversion_leaves.specs.Reasons.{reason}
-use Rattle.cedar_conversion_leaves.proofs.Telling.{tells_more}
-use Rattle.cedar_loose.specs.Errors.{cause_of}
+use Rattle.cedar_faults.specs.Reasons.{reason}
+use Rattle.cedar_faults.proofs.Telling.{tells_more}
+use Rattle.cedar_parser.specs.Errors.{cause_of}
 use Rattle.cedar_builders.specs.Own.{own_operations}
 use Rattle.cedar_conversion.specs.Building.{IsRefused}
 use Rattle.cedar_conversion.specs.Shows.{operand_shows}

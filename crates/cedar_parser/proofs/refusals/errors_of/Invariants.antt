@@ -1,6 +1,6 @@
 -- Each fault that was passed stands as an error, in order, and those to come follow.
 use Rattle.std.proofs.Common.{◌≡◌, ◌++◌, map}
-use Rattle.cedar_loose.specs.declared.errors.ParseError.TheVariants.{ToAST}
+use Rattle.cedar_parser.specs.declared.errors.ParseError.TheVariants.{ToAST}
 use Rattle.cedar_parser.proofs.refusals.errors_of.Given as goal
 
 -- the errors so far and those to come are all

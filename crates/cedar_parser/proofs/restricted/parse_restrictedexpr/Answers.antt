@@ -1,7 +1,7 @@
 -- The text has this tree alone: too high for the limit, kept as restricted, or refused for a part of it.
 use Rattle.std.proofs.Common.{rules, ◌≡◌, Err, ap, subst, sym}
 use Rattle.cedar_trees.specs.Bare.{bare}
-use Rattle.cedar_loose.specs.Errors.{cause_of}
+use Rattle.cedar_parser.specs.Errors.{cause_of}
 use Rattle.cedar_parser.specs.Strict.{IsUnread}
 use Rattle.cedar_parser.specs.declared.restricted.RestrictedExpressionParseError.TheVariants as parse
 use Rattle.cedar_parser.proofs.Bodies.{tree_refused, too_high, tree_kept}

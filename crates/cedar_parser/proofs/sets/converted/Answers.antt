@@ -2,8 +2,8 @@
 use Rattle.std.proofs.Common.{option_map}
 use Rattle.cedar_grammar.specs.Converting.{policies_syntax}
 use Rattle.cedar_cst.specs.View.{shown_policies}
-use Rattle.cedar_conversion_leaves.specs.Reasons.{reason}
-use Rattle.cedar_loose.specs.Errors.{cause_of}
+use Rattle.cedar_faults.specs.Reasons.{reason}
+use Rattle.cedar_parser.specs.Errors.{cause_of}
 use Rattle.cedar_policy_set.specs.Texts.{text_entries}
 use Rattle.cedar_parser.proofs.Reading.{told_lacks}
 use Rattle.cedar_parser.proofs.Faults.{refused_tells}

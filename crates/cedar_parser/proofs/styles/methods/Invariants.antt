@@ -1,6 +1,6 @@
 -- Only `unknown` is so named; the methods among the functions passed, and among those to come, are all.
 use Rattle.std.proofs.Common.{◌≡◌, ◌++◌, true}
-use Rattle.cedar_world.specs.Functions.{method_names}
+use Rattle.cedar_grammar.specs.Functions.{method_names}
 use Rattle.cedar_extensions.specs.Holding.{are_named}
 use Rattle.cedar_extensions.specs.Tables.{functions_in, functions_left}
 use Rattle.cedar_extensions.proofs.Defined.{callers}

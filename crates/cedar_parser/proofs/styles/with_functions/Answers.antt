@@ -1,6 +1,6 @@
 -- A function that is pushed is the next of the names.
 use Rattle.std.proofs.Common.{◌≡◌, ◌∙◌, ◌++◌, ◌∷◌, [], subst, ap, rules, true, false}
-use Rattle.cedar_world.specs.Functions.{as_function, function_names}
+use Rattle.cedar_grammar.specs.Functions.{as_function, function_names}
 use Rattle.cedar_extensions.specs.Functions.{function_name, function_style, is_unknown}
 use Rattle.cedar_extensions.specs.Holding.{are_named}
 use Rattle.cedar_extensions.specs.Tables.{functions_in, functions_left}

@@ -1,6 +1,6 @@
 -- Behind the given names stand those of the functions passed; with those to come they are all.
 use Rattle.std.proofs.Common.{◌≡◌, ◌++◌, true}
-use Rattle.cedar_world.specs.Functions.{function_names}
+use Rattle.cedar_grammar.specs.Functions.{function_names}
 use Rattle.cedar_extensions.specs.Holding.{are_named}
 use Rattle.cedar_extensions.specs.Tables.{functions_in, functions_left}
 use Rattle.cedar_extensions.proofs.Defined.{callers}

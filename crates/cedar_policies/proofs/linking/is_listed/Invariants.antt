@@ -1,7 +1,7 @@
 -- The slot was not met yet, so the rest of the list decides.
 use Rattle.std.proofs.Common.{◌≡◌, drop}
 use Rattle.std.specs.List.{list_any}
-use Rattle.cedar_world.specs.Syntax.{is_slot}
+use Rattle.cedar_grammar.specs.Syntax.{is_slot}
 use Rattle.cedar_policies.specs.Slots.{slot_ids}
 use Rattle.cedar_policies.proofs.linking.is_listed.Given as goal
 

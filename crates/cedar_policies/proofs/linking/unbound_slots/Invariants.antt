@@ -1,7 +1,7 @@
 -- What was gathered is what the slots so far lack.
 use Rattle.std.proofs.Common.{◌≡◌, take}
 use Rattle.std.specs.Prelude.{filter, is_some, not}
-use Rattle.cedar_world.specs.Syntax.{binding_of}
+use Rattle.cedar_grammar.specs.Bindings.{binding_of}
 use Rattle.cedar_policies.specs.Slots.{slot_ids}
 use Rattle.cedar_policies.proofs.linking.unbound_slots.Given as goal
 

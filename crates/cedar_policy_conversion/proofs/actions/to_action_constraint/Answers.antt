@@ -11,10 +11,10 @@ use Rattle.cedar_literals.specs.Variables.{variable_of}
 use Rattle.cedar_literals.specs.declared.variables.Var.{Var}
 use Rattle.cedar_literals.specs.declared.variables.Var.TheVariants as var
 use Rattle.cedar_policy_parts.specs.Actions.{action_of}
-use Rattle.cedar_conversion_leaves.specs.Reasons.{reason}
-use Rattle.cedar_conversion_leaves.specs.Telling.{TellsOnly}
-use Rattle.cedar_conversion_leaves.specs.Words.{ident_variable}
-use Rattle.cedar_conversion_leaves.proofs.Telling.{tells_one}
+use Rattle.cedar_faults.specs.Reasons.{reason}
+use Rattle.cedar_faults.specs.Telling.{TellsOnly}
+use Rattle.cedar_conversion.specs.Words.{ident_variable}
+use Rattle.cedar_faults.proofs.Telling.{tells_one}
 use Rattle.cedar_policy_conversion.specs.Own.{asked_of, without}
 use Rattle.cedar_policy_conversion.specs.PartsShow.{action_constraint_shows}
 use Rattle.cedar_policy_conversion.proofs.Finding.{passed, through, nothing, same_as}

@@ -4,9 +4,9 @@ use Rattle.std.specs.Option.{option_map}
 use Rattle.cedar_grammar.specs.Loose as loose
 use Rattle.cedar_cst.specs.LeafView.{view_rel_op}
 use Rattle.cedar_cst.specs.View.{shown_expr}
-use Rattle.cedar_conversion_leaves.specs.declared.kinds.ToASTErrorKind.TheVariants as kinds
-use Rattle.cedar_conversion_leaves.specs.Telling.{TellsOnly}
-use Rattle.cedar_conversion_leaves.proofs.Telling.{tells_one}
+use Rattle.cedar_faults.specs.declared.kinds.ToASTErrorKind.TheVariants as kinds
+use Rattle.cedar_faults.specs.Telling.{TellsOnly}
+use Rattle.cedar_faults.proofs.Telling.{tells_one}
 use Rattle.cedar_policy_conversion.specs.PartsShow.{action_compared_shows, action_asked_shows}
 use Rattle.cedar_policy_conversion.proofs.Parting.{of_others}
 use Rattle.cedar_policy_conversion.proofs.actions.to_asked.Goals as goal

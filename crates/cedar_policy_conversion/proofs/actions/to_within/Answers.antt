@@ -3,7 +3,7 @@ use Rattle.std.proofs.Common.{Some}
 use Rattle.cedar_grammar.specs.Policy.{action_within_any}
 use Rattle.cedar_grammar.specs.Converting.{alone, actions_among}
 use Rattle.cedar_cst.specs.View.{shown_expr}
-use Rattle.cedar_conversion_leaves.specs.Reasons.{reason}
+use Rattle.cedar_faults.specs.Reasons.{reason}
 use Rattle.cedar_policy_conversion.specs.PartsShow.{actions_show, type_test_shows}
 use Rattle.cedar_policy_conversion.proofs.Finding.{early, is_fault, replaced, through}
 use Rattle.cedar_policy_conversion.proofs.Showing.{replaced_tells}

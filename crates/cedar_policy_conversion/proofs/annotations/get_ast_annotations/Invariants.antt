@@ -3,7 +3,7 @@ use Rattle.std.proofs.Common.{map, take}
 use Rattle.std.specs.Prelude.{IfErr}
 use Rattle.cedar_grammar.specs.Build.{keys}
 use Rattle.cedar_cst.specs.View.{shown_annotation}
-use Rattle.cedar_conversion_leaves.specs.Telling.{TellsOnly}
+use Rattle.cedar_faults.specs.Telling.{TellsOnly}
 use Rattle.cedar_policy_conversion.specs.Notes.{placed_notes, AreMade, Makes}
 use Rattle.cedar_policy_conversion.specs.PartsShow.{annotations_show}
 use Rattle.cedar_policy_conversion.proofs.NoteKeys.{AreBefore}

@@ -1,6 +1,6 @@
 -- Whether the key is new is what the map's look-up says, and a new key is put where the map puts it.
 use Rattle.std.proofs.Common.{refl, ap, Some, sym, ◌∙◌}
-use Rattle.cedar_conversion_leaves.proofs.Telling.{tells_one}
+use Rattle.cedar_faults.proofs.Telling.{tells_one}
 use Rattle.cedar_policy_conversion.proofs.Gathering.{faulty}
 use Rattle.cedar_policy_conversion.proofs.Ordering.{put_found, put_unfound, among_found, among_inserted}
 use Rattle.cedar_policy_conversion.proofs.annotations.insert_new.Goals as goal

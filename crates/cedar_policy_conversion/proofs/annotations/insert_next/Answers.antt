@@ -2,8 +2,8 @@
 use Rattle.std.proofs.Common.{◌⊎◌, inl, inr}
 use Rattle.cedar_grammar.specs.Build.{keys}
 use Rattle.cedar_cst.specs.View.{shown_annotation}
-use Rattle.cedar_conversion_leaves.specs.Telling.{Told}
-use Rattle.cedar_conversion_leaves.proofs.Telling.{flat_shows, handed_on}
+use Rattle.cedar_faults.specs.Telling.{Told}
+use Rattle.cedar_faults.proofs.Telling.{flat_shows, handed_on}
 use Rattle.cedar_policy_conversion.specs.PartsShow.{annotation_shows, again_shows}
 use Rattle.cedar_policy_conversion.proofs.Showing.{itself_tells}
 use Rattle.cedar_policy_conversion.proofs.annotations.insert_next.Goals as goal

@@ -4,7 +4,7 @@ use Rattle.cedar_language.specs.Uid.{Text}
 use Rattle.cedar_grammar.specs.Build.{keys}
 use Rattle.cedar_grammar.specs.Loose as loose
 use Rattle.cedar_cst.specs.View.{shown_annotation}
-use Rattle.cedar_conversion_leaves.proofs.Telling.{told_more}
+use Rattle.cedar_faults.proofs.Telling.{told_more}
 use Rattle.cedar_policy_conversion.specs.Notes.{placed_note}
 use Rattle.cedar_policy_conversion.specs.PartsShow.{annotation_key, again_shows}
 use Rattle.cedar_policy_conversion.proofs.Making.{node_put, key_is}

@@ -1,7 +1,7 @@
 -- The own maker keeps the text of each value, or the empty one, so what it makes are the annotations.
 use Rattle.std.proofs.Common.{map, sym, ap, ◌∙◌, Some, rules}
 use Rattle.cedar_cst.specs.View.{shown_annotation}
-use Rattle.cedar_conversion_leaves.specs.Reasons.{reason}
+use Rattle.cedar_faults.specs.Reasons.{reason}
 use Rattle.cedar_policy_conversion.specs.Notes.{notes_of, placed_notes}
 use Rattle.cedar_policy_conversion.proofs.Gathering.{lacks_more, passed}
 use Rattle.cedar_policy_conversion.proofs.OwnNotes.{own_found, none_own}

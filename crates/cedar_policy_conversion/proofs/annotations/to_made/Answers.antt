@@ -8,9 +8,9 @@ use Rattle.cedar_grammar.specs.Loose as loose
 use Rattle.cedar_cst.specs.LeafView.{shown_ident, shown_str}
 use Rattle.cedar_cst.specs.View.{view_annotation}
 use Rattle.cedar_cst.proofs.Views.{seen}
-use Rattle.cedar_conversion_leaves.specs.Telling.{TellsOnly}
-use Rattle.cedar_conversion_leaves.specs.Shown.{ident_shows}
-use Rattle.cedar_conversion_leaves.proofs.Telling.{flat_shows, handed_on}
+use Rattle.cedar_faults.specs.Telling.{TellsOnly}
+use Rattle.cedar_conversion.specs.Shown.{ident_shows}
+use Rattle.cedar_faults.proofs.Telling.{flat_shows, handed_on}
 use Rattle.cedar_policy_conversion.specs.Notes.{written_value}
 use Rattle.cedar_policy_conversion.specs.PartsShow.{note_key_shows, note_text_shows, annotation_shows}
 use Rattle.cedar_policy_conversion.proofs.Finding.{found, two_found}

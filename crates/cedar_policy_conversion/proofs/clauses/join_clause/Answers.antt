@@ -1,5 +1,5 @@
 -- What either tells, both together tell.
-use Rattle.cedar_conversion_leaves.proofs.Telling.{flat_tells, handed_on}
+use Rattle.cedar_faults.proofs.Telling.{flat_tells, handed_on}
 use Rattle.cedar_policy_conversion.proofs.clauses.join_clause.Goals as goal
 
 pub returns-in_err-earlier-clause-told : goal.returns-in_err-earlier-clause-told

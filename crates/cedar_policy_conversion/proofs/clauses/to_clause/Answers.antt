@@ -5,8 +5,8 @@ use Rattle.cedar_grammar.specs.Converting.{clause_by}
 use Rattle.cedar_cst.specs.LeafView.{shown_ident}
 use Rattle.cedar_cst.specs.View.{shown_expr}
 use Rattle.cedar_trees.specs.Bare.{bare}
-use Rattle.cedar_conversion_leaves.specs.Reasons.{reason}
-use Rattle.cedar_conversion_leaves.proofs.Telling.{handed_on}
+use Rattle.cedar_faults.specs.Reasons.{reason}
+use Rattle.cedar_faults.proofs.Telling.{handed_on}
 use Rattle.cedar_policy_conversion.specs.Clauses.{clause_word, word_of, condition_tree}
 use Rattle.cedar_policy_conversion.proofs.Gathering.{both_found, no_pair, a_pair, lacks_more, passed, paired}
 use Rattle.cedar_policy_conversion.proofs.Joining.{clause_of_parts}

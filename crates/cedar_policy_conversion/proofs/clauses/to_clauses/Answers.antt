@@ -4,8 +4,8 @@ use Rattle.std.specs.Option.{option_map}
 use Rattle.cedar_grammar.specs.Converting.{clause}
 use Rattle.cedar_cst.specs.View.{shown_cond}
 use Rattle.cedar_trees.specs.Bare.{bare}
-use Rattle.cedar_conversion_leaves.specs.Converts.{Finds}
-use Rattle.cedar_conversion_leaves.proofs.Telling.{at_item}
+use Rattle.cedar_faults.specs.Converts.{Finds}
+use Rattle.cedar_faults.proofs.Telling.{at_item}
 use Rattle.cedar_policy_conversion.specs.Clauses.{clauses_of}
 use Rattle.cedar_policy_conversion.specs.ClausesShow.{clause_shows, clauses_show}
 use Rattle.cedar_policy_conversion.proofs.Gathering.{seen_more}

@@ -3,8 +3,8 @@ use Rattle.std.specs.Prelude.{IfErr}
 use Rattle.std.specs.Option.{option_map}
 use Rattle.cedar_cst.specs.View.{shown_cond}
 use Rattle.cedar_trees.specs.Bare.{bare}
-use Rattle.cedar_conversion_leaves.specs.Converts.{Finds}
-use Rattle.cedar_conversion_leaves.specs.Telling.{TellsOnly}
+use Rattle.cedar_faults.specs.Converts.{Finds}
+use Rattle.cedar_faults.specs.Telling.{TellsOnly}
 use Rattle.cedar_policy_conversion.specs.Clauses.{clauses_of}
 use Rattle.cedar_policy_conversion.specs.ClausesShow.{clauses_show}
 use Rattle.cedar_policy_conversion.proofs.clauses.to_clauses.Given as goal

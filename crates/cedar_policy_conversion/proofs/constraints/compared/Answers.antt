@@ -1,8 +1,8 @@
 -- An operator that a scope has not is told of itself.
 use Rattle.std.proofs.Common.{refl}
 use Rattle.cedar_cst.specs.LeafView.{view_rel_op}
-use Rattle.cedar_conversion_leaves.specs.declared.kinds.ToASTErrorKind.TheVariants as kinds
-use Rattle.cedar_conversion_leaves.proofs.Telling.{tells_one}
+use Rattle.cedar_faults.specs.declared.kinds.ToASTErrorKind.TheVariants as kinds
+use Rattle.cedar_faults.proofs.Telling.{tells_one}
 use Rattle.cedar_policy_conversion.specs.PartsShow.{operator_shows}
 use Rattle.cedar_policy_conversion.proofs.Parting.{of_others}
 use Rattle.cedar_policy_conversion.proofs.constraints.compared.Goals as goal

@@ -1,6 +1,6 @@
 -- Whatever keeps what is asked of the other variable from being found is a fault, and one that it shows.
 use Rattle.std.proofs.Common.{inr}
-use Rattle.cedar_conversion_leaves.proofs.Telling.{tells_more}
+use Rattle.cedar_faults.proofs.Telling.{tells_more}
 use Rattle.cedar_policy_conversion.proofs.Finding.{is_fault}
 use Rattle.cedar_policy_conversion.proofs.Parting.{asked_of_is}
 use Rattle.cedar_policy_conversion.proofs.constraints.other_variable.Goals as goal

@@ -9,10 +9,10 @@ use Rattle.cedar_cst.proofs.Views.{seen}
 use Rattle.std.specs.Option.{option_map}
 use Rattle.cedar_literals.specs.Variables.{variable_of}
 use Rattle.cedar_policy_parts.specs.Asked.{variable_asked, constraint_of}
-use Rattle.cedar_conversion_leaves.specs.Reasons.{reason}
-use Rattle.cedar_conversion_leaves.specs.Telling.{TellsOnly}
-use Rattle.cedar_conversion_leaves.specs.Words.{ident_variable}
-use Rattle.cedar_conversion_leaves.proofs.Telling.{told_more, tells_more}
+use Rattle.cedar_faults.specs.Reasons.{reason}
+use Rattle.cedar_faults.specs.Telling.{TellsOnly}
+use Rattle.cedar_conversion.specs.Words.{ident_variable}
+use Rattle.cedar_faults.proofs.Telling.{told_more, tells_more}
 use Rattle.cedar_policy_conversion.specs.Own.{own_word, asked_of, without}
 use Rattle.cedar_policy_conversion.specs.PartsShow.{constraint_shows}
 use Rattle.cedar_policy_conversion.proofs.Finding.{passed, through, nothing, same_as}

@@ -4,7 +4,7 @@ use Rattle.cedar_grammar.specs.Loose as loose
 use Rattle.cedar_grammar.specs.Converting.{target}
 use Rattle.cedar_cst.specs.LeafView.{view_rel_op}
 use Rattle.cedar_cst.specs.View.{shown_expr}
-use Rattle.cedar_conversion_leaves.specs.Telling.{TellsOnly}
+use Rattle.cedar_faults.specs.Telling.{TellsOnly}
 use Rattle.cedar_policy_conversion.specs.Own.{own_word}
 use Rattle.cedar_policy_conversion.specs.PartsShow.{target_shows, inverted_shows, compared_shows}
 use Rattle.cedar_policy_conversion.proofs.Finding.{is_fault, replaced}

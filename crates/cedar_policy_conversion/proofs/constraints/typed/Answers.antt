@@ -2,8 +2,8 @@
 use Rattle.std.proofs.Common.{refl}
 use Rattle.cedar_cst.specs.LeafView.{view_rel_op}
 use Rattle.cedar_cst.specs.View.{shown_add}
-use Rattle.cedar_conversion_leaves.specs.declared.kinds.ToASTErrorKind.TheVariants as kinds
-use Rattle.cedar_conversion_leaves.proofs.Telling.{tells_one}
+use Rattle.cedar_faults.specs.declared.kinds.ToASTErrorKind.TheVariants as kinds
+use Rattle.cedar_faults.proofs.Telling.{tells_one}
 use Rattle.cedar_policy_conversion.specs.PartsShow.{typed_shows}
 use Rattle.cedar_policy_conversion.proofs.Parting.{of_others}
 use Rattle.cedar_policy_conversion.proofs.constraints.typed.Goals as goal

@@ -2,7 +2,7 @@
 use Rattle.std.proofs.Common.{◌≡◌, ◌<◌, [], length, sym, ap, ◌∙◌}
 use Rattle.std.specs.Prelude.{◌==◌}
 use Rattle.cedar_policy_parts.specs.Actions.{held_uids}
-use Rattle.cedar_conversion_leaves.proofs.Steps.{none_more, some_more}
+use Rattle.cedar_conversion.proofs.Steps.{none_more, some_more}
 use Rattle.cedar_policy_conversion.proofs.Finding.{nothing}
 use Rattle.cedar_policy_conversion.proofs.Acting.{all_actions, held_other}
 use Rattle.cedar_policy_conversion.proofs.entities.only_actions.Goals as goal

@@ -2,7 +2,7 @@
 use Rattle.std.proofs.Common.{◌≡◌, Some, Vec, Global, [], ◌∷◌, ◌++◌, sym, ap, ◌∙◌, rules}
 use Rattle.cedar_language.specs.Uid.{Uid}
 use Rattle.cedar_grammar.specs.Reading.{◌>>=◌}
-use Rattle.cedar_conversion_leaves.proofs.Telling.{flat_tells, handed_on}
+use Rattle.cedar_faults.proofs.Telling.{flat_tells, handed_on}
 use Rattle.cedar_policy_conversion.proofs.Finding.{passed, two_lack, two_found, found, early, late}
 use Rattle.cedar_policy_conversion.proofs.entities.pushed.Goals as goal
 

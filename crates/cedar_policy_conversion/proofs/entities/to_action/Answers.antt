@@ -4,7 +4,7 @@ use Rattle.cedar_language.specs.Uid.{Uid}
 use Rattle.cedar_grammar.specs.Reading.{◌>>=◌}
 use Rattle.cedar_grammar.specs.Converting.{action}
 use Rattle.cedar_cst.specs.View.{shown_expr}
-use Rattle.cedar_conversion_leaves.specs.Reasons.{reason}
+use Rattle.cedar_faults.specs.Reasons.{reason}
 use Rattle.cedar_policy_conversion.specs.Entities.{entity, as_action}
 use Rattle.cedar_policy_conversion.proofs.Finding.{passed, through, early, same_as}
 use Rattle.cedar_policy_conversion.proofs.Acting.{action_is}

@@ -6,7 +6,7 @@ use Rattle.cedar_grammar.specs.Reading.{◌>>=◌}
 use Rattle.cedar_grammar.specs.Loose as loose
 use Rattle.cedar_grammar.specs.Converting.{each}
 use Rattle.cedar_cst.specs.View.{shown_expr}
-use Rattle.cedar_conversion_leaves.proofs.Telling.{at_item}
+use Rattle.cedar_faults.proofs.Telling.{at_item}
 use Rattle.cedar_policy_conversion.specs.Entities.{entity}
 use Rattle.cedar_policy_conversion.specs.PartsShow.{entity_shows, entities_show}
 use Rattle.cedar_policy_conversion.proofs.Finding.{same_as}

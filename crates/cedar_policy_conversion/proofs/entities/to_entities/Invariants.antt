@@ -4,8 +4,8 @@ use Rattle.std.specs.Prelude.{IfErr}
 use Rattle.cedar_grammar.specs.Loose as loose
 use Rattle.cedar_grammar.specs.Converting.{each}
 use Rattle.cedar_cst.specs.View.{shown_expr}
-use Rattle.cedar_conversion_leaves.specs.Converts.{Finds}
-use Rattle.cedar_conversion_leaves.specs.Telling.{TellsOnly}
+use Rattle.cedar_faults.specs.Converts.{Finds}
+use Rattle.cedar_faults.specs.Telling.{TellsOnly}
 use Rattle.cedar_policy_conversion.specs.Entities.{entity}
 use Rattle.cedar_policy_conversion.specs.PartsShow.{entities_show}
 use Rattle.cedar_policy_conversion.proofs.entities.to_entities.Given as goal

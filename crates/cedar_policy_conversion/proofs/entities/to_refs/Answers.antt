@@ -5,8 +5,8 @@ use Rattle.cedar_grammar.specs.Reading.{◌>>=◌}
 use Rattle.cedar_grammar.specs.Loose as loose
 use Rattle.cedar_grammar.specs.Converting.{alone, each, actions_among}
 use Rattle.cedar_cst.specs.View.{shown_expr}
-use Rattle.cedar_conversion_leaves.specs.Reasons.{reason}
-use Rattle.cedar_conversion_leaves.proofs.Telling.{handed_on, tells_more}
+use Rattle.cedar_faults.specs.Reasons.{reason}
+use Rattle.cedar_faults.proofs.Telling.{handed_on, tells_more}
 use Rattle.cedar_policy_conversion.specs.Entities.{entity, as_action, refs_of}
 use Rattle.cedar_policy_conversion.specs.PartsShow.{no_actions_show, action_shows, entities_show, entities_of}
 use Rattle.cedar_policy_conversion.proofs.Finding.{passed, through, early}

@@ -1,7 +1,7 @@
 -- What one more part shows, all parts show.
 use Rattle.std.proofs.Common.{◌∷◌, inl, inr, map, rules}
 use Rattle.cedar_cst.specs.View.{shown_variable_def}
-use Rattle.cedar_conversion_leaves.proofs.Telling.{at_item}
+use Rattle.cedar_faults.proofs.Telling.{at_item}
 use Rattle.cedar_policy_conversion.specs.PartsShow.{extra_shows, extras_show}
 use Rattle.cedar_policy_conversion.proofs.Showing.{next_shows}
 use Rattle.cedar_policy_conversion.proofs.scopes.all_extra.Goals as goal

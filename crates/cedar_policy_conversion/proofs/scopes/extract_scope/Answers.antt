@@ -7,9 +7,9 @@ use Rattle.cedar_grammar.specs.Reading.{◌>>=◌}
 use Rattle.cedar_grammar.specs.Converting.{constraint, action_constraint}
 use Rattle.cedar_cst.specs.View.{shown_variable_def}
 use Rattle.cedar_policy_parts.specs.Actions.{action_of}
-use Rattle.cedar_conversion_leaves.specs.Converts.{Finds}
-use Rattle.cedar_conversion_leaves.specs.Telling.{TellsOnly}
-use Rattle.cedar_conversion_leaves.proofs.Telling.{handed_on}
+use Rattle.cedar_faults.specs.Converts.{Finds}
+use Rattle.cedar_faults.specs.Telling.{TellsOnly}
+use Rattle.cedar_faults.proofs.Telling.{handed_on}
 use Rattle.cedar_policy_conversion.specs.Scopes.{no_more, scope_of}
 use Rattle.cedar_policy_conversion.specs.PartsShow.{principal_shows, action_part_shows, resource_shows, extras_show}
 use Rattle.cedar_policy_conversion.proofs.Finding.{passed}

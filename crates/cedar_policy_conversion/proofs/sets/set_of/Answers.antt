@@ -2,8 +2,8 @@
 use Rattle.std.proofs.Common.{inl, inr, map, take, refl, sym, ap, ◌∙◌, subst, arith}
 use Rattle.std.proofs.lemmas.List.{length-map, length-take-le}
 use Rattle.cedar_cst.specs.View.{shown_policy}
-use Rattle.cedar_conversion_leaves.specs.Converts.{Finds}
-use Rattle.cedar_conversion_leaves.proofs.Telling.{at_item}
+use Rattle.cedar_faults.specs.Converts.{Finds}
+use Rattle.cedar_faults.proofs.Telling.{at_item}
 use Rattle.cedar_policy_conversion.proofs.Gathering.{seen_more}
 use Rattle.cedar_policy_conversion.proofs.Showing.{told_or}
 use Rattle.cedar_policy_conversion.specs.Shows.{policy_shows, each_policy_shows}

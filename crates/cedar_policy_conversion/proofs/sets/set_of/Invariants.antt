@@ -1,8 +1,8 @@
 use Rattle.std.proofs.Common.{map, take}
 use Rattle.std.specs.Prelude.{IfErr}
 use Rattle.cedar_cst.specs.View.{shown_policy}
-use Rattle.cedar_conversion_leaves.specs.Converts.{Finds}
-use Rattle.cedar_conversion_leaves.specs.Telling.{TellsOnly}
+use Rattle.cedar_faults.specs.Converts.{Finds}
+use Rattle.cedar_faults.specs.Telling.{TellsOnly}
 use Rattle.cedar_policy_conversion.specs.Shows.{each_policy_shows}
 use Rattle.cedar_policy_conversion.proofs.Numbering.{entries_of}
 use Rattle.cedar_policy_conversion.proofs.sets.set_of.Given as goal

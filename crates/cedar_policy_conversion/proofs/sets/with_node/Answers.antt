@@ -4,12 +4,12 @@ use Rattle.std.specs.Prelude.{IfOk}
 use Rattle.std.specs.Option.{option_map}
 use Rattle.cedar_grammar.specs.Converting.{policy_syntax}
 use Rattle.cedar_cst.specs.View.{shown_policy}
-use Rattle.cedar_world.specs.PolicyEdits.{numbered}
-use Rattle.cedar_conversion_leaves.specs.Reasons.{reason}
-use Rattle.cedar_conversion_leaves.specs.Converts.{Finds}
+use Rattle.cedar_grammar.specs.Syntax.{numbered}
+use Rattle.cedar_faults.specs.Reasons.{reason}
+use Rattle.cedar_faults.specs.Converts.{Finds}
 use Rattle.cedar_policy_conversion.proofs.Gathering.{a_pair, both_found, flat_ok, lacks_more, no_pair, paired, passed}
-use Rattle.cedar_conversion_leaves.specs.Telling.{Told}
-use Rattle.cedar_conversion_leaves.proofs.Telling.{flat_shows, handed_on}
+use Rattle.cedar_faults.specs.Telling.{Told}
+use Rattle.cedar_faults.proofs.Telling.{flat_shows, handed_on}
 use Rattle.cedar_policy_conversion.proofs.Showing.{itself_tells}
 use Rattle.cedar_policy_conversion.specs.Shows.{policy_shows}
 use Rattle.cedar_policy_set.specs.Entries.{bound_at}

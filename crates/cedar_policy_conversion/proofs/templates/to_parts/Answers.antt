@@ -6,18 +6,18 @@ use Rattle.cedar_cst.specs.LeafView.{shown_ident}
 use Rattle.cedar_cst.specs.View.{shown_annotation, shown_cond, shown_variable_def, view_policy_impl}
 use Rattle.cedar_cst.specs.declared.cst.PolicyImpl.{PolicyImpl}
 use Rattle.cedar_grammar.specs.Names.{Names}
-use Rattle.cedar_conversion_leaves.specs.declared.kinds.ToASTErrorKind.{ToASTErrorKind}
+use Rattle.cedar_faults.specs.declared.kinds.ToASTErrorKind.{ToASTErrorKind}
 use Rattle.cedar_policy_conversion.specs.Shows.{policy_shows}
 use Rattle.cedar_trees.specs.Bare.{bare}
 use Rattle.cedar_policy_parts.specs.Effects.{effect_of}
-use Rattle.cedar_conversion_leaves.specs.Reasons.{reason}
+use Rattle.cedar_faults.specs.Reasons.{reason}
 use Rattle.cedar_policy_conversion.specs.Scopes.{scope_of}
 use Rattle.cedar_policy_conversion.specs.Clauses.{clauses_of}
 use Rattle.cedar_policy_conversion.specs.Notes.{notes_of}
 use Rattle.cedar_policy_conversion.proofs.Gathering.{both_found, lacks_more, paired, passed}
 use Rattle.cedar_policy_conversion.specs.PartsShow.{effect_shows, annotations_show, scope_shows}
 use Rattle.cedar_policy_conversion.specs.ClausesShow.{clauses_show}
-use Rattle.cedar_conversion_leaves.proofs.Telling.{flat_shows, handed_on}
+use Rattle.cedar_faults.proofs.Telling.{flat_shows, handed_on}
 use Rattle.cedar_policy_conversion.proofs.Showing.{flat_both}
 use Rattle.cedar_policy_conversion.specs.Parts.{parts_syntax}
 use Rattle.cedar_policy_conversion.proofs.Wholes.{a_policy, loose_parts, no_policy}

@@ -2,7 +2,7 @@
 use Rattle.std.proofs.Common.{sym, ap, ◌∙◌, Some}
 use Rattle.std.proofs.lemmas.Result.{err_from_is_err_and}
 use Rattle.cedar_restricted.specs.Views.{restricted_tree}
-use Rattle.cedar_texts.specs.Settings.{setting_with}
+use Rattle.cedar_session.specs.Settings.{setting_with}
 use Rattle.cedar_trees.specs.Bare.{bare}
 use Rattle.cedar_session.proofs.PolicyCommands.{no_id}
 use Rattle.cedar_session.proofs.Texts.{read_tree}

@@ -1,6 +1,6 @@
 -- Each number that was passed over is taken.
 use Rattle.std.proofs.Common.{◌≡◌, ◌<◌, ◌≤◌, ◌^◌, ◌-◌, ℕ, true}
-use Rattle.cedar_world.specs.PolicyEdits.{numbered}
+use Rattle.cedar_grammar.specs.Syntax.{numbered}
 use Rattle.cedar_store.specs.Renaming.{is_taken}
 use Rattle.cedar_store.proofs.renaming.next_free.Given as goal
 

@@ -3,7 +3,7 @@ use Rattle.std.proofs.Common.{◌≡◌, ◌+◌, ◌++◌, [], ◌∷◌, sym, 
 use Rattle.std.specs.Map.{lookup}
 use Rattle.cedar_language.specs.Uid.{Text}
 use Rattle.cedar_language.specs.Order.{same_text}
-use Rattle.cedar_world.specs.PolicyEdits.{numbered}
+use Rattle.cedar_grammar.specs.Syntax.{numbered}
 use Rattle.cedar_policy_set.specs.Entries.{Entry}
 use Rattle.cedar_policy_set.specs.Bounds.{bound_id, entry_of, seen}
 use Rattle.cedar_store.proofs.Numbering.{IsNumbered, number_room, number_new, number_one, number_all}

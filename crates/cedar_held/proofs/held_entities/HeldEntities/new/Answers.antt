@@ -3,7 +3,7 @@ use Rattle.std.specs.FinMap as finite
 use Rattle.cedar_entities.specs.Store.{held_at}
 use Rattle.cedar_held.specs.HoldingEntities.{shown_is_one}
 use Rattle.std.proofs.Common.{subst}
-use Rattle.cedar_bodies.specs.Built.{HoldBuilt}
+use Rattle.cedar_held.specs.Built.{HoldBuilt}
 use Rattle.cedar_held.proofs.BuiltEdits.{nothing_built}
 use Rattle.cedar_held.proofs.EditedBodies.{nothing_shown}
 use Rattle.cedar_held.proofs.held_entities.HeldEntities.new.Goals as goal

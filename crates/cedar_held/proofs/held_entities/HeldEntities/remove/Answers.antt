@@ -4,7 +4,7 @@ use Rattle.std.specs.FinSet as set
 use Rattle.cedar_restricted.specs.Views.{borrowed_tree}
 use Rattle.cedar_world.specs.Bodies.{uids_of}
 use Rattle.cedar_world.specs.EntityEdits as world
-use Rattle.cedar_bodies.specs.Making.{set_listed}
+use Rattle.cedar_held.specs.Making.{set_listed}
 use Rattle.cedar_held.specs.Stores.{RemovesUids}
 use Rattle.cedar_held.proofs.EditedBodies.{shows_as, either_shown, either_built, remove_answered}
 use Rattle.cedar_held.proofs.BuiltEdits.{remove_built}

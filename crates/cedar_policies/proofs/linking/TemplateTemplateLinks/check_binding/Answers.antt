@@ -3,7 +3,8 @@ use Rattle.std.proofs.Common.{◌≡◌, ◌∙◌, ap, List}
 use Rattle.std.specs.Prelude.{filter, is_some, not}
 use Rattle.std.specs.List.{list_any}
 use Rattle.cedar_language.specs.Tree.{SlotId}
-use Rattle.cedar_world.specs.Syntax.{binding_of, is_slot}
+use Rattle.cedar_grammar.specs.Bindings.{binding_of}
+use Rattle.cedar_grammar.specs.Syntax.{is_slot}
 use Rattle.cedar_policy_parts.specs.Bindings.{bound_slots}
 use Rattle.cedar_policies.specs.Templates.{syntax_of}
 use Rattle.cedar_policies.specs.Linking.{lacking, extra}

@@ -4,7 +4,7 @@ use Rattle.std.proofs.lemmas.Result.{err_from_is_err_and}
 use Rattle.cedar_extensions.specs.Table.{as_table}
 use Rattle.cedar_restricted.specs.Views.{restricted_tree}
 use Rattle.cedar_world.specs.NameLaws.{is_answered}
-use Rattle.cedar_telling.specs.Lookups.{IsAskedBy}
+use Rattle.cedar_world.specs.Lookups.{IsAskedBy}
 use Rattle.cedar_replies.specs.Replies.{answer_of}
 use Rattle.cedar_asking.specs.Keeping.{IsNamed}
 use Rattle.cedar_session.specs.Open.{bare}

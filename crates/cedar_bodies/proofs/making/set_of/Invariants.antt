@@ -1,6 +1,0 @@
-use Rattle.std.proofs.Common.{drop}
-use Rattle.cedar_bodies.proofs.Sets.{ArePutInto}
-use Rattle.cedar_bodies.proofs.making.set_of.Given as goal
-
-abbrev pub invariant-loop-uid : goal.invariant-loop-uid
-invariant-loop-uid l = ArePutInto l.uids l.made.keys (drop l.uid-index l.uids)

@@ -1,5 +1,0 @@
-use Rattle.cedar_bodies.proofs.Reading as reading
-use Rattle.cedar_bodies.proofs.version_laws.trees_are_read.Goals as goal
-
-pub returns : goal.returns
-returns c = reading.trees_are_read

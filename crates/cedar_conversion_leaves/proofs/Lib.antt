@@ -1,4 +1,0 @@
-pub mod Gathering
-pub mod Telling
-pub mod Words
-pub mod Steps

@@ -1,9 +1,0 @@
-pub mod Reasons
-pub mod Telling
-pub mod Shown
-pub mod Flat
-pub mod Converts
-pub mod Words
-pub mod Refusing
-pub mod Fields
-pub mod Alone

@@ -1,0 +1,244 @@
+//! Lists of uids in rising order.
+ghost use Rattle.std.specs.Prelude.{◌≡◌, ◌<◌, ◌^◌, OnOk, OnErr, IfOk, length};
+ghost use Rattle.std.specs.FinSet as set;
+ghost use Rattle.std.specs.List.{list_any};
+ghost use Rattle.cedar_language.specs.Order.{same_uid};
+ghost use Rattle.cedar_entities.specs.Lists.{AreRising, AreInTurn};
+
+use crate::iteration::Uids;
+use cedar_literals::uids::EntityUID;
+use std::alloc::{AllocError, Global};
+use std::collections::HashSet;
+use std::marker::Model;
+use std::mem;
+
+/// Uids, each once, as one list in rising order. Contracts see the set of them.
+pub struct EntityUIDs {
+    alloc: Global,
+    uids: Vec<EntityUID>,
+}
+
+impl Drop for EntityUIDs {
+    fn drop(self) {
+        let EntityUIDs { alloc: _, uids: _ } = self;
+    }
+}
+
+impl Model for EntityUIDs {
+    ghost use Rattle.std.specs.FinSet as set;
+    ghost use Rattle.cedar_entities.specs.Lists.{UidSet, uids_code, IsKept};
+
+    ghost Value = { UidSet };
+
+    ghost coded = { uids_code };
+
+    ghost view = { λ a. set.from_list a.uids.items };
+
+    ghost invariant = { λ a. IsKept a.uids.items };
+}
+
+// ---- makers
+
+impl EntityUIDs {
+    /// No uids.
+    pub fn new(alloc: Global) -> EntityUIDs
+        ensures { result ≡ set.empty }
+    {
+        EntityUIDs {
+            alloc,
+            uids: Vec::new(alloc),
+        }
+    }
+
+    // The uids of a list that rises.
+    fn of_rising(alloc: Global, uids: Vec<EntityUID>) -> EntityUIDs
+        requires { AreRising uids.items }
+        ensures { result ≡ set.from_list uids.items }
+    {
+        EntityUIDs { alloc, uids }
+    }
+
+    /// The uids of a list, in any order and any number of times. It is sorted once; refused for memory alone.
+    pub fn from_vec(alloc: Global, uids: Vec<EntityUID>) -> Result<EntityUIDs, AllocError>
+        ensures { IfOk result (λ made. made ≡ set.from_list uids.items) }
+    {
+        let mut uids = uids;
+        uids.sort()?;
+        uids.dedup();
+        Ok(EntityUIDs::of_rising(alloc, uids))
+    }
+
+    /// The uids of a set; refused for memory alone.
+    pub fn from_set(alloc: Global, uids: HashSet<EntityUID>) -> Result<EntityUIDs, AllocError>
+        ensures { IfOk result (λ made. made ≡ set.from_list uids.keys) }
+    {
+        EntityUIDs::from_vec(alloc, uids.into_iter().collect(alloc)?)
+    }
+}
+
+// ---- readers
+
+// Whether one of the listed uids is in the set.
+fn stands_among(uids: &[EntityUID], set: &HashSet<EntityUID>) -> bool
+    ensures { result ≡ list_any (λ u. list_any (same_uid u) set.now.keys) uids.now }
+{
+    uids.iter().any(|uid| set.contains(uid))
+}
+
+impl EntityUIDs {
+    /// The uids, each below the next.
+    pub fn as_slice(&self) -> &[EntityUID]
+        ensures rising { AreRising result.now }
+        ensures listed { set.from_list result.now ≡ self.now }
+        ensures small { length result.now < 2 ^ 63 }
+    {
+        self.uids.as_slice()
+    }
+
+    /// Whether the uid is one of them: a binary search.
+    pub fn contains(&self, uid: &EntityUID) -> bool
+        ensures { result ≡ set.contains self.now uid.now }
+    {
+        self.as_slice().binary_search(uid).is_ok()
+    }
+
+    // Whether one of the uids of the set is one of these.
+    fn has_one_of(&self, uids: &HashSet<EntityUID>) -> bool
+        ensures { result ≡ list_any (set.contains self.now) uids.now.keys }
+    {
+        uids.iter().any(|uid| self.contains(uid))
+    }
+
+    /// Whether one of the uids of the set is one of these: a look-up for each uid of the smaller one.
+    pub fn meets(&self, uids: &HashSet<EntityUID>) -> bool
+        ensures { result ≡ list_any (set.contains self.now) uids.now.keys }
+    {
+        let listed = self.as_slice();
+        if listed.len() < uids.len() {
+            stands_among(listed, uids)
+        } else {
+            self.has_one_of(uids)
+        }
+    }
+
+    /// The uids, each below the next.
+    pub fn iter(&self) -> Uids<'_>
+        ensures rising { AreRising result }
+        ensures listed { set.from_list result ≡ self.now }
+        ensures fits { length result < 2 ^ 64 }
+    {
+        let none: &[EntityUID] = &[];
+        Uids {
+            first: self.as_slice().iter(),
+            others: none.iter(),
+            passed: self,
+        }
+    }
+
+    /// The uids, each below the next, and then those of the others that aren't among them, each below the next.
+    pub fn followed_by<'a>(&'a self, others: &'a EntityUIDs) -> Uids<'a>
+        ensures in_turn { AreInTurn self.now others.now result }
+        ensures fits { length result < 2 ^ 64 }
+    {
+        Uids {
+            first: self.as_slice().iter(),
+            others: others.as_slice().iter(),
+            passed: self,
+        }
+    }
+}
+
+impl Clone for EntityUIDs {
+    ghost is_clone = { λ uids copy. copy ≡ uids };
+
+    fn clone(&self) -> Result<EntityUIDs, AllocError> {
+        let uids = Vec::from_clones(self.alloc, self.as_slice())?;
+        Ok(EntityUIDs::of_rising(self.alloc, uids))
+    }
+}
+
+// ---- changes
+
+impl EntityUIDs {
+    /// A copy, whose uids share their parts; refused for memory alone.
+    pub fn clone(&self, _alloc: Global) -> Result<EntityUIDs, AllocError>
+        ensures { IfOk result (λ copy. copy ≡ self.now) }
+    {
+        Clone::clone(self)
+    }
+
+    /// Adds the uids of a list, in any order and any number of times. All are sorted once. Refused for memory
+    /// alone; nothing is then added.
+    pub fn extend(&mut self, uids: Vec<EntityUID>) -> Result<(), AllocError>
+        ensures added { OnOk result (self.new ≡ set.union self.old (set.from_list uids.items)) }
+        ensures err { OnErr result (self.new ≡ self.old) }
+    {
+        let mut uids = uids;
+        uids.extend_with_clones(self.as_slice())?;
+        *self = EntityUIDs::from_vec(self.alloc, uids)?;
+        Ok(())
+    }
+
+    /// Adds a uid. Refused for memory alone; nothing is then added.
+    pub fn insert(&mut self, uid: EntityUID) -> Result<(), AllocError>
+        ensures added { OnOk result (self.new ≡ set.insert self.old uid) }
+        ensures err { OnErr result (self.new ≡ self.old) }
+    {
+        let mut uids = Vec::new(self.alloc);
+        uids.push(uid)?;
+        self.extend(uids)
+    }
+
+    // The uids, each below the next.
+    fn into_vec(self) -> Vec<EntityUID>
+        ensures rising { AreRising result.items }
+        ensures listed { set.from_list result.items ≡ self }
+    {
+        let EntityUIDs { alloc: _, uids } = self;
+        uids
+    }
+
+    // The same; none stay here.
+    fn take(&mut self) -> Vec<EntityUID>
+        ensures rising { AreRising result.items }
+        ensures listed { set.from_list result.items ≡ self.old }
+    {
+        let none = EntityUIDs::new(self.alloc);
+        mem::replace(self, none).into_vec()
+    }
+
+    /// Takes the uids of a set away.
+    pub fn remove_all(&mut self, gone: &HashSet<EntityUID>)
+        ensures { self.new ≡ set.difference self.old (set.from_list gone.now.keys) }
+    {
+        if self.meets(gone) {
+            self.cut(gone);
+        }
+    }
+
+    fn cut(&mut self, gone: &HashSet<EntityUID>)
+        ensures { self.new ≡ set.difference self.old (set.from_list gone.now.keys) }
+    {
+        let mut left = self.take();
+        left.retain(|uid| !gone.contains(uid));
+        *self = EntityUIDs::of_rising(self.alloc, left);
+    }
+
+    /// Takes a uid away, if it is one of them.
+    pub fn remove(&mut self, uid: &EntityUID)
+        ensures { self.new ≡ set.remove self.old uid.now }
+    {
+        if self.contains(uid) {
+            let mut left = self.take();
+            left.retain(|kept| kept != uid);
+            *self = EntityUIDs::of_rising(self.alloc, left);
+        }
+    }
+
+    /// Takes all uids away.
+    pub fn clear(&mut self)
+        ensures { self.new ≡ set.empty }
+    {
+        *self = EntityUIDs::new(self.alloc);
+    }
+}

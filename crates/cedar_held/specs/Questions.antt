@@ -1,0 +1,54 @@
+-- The body of a question, as the world has it.
+use Rattle.std.specs.Prelude.{◌≡◌, ⊤, Option, Some, None, option_map, List, codes}
+use Rattle.std.specs.Option.{unwrap_or}
+use Rattle.std.specs.Borrow.{Bor}
+use Rattle.cedar_language.specs.Tree.{MakeRecord, Tree, Apply, Trees}
+use Rattle.cedar_language.specs.Uid.{Text}
+use Rattle.cedar_trees.specs.Bare.{bare}
+use Rattle.cedar_trees.specs.declared.expr.Expr.{Expr}
+use Rattle.cedar_world.specs.Asking as world
+use Rattle.cedar_world.specs.Asking.{Part, Question, Entries, NoContext}
+use Rattle.cedar_world.specs.Bodies.{Fields, fields_of, found, entries_of}
+use Rattle.cedar_held.specs.declared.questions.AskBody.{AskBody}
+use Rattle.cedar_held.specs.declared.questions.AskedPart.{AskedPart}
+use Rattle.cedar_held.specs.declared.questions.AskedPart.TheVariants.{Given, Missing}
+
+-- the context that a record is; a call that names an unknown is that unknown
+abbrev pub given_context : Bor (Expr (Unit {0})) → Entries
+given_context e = unwrap_or (entries_of (bare e.now)) NoContext
+
+abbrev pub part_asked : AskedPart → Part
+part_asked (Given uid) = world.Given uid.now
+part_asked (Missing entity_type) = world.Missing entity_type
+
+abbrev pub question_of : AskBody → Question
+question_of b = record {
+  principal = part_asked b.principal;
+  action = part_asked b.action;
+  resource = part_asked b.resource;
+  context = unwrap_or (option_map given_context b.context) NoContext;
+}
+
+-- c is t, which is a record
+pub record IsRecordOf (t c : Tree) : Type 0 where
+  pub same : c ≡ t
+  pub names : List Text
+  pub values : Trees
+  pub is : c ≡ Apply (MakeRecord names) values
+
+-- what is lent for the context is the record that stands there
+pub record StandsAt (fs : Fields) (c : Tree) : Type 0 where
+  pub stands : found (codes "context") fs ≡ Some c
+  pub names : List Text
+  pub values : Trees
+  pub is : c ≡ Apply (MakeRecord names) values
+
+abbrev pub LendsFrom : Fields → Option (Bor (Expr (Unit {0}))) → Type 0
+LendsFrom fs None = ⊤
+LendsFrom fs (Some e) = StandsAt fs (bare e.now)
+
+-- the same of the record that a body is
+pub record LendsContext (t : Tree) (lent : Option (Bor (Expr (Unit {0})))) : Type 0 where
+  pub entries : Fields
+  pub are : fields_of t ≡ Some entries
+  pub from : LendsFrom entries lent

@@ -1,0 +1,107 @@
+// The fields of a record, by their keys.
+ghost use Rattle.std.specs.Prelude.{◌≡◌, IfOk, map, option_map};
+ghost use Rattle.std.specs.Rc.{rc_str_bytes};
+ghost use Rattle.cedar_world.specs.Orders.{text_eq};
+ghost use Rattle.cedar_trees.specs.Bare.{bare};
+ghost use Rattle.cedar_world.specs.Bodies as world;
+ghost use Rattle.cedar_held.specs.Lent.{fields_in};
+
+use crate::literals::{entity_of, entries_of, string_of, type_named};
+use cedar_literals::uids::{EntityType, EntityUID};
+use cedar_trees::expr::Expr;
+use std::alloc::{AllocError, Global};
+use std::collections::BTreeMap;
+use std::rc::RcStr;
+
+fn is_same(text: &str, other: &str) -> bool
+    ensures { result ≡ text_eq text.now other.now }
+{
+    text == other
+}
+
+fn is_one_of(keys: &[&str], key: &str) -> bool
+    ensures { result ≡ world.is_one_of (map (λ k. k.now) keys.now) key.now }
+{
+    for k in keys {
+        if is_same(k, key) {
+            return true;
+        }
+    }
+    false
+}
+
+// Whether no key but these stands there.
+pub fn has_only(entries: &BTreeMap<RcStr, Expr>, keys: &[&str]) -> bool
+    ensures { result ≡ world.are_among (map (λ k. k.now) keys.now) (fields_in entries.now) }
+{
+    for (key, _value) in entries {
+        if !is_one_of(keys, key.as_str()) {
+            return false;
+        }
+    }
+    true
+}
+
+// What stands beside a key.
+pub fn field<'e>(entries: &'e BTreeMap<RcStr, Expr>, key: &str) -> Option<&'e Expr>
+    ensures { option_map (λ value. bare value.now) result ≡ world.found key.now (fields_in entries.now) }
+{
+    entries.get(key)
+}
+
+// The text beside a key; none where none stands there.
+pub fn required_string<'e>(entries: &'e BTreeMap<RcStr, Expr>, key: &str) -> Option<&'e RcStr>
+    ensures { option_map (λ text. rc_str_bytes text.now) result ≡ world.required world.string_of key.now (fields_in entries.now) }
+{
+    string_of(field(entries, key)?)
+}
+
+// The entity beside a key; none where none stands there.
+pub fn required_entity<'e>(entries: &'e BTreeMap<RcStr, Expr>, key: &str) -> Option<&'e EntityUID>
+    ensures { option_map (λ uid. uid.now) result ≡ world.required world.entity_of key.now (fields_in entries.now) }
+{
+    entity_of(field(entries, key)?)
+}
+
+// The entity beside a key, where the key stands there; none where something else stands beside it.
+pub fn optional_entity<'e>(
+    entries: &'e BTreeMap<RcStr, Expr>,
+    key: &str,
+) -> Option<Option<&'e EntityUID>>
+    ensures { option_map (option_map (λ uid. uid.now)) result ≡ world.optional world.entity_of key.now (fields_in entries.now) }
+{
+    match field(entries, key) {
+        None => Some(None),
+        Some(value) => Some(Some(entity_of(value)?)),
+    }
+}
+
+// The type that is named beside a key, where the key stands there; none where something else stands beside it.
+pub fn optional_type(
+    alloc: Global,
+    entries: &BTreeMap<RcStr, Expr>,
+    key: &str,
+) -> Result<Option<Option<EntityType>>, AllocError>
+    ensures { IfOk result (λ found. found ≡ world.optional world.type_named key.now (fields_in entries.now)) }
+{
+    match field(entries, key) {
+        None => Ok(Some(None)),
+        Some(value) => match type_named(alloc, value)? {
+            None => Ok(None),
+            Some(entity_type) => Ok(Some(Some(entity_type))),
+        },
+    }
+}
+
+// The record beside a key, where the key stands there; none where something else stands beside it.
+pub fn optional_record<'e>(
+    entries: &'e BTreeMap<RcStr, Expr>,
+    key: &str,
+) -> Option<Option<&'e BTreeMap<RcStr, Expr>>>
+    ensures { option_map (option_map (λ found. fields_in found.now)) result ≡ world.optional world.fields_of key.now (fields_in entries.now) }
+{
+    match field(entries, key) {
+        None => Some(None),
+        Some(value) => Some(Some(entries_of(value)?)),
+    }
+}

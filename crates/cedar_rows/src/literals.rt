@@ -1,0 +1,146 @@
+// Patterns and types.
+use crate::names::Names;
+use cedar_literals::patterns::{Pattern, PatternElem};
+use cedar_literals::types::Type;
+use cedar_literals::variables::Var;
+use cedar_names::conversions::FromIn;
+use cedar_names::identifiers::{Id, UnreservedId};
+use crate::{Answer, alike, keep, no_case, said, show, tell};
+use std::alloc::{AllocError, Global};
+use std::rc::{Rc, RcStr};
+
+/// What was read last.
+pub struct Literals {
+    pattern: Option<Pattern>,
+    ty: Option<Type>,
+    second_type: Option<Type>,
+}
+
+impl Drop for Literals {
+    fn drop(self) {
+        let Literals {
+            pattern: _,
+            ty: _,
+            second_type: _,
+        } = self;
+    }
+}
+
+/// Nothing was read yet.
+pub fn none() -> Literals {
+    Literals {
+        pattern: None,
+        ty: None,
+        second_type: None,
+    }
+}
+
+/// An element is a wildcard where a star stands, and a star where a plus stands.
+fn elem(c: char) -> PatternElem {
+    if c == '*' {
+        return PatternElem::Wildcard;
+    }
+    PatternElem::Char(if c == '+' { '*' } else { c })
+}
+
+fn pattern(alloc: Global, text: &str) -> Result<Pattern, AllocError> {
+    text.chars().map(elem).collect(alloc)
+}
+
+fn elems(alloc: Global, text: &str) -> Result<Vec<PatternElem>, AllocError> {
+    text.chars().map(elem).collect(alloc)
+}
+
+/// What a step on patterns makes of the text, or asks of the pattern held.
+pub fn patterns(alloc: Global, verb: &str, text: &str, held: &mut Literals) -> Answer {
+    match verb {
+        "pattern" => keep(alloc, &mut held.pattern, pattern(alloc, text)),
+        "pattern-in" => show(alloc, Pattern::from_in(alloc, elems(alloc, text)?)),
+        "shared-pattern" => {
+            let elems = Rc::new(alloc, elems(alloc, text)?)?;
+            show(alloc, Ok::<_, AllocError>(Pattern::from(elems)))
+        }
+        _ => called(alloc, verb, text, held),
+    }
+}
+
+fn called(alloc: Global, verb: &str, text: &str, held: &Literals) -> Answer {
+    let Some(pattern) = &held.pattern else {
+        return no_case(alloc);
+    };
+    match verb {
+        "matches" => said(alloc, pattern.wildcard_match(text)),
+        "pattern-copy" => show(alloc, pattern.clone()),
+        "pattern-alike" => said(alloc, alike(pattern, &self::pattern(alloc, text)?)),
+        "pattern-len" => tell(alloc, pattern.len()),
+        "pattern-empty" => said(alloc, pattern.is_empty()),
+        "pattern-elems" => tell(alloc, pattern.get_elems().len()),
+        _ => tell(alloc, pattern.iter().count()),
+    }
+}
+
+fn plain_type(text: &str) -> Type {
+    match text {
+        "bool" => Type::Bool,
+        "long" => Type::Long,
+        "string" => Type::String,
+        "set" => Type::Set,
+        _ => Type::Record,
+    }
+}
+
+/// What a step on types makes of the word, of the name held, or of the type held.
+pub fn types(
+    alloc: Global,
+    verb: &str,
+    text: &str,
+    held: &mut Literals,
+    names: &mut Names,
+) -> Answer {
+    match verb {
+        "type" => keep(alloc, &mut held.ty, Ok::<_, AllocError>(plain_type(text))),
+        "type-of-name" => match names.name.take() {
+            Some(name) => {
+                keep(
+                    alloc,
+                    &mut held.ty,
+                    Ok::<_, AllocError>(Type::entity_type(name)),
+                )
+            }
+            None => no_case(alloc),
+        },
+        "extension-of-name" => match names.name.take() {
+            Some(name) => show(alloc, Ok::<_, AllocError>(Type::Extension { name })),
+            None => no_case(alloc),
+        },
+        "type-copy" => match &held.ty {
+            Some(ty) => keep(alloc, &mut held.second_type, ty.clone()),
+            None => no_case(alloc),
+        },
+        _ => types_alike(alloc, held),
+    }
+}
+
+fn types_alike(alloc: Global, held: &Literals) -> Answer {
+    match (&held.ty, &held.second_type) {
+        (Some(ty), Some(second)) => said(alloc, alike(ty, second)),
+        _ => no_case(alloc),
+    }
+}
+
+fn variable(word: &str) -> Var {
+    match word {
+        "principal" => Var::Principal,
+        "action" => Var::Action,
+        "resource" => Var::Resource,
+        _ => Var::Context,
+    }
+}
+
+/// The variable as an identifier.
+pub fn variables(alloc: Global, verb: &str, word: &str) -> Answer {
+    match verb {
+        "id" => show(alloc, Id::from_in(alloc, variable(word))),
+        _ => show(alloc, UnreservedId::from_in(alloc, variable(word))),
+    }
+}

@@ -1,0 +1,389 @@
+// Expressions by their constructors, and what they say of themselves.
+use crate::stack::{place, told_place, top};
+use cedar_literals::literals::Literal;
+use cedar_literals::operators::{BinaryOp, UnaryOp};
+use cedar_literals::patterns::{Pattern, PatternElem};
+use cedar_literals::slots::SlotId;
+use cedar_literals::types::Type;
+use cedar_literals::uids::{EntityType, EntityUID};
+use cedar_literals::variables::Var;
+use cedar_names::conversions::FromIn;
+use cedar_names::errors::ParseNameError;
+use cedar_names::names::Name;
+use cedar_names::reading::FromNormalizedStr;
+use crate::{
+    Answer, count_of, explain, mapped, no_case, number, paired, put, said, taken, tell,
+};
+use cedar_trees::errors::{DuplicateKeyError, ExpressionConstructionError};
+use cedar_trees::expr::{Expr, ExprKind};
+use cedar_trees::unknowns::{NonEmpty, Unknown};
+use std::alloc::{AllocError, Global};
+use std::rc::{Rc, RcStr};
+
+fn entity(alloc: Global, eid: &str) -> Result<Literal, ParseNameError> {
+    let uid = EntityUID::with_eid_and_type(alloc, "User", eid)?;
+    Ok(Literal::EntityUID(Rc::new(alloc, uid)?))
+}
+
+/// The literal of this kind that the text writes.
+pub fn literal(alloc: Global, verb: &str, text: &str) -> Result<Literal, ParseNameError> {
+    match verb {
+        "bool" => Ok(Literal::Bool(text == "true")),
+        "long" => Ok(Literal::Long(text.parse::<i64>().unwrap_or(0))),
+        "entity" => entity(alloc, text),
+        _ => Ok(Literal::from_in(alloc, text)?),
+    }
+}
+
+/// The variable of this name; `context` of any other.
+pub fn variable(text: &str) -> Var {
+    match text {
+        "principal" => Var::Principal,
+        "action" => Var::Action,
+        "resource" => Var::Resource,
+        _ => Var::Context,
+    }
+}
+
+/// The principal's slot, or of another word the resource's.
+pub fn slot(text: &str) -> SlotId {
+    if text == "principal" {
+        return SlotId::principal();
+    }
+    SlotId::resource()
+}
+
+/// The type of this name, which is that of an entity where it names no other.
+pub fn type_of(alloc: Global, text: &str) -> Result<Type, ParseNameError> {
+    match text {
+        "bool" => Ok(Type::Bool),
+        "long" => Ok(Type::Long),
+        "string" => Ok(Type::String),
+        "set" => Ok(Type::Set),
+        "record" => Ok(Type::Record),
+        _ => Ok(Type::entity_type(Name::from_normalized_str(alloc, text)?)),
+    }
+}
+
+/// The unknown of this name, and of the type where one is given.
+pub fn unknown(alloc: Global, name: &str, ty: &str) -> Result<Unknown, ParseNameError> {
+    let name = RcStr::from_str(alloc, name)?;
+    if ty.is_empty() {
+        return Ok(Unknown::new_untyped(name));
+    }
+    Ok(Unknown::new_with_type(name, type_of(alloc, ty)?))
+}
+
+fn leaf_of(literal: Result<Literal, ParseNameError>) -> Result<Expr, ParseNameError> {
+    Ok(Expr::val(literal?))
+}
+
+fn unknown_of(unknown: Result<Unknown, ParseNameError>) -> Result<Expr, ParseNameError> {
+    Ok(Expr::unknown(unknown?))
+}
+
+/// What needs no memory is made.
+pub fn made(expr: Expr) -> Result<Expr, AllocError> {
+    Ok(expr)
+}
+
+/// Puts the leaf that the words name on the stack.
+pub fn leaf(alloc: Global, verb: &str, text: &str, ty: &str, stack: &mut Vec<Expr>) -> Answer {
+    match verb {
+        "var" => put(alloc, stack, made(Expr::var(variable(text)))),
+        "slot" => put(alloc, stack, made(Expr::slot(slot(text)))),
+        "unknown" => put(alloc, stack, unknown_of(unknown(alloc, text, ty))),
+        _ => put(alloc, stack, leaf_of(literal(alloc, verb, text))),
+    }
+}
+
+fn copied(alloc: Global, unknown: &Unknown) -> Answer {
+    let copy = unknown.clone()?;
+    said(alloc, copy == *unknown)
+}
+
+/// Of an unknown of this type and one of none.
+pub fn unknowns(alloc: Global, verb: &str, name: &str, ty: &str) -> Answer {
+    match (unknown(alloc, name, ty), unknown(alloc, name, "")) {
+        (Ok(typed), Ok(untyped)) => match verb {
+            "clone" => copied(alloc, &typed),
+            "shown" => explain(alloc, made(Expr::unknown(typed))),
+            _ => said(alloc, typed == untyped),
+        },
+        _ => no_case(alloc),
+    }
+}
+
+/// The operator of this name; `isEmpty` of any other.
+pub fn unary_op(text: &str) -> UnaryOp {
+    match text {
+        "not" => UnaryOp::Not,
+        "neg" => UnaryOp::Neg,
+        _ => UnaryOp::IsEmpty,
+    }
+}
+
+/// The operator of this name; `==` of any other.
+pub fn binary_op(text: &str) -> BinaryOp {
+    match text {
+        "less" => BinaryOp::Less,
+        "add" => BinaryOp::Add,
+        "sub" => BinaryOp::Sub,
+        "mul" => BinaryOp::Mul,
+        _ => BinaryOp::Eq,
+    }
+}
+
+fn of_one(alloc: Global, verb: &str, op: &str, arg: Expr) -> Result<Expr, AllocError> {
+    match verb {
+        "not" => Expr::not(alloc, arg),
+        "neg" => Expr::neg(alloc, arg),
+        "is_empty" => Expr::is_empty(alloc, arg),
+        _ => Expr::unary_app(alloc, unary_op(op), arg),
+    }
+}
+
+/// An operator on the top of the stack.
+pub fn unary(alloc: Global, verb: &str, op: &str, stack: &mut Vec<Expr>) -> Answer {
+    let arg = top(stack);
+    put(alloc, stack, of_one(alloc, verb, op, arg))
+}
+
+fn of_two(alloc: Global, verb: &str, a: Expr, b: Expr) -> Result<Expr, AllocError> {
+    match verb {
+        "is_eq" => Expr::is_eq(alloc, a, b),
+        "noteq" => Expr::noteq(alloc, a, b),
+        "and" => Expr::and(alloc, a, b),
+        "or" => Expr::or(alloc, a, b),
+        "less" => Expr::less(alloc, a, b),
+        "lesseq" => Expr::lesseq(alloc, a, b),
+        "greater" => Expr::greater(alloc, a, b),
+        "greatereq" => Expr::greatereq(alloc, a, b),
+        "add" => Expr::add(alloc, a, b),
+        "sub" => Expr::sub(alloc, a, b),
+        "mul" => Expr::mul(alloc, a, b),
+        _ => of_members(alloc, verb, a, b),
+    }
+}
+
+fn of_members(alloc: Global, verb: &str, a: Expr, b: Expr) -> Result<Expr, AllocError> {
+    match verb {
+        "is_in" => Expr::is_in(alloc, a, b),
+        "contains" => Expr::contains(alloc, a, b),
+        "contains_all" => Expr::contains_all(alloc, a, b),
+        "contains_any" => Expr::contains_any(alloc, a, b),
+        "get_tag" => Expr::get_tag(alloc, a, b),
+        "has_tag" => Expr::has_tag(alloc, a, b),
+        _ => Expr::binary_app(alloc, binary_op(verb), a, b),
+    }
+}
+
+/// An operator on the two on top, the second of which is its right operand.
+pub fn binary(alloc: Global, verb: &str, stack: &mut Vec<Expr>) -> Answer {
+    let b = top(stack);
+    let a = top(stack);
+    put(alloc, stack, of_two(alloc, verb, a, b))
+}
+
+fn shared(alloc: Global, a: Expr, b: Expr, c: Expr) -> Result<Expr, AllocError> {
+    let a = Rc::new(alloc, a)?;
+    let b = Rc::new(alloc, b)?;
+    let c = Rc::new(alloc, c)?;
+    Ok(Expr::ite_arc(a, b, c))
+}
+
+/// `if`, `then` and `else` of the three on top.
+pub fn ternary(alloc: Global, verb: &str, stack: &mut Vec<Expr>) -> Answer {
+    let c = top(stack);
+    let b = top(stack);
+    let a = top(stack);
+    match verb {
+        "ite" => put(alloc, stack, Expr::ite(alloc, a, b, c)),
+        _ => put(alloc, stack, shared(alloc, a, b, c)),
+    }
+}
+
+/// The path of a text as `a.b.c`.
+pub fn path(alloc: Global, text: &str) -> Result<NonEmpty<RcStr>, AllocError> {
+    let (head, others) = text.split_once('.').unwrap_or((text, ""));
+    let mut tail = Vec::new(alloc);
+    if !others.is_empty() {
+        for attr in others.split('.') {
+            tail.push(RcStr::from_str(alloc, attr)?)?;
+        }
+    }
+    let head = RcStr::from_str(alloc, head)?;
+    Ok(NonEmpty { head, tail })
+}
+
+/// The pattern whose wildcards are the stars of the text.
+pub fn pattern(alloc: Global, text: &str) -> Result<Pattern, AllocError> {
+    let mut elems = Vec::new(alloc);
+    for c in text.chars() {
+        elems.push(match c {
+            '*' => PatternElem::Wildcard,
+            _ => PatternElem::Char(c),
+        })?;
+    }
+    Ok(Pattern::from(Rc::new(alloc, elems)?))
+}
+
+fn of_type(
+    alloc: Global,
+    expr: Expr,
+    ty: Result<EntityType, ParseNameError>,
+) -> Result<Expr, ParseNameError> {
+    Ok(Expr::is_entity_type(alloc, expr, ty?)?)
+}
+
+/// What is asked of an attribute of that on top, or whether it is like a pattern or of a type.
+pub fn attribute(alloc: Global, verb: &str, word: &str, stack: &mut Vec<Expr>) -> Answer {
+    match verb {
+        "get_attr" => {
+            let attr = RcStr::from_str(alloc, word)?;
+            let expr = top(stack);
+            put(alloc, stack, Expr::get_attr(alloc, expr, attr))
+        }
+        "has_attr" => {
+            let attr = RcStr::from_str(alloc, word)?;
+            let expr = top(stack);
+            put(alloc, stack, Expr::has_attr(alloc, expr, attr))
+        }
+        "extended_has_attr" => {
+            let attrs = path(alloc, word)?;
+            let expr = top(stack);
+            put(alloc, stack, Expr::extended_has_attr(alloc, expr, attrs))
+        }
+        "like" => {
+            let pattern = pattern(alloc, word)?;
+            let expr = top(stack);
+            put(alloc, stack, Expr::like(alloc, expr, pattern))
+        }
+        _ => {
+            let ty = EntityType::from_normalized_str(alloc, word);
+            let expr = top(stack);
+            put(alloc, stack, of_type(alloc, expr, ty))
+        }
+    }
+}
+
+fn called(
+    alloc: Global,
+    name: Result<Name, ParseNameError>,
+    args: Vec<Expr>,
+) -> Result<Expr, ParseNameError> {
+    Ok(Expr::call_extension_fn(alloc, name?, args)?)
+}
+
+/// A call of the function of this name on as many from the top as the word says.
+pub fn call(alloc: Global, name: &str, count: &str, stack: &mut Vec<Expr>) -> Answer {
+    let args = taken(alloc, number(count), stack)?;
+    let name = Name::from_normalized_str(alloc, name);
+    put(alloc, stack, called(alloc, name, args))
+}
+
+/// A set of as many from the top as the word says.
+pub fn set(alloc: Global, count: &str, stack: &mut Vec<Expr>) -> Answer {
+    let items = taken(alloc, number(count), stack)?;
+    put(alloc, stack, Expr::set(alloc, items))
+}
+
+fn shared_record(
+    alloc: Global,
+    pairs: Vec<(RcStr, Expr)>,
+) -> Result<Expr, ExpressionConstructionError> {
+    Ok(Expr::record_arc(mapped(alloc, pairs)?))
+}
+
+/// A record of these keys, whose expressions are on top.
+pub fn record(alloc: Global, verb: &str, keys: &str, stack: &mut Vec<Expr>) -> Answer {
+    let items = taken(alloc, count_of(keys), stack)?;
+    let pairs = paired(alloc, keys, items)?;
+    match verb {
+        "record" => put(alloc, stack, Expr::record(alloc, pairs)),
+        _ => put(alloc, stack, shared_record(alloc, pairs)),
+    }
+}
+
+/// How a refusal of this key is told, alone and as the reason why no expression is made.
+pub fn key(alloc: Global, verb: &str, key: &str) -> Answer {
+    let error = DuplicateKeyError::new(RcStr::from_str(alloc, key)?, "in record literal");
+    match verb {
+        "told" => error.to_string(alloc),
+        "key" => String::from_str(alloc, error.key()),
+        "with_context" => error.with_context("in context").to_string(alloc),
+        _ => ExpressionConstructionError::from(error.with_context("in context")).to_string(alloc),
+    }
+}
+
+fn moved(alloc: Global, word: &str, stack: &mut Vec<Expr>) -> Answer {
+    let place = place(alloc, word)?;
+    let expr = top(stack);
+    put(alloc, stack, made(expr.with_maybe_source_loc(place)))
+}
+
+/// What the expression on top says of itself, and its copies.
+pub fn asked(alloc: Global, verb: &str, word: &str, stack: &mut Vec<Expr>) -> Answer {
+    if verb == "with_maybe_source_loc" {
+        return moved(alloc, word, stack);
+    }
+    let Some(expr) = stack.last() else {
+        return no_case(alloc);
+    };
+    match verb {
+        "to_string" => expr.to_string(alloc),
+        "is_ref" => said(alloc, expr.is_ref()),
+        "is_slot" => said(alloc, expr.is_slot()),
+        "is_ref_set" => said(alloc, expr.is_ref_set()),
+        "source_loc" => told_place(alloc, expr.source_loc()),
+        _ => {
+            let copy = expr.clone(alloc);
+            put(alloc, stack, copy)
+        }
+    }
+}
+
+/// The literal 1 with data.
+pub fn numbered(data: u8) -> Expr<u8> {
+    Expr {
+        expr_kind: ExprKind::Lit(Literal::Long(1)),
+        source_loc: None,
+        data,
+    }
+}
+
+fn parts(alloc: Global, expr: Expr<u8>) -> Answer {
+    let (kind, loc, data) = expr.into_parts();
+    let place = told_place(alloc, loc.as_ref())?;
+    let kind = kind_of(alloc, kind)?;
+    format!(in alloc; "{kind} {place} {data}")
+}
+
+fn kind_of(alloc: Global, expr_kind: ExprKind<u8>) -> Answer {
+    let expr = Expr {
+        expr_kind,
+        source_loc: None,
+        data: 0u8,
+    };
+    expr.to_string(alloc)
+}
+
+fn copied_parts(alloc: Global, copy: Result<Expr<u8>, AllocError>) -> Answer {
+    match copy {
+        Ok(copy) => parts(alloc, copy),
+        Err(error) => Err(error),
+    }
+}
+
+/// Of a literal whose data was 7 and is the word's number now.
+pub fn data(alloc: Global, verb: &str, word: &str) -> Answer {
+    let mut expr = numbered(7);
+    expr.set_data(word.parse::<u8>().unwrap_or(0));
+    match verb {
+        "data" => tell(alloc, *expr.data()),
+        "clone" => copied_parts(alloc, expr.clone(alloc)),
+        "into_data" => tell(alloc, expr.into_data()),
+        "into_parts" => parts(alloc, expr),
+        _ => kind_of(alloc, expr.into_expr_kind()),
+    }
+}

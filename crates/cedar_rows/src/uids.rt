@@ -1,0 +1,166 @@
+// Entity uids, their types and slots.
+use crate::names::{Names, loc};
+use cedar_literals::slots::{Slot, SlotId};
+use cedar_literals::types::StaticallyTyped;
+use cedar_literals::uids::{Eid, EntityType, EntityUID};
+use cedar_names::errors::ParseNameError;
+use cedar_names::names::Name;
+use cedar_names::reading::FromNormalizedStr;
+use crate::{Answer, alike, keep, no_case, said, show, tell};
+use std::alloc::{AllocError, Global};
+use std::rc::RcStr;
+
+/// What was read last.
+pub struct Uids {
+    /// The uid that was read.
+    pub uid: Option<EntityUID>,
+    second: Option<EntityUID>,
+    entity_type: Option<EntityType>,
+}
+
+impl Drop for Uids {
+    fn drop(self) {
+        let Uids {
+            uid: _,
+            second: _,
+            entity_type: _,
+        } = self;
+    }
+}
+
+/// Nothing was read yet.
+pub fn none() -> Uids {
+    Uids {
+        uid: None,
+        second: None,
+        entity_type: None,
+    }
+}
+
+/// Reads the text as what the verb names, and keeps what is to be asked later.
+pub fn read(alloc: Global, verb: &str, text: &str, held: &mut Uids) -> Answer {
+    match verb {
+        "entity-type" => keep(
+            alloc,
+            &mut held.entity_type,
+            EntityType::from_normalized_str(alloc, text),
+        ),
+        "escaped" => show(
+            alloc,
+            Eid::new(RcStr::from_str(alloc, text)?).escaped(alloc),
+        ),
+        "reread" => keep(
+            alloc,
+            &mut held.uid,
+            EntityUID::from_normalized_str(alloc, text),
+        ),
+        "reserved" => reserved(alloc, EntityUID::from_normalized_str(alloc, text)),
+        "user" => keep(
+            alloc,
+            &mut held.uid,
+            EntityUID::with_eid_and_type(alloc, "User", text),
+        ),
+        "second-user" => {
+            keep(
+                alloc,
+                &mut held.second,
+                EntityUID::with_eid_and_type(alloc, "User", text),
+            )
+        }
+        "slot" => show(alloc, Ok::<_, AllocError>(slot(text))),
+        _ => slots(alloc),
+    }
+}
+
+fn reserved(alloc: Global, read: Result<EntityUID, ParseNameError>) -> Answer {
+    match &read {
+        Err(ParseNameError::Reserved(error)) => format!(in alloc; "{}", error.name()),
+        _ => no_case(alloc),
+    }
+}
+
+fn slot(text: &str) -> SlotId {
+    if text == "principal" {
+        SlotId::principal()
+    } else {
+        SlotId::resource()
+    }
+}
+
+fn slots(alloc: Global) -> Answer {
+    let placed = Slot {
+        id: SlotId::principal(),
+        loc: Some(loc(alloc, "0", "1")?),
+    };
+    let bare = Slot {
+        id: SlotId::principal(),
+        loc: None,
+    };
+    said(alloc, alike(&placed, &bare))
+}
+
+/// The type held, in the namespace of the name held.
+pub fn qualified(alloc: Global, held: &Uids, names: &Names) -> Answer {
+    let (Some(entity_type), Some(name)) = (&held.entity_type, &names.name) else {
+        return no_case(alloc);
+    };
+    show(alloc, entity_type.qualify_with(alloc, Some(name)))
+}
+
+/// What is asked or made of the uid held.
+pub fn called(alloc: Global, verb: &str, held: &mut Uids) -> Answer {
+    let Some(uid) = &held.uid else {
+        return no_case(alloc);
+    };
+    match verb {
+        "eid" => tell(alloc, uid.eid().as_str()),
+        "copied-eid" => match uid.eid().clone(alloc) {
+            Ok(eid) => tell(alloc, eid.as_str()),
+            Err(error) => Err(error),
+        },
+        "static-type" => show(alloc, uid.type_of(alloc)),
+        "name-of-type" => match uid.entity_type().clone(alloc) {
+            Ok(entity_type) => show(alloc, Ok::<_, AllocError>(Name::from(entity_type))),
+            Err(error) => Err(error),
+        },
+        "copied-uid" => keep(alloc, &mut held.second, uid.clone(alloc)),
+        "type-of-uid" => keep(alloc, &mut held.entity_type, uid.entity_type().clone(alloc)),
+        "placed-type" => {
+            let loc = loc(alloc, "0", "1")?;
+            keep(
+                alloc,
+                &mut held.entity_type,
+                uid.entity_type().with_loc(alloc, Some(&loc)),
+            )
+        }
+        _ => put_together(alloc, held),
+    }
+}
+
+/// The second uid is that of the type held, at a place.
+fn put_together(alloc: Global, held: &mut Uids) -> Answer {
+    let loc = loc(alloc, "0", "1")?;
+    match (held.entity_type.take(), held.second.take()) {
+        (Some(entity_type), Some(second)) => {
+            let eid = second.components().1;
+            let uid = EntityUID::from_components(entity_type, eid, Some(loc));
+            keep(alloc, &mut held.second, Ok::<_, AllocError>(uid))
+        }
+        _ => no_case(alloc),
+    }
+}
+
+/// How the two uids held stand to one another, and whether the second has places.
+pub fn compared(alloc: Global, verb: &str, held: &Uids) -> Answer {
+    let (Some(uid), Some(second)) = (&held.uid, &held.second) else {
+        return no_case(alloc);
+    };
+    match verb {
+        "uid-below" => said(alloc, uid < second),
+        "uids-alike" => said(alloc, alike(uid, second)),
+        _ => said(
+            alloc,
+            second.loc().is_some() && second.entity_type().loc().is_some(),
+        ),
+    }
+}

@@ -1,0 +1,29 @@
+-- What a run over an input in memory answers.
+use Rattle.std.specs.Prelude.{◌≡◌, ℕ, List, [], ◌++◌, length, ◌⊎◌}
+use Rattle.cedar_frames.specs.declared.fault.Fault.{Fault}
+use Rattle.cedar_frames.specs.declared.fault.Fault.TheVariants.{Truncated}
+use Rattle.cedar_world.specs.RunText.{End, Clean, Faulty, RunText}
+use Rattle.cedar_world.specs.Setting.{Setting}
+use Rattle.cedar_world.specs.World.{World, new_world}
+use Rattle.cedar_session.specs.Programs.{IsProgramSetting}
+
+-- A new session with the program's setting answers these bytes by this text, and the run ends so.
+abbrev pub Answers : List ℕ → End → List ℕ → Type 0
+Answers bytes end text = (by : Setting) × (new : World) × IsProgramSetting by × RunText by bytes new_world text end new
+
+-- the text answers all of the input, which ends behind a whole frame
+abbrev pub AnswersAll : List ℕ → List ℕ → Type 0
+AnswersAll input text = Answers input Clean text
+
+-- The text answers the input up to a fault. Where that is that the input ends inside a frame, no byte is left.
+pub record AnswersToFault (input text : List ℕ) : Type 0 where
+  pub fault : Fault
+  pub read : List ℕ
+  pub rest : List ℕ
+  pub parts : input ≡ read ++ rest
+  pub truncated : fault ≡ Truncated → rest ≡ []
+  pub answers : Answers read (Faulty fault) text
+
+-- a text that answers the input has so many bytes
+abbrev pub AnswersInBytes : List ℕ → ℕ → Type 0
+AnswersInBytes input count = (text : List ℕ) × (AnswersAll input text ⊎ AnswersToFault input text) × (length text ≡ count)

@@ -1,0 +1,52 @@
+// Bodies of commands.
+ghost use Rattle.std.specs.Prelude.{◌≡◌, IfOk, false};
+ghost use Rattle.cedar_extensions.specs.Tables.{holds_unknown};
+ghost use Rattle.cedar_restricted.specs.Views.{restricted_tree};
+ghost use Rattle.cedar_grammar.specs.UnknownCalls.{holds_call};
+ghost use Rattle.cedar_session.specs.TextReading.{ReadsBody};
+ghost use Rattle.cedar_session.specs.Settings.{setting_with};
+
+use crate::refusals::of_body;
+use cedar_data::read_data;
+use cedar_extensions::extensions::Extensions;
+use cedar_extensions::objects::ExtensionFunctionObject;
+use cedar_faults::ExtStyles;
+use cedar_grammar::texts_call_the_table;
+use cedar_parser::prelude::StylesOfExtensions;
+use cedar_parser::strict::parse_restrictedexpr;
+use cedar_replies::Refusal;
+use cedar_restricted::restricted::RestrictedExpr;
+use cedar_world::{names_are_found, texts_are_one};
+use std::alloc::Global;
+
+/// The body that a text is, where it may call the functions of the table. No `unknown` is called in it
+/// where the table lacks that function. Most bodies are read straight from their text (`read_data`); the
+/// parser reads the others, and finds why a text is refused.
+///
+/// It is refused `Text` where the text is no expression within any nesting, and so where a slot of templates
+/// stands in it; `Depth` where its nesting or the height of its tree is more than `depth`; `NotRestricted`
+/// where it holds more than literals, sets, records and calls; and `Memory`.
+pub fn read_body<F: ExtensionFunctionObject>(
+    alloc: Global,
+    text: &str,
+    extensions: &Extensions<'_, F>,
+    depth: u32,
+) -> Result<RestrictedExpr, Refusal>
+    ensures body { ReadsBody (setting_with F.answers extensions.now depth) text.now result }
+    ensures calls { IfOk result (λ body. holds_unknown extensions.now ≡ false → holds_call (restricted_tree body) ≡ false) }
+{
+    // These run no code: their contracts are laws of texts and names.
+    texts_are_one();
+    names_are_found();
+    texts_call_the_table();
+
+    let styles = ExtStyles::from_extensions(alloc, extensions)?;
+    let found = read_data(alloc, text, &styles, depth)?;
+    if let Some(body) = found {
+        return Ok(body);
+    }
+    match parse_restrictedexpr(alloc, text, &styles, depth) {
+        Ok(body) => Ok(body),
+        Err(error) => Err(of_body(&error)),
+    }
+}

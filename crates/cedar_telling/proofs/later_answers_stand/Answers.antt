@@ -1,6 +1,0 @@
--- The last answer and the newer one both stay true, so does what they are joined to; and the newer one says what the last doesn't yet.
-use Rattle.cedar_telling.proofs.Later.{later_answers_stand as law}
-use Rattle.cedar_telling.proofs.later_answers_stand.Goals as goal
-
-pub returns : goal.returns
-returns c = law (record { facts = c.worlds_have_facts.ensures; force = c.answers_read_what_is_in_force.ensures; made = c.answers_are_made.ensures; fair = c.rules_are_fair.ensures })

@@ -1,6 +1,0 @@
--- No construct of a tree brings in such a call, and what writes a value is none.
-use Rattle.cedar_telling.proofs.PlainAnswers.{plain_answers as law}
-use Rattle.cedar_telling.proofs.plain_answers.Goals as goal
-
-pub returns : goal.returns
-returns c = law

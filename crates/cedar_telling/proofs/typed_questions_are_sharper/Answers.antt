@@ -1,5 +1,0 @@
-use Rattle.cedar_telling.proofs.TypedAnswers.{typed_questions_are_sharper as law}
-use Rattle.cedar_telling.proofs.typed_questions_are_sharper.Goals as goal
-
-pub returns : goal.returns
-returns c = law c.rules_are_sharp.ensures

@@ -1,4 +1,0 @@
-mod Bodies
-mod Callers
-mod Readings
-mod Unknowns

@@ -1,3 +1,0 @@
-pub mod UidSets
-mod Listed
-pub mod Distinct

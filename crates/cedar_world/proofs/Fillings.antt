@@ -1,0 +1,64 @@
+-- A filling of a question whose context is data is one whatever entities are held, and nothing is told at first.
+use Rattle.std.proofs.Common.{◌≡◌, ◌≢◌, true, Some, List, refl, sym, ◌∙◌, ap}
+use Rattle.std.specs.FinMap as finite
+use Rattle.cedar_language.specs.Uid.{Text, Name}
+use Rattle.cedar_language.specs.Order.{text_cmp}
+use Rattle.cedar_language.specs.Tree.{MakeSet, MakeRecord, Call, Tree, Lit, Unknown, Apply, Trees, no_trees, a_tree}
+use Rattle.cedar_language.specs.Value.{Value}
+use Rattle.cedar_language.specs.Facts.{Facts}
+use Rattle.cedar_language.specs.Meaning.{Request, Outcomes, GivesAll, OneFails, apply_of, meaning, meanings}
+use Rattle.cedar_language.specs.Authorization.{Known}
+use Rattle.cedar_partial_evaluation.specs.Filling.{names_told, FillsContext, IsFilling}
+use Rattle.cedar_partial_evaluation.specs.Question.{Entries, NoContext, WithEntries, Question, Told, is_restricted, are_restricted, Extends, AreMadeTold}
+use Rattle.cedar_world.proofs.Both.{and_left, and_right}
+use Rattle.cedar_world.proofs.Parts.{not_none}
+
+module _ (facts others : Facts) (same : (name : Name) → facts.function name ≡ others.function name) (request : Request) where
+  call_same : (f : Name) (os : Outcomes) → apply_of facts (Call f) os ≡ apply_of others (Call f) os
+  call_same f (GivesAll vs) = rw (same f) refl
+  call_same f (OneFails k) = refl
+
+  set_same : (os : Outcomes) → apply_of facts MakeSet os ≡ apply_of others MakeSet os
+  set_same (GivesAll vs) = refl
+  set_same (OneFails k) = refl
+
+  record_same : (ks : List Text) (os : Outcomes) → apply_of facts (MakeRecord ks) os ≡ apply_of others (MakeRecord ks) os
+  record_same ks (GivesAll vs) = refl
+  record_same ks (OneFails k) = refl
+
+  mutual
+    data_means : (t : Tree) → is_restricted t ≡ true → meaning facts request t ≡ meaning others request t
+    data_means (Lit l) h = refl
+    data_means (Unknown n ty) h = refl
+    data_means (Apply MakeSet ts) h = set_same (meanings facts request ts) ∙ ap (apply_of others MakeSet) (all_data_mean ts h)
+    data_means (Apply (MakeRecord ks) ts) h = record_same ks (meanings facts request ts) ∙ ap (apply_of others (MakeRecord ks)) (all_data_mean ts h)
+    data_means (Apply (Call f) ts) h = call_same f (meanings facts request ts) ∙ ap (apply_of others (Call f)) (all_data_mean ts h)
+    data_means _ h = cc
+
+    all_data_mean : (ts : Trees) → are_restricted ts ≡ true → meanings facts request ts ≡ meanings others request ts
+    all_data_mean no_trees h = refl
+    all_data_mean (a_tree t ts) h = rw (data_means t (and_left (is_restricted t) (are_restricted ts) h), all_data_mean ts (and_right (is_restricted t) (are_restricted ts) h)) refl
+
+module _ (facts others : Facts) (same : (name : Name) → facts.function name ≡ others.function name) where
+  context_there : (c : Entries) (filling : Told) (w : Value) → FillsContext others c filling w → FillsContext facts c filling w
+  context_there NoContext filling w h = h
+  context_there (WithEntries ks ts) filling w (restricted, given, means_it) =
+      (restricted, given, data_means facts others same (names_told filling) (Apply (MakeRecord ks) ts) restricted ∙ means_it)
+
+  pub filling_there : (q : Question) (filling : Told) (known : Known) → IsFilling others q filling known → IsFilling facts q filling known
+  filling_there q filling known fills = record {
+    principal = fills.principal;
+    action = fills.action;
+    resource = fills.resource;
+    context = context_there q.context filling known.context fills.context;
+    values = fills.values;
+  }
+
+nothing_told : (n : Text) (v : Value) → finite.get {R = text_cmp} finite.empty n ≢ Some v
+nothing_told n v h = not_none v (sym (finite.get-empty text_cmp n) ∙ h)
+
+pub made_at_first : (facts : Facts) → AreMadeTold facts finite.empty
+made_at_first facts n v h = absurd (nothing_told n v h)
+
+pub extends_nothing : (told : Told) → Extends finite.empty told
+extends_nothing told n v h = absurd (nothing_told n v h)
