@@ -9,8 +9,8 @@ mod copying;
 ghost use Rattle.std.specs.Prelude.{◌≡◌, ◌↔◌, ◌⊎◌, ◌<◌, length, take, drop};
 ghost use Rattle.cedar_session.specs.InMemory.{AnswersAll, AnswersToFault, AnswersInBytes};
 
-use copying::copy_out;
 use cedar_session::run_input;
+use copying::copy_out;
 use std::alloc::Global;
 
 /// The status where there is no memory.

@@ -18,11 +18,11 @@ use crate::{
     to_fields, to_index, to_key, to_like_pattern, to_literal, to_ref, to_slot, to_unreserved_ident,
 };
 use cedar_builders::expr_builder::ExprBuilder;
-use cedar_faults::{ConversionError, ExtStyles, ToASTErrorKind, flatten_tuple_2};
 use cedar_cst::cst::{
     Add, And, Expr, ExprData, MemAccess, Member, Mult, NegOp, Or, Primary, RecInit, Relation, Unary,
 };
 use cedar_cst::node::Node;
+use cedar_faults::{ConversionError, ExtStyles, ToASTErrorKind, flatten_tuple_2};
 use cedar_literals::operators::UnaryOp;
 use cedar_names::places::Loc;
 use std::alloc::Global;

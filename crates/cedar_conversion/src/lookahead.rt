@@ -7,11 +7,11 @@ ghost use Rattle.cedar_cst.specs.View.{shown_expr, shown_or, shown_and, shown_re
 ghost use Rattle.cedar_conversion.specs.Alone as alone;
 ghost use Rattle.cedar_faults.specs.Reasons.{IsFault, IsFaultOf};
 
-use cedar_faults::{ConversionError, ToASTErrorKind};
 use cedar_cst::cst::{
     Add, And, Expr, ExprData, Literal, Member, Mult, Name, Or, Primary, RelOp, Relation, Unary,
 };
 use cedar_cst::node::Node;
+use cedar_faults::{ConversionError, ToASTErrorKind};
 use cedar_names::places::Loc;
 use std::alloc::Global;
 

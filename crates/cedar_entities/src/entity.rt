@@ -12,10 +12,10 @@ ghost use Rattle.cedar_entities.specs.Lists.{AreRising, AreInTurn};
 ghost use Rattle.cedar_entities.specs.Data.{EntityData, bare_entity, ancestors_of, IsListOf, IsSameEntity, without};
 
 use crate::attributes::{Attributes, same_attributes};
-use cedar_literals::uids::EntityUID;
-use cedar_restricted::partial_values::PartialValue;
 use crate::iteration::Uids;
 use crate::uid_lists::EntityUIDs;
+use cedar_literals::uids::EntityUID;
+use cedar_restricted::partial_values::PartialValue;
 use std::alloc::{AllocError, Global};
 use std::collections::{BTreeMap, HashSet, btree_map};
 use std::hash::{Hash, Hasher};

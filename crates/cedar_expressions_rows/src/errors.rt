@@ -7,9 +7,9 @@ use cedar_expressions::evaluator::{
 };
 use cedar_expressions::extensions::{ExtensionFunctionLookupError, FuncDoesNotExistError};
 use cedar_expressions::parser::Loc;
-use cedar_rows::{Answer, no_case, said};
 use cedar_rows::stack::{place, told_place};
 use cedar_rows::trees::{binary_op, slot, type_of, unary_op};
+use cedar_rows::{Answer, no_case, said};
 use std::alloc::{AllocError, Global};
 use std::rc::{Rc, RcStr};
 

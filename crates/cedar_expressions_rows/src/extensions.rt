@@ -16,8 +16,8 @@ use cedar_expressions::extensions::{
     FuncMultiplyDefinedError, MultipleConstructorsSameSignatureError, collect_no_duplicates,
 };
 use cedar_expressions::{Extensions, FromNormalizedStr};
-use cedar_rows::{Answer, explain, no_case, refused, refused_for, said, separate, tell};
 use cedar_rows::trees::type_of;
+use cedar_rows::{Answer, explain, no_case, refused, refused_for, said, separate, tell};
 use std::alloc::{AllocError, Global};
 use std::collections::HashMap;
 

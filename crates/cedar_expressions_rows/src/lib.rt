@@ -20,12 +20,11 @@ mod validation;
 use crate::policies::Policies;
 use crate::registers::Expressions;
 use crate::restricted::Restricted;
-use cedar_rows::{Answer, Step};
 use cedar_rows::literals::Literals;
 use cedar_rows::names::Names;
 use cedar_rows::uids::Uids;
 use cedar_rows::values::Stack;
-use cedar_rows::{literals, names, raw_names, uids, values};
+use cedar_rows::{Answer, Step, literals, names, raw_names, uids, values};
 use std::alloc::Global;
 
 /// What earlier steps left. The stacks of the expressions are empty where a line begins.

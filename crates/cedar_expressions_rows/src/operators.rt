@@ -6,8 +6,8 @@ use cedar_operators::{
     binary_arith, binary_relation, contains, contains_all, contains_any, is_like, is_of_type,
     unary_app,
 };
-use cedar_rows::{Answer, no_case};
 use cedar_rows::trees::pattern;
+use cedar_rows::{Answer, no_case};
 use std::alloc::Global;
 
 /// The value, or the kind of the error.

@@ -5,9 +5,9 @@ use cedar_expressions::ast::{
     RepresentableExtensionValue, RestrictedExpr, ToExpr, TryFromExpr, Unknown, Value, ValueKind,
     split,
 };
-use cedar_rows::{Answer, count_of, mapped, no_case, number, paired, put, said, separate, taken};
 use cedar_rows::stack::{place, told_place, top};
 use cedar_rows::trees::{literal, unknown};
+use cedar_rows::{Answer, count_of, mapped, no_case, number, paired, put, said, separate, taken};
 use either::Either;
 use std::alloc::{AllocError, Global};
 use std::fmt::Display;

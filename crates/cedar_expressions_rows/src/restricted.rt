@@ -5,9 +5,9 @@ use cedar_expressions::ast::{
     RestrictedPairs, Unknown, ValueKind,
 };
 use cedar_expressions::{Extensions, FromIn};
-use cedar_rows::{Answer, alike, count_of, maybe, no_case, number, paired, push, said, taken};
 use cedar_rows::names::{Names, loc};
 use cedar_rows::values::{Stack, long, rank};
+use cedar_rows::{Answer, alike, count_of, maybe, no_case, number, paired, push, said, taken};
 use std::alloc::{AllocError, Global};
 use std::convert::AsRef;
 use std::fmt::Display;

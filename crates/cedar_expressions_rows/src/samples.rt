@@ -10,8 +10,7 @@ use cedar_expressions::ast::{
     CallStyle, Expr, Extension, ExtensionFunction, Literal, Name, ParseNameError, Value,
 };
 use cedar_expressions::entities::SchemaType;
-use cedar_rows::{Answer, maybe, no_case, refused_for, said, tell};
-use cedar_rows::shapes;
+use cedar_rows::{Answer, maybe, no_case, refused_for, said, shapes, tell};
 use std::alloc::{AllocError, Global};
 
 /// The table of an extension with all samples, once one was made.

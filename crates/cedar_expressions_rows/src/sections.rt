@@ -4,8 +4,7 @@ use crate::{
     bounded, errors, evaluation, extensions, operators, partial_values, samples, substitution,
     validation,
 };
-use cedar_rows::Answer;
-use cedar_rows::{builders, shapes, trees};
+use cedar_rows::{Answer, builders, shapes, trees};
 use std::alloc::Global;
 
 pub(crate) fn answer(

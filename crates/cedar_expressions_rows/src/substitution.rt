@@ -3,9 +3,9 @@ use cedar_expressions::ast::{
     Expr, ExprBuilder, ExpressionConstructionError, IntoExpr, Substitute, SubstituteExprs,
     SubstitutionFunction, TypedSubstitution, Unknown, UntypedSubstitution, Value,
 };
-use cedar_rows::{Answer, hold, no_case, put, tell};
 use cedar_rows::stack::top;
 use cedar_rows::trees::unknown;
+use cedar_rows::{Answer, hold, no_case, put, tell};
 use std::alloc::Global;
 use std::collections::HashMap;
 use std::rc::RcStr;

@@ -1,5 +1,5 @@
 -- The first case that stands, and what is found in the world of a policy set.
-use Rattle.std.proofs.Common.{◌≡◌, ◌∙◌, ◌≤◌, false, cond, [], sym, ap, true≢false, arith, is_some, Option, None, Some}
+use Rattle.std.proofs.Common.{◌≡◌, ◌∙◌, ◌≤◌, false, cond, sym, ap, true≢false, arith, is_some, Option, None, Some}
 use Rattle.std.specs.FinMap as finmap
 use Rattle.std.specs.Option.{option_map}
 use Rattle.std.specs.Prelude.{IsSome}

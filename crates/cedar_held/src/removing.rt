@@ -4,11 +4,11 @@ ghost use Rattle.cedar_held.specs.PolicyWorlds.{policies_in};
 ghost use Rattle.cedar_held.specs.PolicyEdits.{UnlinksId, RemovesStatic, RemovesTemplate};
 ghost use Rattle.cedar_held.specs.HoldingPolicies.{IsHeld};
 
+use crate::worlds::policy_sets_are_worlds;
 use cedar_policy_parts::PolicyID;
 use cedar_policy_set::errors::{
     PolicySetPolicyRemovalError, PolicySetTemplateRemovalError, PolicySetUnlinkError,
 };
-use crate::worlds::policy_sets_are_worlds;
 use cedar_policy_set::sets::PolicySet;
 use cedar_replies::Refusal;
 use std::rc::RcStr;

@@ -7,10 +7,10 @@ ghost use Rattle.cedar_loose.specs.Errors.{met_of, span_of, expected_of};
 use crate::Met;
 use cedar_names::places::{Loc, Span};
 use cedar_tokens::{ExpectedTokenConfig, Kinds, expected_to_string};
-use thiserror::Error;
 use std::alloc::{AllocError, Global};
 use std::error::Error;
 use std::fmt;
+use thiserror::Error;
 
 /// The text is outside the loose grammar. `==` compares places and expected kinds too.
 #[derive(Debug, PartialEq, Eq, Drop)]

@@ -2,8 +2,9 @@
 //! `to_policyset` for a whole text, with `to_policy_or_template` for one policy, or with `to_expr` for an
 //! expression, which any builder builds; the others convert parts of these.
 
-pub use cedar_conversion::to_expr;
-pub use cedar_conversion::{to_any_ident, to_lit, to_ref, to_string_literal, to_valid_ident};
+pub use cedar_conversion::{
+    to_any_ident, to_expr, to_lit, to_ref, to_string_literal, to_valid_ident,
+};
 pub use cedar_faults::{flatten_tuple_2, flatten_tuple_3, flatten_tuple_4};
 pub use cedar_policy_conversion::{
     NumberedPolicies, OneOrMultipleRefs, extract_scope, get_ast_annotations, to_kv_pair, to_policy,

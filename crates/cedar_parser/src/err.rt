@@ -6,8 +6,8 @@ pub use crate::errors::{ParseError, ParseErrors};
 pub use crate::iteration::{IntoIter, Iter};
 pub use crate::literals::LiteralParseError;
 pub use crate::restricted::RestrictedExpressionParseError;
-pub use cedar_faults::{ConversionError, ToASTError, ToASTErrorKind};
 pub use cedar_cst::errors::{EmptyNodeError, PlacedError};
+pub use cedar_faults::{ConversionError, ToASTError, ToASTErrorKind};
 pub use cedar_loose::ToCSTError;
 pub use cedar_policy_conversion::PolicyError;
 pub use cedar_policy_parts::{

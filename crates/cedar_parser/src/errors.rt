@@ -4,10 +4,10 @@ ghost use Rattle.std.specs.Prelude.{◌≡◌, []};
 use cedar_faults::ToASTError;
 use cedar_loose::ToCSTError;
 use cedar_trees::unknowns::NonEmpty;
-use thiserror::Error;
 use std::alloc::Global;
 use std::error::Error;
 use std::fmt;
+use thiserror::Error;
 
 /// Why a text isn't parsed.
 #[derive(Debug, PartialEq, Eq, Drop, Error)]

@@ -23,6 +23,6 @@ mod styles;
 pub mod text_to_cst;
 pub mod unescape;
 
-pub use cedar_faults::ExtStyles;
 pub use cedar_cst::node::Node;
+pub use cedar_faults::ExtStyles;
 pub use cedar_names::places::Loc;

@@ -20,8 +20,8 @@ use cedar_grammar::{at_most_one_meaning, converting_is_the_grammar, wider_limits
 use cedar_literals::literals::Literal;
 use cedar_shapes::shapes::ExprShape;
 use cedar_trees::expr::{Expr, ExprKind};
-use thiserror::Error;
 use std::alloc::Global;
+use thiserror::Error;
 
 /// Why a text isn't read as a literal. `==` compares expressions by their shapes, and not by places.
 #[derive(Debug, Drop, Error)]

@@ -15,8 +15,8 @@ use cedar_restricted::errors::RestrictedExpressionError;
 use cedar_restricted::restricted::RestrictedExpr;
 use cedar_restricted::restricted_laws::offences_are_what_is_not_restricted;
 use cedar_trees::expr::Expr;
-use thiserror::Error;
 use std::alloc::Global;
+use thiserror::Error;
 
 /// Why a text isn't read as a restricted expression.
 #[derive(Debug, PartialEq, Eq, Drop, Error)]

@@ -2,9 +2,9 @@
 use crate::conversion::faults;
 use cedar_cst::cst;
 use cedar_cst::node::Node;
-use cedar_parser::text_to_cst::parse_policy;
 use cedar_names::identifiers::AnyId;
 use cedar_names::places::Loc;
+use cedar_parser::text_to_cst::parse_policy;
 use cedar_policy_conversion::{PolicyError, get_ast_annotations, to_kv_pair};
 use cedar_rows::{Answer, no_case};
 use std::alloc::Global;

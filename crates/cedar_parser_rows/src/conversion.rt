@@ -6,9 +6,9 @@ use cedar_cst::cst;
 use cedar_cst::cst::{Ident, Str};
 use cedar_cst::node::Node;
 use cedar_faults::{ConversionError, ExtStyles, ToASTError};
-use cedar_parser::text_to_cst::{parse_expr, parse_ident, parse_policies, parse_policy};
 use cedar_names::errors::ParseNameError;
 use cedar_names::reading::FromNormalizedStr;
+use cedar_parser::text_to_cst::{parse_expr, parse_ident, parse_policies, parse_policy};
 use cedar_policies::static_policies::StaticPolicy;
 use cedar_policies::templates::Template;
 use cedar_policy_conversion::{

@@ -1,7 +1,9 @@
 // Kinds of tokens that are expected, and errors of parsers.
 use cedar_literals::variables::Var;
 use cedar_names::places::{Loc, Span};
-use cedar_parser::err::{LiteralParseError, ParseError, ParseErrors, RestrictedExpressionParseError, ToCSTError};
+use cedar_parser::err::{
+    LiteralParseError, ParseError, ParseErrors, RestrictedExpressionParseError, ToCSTError,
+};
 use cedar_rows::{Answer, cut, said, tell, text_of};
 use cedar_tokens::{Kinds, POLICY_TOKEN_CONFIG, expected_to_string};
 use cedar_trees::expr::Expr;

@@ -3,7 +3,9 @@ use cedar_data::read_data;
 use cedar_extensions::extensions::Extensions;
 use cedar_faults::ExtStyles;
 use cedar_literals::literals::Literal;
-use cedar_parser::err::{LiteralParseError, ParseError, ParseErrors, RestrictedExpressionParseError};
+use cedar_parser::err::{
+    LiteralParseError, ParseError, ParseErrors, RestrictedExpressionParseError,
+};
 use cedar_parser::prelude::StylesOfExtensions;
 use cedar_parser::strict::{
     parse_euid_strict, parse_expr_strict, parse_literal_strict, parse_policyset_strict,

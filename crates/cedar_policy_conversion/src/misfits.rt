@@ -6,7 +6,9 @@ ghost use Rattle.cedar_faults.specs.Telling.{TellsOnly};
 ghost use Rattle.cedar_policy_conversion.specs.PartsShow.{is_empty_expr, is_empty_add, IsWrongNode, IsWrongArgument, misfit_shows, no_entity_shows};
 ghost use Rattle.cedar_policy_conversion.specs.PartsShow as shows;
 
-use cedar_conversion::{only_add, only_and, only_mult, only_or, only_relation, only_unary, unsigned};
+use cedar_conversion::{
+    only_add, only_and, only_mult, only_or, only_relation, only_unary, unsigned,
+};
 use cedar_cst::cst::{Add, Expr, NegOp, Primary, Relation, Unary};
 use cedar_cst::node::Node;
 use cedar_faults::{ConversionError, ToASTErrorKind};

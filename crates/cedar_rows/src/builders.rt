@@ -1,6 +1,7 @@
 // Expressions by the builder of the library, whose place is that of what it builds.
 use crate::stack::{place, told_place, top};
 use crate::trees::{binary_op, literal, made, path, pattern, slot, unary_op, unknown, variable};
+use crate::{Answer, count_of, mapped, no_case, number, paired, put, taken, tell};
 use cedar_builders::expr_builder;
 use cedar_builders::expr_builder::ExprBuilder as _;
 use cedar_builders::own_builder::ExprBuilder;
@@ -11,7 +12,6 @@ use cedar_names::errors::ParseNameError;
 use cedar_names::names::Name;
 use cedar_names::places::Loc;
 use cedar_names::reading::FromNormalizedStr;
-use crate::{Answer, count_of, mapped, no_case, number, paired, put, taken, tell};
 use cedar_trees::errors::ExpressionConstructionError;
 use cedar_trees::expr::{Expr, ExprKind};
 use cedar_trees::unknowns::Unknown;

@@ -1,11 +1,11 @@
 // Patterns and types.
 use crate::names::Names;
+use crate::{Answer, alike, keep, no_case, said, show, tell};
 use cedar_literals::patterns::{Pattern, PatternElem};
 use cedar_literals::types::Type;
 use cedar_literals::variables::Var;
 use cedar_names::conversions::FromIn;
 use cedar_names::identifiers::{Id, UnreservedId};
-use crate::{Answer, alike, keep, no_case, said, show, tell};
 use std::alloc::{AllocError, Global};
 use std::rc::{Rc, RcStr};
 

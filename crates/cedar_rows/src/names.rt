@@ -1,10 +1,10 @@
 // Identifiers, names and places.
+use crate::{Answer, alike, keep, no_case, number, refused, said, show, tell};
 use cedar_names::conversions::FromIn;
 use cedar_names::identifiers::{AnyId, Id, UnreservedId, is_normalized_ident};
 use cedar_names::names::{InternalName, Name};
 use cedar_names::places::{Loc, Span};
 use cedar_names::reading::FromNormalizedStr;
-use crate::{Answer, alike, keep, no_case, number, refused, said, show, tell};
 use std::alloc::{AllocError, Global};
 use std::rc::RcStr;
 

@@ -1,11 +1,11 @@
 // Raw names in the namespace `M`, where the common type `A` and the entity type `M::A` are declared.
 use crate::names::loc;
+use crate::{Answer, no_case, refused, show};
 use cedar_names::errors::ParseNameError;
 use cedar_names::identifiers::{Id, UnreservedId};
 use cedar_names::names::{InternalName, Name};
 use cedar_names::raw_names::{AllDefs, ConditionalName, RawName, ReferenceType};
 use cedar_names::reading::FromNormalizedStr;
-use crate::{Answer, no_case, refused, show};
 use std::alloc::{AllocError, Global};
 use std::collections::BTreeSet;
 

@@ -1,13 +1,13 @@
 // Shapes of expressions compared, hashed and walked, and chains that take no stack.
 use crate::stack::{place, told_place};
 use crate::trees::{numbered, slot};
+use crate::{Answer, hold, no_case, number, said, separate, tell};
 use cedar_literals::literals::Literal;
 use cedar_literals::types::Type;
 use cedar_literals::variables::Var;
 use cedar_names::errors::ParseNameError;
 use cedar_names::names::Name;
 use cedar_names::reading::FromNormalizedStr;
-use crate::{Answer, hold, no_case, number, said, separate, tell};
 use cedar_shapes::iteration::{ExprIterator, Slots, Unknowns};
 use cedar_shapes::readers::ExprReaders;
 use cedar_shapes::shapes::{ExprShape, ExprShapeOnly};

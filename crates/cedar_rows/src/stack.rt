@@ -1,7 +1,7 @@
 // The top of the stack, and places.
+use crate::Answer;
 use cedar_literals::variables::Var;
 use cedar_names::places::{Loc, Span};
-use crate::Answer;
 use cedar_trees::expr::Expr;
 use std::alloc::{AllocError, Global};
 use std::rc::RcStr;

@@ -1,5 +1,6 @@
 // Expressions by their constructors, and what they say of themselves.
 use crate::stack::{place, told_place, top};
+use crate::{Answer, count_of, explain, mapped, no_case, number, paired, put, said, taken, tell};
 use cedar_literals::literals::Literal;
 use cedar_literals::operators::{BinaryOp, UnaryOp};
 use cedar_literals::patterns::{Pattern, PatternElem};
@@ -11,9 +12,6 @@ use cedar_names::conversions::FromIn;
 use cedar_names::errors::ParseNameError;
 use cedar_names::names::Name;
 use cedar_names::reading::FromNormalizedStr;
-use crate::{
-    Answer, count_of, explain, mapped, no_case, number, paired, put, said, taken, tell,
-};
 use cedar_trees::errors::{DuplicateKeyError, ExpressionConstructionError};
 use cedar_trees::expr::{Expr, ExprKind};
 use cedar_trees::unknowns::{NonEmpty, Unknown};

@@ -1,12 +1,12 @@
 // Entity uids, their types and slots.
 use crate::names::{Names, loc};
+use crate::{Answer, alike, keep, no_case, said, show, tell};
 use cedar_literals::slots::{Slot, SlotId};
 use cedar_literals::types::StaticallyTyped;
 use cedar_literals::uids::{Eid, EntityType, EntityUID};
 use cedar_names::errors::ParseNameError;
 use cedar_names::names::Name;
 use cedar_names::reading::FromNormalizedStr;
-use crate::{Answer, alike, keep, no_case, said, show, tell};
 use std::alloc::{AllocError, Global};
 use std::rc::RcStr;
 

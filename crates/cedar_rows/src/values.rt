@@ -1,5 +1,8 @@
 // Values that are put on a stack, and what is asked of those on its top.
 use crate::names::loc;
+use crate::{
+    Answer, alike, count_of, mapped, no_case, number, paired, push, said, show, taken, tell,
+};
 use cedar_literals::bounded_display::BoundedToString;
 use cedar_literals::literals::Literal;
 use cedar_literals::types::StaticallyTyped;
@@ -7,9 +10,6 @@ use cedar_literals::uids::EntityUID;
 use cedar_names::conversions::FromIn;
 use cedar_names::errors::ParseNameError;
 use cedar_names::names::Name;
-use crate::{
-    Answer, alike, count_of, mapped, no_case, number, paired, push, said, show, taken, tell,
-};
 use cedar_values::extension_values::{Argument, ExtensionValue, RepresentableExtensionValue};
 use cedar_values::values::{Set, Value, ValueKind};
 use std::alloc::{AllocError, Global};

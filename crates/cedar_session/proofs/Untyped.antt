@@ -3,7 +3,7 @@ use Rattle.std.proofs.Common.{◌≡◌, Bool, true, false, ◌&&◌, cond, Opti
 use Rattle.std.specs.Option.{unwrap_or}
 use lib.Chars.{codes}
 use Rattle.cedar_language.specs.Uid as uid
-use Rattle.cedar_language.specs.Uid.{Name, Uid}
+use Rattle.cedar_language.specs.Uid.{Name}
 use Rattle.cedar_language.specs.Tree.{ValueType, String, Operator, MakeRecord, Call, Tree, Lit, Var, Slot, Unknown, If, And, Or, Apply, Trees, no_trees, a_tree}
 use Rattle.cedar_partial_evaluation.specs.Unknowns.{EachUnknown, EachUnknownOf}
 use Rattle.cedar_grammar.specs.Calls.{calls_none_but, calls_only, all_call_only}

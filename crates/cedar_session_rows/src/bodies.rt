@@ -1,10 +1,10 @@
 // Trees that are put on a stack, and what the one on its top says as the body of a command.
 use crate::ranks::Ranks;
+use cedar_entities::entity::Entity;
+use cedar_extensions::extensions::Extensions;
 use cedar_held::{
     AskBody, AskedPart, EntityBody, ask_body, entity_bodies, listed_entities, uids_of,
 };
-use cedar_entities::entity::Entity;
-use cedar_extensions::extensions::Extensions;
 use cedar_literals::literals::Literal;
 use cedar_literals::uids::EntityUID;
 use cedar_names::errors::ParseNameError;

@@ -127,7 +127,12 @@ pub(crate) fn of_program(alloc: Global, text: &str) -> Answer {
     let mut errors = Vec::new(alloc);
     if device == "memory" {
         let outcome = run_input(alloc, given.as_slice())?;
-        return status_told(alloc, outcome.status, outcome.text.as_slice(), errors.as_slice());
+        return status_told(
+            alloc,
+            outcome.status,
+            outcome.text.as_slice(),
+            errors.as_slice(),
+        );
     }
     if device == "whole" {
         let mut written = Vec::new(alloc);

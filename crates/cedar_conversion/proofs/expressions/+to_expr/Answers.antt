@@ -22,7 +22,7 @@ use Rattle.cedar_cst.specs.contracts.cst.Expr.{enum}
 use Rattle.cedar_cst.specs.declared.leaves.NegOp.TheVariants as signs
 use Rattle.cedar_conversion.specs.declared.applying.Joint.TheVariants as joint
 use Rattle.cedar_faults.specs.Telling.{Told}
-use Rattle.cedar_faults.proofs.Telling.{told_each, tells_more}
+use Rattle.cedar_faults.proofs.Telling.{told_each}
 use Rattle.cedar_conversion.specs.SoFar.{AccessedSoFar}
 use Rattle.cedar_conversion.specs.Shows.{calls_method, joint_shows, expr_shows, or_shows, and_shows, relation_shows, add_shows, mult_shows, unary_shows, member_shows, access_shows, primary_shows, rec_init_shows, used_before, used_at, exprs_show}
 use Rattle.cedar_conversion.proofs.Seen.{none_seen, or_expr_seen, if_expr_seen, common_seen, has_seen, like_seen, is_seen, is_in_seen, unary_seen, member_seen, field_seen, call_seen, index_seen, literal_seen, ref_seen, slot_seen, expr_seen, list_seen, record_seen, rec_init_seen}
