@@ -5,7 +5,14 @@ Between backquotes a page may name a crate, a word of a crate (`word` of `crate`
 `crate`), a function of a crate (`crate::function`), a file, a folder or a must-fail edit. Each has to be there: a crate has a
 line in crates.txt or is one of the kit, a word stands in the crate's sources, definitions, proofs or edits, a file is found.
 Links to pages lead somewhere, and where a page says how many crates, edits of the gate or edits beside it there are, the tree
-has as many. Prints a line for each that isn't so, and ends with status 1 where there is any."""
+has as many.
+
+A crate may also stand before the words: a heading of docs/DEFINITIONS.md names the crate of the words in brackets below it, and
+a row of docs/PROOFS.md that begins with a crate in bold is one of its calls, as are the rows after it. In docs/ARCHITECTURE.md
+each crate has a row, whose last cell is what tools/rooms.py finds nearest below it. No paragraph has more than 100 words, and
+the pages of docs/ have 16,000 at most.
+
+Prints a line for each that isn't so, and ends with status 1 where there is any."""
 
 import os
 import re
@@ -13,10 +20,14 @@ import shutil
 import subprocess
 import sys
 
+sys.dont_write_bytecode = True
+import rooms
+
 NUMBERS = "no one two three four five six seven eight nine ten eleven twelve".split()
 # A word in capitals stands for whatever name is there.
 PATTERN = re.compile(r"\b[A-Z]{4,}\b(?!\.md)")
 FILE = re.compile(r"^[\w.+*/-]+\.(md|py|rt|antt|edit|txt|c|h|rs|sh|stdin|stdout)$")
+LONGEST, WHOLE = 100, 16_000
 
 
 def text_of(path):
@@ -123,10 +134,89 @@ def wrong_counts(tree, line):
                 yield f"'{found[0]}': there are {have} {what}"
 
 
+def cells_of(line):
+    return [it.strip() for it in re.split(r"(?<!\\)\|", line)[1:-1]]
+
+
+def faults_of_definitions(tree, text):
+    crate = None
+    for number, line in prose(text):
+        named = re.findall(r"\(crate `(\w+)`\)", line) if line.startswith("#") else []
+        crate = (named or [None])[0] if line.startswith("#") else crate
+        here = crate
+        for words in re.findall(r"\*\*[^*]+\*\* \(([^)]*)\)", line) if line.startswith("- ") else ():
+            of = re.findall(r" of `(cedar_\w+)`", words)
+            here = of[-1] if of else here
+            for word in [] if of or not here else re.findall(r"`([^`]+)`", words):
+                if word not in tree.words.get(here, ()):
+                    yield number, f"`{word}` isn't in {here}"
+
+
+def faults_of_proofs(tree, text):
+    crates = []
+    for number, line in prose(text):
+        crates = [] if line.startswith("#") else re.findall(r"\*\*`(\w+)`\*\*", line) or crates
+        for word in re.findall(r"`([^`]+)`", cells_of(line)[0]) if line.startswith("|") and crates else ():
+            name = last_part(word)
+            if name and name not in tree.crates and not any(name in tree.words.get(it, ()) for it in crates):
+                yield number, f"`{word}` isn't in {' or '.join(crates)}"
+
+
+def faults_of_architecture(tree, text):
+    below, rows = rooms.read(), set()
+    for number, line in prose(text):
+        found = re.match(r"\| `(cedar_\w+)` \|", line)
+        if found and found[1] in below:
+            rows.add(found[1])
+            near = [it.removeprefix("cedar_") for it in rooms.nearest(below, found[1])]
+            said = [it for it in cells_of(line)[-1].replace("`", "").split(", ") if it]
+            if sorted(said) != sorted(near):
+                yield number, f"`{found[1]}` stands on {', '.join(near) or 'nothing'}"
+    yield from ((1, f"no row has `{it}`") for it in below if it not in rows)
+
+
+def long_paragraphs(text):
+    """Each paragraph, item of a list or cell of a table that is too long, by the line on which it begins."""
+    parts, last = [], None
+    for number, line in prose(text):
+        if line.startswith("|"):
+            parts += [(number, it) for it in cells_of(line)]
+        elif not line.strip() or line.startswith("#"):
+            last = None
+        elif last is None or number != last + 1 or re.match(r"- |\d+\. ", line.lstrip()):
+            parts.append((number, line))
+            last = number
+        else:
+            parts[-1] = (parts[-1][0], parts[-1][1] + " " + line)
+            last = number
+    for number, part in parts:
+        if len(part.split()) > LONGEST:
+            yield number, f"a paragraph of {len(part.split())} words"
+
+
+OF_PAGES = {
+    "docs/DEFINITIONS.md": faults_of_definitions,
+    "docs/PROOFS.md": faults_of_proofs,
+    "docs/ARCHITECTURE.md": faults_of_architecture,
+}
+
+
+def faults_of(tree, page):
+    text = text_of(page)
+    for number, line in prose(text):
+        yield from ((number, why) for why in faults_of_line(tree, line))
+    yield from long_paragraphs(text)
+    if page in OF_PAGES:
+        yield from OF_PAGES[page](tree, text)
+
+
 def main():
     tree = Tree()
     pages = ["README.md", *sorted(it for it in tree.files if re.fullmatch(r"(docs|bench|include)/[\w.-]+\.md", it))]
-    faults = [f"{page}:{number}: {why}" for page in pages for number, line in prose(text_of(page)) for why in faults_of_line(tree, line)]
+    faults = [f"{page}:{number}: {why}" for page in pages for number, why in faults_of(tree, page)]
+    words = sum(len(text_of(page).split()) for page in pages if page.startswith("docs/"))
+    if words > WHOLE:
+        faults.append(f"docs: {words} words, more than {WHOLE}")
     print("\n".join(faults) if faults else f"{len(pages)} pages name nothing that isn't there")
     return 1 if faults else 0
 
