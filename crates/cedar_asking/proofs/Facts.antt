@@ -16,7 +16,8 @@ use Rattle.cedar_world.specs.WorldFacts.{AreFactsOf}
 use Rattle.cedar_held.specs.Shown.{as_held, Shows}
 use Rattle.cedar_entities.specs.Store.{held_at, is_partial_store, IsClosed}
 use Rattle.cedar_entities.specs.declared.store.Entities.{Entities}
-use Rattle.cedar_held.proofs.Shown.{attribute_at, to_world, to_store}
+use Rattle.cedar_held.specs.ShownApart.{attribute_at}
+use Rattle.cedar_held.proofs.Shown.{to_world, to_store}
 use Rattle.cedar_extensions.specs.Table.{Table}
 use Rattle.cedar_operators.specs.Store.{IsShown, HasFacts}
 use Rattle.cedar_held.specs.Built.{IsBuilt, AreBuilt, HoldBuilt, GivesBuilt}

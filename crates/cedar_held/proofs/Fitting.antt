@@ -16,7 +16,8 @@ use Rattle.cedar_entities.specs.declared.errors.EntitiesError.TheVariants.{Dupli
 use Rattle.cedar_entities.specs.declared.store.Entities.{Entities}
 use Rattle.cedar_held.specs.Shown.{as_attributes, as_held, as_entity, as_entities, Shows}
 use Rattle.cedar_held.specs.StoreWorlds as law
-use Rattle.cedar_held.proofs.Shown.{attributes_inj, shown_inj, to_world, to_store}
+use Rattle.cedar_held.specs.ShownApart.{attributes_inj, shown_inj}
+use Rattle.cedar_held.proofs.Shown.{to_world, to_store}
 use Rattle.cedar_held.proofs.EditedWorlds.{first_shown, add_shown, cyclic, acyclic}
 
 module _ (held : Uid → Option Held) (old : world.Entities) (shows : Shows held old) (vs : List Version) where

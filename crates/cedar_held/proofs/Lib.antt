@@ -11,7 +11,7 @@ pub mod Parts
 pub mod Reading
 pub mod Sets
 pub mod Versions
-mod Shown
+pub mod Shown
 mod EditedWorlds
 mod Fitting
 pub mod PolicyWorlds

@@ -17,7 +17,7 @@ use Rattle.cedar_entities.specs.Held.{Held}
 use Rattle.cedar_entities.specs.Store.{held_at, is_partial_store, IsClosed}
 use Rattle.cedar_entities.specs.declared.store.Entities.{Entities}
 use Rattle.cedar_held.specs.Shown.{Shows}
-use Rattle.cedar_held.proofs.Shown.{shown_inj}
+use Rattle.cedar_held.specs.ShownApart.{shown_inj}
 use Rattle.cedar_held.specs.Built.{HoldBuilt}
 
 -- its ancestors are whole, and what it doesn't hold isn't there

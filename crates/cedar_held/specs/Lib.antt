@@ -1,4 +1,5 @@
 pub mod Shown
+pub mod ShownApart
 pub mod StoreWorlds
 pub mod PolicyWorlds
 pub mod LoadWorlds
