@@ -77,7 +77,7 @@ def main():
     program = options.program
     for users in USERS:
         runs = [run([program], rows(users, [])) for _ in range(options.repeat)]
-        text = runs[0][2].splitlines()[2].partition(' => ')[2]
+        text = runs[0][2].splitlines()[3].partition(' => ')[2]
         print('%s: built in %.3f s, in %.1f MiB' % (text, min(r[0] for r in runs), min(r[1] for r in runs)), flush=True)
         for name in ('add', 'put', 'remove'):
             taken = an_edit(name, lambda edited: seconds(program, users, edited, options.repeat))

@@ -39,9 +39,10 @@ pub(crate) fn answer(
     match verb {
         "aside" => put_aside(alloc, at, aside),
         "same" => compared(alloc, at, aside),
-        _ => match at.take() {
+        "entries" => match at.take() {
             Some(context) => listed(alloc, context),
             None => no_case(alloc),
         },
+        _ => no_case(alloc),
     }
 }

@@ -6,7 +6,7 @@ use cedar_expressions::ast::{BorrowedRestrictedExpr, EntityUID, Expr};
 use cedar_interpreter::{Evaluator, RestrictedEvaluator};
 use cedar_policy_parts::bindings::SlotEnv;
 use cedar_requests::{Context, EntityUIDEntry, Request};
-use cedar_rows::{Answer, explain, no_case, refused_for};
+use cedar_rows::{Answer, no_case, refused, show};
 use std::alloc::{AllocError, Global};
 
 /// The user of this id, or unknown.
@@ -20,24 +20,27 @@ fn part(alloc: Global, id: &str, is_missing: bool) -> Result<EntityUIDEntry, All
     }
 }
 
-/// The user `a` asks to do `b` to `c` in an empty context; one of the four may be missing.
-pub(crate) fn question(alloc: Global, missing: &str) -> Result<Request, AllocError> {
+/// The user `a` asks to do `b` to `c` in an empty context; of the four the one of this name is missing, or
+/// `nothing` is.
+pub(crate) fn question(alloc: Global, missing: &str) -> Result<Option<Request>, AllocError> {
     let principal = part(alloc, "a", missing == "principal")?;
     let action = part(alloc, "b", missing == "action")?;
     let resource = part(alloc, "c", missing == "resource")?;
-    if missing == "context" {
-        return Ok(Request::new_unchecked(principal, action, resource, None));
-    }
-    let context = Some(Context::empty(alloc)?);
-    Ok(Request::new_unchecked(principal, action, resource, context))
+    let context = match missing {
+        "context" => None,
+        "principal" | "action" | "resource" | "nothing" | "" => Some(Context::empty(alloc)?),
+        _ => return Ok(None),
+    };
+    Ok(Some(Request::new_unchecked(principal, action, resource, context)))
 }
 
 /// What the expression is evaluated to.
 fn of(alloc: Global, verb: &str, evaluator: &Evaluator<'_, '_, '_>, expr: &Expr) -> Answer {
     let slots = SlotEnv::new();
     match verb {
-        "value" => explain(alloc, evaluator.interpret(alloc, expr, &slots)),
-        _ => explain(alloc, evaluator.partial_interpret(alloc, expr, &slots)),
+        "value" => show(alloc, evaluator.interpret(alloc, expr, &slots)),
+        "partial" => show(alloc, evaluator.partial_interpret(alloc, expr, &slots)),
+        _ => no_case(alloc),
     }
 }
 
@@ -51,11 +54,13 @@ pub(crate) fn answer(
     entities: &Entities,
     table: &Extensions<'_>,
 ) -> Answer {
-    let Some(expr) = exprs.pop() else {
+    let (Some(expr), Some(depth)) = (exprs.pop(), word_depth(depth)) else {
         return no_case(alloc);
     };
-    let request = question(alloc, missing)?;
-    let evaluator = Evaluator::new(alloc, &request, entities, table, word_depth(depth))?;
+    let Some(request) = question(alloc, missing)? else {
+        return no_case(alloc);
+    };
+    let evaluator = Evaluator::new(alloc, &request, entities, table, depth)?;
     of(alloc, verb, &evaluator, &expr)
 }
 
@@ -69,10 +74,13 @@ pub(crate) fn answer_of(
     entities: &Entities,
     table: &Extensions<'_>,
 ) -> Answer {
-    let (Some(expr), Some(request)) = (exprs.pop(), requests.request()) else {
+    let (Some(expr), Some(depth)) = (exprs.pop(), word_depth(depth)) else {
         return no_case(alloc);
     };
-    let evaluator = Evaluator::new(alloc, request, entities, table, word_depth(depth))?;
+    let Some(request) = requests.request() else {
+        return no_case(alloc);
+    };
+    let evaluator = Evaluator::new(alloc, request, entities, table, depth)?;
     of(alloc, verb, &evaluator, &expr)
 }
 
@@ -84,15 +92,16 @@ pub(crate) fn restricted(
     exprs: &mut Vec<Expr>,
     table: &Extensions<'_>,
 ) -> Answer {
-    let Some(expr) = exprs.pop() else {
+    let (Some(expr), Some(depth)) = (exprs.pop(), word_depth(depth)) else {
         return no_case(alloc);
     };
-    let evaluator = RestrictedEvaluator::new(table, word_depth(depth));
+    let evaluator = RestrictedEvaluator::new(table, depth);
     match BorrowedRestrictedExpr::new(alloc, &expr) {
         Ok(expr) => match verb {
-            "value" => explain(alloc, evaluator.interpret(alloc, expr)),
-            _ => explain(alloc, evaluator.partial_interpret(alloc, expr)),
+            "value" => show(alloc, evaluator.interpret(alloc, expr)),
+            "partial" => show(alloc, evaluator.partial_interpret(alloc, expr)),
+            _ => no_case(alloc),
         },
-        Err(error) => refused_for(alloc, error),
+        Err(error) => refused(alloc, error),
     }
 }

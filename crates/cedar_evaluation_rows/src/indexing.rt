@@ -6,7 +6,7 @@ use cedar_policies::policies::Policy;
 use cedar_policy_parts::bindings::SlotEnv;
 use cedar_policy_parts::{Effect, PolicyID};
 use cedar_policy_set::sets::PolicySet;
-use cedar_rows::{Answer, no_case, refused_for, tell};
+use cedar_rows::{Answer, no_case, refused, tell};
 use std::alloc::Global;
 
 /// How many places of the set its index covers then.
@@ -25,7 +25,7 @@ fn linked(alloc: Global, template: &str, id: &str, set: &mut PolicySet) -> Answe
     let template = PolicyID::from_string(alloc, template)?;
     match set.link(alloc, template, PolicyID::from_string(alloc, id)?, values) {
         Ok(()) => tell(alloc, set.len()),
-        Err(error) => refused_for(alloc, error),
+        Err(error) => refused(alloc, error),
     }
 }
 
@@ -38,7 +38,7 @@ fn made(alloc: Global, id: &str, exprs: &mut Vec<Expr>, set: &mut PolicySet) -> 
     let policy = Policy::from_when_clause(alloc, Effect::Permit, when, id, None)?;
     match set.add(alloc, policy) {
         Ok(()) => tell(alloc, set.len()),
-        Err(error) => refused_for(alloc, error),
+        Err(error) => refused(alloc, error),
     }
 }
 
@@ -46,7 +46,7 @@ fn made(alloc: Global, id: &str, exprs: &mut Vec<Expr>, set: &mut PolicySet) -> 
 fn removed(alloc: Global, id: &str, set: &mut PolicySet) -> Answer {
     match set.remove_static(&PolicyID::from_string(alloc, id)?) {
         Ok(_policy) => tell(alloc, set.len()),
-        Err(error) => refused_for(alloc, error),
+        Err(error) => refused(alloc, error),
     }
 }
 
@@ -63,6 +63,7 @@ pub(crate) fn edit(
         "index" => indexed(alloc, set),
         "clause" => made(alloc, one, exprs, set),
         "link" => linked(alloc, one, other, set),
-        _ => removed(alloc, one, set),
+        "remove" => removed(alloc, one, set),
+        _ => no_case(alloc),
     }
 }

@@ -60,7 +60,8 @@ fn of_two(
     match verb {
         "in" => told(alloc, is_in(alloc, store, left, right)),
         "get-tag" => told(alloc, get_tag(alloc, store, left, right, Some(loc))),
-        _ => told(alloc, has_tag(alloc, store, left, right)),
+        "has-tag" => told(alloc, has_tag(alloc, store, left, right)),
+        _ => no_case(alloc),
     }
 }
 

@@ -15,7 +15,7 @@ use cedar_policies::policies::Policy;
 use cedar_policy_parts::PolicyID;
 use cedar_policy_set::sets::PolicySet;
 use cedar_requests::Request;
-use cedar_rows::{Answer, explain, no_case, refused_for, said, separate, tell};
+use cedar_rows::{Answer, no_case, refused, said, separate, show, tell};
 use either::Either;
 use std::alloc::{AllocError, Global};
 
@@ -30,14 +30,15 @@ fn read(
 ) -> Answer {
     let styles = match verb {
         "read" => ExtStyles::for_policies(alloc, table)?,
-        _ => ExtStyles::from_extensions(alloc, table)?,
+        "read-open" => ExtStyles::from_extensions(alloc, table)?,
+        _ => return no_case(alloc),
     };
     match parse_policyset_strict(alloc, text, &styles, 64) {
         Ok(policies) => {
             *set = policies;
             tell(alloc, set.len())
         }
-        Err(errors) => refused_for(alloc, errors),
+        Err(errors) => refused(alloc, errors),
     }
 }
 
@@ -46,14 +47,15 @@ fn left(alloc: Global, evaluator: &Evaluator<'_, '_, '_>, policy: &Policy) -> An
     match evaluator.partial_evaluate(alloc, policy) {
         Ok(Either::Left(satisfied)) => said(alloc, satisfied),
         Ok(Either::Right(rest)) => rest.to_string(alloc),
-        Err(error) => refused_for(alloc, error),
+        Err(error) => refused(alloc, error),
     }
 }
 
 fn of(alloc: Global, verb: &str, evaluator: &Evaluator<'_, '_, '_>, policy: &Policy) -> Answer {
     match verb {
-        "value" => explain(alloc, evaluator.evaluate(alloc, policy)),
-        _ => left(alloc, evaluator, policy),
+        "value" => show(alloc, evaluator.evaluate(alloc, policy)),
+        "left" => left(alloc, evaluator, policy),
+        _ => no_case(alloc),
     }
 }
 
@@ -174,6 +176,22 @@ fn respond(
     Ok(text)
 }
 
+/// What is read of the response for a question without a principal.
+fn residuals(
+    alloc: Global,
+    reader: &str,
+    set: &PolicySet,
+    entities: &Entities,
+    table: &Extensions<'_>,
+) -> Answer {
+    let authorizer = Authorizer::new(table, 9);
+    let Some(request) = question(alloc, "principal")? else {
+        return no_case(alloc);
+    };
+    let response = authorizer.is_authorized_core(alloc, request, set, entities)?;
+    read_response(alloc, reader, &response)
+}
+
 /// What a step on policies answers, within the depth that a word gives, the variable of this name missing.
 pub(crate) fn answer(
     alloc: Global,
@@ -185,29 +203,27 @@ pub(crate) fn answer(
     table: &Extensions<'_>,
 ) -> Answer {
     match verb {
-        "read" | "read-open" => read(alloc, verb, one, table, set),
+        "read" | "read-open" => return read(alloc, verb, one, table, set),
+        "residuals" => return residuals(alloc, one, set, entities, table),
+        _ => {}
+    }
+    let (Some(depth), Some(request)) = (word_depth(one), question(alloc, missing)?) else {
+        return no_case(alloc);
+    };
+    match verb {
         "respond" | "respond-without-false" => {
-            let authorizer = Authorizer::new(table, word_depth(one));
-            let request = question(alloc, missing)?;
+            let authorizer = Authorizer::new(table, depth);
             respond(alloc, verb, &authorizer, request, set, entities)
         }
         "answer" => {
-            let authorizer = Authorizer::new(table, word_depth(one));
-            let request = question(alloc, missing)?;
+            let authorizer = Authorizer::new(table, depth);
             answered(
                 alloc,
                 &authorizer.is_authorized(alloc, request, set, entities)?,
             )
         }
-        "residuals" => {
-            let authorizer = Authorizer::new(table, 9);
-            let request = question(alloc, "principal")?;
-            let response = authorizer.is_authorized_core(alloc, request, set, entities)?;
-            read_response(alloc, one, &response)
-        }
         "value" | "left" => {
-            let request = question(alloc, missing)?;
-            let evaluator = Evaluator::new(alloc, &request, entities, table, word_depth(one))?;
+            let evaluator = Evaluator::new(alloc, &request, entities, table, depth)?;
             of_each(alloc, verb, &evaluator, set)
         }
         _ => no_case(alloc),

@@ -15,9 +15,9 @@ use cedar_restricted::borrowed::BorrowedRestrictedExpr;
 use cedar_restricted::errors::RestrictedExpressionError;
 use cedar_restricted::partial_values::PartialValue;
 use cedar_restricted::restricted::RestrictedExpr;
-use cedar_rows::stack::{place, told_place};
+use cedar_rows::stack::{is_place, place, told_place};
 use cedar_rows::trees::variable;
-use cedar_rows::{Answer, explain, maybe, no_case, paired, refused_for, said, taken, tell};
+use cedar_rows::{Answer, has_each, maybe, no_case, paired, said, show, taken, tell};
 use cedar_trees::expr::Expr;
 use cedar_values::values::Value;
 use std::alloc::{AllocError, Global};
@@ -70,7 +70,7 @@ fn told_part(alloc: Global, found: Result<PartialValue, AllocError>) -> Answer {
             };
             format!(in alloc; "{part} {place}")
         }
-        Err(error) => refused_for(alloc, error),
+        Err(error) => cedar_rows::refused(alloc, error),
     }
 }
 
@@ -92,17 +92,18 @@ fn made(
     match verb {
         "known" => match EntityUID::with_eid_and_type(alloc, "User", one) {
             Ok(uid) => kept(alloc, entries, EntityUIDEntry::known(alloc, uid, loc)?),
-            Err(error) => refused_for(alloc, error),
+            Err(error) => cedar_rows::refused(alloc, error),
         },
         "from" => match EntityUID::with_eid_and_type(alloc, "User", one) {
             Ok(uid) => kept(alloc, entries, EntityUIDEntry::from_in(alloc, uid)?),
-            Err(error) => refused_for(alloc, error),
+            Err(error) => cedar_rows::refused(alloc, error),
         },
         "typed" => match EntityType::from_normalized_str(alloc, one) {
             Ok(ty) => kept(alloc, entries, EntityUIDEntry::unknown_with_type(ty, loc)),
-            Err(error) => refused_for(alloc, error),
+            Err(error) => cedar_rows::refused(alloc, error),
         },
-        _ => kept(alloc, entries, EntityUIDEntry::unknown()),
+        "unknown" => kept(alloc, entries, EntityUIDEntry::unknown()),
+        _ => no_case(alloc),
     }
 }
 
@@ -115,7 +116,11 @@ fn read(alloc: Global, verb: &str, word: &str, entries: &[EntityUIDEntry]) -> An
         "uid" => maybe(alloc, entry.uid()),
         "type" => maybe(alloc, entry.get_type()),
         "copied" => maybe(alloc, entry.clone(alloc)?.get_type()),
-        _ => told_part(alloc, entry.evaluate(alloc, variable(word))),
+        "evaluate" => match variable(word) {
+            Some(var) => told_part(alloc, entry.evaluate(alloc, var)),
+            None => no_case(alloc),
+        },
+        _ => no_case(alloc),
     }
 }
 
@@ -179,7 +184,7 @@ fn held(
             *at = Some(context);
             Ok(text)
         }
-        Err(error) => refused_for(alloc, error),
+        Err(error) => cedar_rows::refused(alloc, error),
     }
 }
 
@@ -187,7 +192,7 @@ fn held(
 fn of_context(
     alloc: Global,
     verb: &str,
-    depth: u32,
+    depth: Option<u32>,
     told: &HashMap<RcStr, Value>,
     table: &Extensions<'_>,
     at: &mut Option<Context>,
@@ -195,17 +200,18 @@ fn of_context(
     let Some(context) = at.take() else {
         return no_case(alloc);
     };
-    match verb {
-        "substitute" => match context.substitute(alloc, told, table, depth) {
+    match (verb, depth) {
+        ("substitute", Some(depth)) => match context.substitute(alloc, told, table, depth) {
             Ok(context) => held(alloc, at, Ok(context)),
-            Err(error) => refused_for(alloc, error),
+            Err(error) => cedar_rows::refused(alloc, error),
         },
-        "partial" => told_part(alloc, Ok(PartialValue::from(context))),
-        "restricted" => explain(alloc, RestrictedExpr::from_in(alloc, context)),
-        _ => {
+        ("partial", _) => told_part(alloc, Ok(PartialValue::from(context))),
+        ("restricted", _) => show(alloc, RestrictedExpr::from_in(alloc, context)),
+        ("copy", _) => {
             let copy = context.clone(alloc)?;
             held(alloc, at, Ok(copy))
         }
+        _ => no_case(alloc),
     }
 }
 
@@ -255,13 +261,14 @@ fn of_entries(alloc: Global, verb: &str, table: &Extensions<'_>, state: &mut Req
             table,
         ) {
             Ok(request) => shown(alloc, &mut state.request, request),
-            Err(error) => refused_for(alloc, error),
+            Err(error) => cedar_rows::refused(alloc, error),
         },
-        _ => shown(
+        "unchecked" => shown(
             alloc,
             &mut state.request,
             Request::new_unchecked(principal, action, resource, context),
         ),
+        _ => no_case(alloc),
     }
 }
 
@@ -299,7 +306,7 @@ fn accepted(
     match of_uids(alloc, schema, table, state) {
         Ok(Some(request)) => shown(alloc, &mut state.request, request),
         Ok(None) => no_case(alloc),
-        Err(RequestError::Memory(error)) => refused_for(alloc, error),
+        Err(RequestError::Memory(error)) => cedar_rows::refused(alloc, error),
         Err(RequestError::Schema(error)) => match error {},
     }
 }
@@ -309,7 +316,7 @@ fn refused(alloc: Global, table: &Extensions<'_>, state: &mut Requests) -> Answe
     match of_uids(alloc, Some(&RefusesAll), table, state) {
         Ok(Some(request)) => shown(alloc, &mut state.request, request),
         Ok(None) => no_case(alloc),
-        Err(error) => refused_for(alloc, error),
+        Err(error) => cedar_rows::refused(alloc, error),
     }
 }
 
@@ -330,7 +337,8 @@ fn asked(alloc: Global, verb: &str, table: &Extensions<'_>, request: &Request) -
                 .unwrap_infallible();
             said(alloc, true)
         }
-        _ => said(alloc, RefusesAll.validate_request(request, table).is_ok()),
+        "validated" => said(alloc, RefusesAll.validate_request(request, table).is_ok()),
+        _ => no_case(alloc),
     }
 }
 
@@ -356,9 +364,9 @@ fn parts(alloc: Global, verb: &str, table: &Extensions<'_>, state: &Requests) ->
     }
 }
 
-/// The depth that a word says; 0 where it is no number.
-pub(crate) fn word_depth(word: &str) -> u32 {
-    word.parse::<u32>().unwrap_or(0)
+/// The depth that a word says, if it says one.
+pub(crate) fn word_depth(word: &str) -> Option<u32> {
+    word.parse::<u32>().ok()
 }
 
 /// What a step on requests answers, where the stack has the expressions that earlier steps made and `told`
@@ -373,32 +381,30 @@ pub(crate) fn answer(
     table: &Extensions<'_>,
     state: &mut Requests,
 ) -> Answer {
-    let depth = word_depth(one);
-    match verb {
-        "known" | "from" | "typed" | "unknown" => {
+    match (verb, word_depth(one), word_depth(other)) {
+        ("known" | "from" | "typed" | "unknown", _, _) if is_place(other) => {
             made(alloc, verb, one, other, &mut state.entries)
         }
-        "uid" | "type" | "copied" | "evaluate" => read(alloc, verb, one, &state.entries),
-        "empty" => held(alloc, &mut state.context, Ok(Context::empty(alloc)?)),
-        "pairs" => {
-            let depth = word_depth(other);
+        ("uid" | "type" | "copied" | "evaluate", _, _) => read(alloc, verb, one, &state.entries),
+        ("empty", _, _) => held(alloc, &mut state.context, Ok(Context::empty(alloc)?)),
+        ("pairs", _, Some(depth)) if has_each(one, stack) => {
             let context = of_pairs(alloc, one, depth, stack, table);
             held(alloc, &mut state.context, context)
         }
-        "expr" => {
+        ("expr", Some(depth), _) => {
             let context = of_expr(alloc, depth, stack, table);
             held(alloc, &mut state.context, context)
         }
-        "substitute" | "partial" | "restricted" | "copy" => {
+        ("substitute" | "partial" | "restricted" | "copy", depth, _) => {
             of_context(alloc, verb, depth, told, table, &mut state.context)
         }
-        "aside" | "same" | "entries" => {
+        ("aside" | "same" | "entries", _, _) => {
             contexts::answer(alloc, verb, &mut state.context, &mut state.aside)
         }
-        "unchecked" | "with-unknowns" | "refused" => of_entries(alloc, verb, table, state),
-        "new" => accepted(alloc, None, table, state),
-        "new-passes" => accepted(alloc, Some(&RequestSchemaAllPass), table, state),
-        "new-refused" => refused(alloc, table, state),
+        ("unchecked" | "with-unknowns" | "refused", _, _) => of_entries(alloc, verb, table, state),
+        ("new", _, _) => accepted(alloc, None, table, state),
+        ("new-passes", _, _) => accepted(alloc, Some(&RequestSchemaAllPass), table, state),
+        ("new-refused", _, _) => refused(alloc, table, state),
         _ => parts(alloc, verb, table, state),
     }
 }

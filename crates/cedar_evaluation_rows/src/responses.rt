@@ -79,11 +79,12 @@ pub(crate) fn find(alloc: Global, verb: &str, id: &str, found: &mut Found) -> An
         "false-forbid" => push(alloc, &mut found.false_forbids, (id, (holds, annotations))),
         "erring-permit" => push(alloc, &mut found.false_permits, (id, (errs, annotations))),
         "erring-forbid" => push(alloc, &mut found.false_forbids, (id, (errs, annotations))),
-        _ => {
+        "error" => {
             let error = EvaluationError::recursion_limit(None);
             let error = AuthorizationError::PolicyEvaluationError { id, error };
             push(alloc, &mut found.errors, error)
         }
+        _ => no_case(alloc),
     }
 }
 
@@ -100,13 +101,17 @@ pub(crate) fn open(
     let rest = Rc::new(alloc, top(exprs))?;
     match verb {
         "permit" => push(alloc, &mut found.open_permits, (id, (rest, annotations))),
-        _ => push(alloc, &mut found.open_forbids, (id, (rest, annotations))),
+        "forbid" => push(alloc, &mut found.open_forbids, (id, (rest, annotations))),
+        _ => no_case(alloc),
     }
 }
 
 /// The response of all that was found, for a question without a principal.
 fn respond(alloc: Global, found: &mut Found) -> Answer {
-    let request = Rc::new(alloc, question(alloc, "principal")?)?;
+    let Some(request) = question(alloc, "principal")? else {
+        return no_case(alloc);
+    };
+    let request = Rc::new(alloc, request)?;
     let response = PartialResponse::new(
         alloc,
         mem::replace(&mut found.satisfied_permits, Vec::new(alloc)),

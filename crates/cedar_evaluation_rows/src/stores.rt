@@ -8,7 +8,7 @@ use cedar_names::conversions::FromIn;
 use cedar_names::errors::ParseNameError;
 use cedar_restricted::partial_values::PartialValue;
 use cedar_rows::names::loc;
-use cedar_rows::{Answer, no_case, push, refused_for, said, tell, values};
+use cedar_rows::{Answer, index, no_case, push, refused, said, tell, values};
 use cedar_trees::unknowns::Unknown;
 use cedar_values::values::Value;
 use std::alloc::Global;
@@ -85,6 +85,9 @@ pub(crate) fn value(
 
 /// The value on top stands between two numbers.
 fn placed(alloc: Global, start: &str, end: &str, stack: &mut Vec<Value>) -> Answer {
+    if index(start).is_none() || index(end).is_none() {
+        return no_case(alloc);
+    }
     let loc = loc(alloc, start, end)?;
     match stack.pop() {
         Some(value) => push(
@@ -135,7 +138,7 @@ fn stored(alloc: Global, held: &mut Stores) -> Answer {
             held.store = store;
             tell(alloc, held.store.len())
         }
-        Err(error) => refused_for(alloc, error),
+        Err(error) => refused(alloc, error),
     }
 }
 
@@ -160,6 +163,7 @@ pub(crate) fn hold(alloc: Global, verb: &str, one: &str, other: &str, held: &mut
             held.store = mem::replace(&mut held.store, Entities::new(alloc)).partial();
             said(alloc, held.store.is_partial())
         }
-        _ => stored(alloc, held),
+        "store" => stored(alloc, held),
+        _ => no_case(alloc),
     }
 }

@@ -7,7 +7,7 @@ use cedar_evaluator::authorizer::Authorizer;
 use cedar_expressions::Extensions;
 use cedar_expressions::ast::Value;
 use cedar_policy_set::sets::PolicySet;
-use cedar_rows::{Answer, refused_for};
+use cedar_rows::{Answer, no_case, refused};
 use std::alloc::Global;
 use std::collections::HashMap;
 use std::rc::RcStr;
@@ -25,12 +25,15 @@ pub(crate) fn answer(
 ) -> Answer {
     let authorizer = Authorizer::new(table, 9);
     let request = match (missing, requests.request()) {
-        ("request", Some(request)) => request.clone(alloc)?,
+        ("request", Some(request)) => Some(request.clone(alloc)?),
         _ => question(alloc, missing)?,
+    };
+    let Some(request) = request else {
+        return no_case(alloc);
     };
     let first = authorizer.is_authorized_core(alloc, request, set, entities)?;
     match first.reauthorize(alloc, told, &authorizer, entities) {
         Ok(again) => responded(alloc, &again),
-        Err(error) => refused_for(alloc, error),
+        Err(error) => refused(alloc, error),
     }
 }

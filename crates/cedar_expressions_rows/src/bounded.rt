@@ -1,15 +1,16 @@
 // Texts with so many elements alone of each set and each record.
 use cedar_expressions::ast::{BoundedToString, Expr, PartialValue};
-use cedar_rows::{Answer, no_case, number};
+use cedar_rows::{Answer, index, no_case};
 use std::alloc::Global;
 
 fn text<T: BoundedToString>(alloc: Global, count: &str, made: Option<&T>) -> Answer {
     let Some(made) = made else {
         return no_case(alloc);
     };
-    match count {
-        "all" => made.to_string_unbounded(alloc),
-        _ => made.to_string_bounded(alloc, number(count)),
+    match (count, index(count)) {
+        ("all", _) => made.to_string_unbounded(alloc),
+        (_, Some(count)) => made.to_string_bounded(alloc, count),
+        _ => no_case(alloc),
     }
 }
 
@@ -23,6 +24,7 @@ pub fn shown(
 ) -> Answer {
     match verb {
         "expr" => text(alloc, count, stack.last()),
-        _ => text(alloc, count, partials.last()),
+        "partial" => text(alloc, count, partials.last()),
+        _ => no_case(alloc),
     }
 }

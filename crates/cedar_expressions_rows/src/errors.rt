@@ -7,7 +7,7 @@ use cedar_expressions::evaluator::{
 };
 use cedar_expressions::extensions::{ExtensionFunctionLookupError, FuncDoesNotExistError};
 use cedar_expressions::parser::Loc;
-use cedar_rows::stack::{place, told_place};
+use cedar_rows::stack::{is_place, place, told_place};
 use cedar_rows::trees::{binary_op, slot, type_of, unary_op};
 use cedar_rows::{Answer, no_case, said};
 use std::alloc::{AllocError, Global};
@@ -38,15 +38,6 @@ fn user(alloc: Global) -> Result<Rc<EntityUID>, ParseNameError> {
     Ok(Rc::new(alloc, uid)?)
 }
 
-fn of_user(verb: &str, uid: Rc<EntityUID>, attr: RcStr, loc: Option<Loc>) -> EvaluationError {
-    match verb {
-        "entity_does_not_exist" => EvaluationError::entity_does_not_exist(uid, loc),
-        "entity_attr_does_not_exist" => EvaluationError::entity_attr_does_not_exist(uid, attr, loc),
-        "entity_tag_does_not_exist" => EvaluationError::entity_tag_does_not_exist(uid, attr, loc),
-        _ => EvaluationError::record_attr_does_not_exist(attr, loc),
-    }
-}
-
 /// What the entity of the user `a`, or a record, lacks.
 pub(crate) fn missing(
     alloc: Global,
@@ -57,9 +48,36 @@ pub(crate) fn missing(
 ) -> Answer {
     let attr = RcStr::from_str(alloc, attr)?;
     let loc = place(alloc, word)?;
-    match user(alloc) {
-        Ok(uid) => hold(alloc, of_user(verb, uid, attr, loc), errors),
-        Err(error) => error.to_string(alloc),
+    match (verb, user(alloc)) {
+        ("entity_does_not_exist", Ok(uid)) => {
+            hold(
+                alloc,
+                EvaluationError::entity_does_not_exist(uid, loc),
+                errors,
+            )
+        }
+        ("entity_attr_does_not_exist", Ok(uid)) => {
+            hold(
+                alloc,
+                EvaluationError::entity_attr_does_not_exist(uid, attr, loc),
+                errors,
+            )
+        }
+        ("entity_tag_does_not_exist", Ok(uid)) => {
+            hold(
+                alloc,
+                EvaluationError::entity_tag_does_not_exist(uid, attr, loc),
+                errors,
+            )
+        }
+        ("record_attr_does_not_exist", _) => {
+            hold(
+                alloc,
+                EvaluationError::record_attr_does_not_exist(attr, loc),
+                errors,
+            )
+        }
+        _ => no_case(alloc),
     }
 }
 
@@ -93,35 +111,45 @@ pub(crate) fn mistyped(
     };
     match (verb, types(alloc, words)) {
         ("type_error_single", Ok(expected)) => single(alloc, expected.head, value, errors),
-        (_, Ok(expected)) => {
+        ("type_error", Ok(expected)) => {
             let error = EvaluationError::type_error(alloc, expected, value);
             hold_made(alloc, error, errors)
         }
         (_, Err(error)) => error.to_string(alloc),
+        _ => no_case(alloc),
     }
 }
 
-fn long(text: &str) -> Value {
-    Value::from(Literal::Long(text.parse::<i64>().unwrap_or(0)))
+fn long(text: &str) -> Option<Value> {
+    match text.parse::<i64>() {
+        Ok(long) => Some(Value::from(Literal::Long(long))),
+        Err(_) => None,
+    }
 }
 
+/// The error of an operator of this name on these numbers, if it is one and they are numbers.
 fn overflow(
     alloc: Global,
     verb: &str,
     numbers: &str,
     loc: Option<Loc>,
-) -> Result<IntegerOverflowError, AllocError> {
-    Ok(match numbers.split_once(',') {
-        Some((a, b)) => {
-            let op = binary_op(verb);
-            let error = BinaryOpOverflowError::new(alloc, op, long(a), long(b), loc)?;
-            IntegerOverflowError::from(error)
-        }
-        None => {
-            let error = UnaryOpOverflowError::new(alloc, unary_op(verb), long(numbers), loc)?;
-            IntegerOverflowError::from(error)
-        }
-    })
+) -> Result<Option<IntegerOverflowError>, AllocError> {
+    match numbers.split_once(',') {
+        Some((a, b)) => match (binary_op(verb), long(a), long(b)) {
+            (Some(op), Some(a), Some(b)) => {
+                let error = BinaryOpOverflowError::new(alloc, op, a, b, loc)?;
+                Ok(Some(IntegerOverflowError::from(error)))
+            }
+            _ => Ok(None),
+        },
+        None => match (unary_op(verb), long(numbers)) {
+            (Some(op), Some(a)) => {
+                let error = UnaryOpOverflowError::new(alloc, op, a, loc)?;
+                Ok(Some(IntegerOverflowError::from(error)))
+            }
+            _ => Ok(None),
+        },
+    }
 }
 
 /// The operator of one number, or of two, has no long.
@@ -133,26 +161,9 @@ pub(crate) fn overflown(
     errors: &mut Errors,
 ) -> Answer {
     let loc = place(alloc, word)?;
-    let error = overflow(alloc, verb, numbers, loc)?;
-    hold(alloc, EvaluationError::from(error), errors)
-}
-
-fn of_name(
-    alloc: Global,
-    verb: &str,
-    name: Name,
-    loc: Option<Loc>,
-) -> Result<EvaluationError, AllocError> {
-    match verb {
-        "wrong_num_arguments" => Ok(EvaluationError::wrong_num_arguments(name, 1, 2, loc)),
-        "failed_extension_function_application" => {
-            let msg = String::from_str(alloc, "no answer")?;
-            Ok(EvaluationError::failed_extension_function_application(name, msg, loc))
-        }
-        _ => {
-            let error = FuncDoesNotExistError::new(name, loc);
-            Ok(EvaluationError::from(ExtensionFunctionLookupError::from(error)))
-        }
+    match overflow(alloc, verb, numbers, loc)? {
+        Some(error) => hold(alloc, EvaluationError::from(error), errors),
+        None => no_case(alloc),
     }
 }
 
@@ -165,9 +176,25 @@ pub(crate) fn called(
     errors: &mut Errors,
 ) -> Answer {
     let loc = place(alloc, word)?;
-    match Name::parse_unqualified_name(alloc, name) {
-        Ok(name) => hold_made(alloc, of_name(alloc, verb, name, loc), errors),
-        Err(error) => error.to_string(alloc),
+    match (verb, Name::parse_unqualified_name(alloc, name)) {
+        ("wrong_num_arguments", Ok(name)) => {
+            hold(
+                alloc,
+                EvaluationError::wrong_num_arguments(name, 1, 2, loc),
+                errors,
+            )
+        }
+        ("failed_extension_function_application", Ok(name)) => {
+            let msg = String::from_str(alloc, "no answer")?;
+            let error = EvaluationError::failed_extension_function_application(name, msg, loc);
+            hold(alloc, error, errors)
+        }
+        ("func_does_not_exist", Ok(name)) => {
+            let error = ExtensionFunctionLookupError::from(FuncDoesNotExistError::new(name, loc));
+            hold(alloc, EvaluationError::from(error), errors)
+        }
+        (_, Err(error)) => error.to_string(alloc),
+        _ => no_case(alloc),
     }
 }
 
@@ -177,7 +204,8 @@ fn of_memory(alloc: Global, verb: &str, errors: &mut Errors) -> Answer {
             let error = ExtensionFunctionLookupError::from(AllocError);
             hold(alloc, EvaluationError::from(error), errors)
         }
-        _ => hold(alloc, EvaluationError::from(AllocError), errors),
+        "evaluation" => hold(alloc, EvaluationError::from(AllocError), errors),
+        _ => no_case(alloc),
     }
 }
 
@@ -192,24 +220,24 @@ pub(crate) fn left(
 ) -> Answer {
     let loc = place(alloc, word)?;
     match verb {
-        "unlinked_slot" => hold(
-            alloc,
-            EvaluationError::unlinked_slot(slot(text), loc),
-            errors,
-        ),
+        "unlinked_slot" => match slot(text) {
+            Some(slot) => hold(alloc, EvaluationError::unlinked_slot(slot, loc), errors),
+            None => no_case(alloc),
+        },
         "recursion_limit" => hold(alloc, EvaluationError::recursion_limit(loc), errors),
         "non_value" => match stack.pop() {
             Some(expr) => hold_made(alloc, EvaluationError::non_value(alloc, expr), errors),
             None => no_case(alloc),
         },
-        _ => of_memory(alloc, text, errors),
+        "memory" => of_memory(alloc, text, errors),
+        _ => no_case(alloc),
     }
 }
 
 /// What is asked of the errors on top: whether the two are equal, the name that the last tells, or the last at
 /// another place.
 pub(crate) fn asked(alloc: Global, verb: &str, word: &str, errors: &mut Errors) -> Answer {
-    if verb == "with_maybe_source_loc" {
+    if verb == "with_maybe_source_loc" && is_place(word) {
         let loc = place(alloc, word)?;
         return match errors.pop() {
             Some(error) => hold(alloc, error.with_maybe_source_loc(loc), errors),
@@ -218,7 +246,7 @@ pub(crate) fn asked(alloc: Global, verb: &str, word: &str, errors: &mut Errors) 
     }
     match (verb, errors.as_slice()) {
         ("extension_name", [.., error]) => extension_name(alloc, error),
-        (_, [.., a, b]) => said(alloc, a == b),
+        ("equal", [.., a, b]) => said(alloc, a == b),
         _ => no_case(alloc),
     }
 }

@@ -35,7 +35,9 @@ pub(crate) fn answer<F: ExtensionFunctionObject>(
     stack: &[Expr],
     table: &Extensions<'_, F>,
 ) -> Answer {
-    let depth = depth.parse::<u32>().unwrap_or(0);
+    let Ok(depth) = depth.parse::<u32>() else {
+        return no_case(alloc);
+    };
     match stack.last() {
         Some(expr) => within(
             alloc,

@@ -17,7 +17,7 @@ use cedar_expressions::extensions::{
 };
 use cedar_expressions::{Extensions, FromNormalizedStr};
 use cedar_rows::trees::type_of;
-use cedar_rows::{Answer, explain, no_case, refused, refused_for, said, separate, tell};
+use cedar_rows::{Answer, no_case, refused, said, separate, tell};
 use std::alloc::{AllocError, Global};
 use std::collections::HashMap;
 
@@ -52,7 +52,7 @@ fn taken_of(alloc: Global, extensions: Vec<Extension>, table: &mut Extensions<'s
             *table = made;
             said(alloc, table.holds_unknown())
         }
-        Err(error) => refused_for(alloc, error),
+        Err(error) => refused(alloc, error),
     }
 }
 
@@ -74,7 +74,8 @@ pub(crate) fn taken(
     match verb {
         "all_available" => *table = Extensions::all_available(alloc)?,
         "specific_extensions" => return specific(alloc, one, other, table),
-        _ => *table = Extensions::none(alloc),
+        "none" => *table = Extensions::none(alloc),
+        _ => return no_case(alloc),
     }
     said(alloc, table.holds_unknown())
 }
@@ -104,10 +105,11 @@ fn joined<'a, I: Iterator<Item = &'a Name> + Drop>(alloc: Global, names: I) -> A
 fn of_name<F>(alloc: Global, verb: &str, name: &Name, table: &Extensions<'_, F>) -> Answer {
     match verb {
         "func" => told_function(alloc, table.func(alloc, name)),
-        _ => match FunctionTypes::return_type(table, name) {
+        "return_type" => match FunctionTypes::return_type(table, name) {
             Some(ty) => ty.to_string(alloc),
             None => String::from_str(alloc, "no type"),
         },
+        _ => no_case(alloc),
     }
 }
 
@@ -122,10 +124,11 @@ pub(crate) fn sought<F>(
         "ext_names" => joined(alloc, table.ext_names()),
         "ext_types" => joined(alloc, table.ext_types()),
         "ordered_types" => joined(alloc, table.types_with_operator_overloading()),
-        _ => match Name::from_normalized_str(alloc, name) {
+        "func" | "return_type" => match Name::from_normalized_str(alloc, name) {
             Ok(name) => of_name(alloc, verb, &name, table),
             Err(error) => error.to_string(alloc),
         },
+        _ => no_case(alloc),
     }
 }
 
@@ -199,7 +202,8 @@ pub(crate) fn asked(
         "is_variadic" => said(alloc, function.is_variadic()),
         "is_single_arg_constructor" => said(alloc, function.is_single_arg_constructor()),
         "style" => tell(alloc, function.style()),
-        _ => said(alloc, function.is_unknown()),
+        "is_unknown" => said(alloc, function.is_unknown()),
+        _ => no_case(alloc),
     }
 }
 
@@ -259,18 +263,20 @@ pub(crate) fn read(alloc: Global, verb: &str, name: &str, extension: &Option<Ext
         "funcs" => told_functions(alloc, extension),
         "ext_types" => joined(alloc, extension.ext_types()),
         "ordered_types" => joined(alloc, extension.types_with_operator_overloading()),
-        _ => told_held(alloc, name, extension),
+        "holds" => told_held(alloc, name, extension),
+        _ => no_case(alloc),
     }
 }
 
 fn twice(alloc: Global, verb: &str, name: Name) -> Answer {
     let error = match verb {
         "func" => ExtensionInitializationError::from(FuncMultiplyDefinedError::new(name)),
-        _ => {
+        "constructor" => {
             let return_type = SchemaType::Extension { name };
             let error = MultipleConstructorsSameSignatureError::new(return_type);
             ExtensionInitializationError::from(error)
         }
+        _ => return no_case(alloc),
     };
     error.to_string(alloc)
 }
@@ -286,7 +292,7 @@ pub(crate) fn refusal(alloc: Global, verb: &str, name: &str) -> Answer {
 fn at_keys(alloc: Global, found: Result<HashMap<u8, u8>, CollectError<u8>>) -> Answer {
     match found {
         Ok(map) => tell(alloc, (map.get(&1).copied(), map.get(&2).copied())),
-        Err(error) => refused_for(alloc, error),
+        Err(error) => refused(alloc, error),
     }
 }
 
@@ -294,7 +300,10 @@ fn at_keys(alloc: Global, found: Result<HashMap<u8, u8>, CollectError<u8>>) -> A
 pub(crate) fn gathered(alloc: Global, keys: &str) -> Answer {
     let mut pairs = Vec::new(alloc);
     for (key, item) in keys.split(',').zip([7u8, 8, 9]) {
-        pairs.push((key.parse::<u8>().unwrap_or(0), item))?;
+        let Ok(key) = key.parse::<u8>() else {
+            return no_case(alloc);
+        };
+        pairs.push((key, item))?;
     }
     at_keys(alloc, collect_no_duplicates(alloc, pairs))
 }

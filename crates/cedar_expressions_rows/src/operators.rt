@@ -48,7 +48,8 @@ fn of_two(
         ),
         "contains" => told(alloc, contains(alloc, left, right)),
         "contains-all" => told(alloc, contains_all(alloc, left, right)),
-        _ => told(alloc, contains_any(alloc, left, right)),
+        "contains-any" => told(alloc, contains_any(alloc, left, right)),
+        _ => no_case(alloc),
     }
 }
 
@@ -56,7 +57,8 @@ fn arithmetic(alloc: Global, verb: &str, left: Value, right: Value) -> Answer {
     match verb {
         "add" => told(alloc, binary_arith(alloc, BinaryOp::Add, left, right, None)),
         "subtract" => told(alloc, binary_arith(alloc, BinaryOp::Sub, left, right, None)),
-        _ => told(alloc, binary_arith(alloc, BinaryOp::Mul, left, right, None)),
+        "multiply" => told(alloc, binary_arith(alloc, BinaryOp::Mul, left, right, None)),
+        _ => no_case(alloc),
     }
 }
 

@@ -5,9 +5,11 @@ use cedar_expressions::ast::{
     RepresentableExtensionValue, RestrictedExpr, ToExpr, TryFromExpr, Unknown, Value, ValueKind,
     split,
 };
-use cedar_rows::stack::{place, told_place, top};
-use cedar_rows::trees::{literal, unknown};
-use cedar_rows::{Answer, count_of, mapped, no_case, number, paired, put, said, separate, taken};
+use cedar_rows::stack::{is_place, place, told_place, top};
+use cedar_rows::trees::{is_literal, literal, unknown};
+use cedar_rows::{
+    Answer, count_of, has, has_each, mapped, no_case, number, paired, push, said, separate, taken,
+};
 use either::Either;
 use std::alloc::{AllocError, Global};
 use std::fmt::Display;
@@ -29,7 +31,16 @@ fn literal_argument(literal: Result<Literal, ParseNameError>) -> Result<Argument
     Ok(Argument::Lit(literal?))
 }
 
-/// An argument of this kind, made of those on top.
+/// Whether the word writes a literal of this kind, or there are as many arguments as it says or has keys.
+fn is_argument(verb: &str, word: &str, arguments: &[Argument]) -> bool {
+    match verb {
+        "set" | "rank" => has(word, arguments),
+        "record" => has_each(word, arguments),
+        _ => is_literal(verb, word),
+    }
+}
+
+/// An argument of this kind, made of those on top, where `is_argument` says that there is one.
 fn argument_of(
     alloc: Global,
     verb: &str,
@@ -68,6 +79,9 @@ fn push_argument(
 
 /// Puts an argument on its stack, and says how it is written.
 pub fn argument(alloc: Global, verb: &str, word: &str, arguments: &mut Vec<Argument>) -> Answer {
+    if !is_argument(verb, word, arguments) {
+        return no_case(alloc);
+    }
     let argument = argument_of(alloc, verb, word, arguments);
     push_argument(alloc, argument, arguments)
 }
@@ -91,22 +105,28 @@ pub fn rank_of(
     arguments: &mut Vec<Argument>,
     values: &mut Vec<Value>,
 ) -> Answer {
+    if !has(count, arguments) {
+        return no_case(alloc);
+    }
     let args = taken(alloc, number(count), arguments)?;
-    put(alloc, values, rank_value(alloc, rank(alloc, args)))
+    push(alloc, values, rank_value(alloc, rank(alloc, args)))
 }
 
 pub fn value(alloc: Global, verb: &str, word: &str, values: &mut Vec<Value>) -> Answer {
     match verb {
-        "set" => {
+        "set" if has(word, values) => {
             let items = taken(alloc, number(word), values)?;
-            put(alloc, values, Value::set(alloc, items, None))
+            push(alloc, values, Value::set(alloc, items, None))
         }
-        "record" => {
+        "record" if has_each(word, values) => {
             let items = taken(alloc, count_of(word), values)?;
             let pairs = paired(alloc, word, items)?;
-            put(alloc, values, Value::record(alloc, pairs, None))
+            push(alloc, values, Value::record(alloc, pairs, None))
         }
-        _ => put(alloc, values, literal_value(literal(alloc, verb, word))),
+        _ if is_literal(verb, word) => {
+            push(alloc, values, literal_value(literal(alloc, verb, word)))
+        }
+        _ => no_case(alloc),
     }
 }
 
@@ -116,9 +136,10 @@ pub fn written(alloc: Global, verb: &str, values: &[Value], stack: &mut Vec<Expr
         return no_case(alloc);
     };
     match (verb, value.value_kind()) {
-        ("kind", kind) => put(alloc, stack, kind.to_expr(alloc)),
-        ("rank", ValueKind::ExtensionValue(rank)) => put(alloc, stack, rank.to_expr(alloc)),
-        _ => put(alloc, stack, value.to_expr(alloc)),
+        ("kind", kind) => push(alloc, stack, kind.to_expr(alloc)),
+        ("rank", ValueKind::ExtensionValue(rank)) => push(alloc, stack, rank.to_expr(alloc)),
+        ("value", _) => push(alloc, stack, value.to_expr(alloc)),
+        _ => no_case(alloc),
     }
 }
 
@@ -132,20 +153,21 @@ pub fn read(alloc: Global, verb: &str, stack: &[Expr], values: &mut Vec<Value>) 
         return no_case(alloc);
     };
     match verb {
-        "kind" => put(
+        "kind" => push(
             alloc,
             values,
             kind_read(ValueKind::try_from_expr(alloc, expr)),
         ),
-        _ => put(alloc, values, Value::try_from_expr(alloc, expr)),
+        "value" => push(alloc, values, Value::try_from_expr(alloc, expr)),
+        _ => no_case(alloc),
     }
 }
 
 /// Whether the two values on top are equal, and whether their kinds are.
 pub fn compared(alloc: Global, verb: &str, values: &[Value]) -> Answer {
-    match values {
-        [.., a, b] if verb == "kinds" => said(alloc, a.value_kind() == b.value_kind()),
-        [.., a, b] => said(alloc, a == b),
+    match (verb, values) {
+        ("kinds", [.., a, b]) => said(alloc, a.value_kind() == b.value_kind()),
+        ("values", [.., a, b]) => said(alloc, a == b),
         _ => no_case(alloc),
     }
 }
@@ -195,7 +217,8 @@ pub fn partial(
             None => no_case(alloc),
         },
         "expr" => hold(alloc, PartialValue::from(top(stack)), partials),
-        _ => hold_unknown(alloc, unknown(alloc, word, ""), partials),
+        "unknown" => hold_unknown(alloc, unknown(alloc, word, ""), partials),
+        _ => no_case(alloc),
     }
 }
 
@@ -212,13 +235,14 @@ pub fn converted(
         return no_case(alloc);
     };
     match verb {
-        "placed" => {
+        "placed" if is_place(word) => {
             let place = place(alloc, word)?;
             hold(alloc, partial.with_maybe_source_loc(place), partials)
         }
-        "to_expr" => put(alloc, stack, partial.to_expr(alloc)),
-        "from_in" => put(alloc, stack, Expr::from_in(alloc, partial)),
-        _ => put(alloc, values, Value::try_from(partial)),
+        "to_expr" => push(alloc, stack, partial.to_expr(alloc)),
+        "from_in" => push(alloc, stack, Expr::from_in(alloc, partial)),
+        "value" => push(alloc, values, Value::try_from(partial)),
+        _ => no_case(alloc),
     }
 }
 
@@ -241,6 +265,9 @@ fn told_split(alloc: Global, split: Result<Either<Vec<Value>, Vec<Expr>>, AllocE
 
 /// The split of so many partial values.
 pub fn parted(alloc: Global, count: &str, partials: &mut Vec<PartialValue>) -> Answer {
+    if !has(count, partials) {
+        return no_case(alloc);
+    }
     let items = taken(alloc, number(count), partials)?;
     told_split(alloc, split(alloc, items))
 }
@@ -274,12 +301,13 @@ pub fn compared_parts(alloc: Global, verb: &str, partials: &mut Vec<PartialValue
             alloc,
             are_equal(Value::try_from(first), Value::try_from(second)),
         ),
-        _ => said(
+        "restricted" => said(
             alloc,
             are_equal(
                 RestrictedExpr::from_in(alloc, first),
                 RestrictedExpr::from_in(alloc, second),
             ),
         ),
+        _ => no_case(alloc),
     }
 }

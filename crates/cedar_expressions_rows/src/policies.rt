@@ -61,7 +61,8 @@ fn ids(alloc: Global, verb: &str, held: &Policies) -> Answer {
         (Some(id), Some(second)) => match verb {
             "ids-equal" => said(alloc, id == second),
             "policy-str" => tell(alloc, id.as_str()),
-            _ => tell(alloc, id.cmp(second)),
+            "ids-order" => tell(alloc, id.cmp(second)),
+            _ => no_case(alloc),
         },
         _ => no_case(alloc),
     }

@@ -6,8 +6,12 @@ use cedar_expressions::ast::{
 };
 use cedar_expressions::{Extensions, FromIn};
 use cedar_rows::names::{Names, loc};
-use cedar_rows::values::{Stack, long, rank};
-use cedar_rows::{Answer, alike, count_of, maybe, no_case, number, paired, push, said, taken};
+use cedar_rows::trees::is_literal;
+use cedar_rows::values::{Stack, is_key, long, rank};
+use cedar_rows::{
+    Answer, alike, count_of, has, has_each, index, maybe, no_case, number, paired, push, said,
+    taken,
+};
 use std::alloc::{AllocError, Global};
 use std::convert::AsRef;
 use std::fmt::Display;
@@ -48,14 +52,17 @@ pub fn made(
     stack: &mut Restricted,
 ) -> Answer {
     match verb {
-        "bool" => put(alloc, stack, val(Ok(Literal::from(text == "true")))),
-        "long" => put(alloc, stack, val(Ok(long(text)))),
+        "bool" if is_literal(verb, text) => {
+            put(alloc, stack, val(Ok(Literal::from(text == "true"))))
+        }
+        "long" if is_literal(verb, text) => put(alloc, stack, val(Ok(long(text)))),
         "text" => put(alloc, stack, val(Literal::from_in(alloc, text))),
         "entity" => match uid.take() {
             Some(uid) => put(alloc, stack, val(Literal::from_in(alloc, uid))),
             None => no_case(alloc),
         },
-        _ => put(alloc, stack, unknown(alloc, text)),
+        "unknown" => put(alloc, stack, unknown(alloc, text)),
+        _ => no_case(alloc),
     }
 }
 
@@ -68,16 +75,16 @@ pub fn joined(
     stack: &mut Restricted,
 ) -> Answer {
     match verb {
-        "set" => {
+        "set" if has(word, stack) => {
             let items = taken(alloc, number(word), stack)?;
             put(alloc, stack, RestrictedExpr::set(alloc, items))
         }
-        "record" => {
+        "record" if has_each(word, stack) => {
             let items = taken(alloc, count_of(word), stack)?;
             let pairs = paired(alloc, word, items)?;
             put(alloc, stack, RestrictedExpr::record(alloc, pairs))
         }
-        _ => match names.name.take() {
+        "call" if has(word, stack) => match names.name.take() {
             Some(name) => {
                 let args = taken(alloc, number(word), stack)?;
                 let call = RestrictedExpr::call_extension_fn(alloc, name, args);
@@ -85,6 +92,7 @@ pub fn joined(
             }
             None => no_case(alloc),
         },
+        _ => no_case(alloc),
     }
 }
 
@@ -97,15 +105,14 @@ fn of_kind(
 
 /// What writes the value on top of the stack of values.
 pub fn of_values(alloc: Global, verb: &str, values: &mut Stack, stack: &mut Restricted) -> Answer {
-    if verb == "kind" {
-        return match values.last() {
-            Some(top) => put(alloc, stack, of_kind(alloc, top.value_kind().clone(alloc))),
-            None => no_case(alloc),
-        };
-    }
-    match values.pop() {
-        Some(value) => put(alloc, stack, RestrictedExpr::from_in(alloc, value)),
-        None => no_case(alloc),
+    match (verb, values.pop()) {
+        ("kind", Some(value)) => put(
+            alloc,
+            stack,
+            of_kind(alloc, value.value_kind().clone(alloc)),
+        ),
+        ("value", Some(value)) => put(alloc, stack, RestrictedExpr::from_in(alloc, value)),
+        _ => no_case(alloc),
     }
 }
 
@@ -117,6 +124,9 @@ fn of_rank(
 }
 
 pub fn ranked(alloc: Global, text: &str, key: &str, func: &str, stack: &mut Restricted) -> Answer {
+    if !is_key(key) {
+        return no_case(alloc);
+    }
     put(alloc, stack, of_rank(alloc, rank(alloc, key, func, text)))
 }
 
@@ -139,28 +149,34 @@ pub fn of_exprs(
     exprs: &mut Vec<Expr>,
     stack: &mut Restricted,
 ) -> Answer {
-    if verb == "into" {
-        return match stack.pop() {
+    match verb {
+        "into" => match stack.pop() {
             Some(made) => push(alloc, exprs, Ok::<_, AllocError>(Expr::from(made))),
             None => no_case(alloc),
-        };
-    }
-    match exprs.pop() {
-        Some(expr) => put(alloc, stack, RestrictedExpr::new(alloc, expr)),
-        None => no_case(alloc),
+        },
+        "new" => match exprs.pop() {
+            Some(expr) => put(alloc, stack, RestrictedExpr::new(alloc, expr)),
+            None => no_case(alloc),
+        },
+        _ => no_case(alloc),
     }
 }
 
-/// One of the parts that a construct has.
-fn part<'a>(verb: &str, whole: &'a RestrictedExpr, n: usize) -> Option<BorrowedRestrictedExpr<'a>> {
+/// The part of this number that a construct has, or all of it.
+fn part<'a>(
+    verb: &str,
+    whole: &'a RestrictedExpr,
+    word: &str,
+) -> Option<BorrowedRestrictedExpr<'a>> {
     match verb {
-        "item" => whole.as_set_elements()?.nth(n),
-        "argument" => whole.as_extn_fn_call()?.1.nth(n),
-        "entry" => match whole.as_record_pairs()?.nth(n) {
+        "item" => whole.as_set_elements()?.nth(index(word)?),
+        "argument" => whole.as_extn_fn_call()?.1.nth(index(word)?),
+        "entry" => match whole.as_record_pairs()?.nth(index(word)?) {
             Some((_key, part)) => Some(part),
             None => None,
         },
-        _ => Some(whole.as_borrowed()),
+        "owned" => Some(whole.as_borrowed()),
+        _ => None,
     }
 }
 
@@ -171,7 +187,7 @@ pub fn again(alloc: Global, verb: &str, text: &str, stack: &mut Restricted) -> A
     };
     let made = match verb {
         "copy" => top.clone(alloc),
-        _ => match part(verb, top, number(text)) {
+        _ => match part(verb, top, text) {
             Some(part) => part.to_owned(alloc),
             None => return no_case(alloc),
         },
@@ -180,17 +196,24 @@ pub fn again(alloc: Global, verb: &str, text: &str, stack: &mut Restricted) -> A
 }
 
 pub fn changed(alloc: Global, verb: &str, stack: &mut Restricted) -> Answer {
-    let loc = match verb {
-        "placed" => Some(loc(alloc, "0", "1")?),
-        _ => None,
-    };
-    match stack.pop() {
-        Some(top) if verb != "drop" => put(
-            alloc,
-            stack,
-            Ok::<_, AllocError>(top.with_maybe_source_loc(loc)),
-        ),
-        _ => said(alloc, stack.is_empty()),
+    match (verb, stack.pop()) {
+        ("placed", Some(top)) => {
+            let loc = Some(loc(alloc, "0", "1")?);
+            put(
+                alloc,
+                stack,
+                Ok::<_, AllocError>(top.with_maybe_source_loc(loc)),
+            )
+        }
+        ("unplaced", Some(top)) => {
+            put(
+                alloc,
+                stack,
+                Ok::<_, AllocError>(top.with_maybe_source_loc(None)),
+            )
+        }
+        ("drop", Some(_top)) => said(alloc, stack.is_empty()),
+        _ => no_case(alloc),
     }
 }
 
@@ -201,11 +224,12 @@ pub fn compared(alloc: Global, verb: &str, stack: &Restricted) -> Answer {
     match verb {
         "alike" => said(alloc, alike(low, high)),
         "placed" => said(alloc, high.source_loc().is_some()),
-        _ => {
+        "shapes" => {
             let low = RestrictedExprShapeOnly::new(low.as_borrowed());
             let high = RestrictedExprShapeOnly::new(high.as_borrowed());
             said(alloc, alike(&low, &high))
         }
+        _ => no_case(alloc),
     }
 }
 
@@ -222,7 +246,8 @@ pub fn read(alloc: Global, verb: &str, stack: &Restricted) -> Answer {
         "set" => items(alloc, top.as_set_elements()),
         "record" => pairs(alloc, top.as_record_pairs()),
         "shown" => top.to_string(alloc),
-        _ => call(alloc, top.as_extn_fn_call()),
+        "call" => call(alloc, top.as_extn_fn_call()),
+        _ => no_case(alloc),
     }
 }
 
@@ -242,7 +267,8 @@ pub fn read_lent(alloc: Global, verb: &str, stack: &Restricted, table: &Extensio
         "set" => items(alloc, top.as_set_elements()),
         "record" => pairs(alloc, top.as_record_pairs()),
         "shown" => top.to_string(alloc),
-        _ => call(alloc, top.as_extn_fn_call()),
+        "call" => call(alloc, top.as_extn_fn_call()),
+        _ => no_case(alloc),
     }
 }
 

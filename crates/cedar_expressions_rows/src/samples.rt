@@ -10,7 +10,7 @@ use cedar_expressions::ast::{
     CallStyle, Expr, Extension, ExtensionFunction, Literal, Name, ParseNameError, Value,
 };
 use cedar_expressions::entities::SchemaType;
-use cedar_rows::{Answer, maybe, no_case, refused_for, said, shapes, tell};
+use cedar_rows::{Answer, maybe, no_case, refused, said, shapes, tell};
 use std::alloc::{AllocError, Global};
 
 /// The table of an extension with all samples, once one was made.
@@ -68,14 +68,15 @@ fn unknown(alloc: Global) -> Result<ExtensionFunction<Sample>, ParseNameError>
     Ok(ExtensionFunction::partial_eval_unknown(alloc, name, style, arg)?)
 }
 
-/// The sample of this name; the one of any number of arguments of any other.
-fn made(alloc: Global, name: &str) -> Result<ExtensionFunction<Sample>, ParseNameError> {
+/// The sample of this name.
+fn made(alloc: Global, name: &str) -> Option<Result<ExtensionFunction<Sample>, ParseNameError>> {
     match name {
-        "five" => five(alloc),
-        "double" => double(alloc),
-        "greater" => greater(alloc),
-        "between" => between(alloc),
-        _ => count(alloc),
+        "five" => Some(five(alloc)),
+        "double" => Some(double(alloc)),
+        "greater" => Some(greater(alloc)),
+        "between" => Some(between(alloc)),
+        "count" => Some(count(alloc)),
+        _ => None,
     }
 }
 
@@ -91,21 +92,24 @@ fn told(alloc: Global, function: &ExtensionFunction<Sample>, values: &[Value]) -
     format!(in alloc; "{name} {takes} {style:?} {ty} ({args}): {answer}")
 }
 
-fn add_longs(words: &str, values: &mut Vec<Value>) -> Result<(), AllocError> {
-    for word in words.split(',') {
-        if let Ok(long) = word.parse::<i64>() {
-            values.push(Value::from(Literal::Long(long)))?;
-        }
+/// Puts the longs between commas behind the values, and answers whether all words are longs.
+fn add_longs(words: &str, values: &mut Vec<Value>) -> Result<bool, AllocError> {
+    for word in words.split_terminator(',') {
+        let Ok(long) = word.parse::<i64>() else {
+            return Ok(false);
+        };
+        values.push(Value::from(Literal::Long(long)))?;
     }
-    Ok(())
+    Ok(true)
 }
 
 /// What the sample of this name says of itself, and what it answers to the values and then the longs.
 pub(crate) fn called(alloc: Global, name: &str, longs: &str, values: &mut Vec<Value>) -> Answer {
-    add_longs(longs, values)?;
+    let are_longs = add_longs(longs, values)?;
     match made(alloc, name) {
-        Ok(function) => told(alloc, &function, values),
-        Err(error) => refused_for(alloc, error),
+        Some(Ok(function)) if are_longs => told(alloc, &function, values),
+        Some(Err(error)) => refused(alloc, error),
+        _ => no_case(alloc),
     }
 }
 
@@ -136,7 +140,7 @@ fn taken_of(alloc: Global, extensions: Vec<Extension<Sample>>, samples: &mut Sam
             *samples = Some(table);
             said(alloc, holds_unknown)
         }
-        Err(error) => refused_for(alloc, error),
+        Err(error) => refused(alloc, error),
     }
 }
 
@@ -144,7 +148,7 @@ fn taken_of(alloc: Global, extensions: Vec<Extension<Sample>>, samples: &mut Sam
 pub(crate) fn taken(alloc: Global, name: &str, samples: &mut Samples) -> Answer {
     match with_samples(alloc, name) {
         Ok(extensions) => taken_of(alloc, extensions, samples),
-        Err(error) => refused_for(alloc, error),
+        Err(error) => refused(alloc, error),
     }
 }
 

@@ -4,7 +4,8 @@ use crate::{
     bounded, errors, evaluation, extensions, operators, partial_values, samples, substitution,
     validation,
 };
-use cedar_rows::{Answer, builders, shapes, trees};
+use cedar_rows::stack::is_place;
+use cedar_rows::{Answer, builders, no_case, shapes, trees};
 use std::alloc::Global;
 
 pub(crate) fn answer(
@@ -78,11 +79,11 @@ fn judged(
 ) -> Answer {
     let errors = &mut held.errors;
     match section {
-        "missing" => errors::missing(alloc, verb, one, other, errors),
+        "missing" if is_place(other) => errors::missing(alloc, verb, one, other, errors),
         "mistyped" => errors::mistyped(alloc, verb, one, &held.values, errors),
-        "overflow" => errors::overflown(alloc, verb, one, other, errors),
-        "failed" => errors::called(alloc, verb, one, other, errors),
-        "left" => errors::left(alloc, verb, one, other, &mut held.stack, errors),
+        "overflow" if is_place(other) => errors::overflown(alloc, verb, one, other, errors),
+        "failed" if is_place(other) => errors::called(alloc, verb, one, other, errors),
+        "left" if is_place(other) => errors::left(alloc, verb, one, other, &mut held.stack, errors),
         "error" => errors::asked(alloc, verb, one, errors),
         "take" => extensions::taken(alloc, verb, one, other, &mut held.table),
         "table" => extensions::sought(alloc, verb, one, &held.table),
@@ -105,6 +106,7 @@ fn sampled(alloc: Global, section: &str, verb: &str, one: &str, held: &mut Expre
         "sample" => samples::called(alloc, verb, one, &mut held.values),
         "take-samples" => samples::taken(alloc, verb, &mut held.samples),
         "samples" => samples::asked(alloc, verb, one, &held.stack, &held.samples),
-        _ => validation::answer(alloc, &held.stack, &held.table),
+        "validate" => validation::answer(alloc, &held.stack, &held.table),
+        _ => no_case(alloc),
     }
 }

@@ -5,7 +5,7 @@ use cedar_expressions::ast::{
 };
 use cedar_rows::stack::top;
 use cedar_rows::trees::unknown;
-use cedar_rows::{Answer, hold, no_case, put, tell};
+use cedar_rows::{Answer, hold, no_case, push, tell};
 use std::alloc::Global;
 use std::collections::HashMap;
 use std::rc::RcStr;
@@ -40,18 +40,30 @@ pub fn tell_expr(
     tell(alloc, told.len())
 }
 
+/// The expression with what is told.
+fn with_told(
+    alloc: Global,
+    expr: &Expr,
+    told: &HashMap<RcStr, Expr>,
+) -> Result<Expr, ExpressionConstructionError> {
+    Ok(expr.substitute_exprs(alloc, told)?)
+}
+
 /// The expression as the own builder builds it again, with what is told where the verb says so.
 fn again(
     alloc: Global,
     verb: &str,
     expr: &Expr,
     told: &HashMap<RcStr, Expr>,
-) -> Result<Expr, ExpressionConstructionError> {
+) -> Option<Result<Expr, ExpressionConstructionError>> {
     match verb {
-        "into_expr" => expr.into_expr::<ExprBuilder>(alloc),
-        "try_into_expr" => expr.try_into_expr::<ExprBuilder>(alloc),
-        "substitute_exprs" => Ok(expr.substitute_exprs(alloc, told)?),
-        _ => expr.substitute_exprs_into_expr::<ExprBuilder>(alloc, told),
+        "into_expr" => Some(expr.into_expr::<ExprBuilder>(alloc)),
+        "try_into_expr" => Some(expr.try_into_expr::<ExprBuilder>(alloc)),
+        "substitute_exprs" => Some(with_told(alloc, expr, told)),
+        "substitute_exprs_into_expr" => {
+            Some(expr.substitute_exprs_into_expr::<ExprBuilder>(alloc, told))
+        }
+        _ => None,
     }
 }
 
@@ -63,7 +75,10 @@ pub fn rebuilt(
     told: &HashMap<RcStr, Expr>,
 ) -> Answer {
     let expr = top(stack);
-    put(alloc, stack, again(alloc, verb, &expr, told))
+    match again(alloc, verb, &expr, told) {
+        Some(built) => push(alloc, stack, built),
+        None => no_case(alloc),
+    }
 }
 
 /// The same of a chain that is too long to be shown.
@@ -74,7 +89,10 @@ pub fn rebuilt_chain(
     told: &HashMap<RcStr, Expr>,
 ) -> Answer {
     let expr = top(stack);
-    hold(alloc, stack, again(alloc, verb, &expr, told))
+    match again(alloc, verb, &expr, told) {
+        Some(built) => hold(alloc, stack, built),
+        None => no_case(alloc),
+    }
 }
 
 /// The expression on top with values in the places of its unknowns.
@@ -86,12 +104,13 @@ pub fn substituted(
 ) -> Answer {
     let expr = top(stack);
     match verb {
-        "substitute" => put(alloc, stack, expr.substitute(alloc, told)),
-        "substitute_typed" => put(alloc, stack, expr.substitute_typed(alloc, told)),
-        _ => {
+        "substitute" => push(alloc, stack, expr.substitute(alloc, told)),
+        "substitute_typed" => push(alloc, stack, expr.substitute_typed(alloc, told)),
+        "substitute_into_expr" => {
             let built = expr.substitute_into_expr::<ExprBuilder>(alloc, told);
-            put(alloc, stack, built)
+            push(alloc, stack, built)
         }
+        _ => no_case(alloc),
     }
 }
 
@@ -103,16 +122,17 @@ fn of_one(
     stack: &mut Vec<Expr>,
 ) -> Answer {
     match verb {
-        "typed" => put(
+        "typed" => push(
             alloc,
             stack,
             TypedSubstitution::substitute(alloc, unknown, told),
         ),
-        _ => put(
+        "untyped" => push(
             alloc,
             stack,
             UntypedSubstitution::substitute(alloc, unknown, told),
         ),
+        _ => no_case(alloc),
     }
 }
 

@@ -1,5 +1,6 @@
 //! Answers lines of steps, layer by layer: behind a line `layer NAME` stand lines of that layer. Each is printed
-//! again with its answer, but a blank one, which is printed alone.
+//! again with its answer. Printed alone are a line that names a layer, one that begins with `#` and says what the
+//! next ones show, and a blank one.
 #![tactic(auto)]
 
 use cedar_rows::{Answer, no_case};
@@ -64,15 +65,17 @@ fn main(rt: HostRuntime) -> io::Result<()> {
     let mut layer = String::new(rt.alloc());
     for line in rt.lines(rt.alloc()) {
         let line = line?;
-        match line.as_str().strip_prefix("layer ") {
-            Some(name) => layer = String::from_str(rt.alloc(), name)?,
-            None => {
-                let answer = answered(rt.alloc(), layer.as_str(), line.as_str(), &mut held)?;
-                if line.is_empty() {
-                    println!(rt; "")?;
-                } else {
-                    println!(rt; "{line} => {answer}")?;
-                }
+        if let Some(name) = line.as_str().strip_prefix("layer ") {
+            layer = String::from_str(rt.alloc(), name)?;
+            println!(rt; "{line}")?;
+        } else if line.as_str().starts_with("#") {
+            println!(rt; "{line}")?;
+        } else {
+            let answer = answered(rt.alloc(), layer.as_str(), line.as_str(), &mut held)?;
+            if line.is_empty() {
+                println!(rt; "")?;
+            } else {
+                println!(rt; "{line} => {answer}")?;
             }
         }
     }

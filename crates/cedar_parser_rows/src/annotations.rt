@@ -33,7 +33,8 @@ pub(crate) fn answer(alloc: Global, verb: &str, text: &str) -> Answer {
     };
     match (verb, policy.annotations.first()) {
         ("first", Some(node)) => first(alloc, node),
-        _ => all(alloc, &policy.annotations),
+        ("all", _) => all(alloc, &policy.annotations),
+        _ => no_case(alloc),
     }
 }
 

@@ -17,7 +17,7 @@ use cedar_policy_conversion::{
 };
 use cedar_policy_parts::PolicyID;
 use cedar_policy_set::sets::PolicySet;
-use cedar_rows::{Answer, tell};
+use cedar_rows::{Answer, no_case};
 use cedar_trees::errors::ExpressionConstructionError;
 use either::Either;
 use std::alloc::Global;
@@ -44,7 +44,7 @@ pub(crate) fn listed(
             *held = styles;
             String::from_str(alloc, "kept")
         }
-        Err(error) => tell(alloc, error),
+        Err(error) => error.to_string(alloc),
     }
 }
 
@@ -73,7 +73,8 @@ pub(crate) fn expression(alloc: Global, verb: &str, text: &str, styles: &ExtStyl
     };
     match verb {
         "made" => converted(alloc, to_expr::<ExprBuilder>(alloc, &tree, styles)),
-        _ => converted(alloc, to_expr::<NoCalls>(alloc, &tree, styles)),
+        "refused" => converted(alloc, to_expr::<NoCalls>(alloc, &tree, styles)),
+        _ => no_case(alloc),
     }
 }
 
@@ -86,7 +87,8 @@ pub(crate) fn policies(alloc: Global, verb: &str, text: &str, styles: &ExtStyles
     match verb {
         "missing" => numbered(alloc, &Node::new(None)),
         "numbered" => numbered(alloc, &tree),
-        _ => set_of(alloc, &tree, styles),
+        "set" => set_of(alloc, &tree, styles),
+        _ => no_case(alloc),
     }
 }
 
@@ -137,7 +139,8 @@ fn policy_of(
     match verb {
         "static" => converted(alloc, to_policy(alloc, tree, id, styles)),
         "template" => converted(alloc, to_policy_template(alloc, tree, id, styles)),
-        _ => sorted(alloc, to_policy_or_template(alloc, tree, id, styles)),
+        "either" => sorted(alloc, to_policy_or_template(alloc, tree, id, styles)),
+        _ => no_case(alloc),
     }
 }
 
@@ -153,7 +156,8 @@ pub(crate) fn word(alloc: Global, verb: &str, text: &str) -> Answer {
             let node = Node::new(Some(Str::Invalid(text)));
             converted(alloc, to_text::<ExpressionConstructionError>(alloc, &node))
         }
-        _ => read_word(alloc, verb, text),
+        "any" | "valid" => read_word(alloc, verb, text),
+        _ => no_case(alloc),
     }
 }
 
@@ -164,7 +168,8 @@ fn read_word(alloc: Global, verb: &str, text: &str) -> Answer {
                 alloc,
                 to_any_ident::<ExpressionConstructionError>(alloc, &node),
             ),
-            _ => valid(alloc, &node),
+            "valid" => valid(alloc, &node),
+            _ => no_case(alloc),
         },
         Err(errors) => errors.to_string(alloc),
     }

@@ -4,40 +4,45 @@ use cedar_names::places::{Loc, Span};
 use cedar_parser::err::{
     LiteralParseError, ParseError, ParseErrors, RestrictedExpressionParseError, ToCSTError,
 };
-use cedar_rows::{Answer, cut, said, tell, text_of};
+use cedar_rows::trees::variable;
+use cedar_rows::{Answer, cut, no_case, said, tell, text_of};
 use cedar_tokens::{Kinds, POLICY_TOKEN_CONFIG, expected_to_string};
 use cedar_trees::expr::Expr;
 use std::alloc::{AllocError, Global};
 use std::rc::RcStr;
 
-fn kind(name: &str) -> Kinds {
+fn kind(name: &str) -> Option<Kinds> {
     match name {
-        "SLASH" => Kinds::SLASH,
-        "SEMICOLON" => Kinds::SEMICOLON,
-        "MULT_OPERATORS" => Kinds::MULT_OPERATORS,
-        "THEN" => Kinds::THEN,
-        "WORDS" => Kinds::WORDS,
-        "BANG" => Kinds::BANG,
-        "SLOTS" => Kinds::SLOTS,
-        "NUMBER" => Kinds::NUMBER,
-        "STRINGLIT" => Kinds::STRINGLIT,
-        "COMMA" => Kinds::COMMA,
-        _ => Kinds::NONE,
+        "SLASH" => Some(Kinds::SLASH),
+        "SEMICOLON" => Some(Kinds::SEMICOLON),
+        "MULT_OPERATORS" => Some(Kinds::MULT_OPERATORS),
+        "THEN" => Some(Kinds::THEN),
+        "WORDS" => Some(Kinds::WORDS),
+        "BANG" => Some(Kinds::BANG),
+        "SLOTS" => Some(Kinds::SLOTS),
+        "NUMBER" => Some(Kinds::NUMBER),
+        "STRINGLIT" => Some(Kinds::STRINGLIT),
+        "COMMA" => Some(Kinds::COMMA),
+        "NONE" => Some(Kinds::NONE),
+        _ => None,
     }
 }
 
-/// The kinds of these names, with commas between them.
-fn kinds(names: &str) -> Kinds {
+/// The kinds of these names, with commas between them; none where one of them names no kind.
+fn kinds(names: &str) -> Option<Kinds> {
     let mut kinds = Kinds::NONE;
     for name in names.split(',') {
-        kinds = kinds.with(kind(name));
+        kinds = kinds.with(kind(name)?);
     }
-    kinds
+    Some(kinds)
 }
 
 /// What is said where these kinds are expected.
 pub(crate) fn expected(alloc: Global, names: &str) -> Answer {
-    let names = kinds(names).names(alloc)?;
+    let Some(kinds) = kinds(names) else {
+        return no_case(alloc);
+    };
+    let names = kinds.names(alloc)?;
     tell(
         alloc,
         expected_to_string(alloc, &names, &POLICY_TOKEN_CONFIG)?,
@@ -56,18 +61,18 @@ fn invalid(alloc: Global) -> Result<ParseErrors, AllocError> {
 }
 
 pub(crate) fn placed(alloc: Global, verb: &str, names: &str) -> Answer {
-    let kinds = kinds(names);
-    match verb {
-        "token" => told(alloc, ToCSTError::unrecognized_token(place(alloc)?, kinds)),
-        "end" => told(alloc, ToCSTError::unrecognized_eof(place(alloc)?, kinds)),
-        "invalid" => text_of(alloc, invalid(alloc)),
-        "alike" => alike(alloc, names),
-        "no-expression" => literal(alloc, LiteralParseError::from(invalid(alloc)?)),
-        "no-body" => body(alloc),
-        _ => literal(
+    match (verb, kinds(names)) {
+        ("token", Some(kinds)) => told(alloc, ToCSTError::unrecognized_token(place(alloc)?, kinds)),
+        ("end", Some(kinds)) => told(alloc, ToCSTError::unrecognized_eof(place(alloc)?, kinds)),
+        ("invalid", _) => text_of(alloc, invalid(alloc)),
+        ("alike", _) => alike(alloc, names),
+        ("no-expression", _) => literal(alloc, LiteralParseError::from(invalid(alloc)?)),
+        ("no-body", _) => body(alloc),
+        ("no-literal", _) => literal(
             alloc,
             LiteralParseError::InvalidLiteral(Expr::var(Var::Principal)),
         ),
+        _ => no_case(alloc),
     }
 }
 
@@ -84,14 +89,17 @@ fn literal(alloc: Global, error: LiteralParseError) -> Answer {
 /// Whether two texts are no literals for the same: a text outside the grammar, or a variable.
 fn alike(alloc: Global, words: &str) -> Answer {
     let (one, other) = cut(words);
-    said(alloc, no_literal(alloc, one)? == no_literal(alloc, other)?)
+    match (no_literal(alloc, one)?, no_literal(alloc, other)?) {
+        (Some(one), Some(other)) => said(alloc, one == other),
+        _ => no_case(alloc),
+    }
 }
 
-fn no_literal(alloc: Global, word: &str) -> Result<LiteralParseError, AllocError> {
-    match word {
-        "invalid" => Ok(LiteralParseError::from(invalid(alloc)?)),
-        "principal" => Ok(LiteralParseError::InvalidLiteral(Expr::var(Var::Principal))),
-        _ => Ok(LiteralParseError::InvalidLiteral(Expr::var(Var::Resource))),
+fn no_literal(alloc: Global, word: &str) -> Result<Option<LiteralParseError>, AllocError> {
+    match (word, variable(word)) {
+        ("invalid", _) => Ok(Some(LiteralParseError::from(invalid(alloc)?))),
+        (_, Some(var)) => Ok(Some(LiteralParseError::InvalidLiteral(Expr::var(var)))),
+        _ => Ok(None),
     }
 }
 

@@ -15,7 +15,7 @@ mod tokens;
 use crate::loose::Told;
 use crate::nodes::Nodes;
 use cedar_faults::ExtStyles;
-use cedar_rows::{Answer, cut, number, plain, tell};
+use cedar_rows::{Answer, cut, index, no_case, plain, tell};
 use std::alloc::{AllocError, Global};
 use std::mem;
 
@@ -43,8 +43,8 @@ fn answered(alloc: Global, section: &str, verb: &str, text: &str, held: &mut Hel
     match section {
         "tokens" => tokens::answer(alloc, verb, text),
         "loose" => loose::read(alloc, verb, text, &mut held.told),
-        "read" => loose::expected(alloc, &held.told),
-        "kinds" => errors::expected(alloc, text),
+        "read" if verb == "expected" => loose::expected(alloc, &held.told),
+        "kinds" if verb == "told" => errors::expected(alloc, text),
         "errors" => errors::placed(alloc, verb, text),
         "names" => conversion::listed(alloc, verb, text, &mut held.styles),
         "expression" => conversion::expression(alloc, verb, text, &held.styles),
@@ -68,7 +68,8 @@ fn of_nodes(alloc: Global, section: &str, verb: &str, text: &str, held: &mut Nod
         "taken-maybe" => nodes::of_maybe_taken(alloc, verb, held),
         "slot" => nodes::matched(alloc, verb, text),
         "slot-of" => nodes::written(alloc, verb),
-        _ => nodes::named(alloc, verb, text),
+        "name" => nodes::named(alloc, verb, text),
+        _ => no_case(alloc),
     }
 }
 
@@ -96,7 +97,10 @@ pub fn answer(alloc: Global, line: &str, held: &mut Held) -> Answer {
     let (verb, text) = cut(rest);
     let text = plain(alloc, text)?;
     if section == "repeat" {
-        repeat(&mut held.text, number(verb), text.as_str())?;
+        let Some(count) = index(verb) else {
+            return no_case(alloc);
+        };
+        repeat(&mut held.text, count, text.as_str())?;
         return tell(alloc, held.text.len());
     }
     held.text.push_str(text.as_str())?;

@@ -4,7 +4,7 @@ use cedar_parser::err::{ParseError, ParseErrors, ToCSTError};
 use cedar_parser::text_to_cst::{
     parse_expr, parse_ident, parse_name, parse_policies, parse_policy, parse_primary, parse_ref,
 };
-use cedar_rows::{Answer, no_case, number, tell};
+use cedar_rows::{Answer, no_case, tell};
 use cedar_tokens::POLICY_TOKEN_CONFIG;
 use std::alloc::Global;
 use std::fmt::Display;
@@ -12,24 +12,26 @@ use std::fmt::Display;
 /// The errors that were told last.
 pub(crate) type Told = Option<ParseErrors>;
 
-/// The verb, and how deep the text may be nested, which stands behind it.
-fn with_depth(verb: &str) -> (&str, u32) {
-    let (verb, depth) = verb.split_once('/').unwrap_or((verb, ""));
-    (verb, u32::try_from(number(depth)).unwrap_or(0))
+/// The verb, and how deep the text may be nested, if that stands behind it.
+fn with_depth(verb: &str) -> (&str, Option<u32>) {
+    match verb.split_once('/') {
+        Some((verb, depth)) => (verb, depth.parse::<u32>().ok()),
+        None => (verb, None),
+    }
 }
 
 pub(crate) fn read(alloc: Global, verb: &str, text: &str, errors: &mut Told) -> Answer {
-    let (verb, depth) = with_depth(verb);
-    match verb {
-        "expression" => shown(alloc, parse_expr(alloc, text, depth), errors),
-        "policies" => shown(alloc, parse_policies(alloc, text, depth), errors),
-        "policy" => shown(alloc, parse_policy(alloc, text, depth), errors),
-        "primary" => shown(alloc, parse_primary(alloc, text, depth), errors),
-        "entity" => shown(alloc, parse_ref(alloc, text), errors),
-        "name" => shown(alloc, parse_name(alloc, text), errors),
-        "reads-expression" => readable(alloc, parse_expr(alloc, text, depth)),
-        "reads-policies" => readable(alloc, parse_policies(alloc, text, depth)),
-        _ => shown(alloc, parse_ident(alloc, text), errors),
+    match with_depth(verb) {
+        ("expression", Some(depth)) => shown(alloc, parse_expr(alloc, text, depth), errors),
+        ("policies", Some(depth)) => shown(alloc, parse_policies(alloc, text, depth), errors),
+        ("policy", Some(depth)) => shown(alloc, parse_policy(alloc, text, depth), errors),
+        ("primary", Some(depth)) => shown(alloc, parse_primary(alloc, text, depth), errors),
+        ("entity", None) => shown(alloc, parse_ref(alloc, text), errors),
+        ("name", None) => shown(alloc, parse_name(alloc, text), errors),
+        ("word", None) => shown(alloc, parse_ident(alloc, text), errors),
+        ("reads-expression", Some(depth)) => readable(alloc, parse_expr(alloc, text, depth)),
+        ("reads-policies", Some(depth)) => readable(alloc, parse_policies(alloc, text, depth)),
+        _ => no_case(alloc),
     }
 }
 

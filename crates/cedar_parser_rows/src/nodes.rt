@@ -2,11 +2,10 @@
 use cedar_cst::cst::{Ident, Name, Slot};
 use cedar_cst::errors::{EmptyNodeError, PlacedError};
 use cedar_cst::node::Node;
-use cedar_literals::slots::SlotId;
-use cedar_literals::variables::Var;
 use cedar_names::places::{Loc, Span};
-use cedar_rows::{Answer, alike, no_case, number, said, tell, text_of};
+use cedar_rows::{Answer, alike, index, no_case, number, said, tell, text_of, trees};
 use std::alloc::{AllocError, Global};
+use std::fmt::Debug;
 use std::rc::RcStr;
 
 /// What was made last of each kind.
@@ -62,26 +61,25 @@ fn start<T>(node: &Node<T>) -> Option<usize> {
     node.loc().map(|loc| loc.start())
 }
 
-/// A number, and behind a sign where it starts.
+/// A number, or `none`, and behind a sign where it starts.
 pub(crate) fn made(alloc: Global, verb: &str, text: &str, held: &mut Nodes) -> Answer {
     let (text, start) = text.split_once('@').unwrap_or((text, ""));
-    let value = value(text);
-    let number = value.unwrap_or(0);
-    match verb {
-        "bare" => told(alloc, &mut held.other, Node::new(number)),
-        "other" => {
+    match (verb, value(text), index(start)) {
+        ("bare", Some(number), None) => told(alloc, &mut held.other, Node::new(number)),
+        ("other", Some(number), Some(_start)) => {
             let loc = place(alloc, start)?;
             told(alloc, &mut held.other, Node::with_source_loc(number, loc))
         }
-        "number" => {
+        ("number", Some(number), Some(_start)) => {
             let loc = place(alloc, start)?;
             told(alloc, &mut held.number, Node::with_source_loc(number, loc))
         }
-        _ => {
+        ("maybe", value, Some(_start)) if value.is_some() || text == "none" => {
             let loc = maybe_place(alloc, start)?;
             held.maybe = Some(Node::with_maybe_source_loc(value, loc));
             tell(alloc, value)
         }
+        _ => no_case(alloc),
     }
 }
 
@@ -98,7 +96,8 @@ pub(crate) fn compared(alloc: Global, verb: &str, held: &Nodes) -> Answer {
     };
     match verb {
         "alike" => said(alloc, alike(number, other)),
-        _ => said(alloc, number < other),
+        "below" => said(alloc, number < other),
+        _ => no_case(alloc),
     }
 }
 
@@ -112,17 +111,18 @@ pub(crate) fn of_number(alloc: Global, verb: &str, text: &str, held: &mut Nodes)
         return no_case(alloc);
     };
     let other = &mut held.other;
-    match verb {
-        "written" => {
-            *node.as_mut(alloc)?.node = value(text).unwrap_or(0);
+    match (verb, value(text)) {
+        ("written", Some(value)) => {
+            *node.as_mut(alloc)?.node = value;
             tell(alloc, (node.node, start(node)))
         }
-        "copied" => told(alloc, other, node.as_ref(alloc)?.copied()),
-        "cloned" => told(alloc, other, node.as_ref(alloc)?.cloned(alloc)?),
-        _ => {
+        ("copied", _) => told(alloc, other, node.as_ref(alloc)?.copied()),
+        ("cloned", _) => told(alloc, other, node.as_ref(alloc)?.cloned(alloc)?),
+        ("faulty", _) => {
             held.fault = Some(node.to_ast_err(alloc, "odd")?);
             tell(alloc, (node.node, start(node)))
         }
+        _ => no_case(alloc),
     }
 }
 
@@ -149,10 +149,11 @@ pub(crate) fn of_fault(alloc: Global, verb: &str, start: &str, held: &Nodes) -> 
     match verb {
         "shown" => fault.to_string(alloc),
         "kind" => tell(alloc, *fault.kind()),
-        _ => {
+        "at" if start.is_empty() || index(start).is_some() => {
             let other = PlacedError::new(alloc, "odd", maybe_place(alloc, start)?)?;
             said(alloc, *fault == other)
         }
+        _ => no_case(alloc),
     }
 }
 
@@ -172,8 +173,11 @@ pub(crate) fn of_maybe(alloc: Global, verb: &str, text: &str, held: &Nodes) -> A
     match verb {
         "lent" => lent(alloc, node.collapse(alloc)?),
         "is-placed" => tell(alloc, node.apply(is_placed)),
-        "inner" => tell(alloc, node.try_as_inner(alloc)),
-        _ => refused_at(alloc, text, node.try_as_inner(alloc)),
+        "inner" => inner(alloc, node.try_as_inner(alloc)),
+        "refused-at" if index(text).is_some() => {
+            refused_at(alloc, text, node.try_as_inner(alloc))
+        }
+        _ => no_case(alloc),
     }
 }
 
@@ -181,8 +185,21 @@ pub(crate) fn of_maybe(alloc: Global, verb: &str, text: &str, held: &Nodes) -> A
 pub(crate) fn of_maybe_taken(alloc: Global, verb: &str, held: &mut Nodes) -> Answer {
     match (verb, held.maybe.take()) {
         ("applied", Some(node)) => tell(alloc, node.into_apply(without_place)),
-        ("inner", Some(node)) => tell(alloc, node.try_into_inner()),
+        ("inner", Some(node)) => inner(alloc, node.try_into_inner()),
         _ => no_case(alloc),
+    }
+}
+
+/// The value, or why there is none, and where.
+fn inner<T: Debug + Drop>(alloc: Global, found: Result<T, EmptyNodeError>) -> Answer {
+    match &found {
+        Ok(value) => format!(in alloc; "{value:?}"),
+        Err(error) => match error {
+            EmptyNodeError::Empty(Some(loc)) => {
+                format!(in alloc; "{error} at {}..{}", loc.start(), loc.end())
+            }
+            _ => error.to_string(alloc),
+        },
     }
 }
 
@@ -211,27 +228,20 @@ fn slot(alloc: Global, text: &str) -> Result<Slot, AllocError> {
     })
 }
 
-fn var(text: &str) -> Var {
-    match text {
-        "principal" => Var::Principal,
-        "action" => Var::Action,
-        "resource" => Var::Resource,
-        _ => Var::Context,
+pub(crate) fn matched(alloc: Global, slot: &str, var: &str) -> Answer {
+    let slot = self::slot(alloc, slot)?;
+    match trees::variable(var) {
+        Some(var) => said(alloc, slot.matches(var)),
+        None => no_case(alloc),
     }
 }
 
-pub(crate) fn matched(alloc: Global, slot: &str, var: &str) -> Answer {
-    let slot = self::slot(alloc, slot)?;
-    said(alloc, slot.matches(self::var(var)))
-}
-
-/// A template's slot as it is written: that of the principal, or of another word the resource's.
+/// A template's slot as it is written.
 pub(crate) fn written(alloc: Global, word: &str) -> Answer {
-    let id = match word {
-        "principal" => SlotId::principal(),
-        _ => SlotId::resource(),
-    };
-    tell(alloc, Slot::from(id))
+    match trees::slot(word) {
+        Some(id) => tell(alloc, Slot::from(id)),
+        None => no_case(alloc),
+    }
 }
 
 /// The word's node, which is empty where the word is.
@@ -253,7 +263,8 @@ fn name(alloc: Global, text: &str) -> Result<Name, AllocError> {
 pub(crate) fn named(alloc: Global, verb: &str, text: &str) -> Answer {
     match verb {
         "shown" => text_of(alloc, name(alloc, text)),
-        _ => copied(alloc, &name(alloc, text)?),
+        "copied" => copied(alloc, &name(alloc, text)?),
+        _ => no_case(alloc),
     }
 }
 

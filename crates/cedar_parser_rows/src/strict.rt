@@ -13,7 +13,7 @@ use cedar_parser::strict::{
 };
 use cedar_policy_set::sets::PolicySet;
 use cedar_restricted::restricted::RestrictedExpr;
-use cedar_rows::Answer;
+use cedar_rows::{Answer, no_case};
 use std::alloc::{AllocError, Global};
 use std::fmt::Display;
 
@@ -40,10 +40,11 @@ pub(crate) fn read(alloc: Global, verb: &str, text: &str) -> Answer {
             alloc,
             parse_policyset_strict(alloc, text, &policies(alloc, &extensions)?, DEPTH),
         ),
-        _ => told(
+        "expression" => told(
             alloc,
             parse_expr_strict(alloc, text, &policies(alloc, &extensions)?, DEPTH),
         ),
+        _ => no_case(alloc),
     }
 }
 

@@ -1,5 +1,5 @@
 // Tokens of texts, and what raw strings stand for.
-use cedar_rows::{Answer, spell, tell};
+use cedar_rows::{Answer, no_case, spell, tell};
 use cedar_tokens::{
     Token, TokenError, Tokens, loose_nesting, to_unescaped_string, tokenize, unescape_parts,
 };
@@ -12,7 +12,8 @@ pub(crate) fn answer(alloc: Global, verb: &str, text: &str) -> Answer {
         "count" => counted(alloc, text, tokenize(alloc, text)),
         "levels" => tell(alloc, loose_nesting(text)),
         "unescaped" => spell(alloc, to_unescaped_string(alloc, text)),
-        _ => spell(alloc, unescape_parts(alloc, text)),
+        "parts" => spell(alloc, unescape_parts(alloc, text)),
+        _ => no_case(alloc),
     }
 }
 

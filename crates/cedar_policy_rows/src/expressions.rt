@@ -1,5 +1,5 @@
 // Expressions on a stack, which attributes, tags and clauses are made of.
-use crate::words::{Answer, Case, number, push};
+use crate::words::{Answer, Case, no_case, number, push};
 use cedar_literals::literals::Literal;
 use cedar_literals::slots::SlotId;
 use cedar_literals::types::Type;
@@ -12,11 +12,12 @@ use std::rc::RcStr;
 
 pub type Stack = Vec<Expr>;
 
-pub fn slot(name: &str) -> SlotId {
-    if name == "principal" {
-        SlotId::principal()
-    } else {
-        SlotId::resource()
+/// The slot of the variable of this name.
+pub fn slot(name: &str) -> Option<SlotId> {
+    match name {
+        "principal" => Some(SlotId::principal()),
+        "resource" => Some(SlotId::resource()),
+        _ => None,
     }
 }
 
@@ -25,13 +26,6 @@ fn call(alloc: Global, name: &str, stack: &mut Stack) -> Result<Expr, ParseNameE
     let name = Name::parse_unqualified_name(alloc, name)?;
     let args = std::mem::replace(stack, Vec::new(alloc));
     Ok(Expr::call_extension_fn(alloc, name, args)?)
-}
-
-fn both(alloc: Global, stack: &mut Stack) -> Result<Expr, AllocError> {
-    match (stack.pop(), stack.pop()) {
-        (Some(right), Some(left)) => Expr::and(alloc, left, right),
-        _ => Ok(Expr::val(Literal::from(false))),
-    }
 }
 
 /// The unknown whose type is `User`.
@@ -48,8 +42,13 @@ fn made(expr: Expr) -> Result<Expr, AllocError> {
 pub fn answer(alloc: Global, case: &Case<'_>, stack: &mut Stack) -> Answer {
     let word = case.one;
     match case.verb {
-        "number" => push(alloc, stack, made(Expr::val(Literal::Long(number(word))))),
-        "truth" => push(alloc, stack, made(Expr::val(Literal::from(word == "true")))),
+        "number" => match number(word) {
+            Some(number) => push(alloc, stack, made(Expr::val(Literal::Long(number)))),
+            None => no_case(alloc),
+        },
+        "truth" if word == "true" || word == "false" => {
+            push(alloc, stack, made(Expr::val(Literal::from(word == "true"))))
+        }
         "text" => {
             let text = Literal::String(RcStr::from_str(alloc, word)?);
             push(alloc, stack, made(Expr::val(text)))
@@ -58,18 +57,22 @@ pub fn answer(alloc: Global, case: &Case<'_>, stack: &mut Stack) -> Answer {
             let unknown = Unknown::new_untyped(RcStr::from_str(alloc, word)?);
             push(alloc, stack, made(Expr::unknown(unknown)))
         }
-        "slot" => push(alloc, stack, made(Expr::slot(slot(word)))),
+        "slot" => match slot(word) {
+            Some(slot) => push(alloc, stack, made(Expr::slot(slot))),
+            None => no_case(alloc),
+        },
         "user" => {
             let user = user(alloc, word);
             push(alloc, stack, user)
         }
-        "both" => {
-            let both = both(alloc, stack);
-            push(alloc, stack, both)
-        }
-        _ => {
+        "both" => match (stack.pop(), stack.pop()) {
+            (Some(right), Some(left)) => push(alloc, stack, Expr::and(alloc, left, right)),
+            _ => no_case(alloc),
+        },
+        "call" => {
             let call = call(alloc, word, stack);
             push(alloc, stack, call)
         }
+        _ => no_case(alloc),
     }
 }

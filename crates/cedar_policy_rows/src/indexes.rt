@@ -1,5 +1,5 @@
 // The index of scopes of the set at hand, and the policies at its positions.
-use crate::words::{Answer, Case, done, text, told, uid};
+use crate::words::{Answer, Case, done, no_case, text, told, uid};
 use cedar_literals::uids::EntityUID;
 use cedar_names::errors::ParseNameError;
 use cedar_scope_index::index::ScopeIndex;
@@ -42,10 +42,6 @@ fn policy_id(alloc: Global, policy: Option<&Policy>) -> Answer {
     }
 }
 
-fn position(word: &str) -> usize {
-    word.parse::<usize>().unwrap_or(0)
-}
-
 pub(crate) fn answer(alloc: Global, case: &Case<'_>, set: &mut PolicySet) -> Answer {
     match case.verb {
         "make" => done(alloc, set.index_scopes(alloc)),
@@ -53,6 +49,10 @@ pub(crate) fn answer(alloc: Global, case: &Case<'_>, set: &mut PolicySet) -> Ans
         "others" => listed(alloc, set.scopes().others()),
         "parts" => by_parts(alloc, set.scopes()),
         "under" => under(alloc, set.scopes(), uid(alloc, case.one)),
-        _ => policy_id(alloc, set.policy_at(position(case.one))),
+        "at" => match case.one.parse::<usize>() {
+            Ok(position) => policy_id(alloc, set.policy_at(position)),
+            Err(_) => no_case(alloc),
+        },
+        _ => no_case(alloc),
     }
 }

@@ -1,6 +1,6 @@
 // Annotations, the constraints of a scope, and what slots are bound to.
 use crate::expressions::slot;
-use crate::words::{Answer, Case, put, show, text, told, uid};
+use crate::words::{Answer, Case, no_case, put, show, text, told, uid};
 use cedar_literals::slots::{Slot, SlotId};
 use cedar_names::errors::ParseNameError;
 use cedar_names::identifiers::AnyId;
@@ -75,7 +75,8 @@ pub fn annotate(alloc: Global, case: &Case<'_>, at: &mut Annotations) -> Answer 
         "one" => put(alloc, at, annotated(alloc, case.one, case.two)?),
         "all" => put(alloc, at, all_annotated(alloc, case.one)?),
         "take" => entries(alloc, mem::replace(at, Annotations::new(alloc))),
-        _ => show(alloc, Annotation::with_optional_value(alloc, None, None)),
+        "without" => show(alloc, Annotation::with_optional_value(alloc, None, None)),
+        _ => no_case(alloc),
     }
 }
 
@@ -88,26 +89,31 @@ fn entity_type(alloc: Global, word: &str) -> Result<Rc<EntityType>, ParseNameErr
     Ok(Rc::new(alloc, entity_type)?)
 }
 
-fn constrained(alloc: Global, case: &Case<'_>) -> Result<PrincipalConstraint, ParseNameError> {
+/// The constraint that the verb names, if it names one.
+fn constrained(
+    alloc: Global,
+    case: &Case<'_>,
+) -> Result<Option<PrincipalConstraint>, ParseNameError> {
     match case.verb {
-        "any" => Ok(PrincipalConstraint::any()),
-        "eq" => Ok(PrincipalConstraint::is_eq(shared(alloc, case.one)?)),
-        "eq-slot" => Ok(PrincipalConstraint::is_eq_slot()),
-        "in" => Ok(PrincipalConstraint::is_in(shared(alloc, case.one)?)),
-        "in-slot" => Ok(PrincipalConstraint::is_in_slot()),
+        "any" => Ok(Some(PrincipalConstraint::any())),
+        "eq" => Ok(Some(PrincipalConstraint::is_eq(shared(alloc, case.one)?))),
+        "eq-slot" => Ok(Some(PrincipalConstraint::is_eq_slot())),
+        "in" => Ok(Some(PrincipalConstraint::is_in(shared(alloc, case.one)?))),
+        "in-slot" => Ok(Some(PrincipalConstraint::is_in_slot())),
         "is" => {
             let entity_type = entity_type(alloc, case.one)?;
-            Ok(PrincipalConstraint::is_entity_type(entity_type))
+            Ok(Some(PrincipalConstraint::is_entity_type(entity_type)))
         }
         "is-in" => {
             let entity_type = entity_type(alloc, case.one)?;
             let uid = shared(alloc, case.two)?;
-            Ok(PrincipalConstraint::is_entity_type_in(entity_type, uid))
+            Ok(Some(PrincipalConstraint::is_entity_type_in(entity_type, uid)))
         }
-        _ => {
+        "is-in-slot" => {
             let entity_type = entity_type(alloc, case.one)?;
-            Ok(PrincipalConstraint::is_entity_type_in_slot(entity_type))
+            Ok(Some(PrincipalConstraint::is_entity_type_in_slot(entity_type)))
         }
+        _ => Ok(None),
     }
 }
 
@@ -136,7 +142,10 @@ pub fn principal(alloc: Global, case: &Case<'_>, at: &mut PrincipalConstraint) -
                 constraint.display(alloc, PrincipalOrResource::Resource),
             )
         }
-        _ => put(alloc, at, constrained(alloc, case)?),
+        _ => match constrained(alloc, case)? {
+            Some(constraint) => put(alloc, at, constraint),
+            None => no_case(alloc),
+        },
     }
 }
 
@@ -155,10 +164,11 @@ pub fn resource(alloc: Global, case: &Case<'_>, at: &mut ResourceConstraint) -> 
         "any" => put(alloc, at, ResourceConstraint::any()),
         "eq-slot" => put(alloc, at, ResourceConstraint::is_eq_slot()),
         "in-slot" => put(alloc, at, ResourceConstraint::is_in_slot()),
-        _ => {
+        "eq" => {
             let uid = shared(alloc, case.one)?;
             put(alloc, at, ResourceConstraint::is_eq(uid))
         }
+        _ => no_case(alloc),
     }
 }
 
@@ -184,16 +194,19 @@ pub fn action(alloc: Global, case: &Case<'_>, at: &mut ActionConstraint) -> Answ
             at,
             ActionConstraint::is_in(all_shared(alloc, case.one)?),
         ),
-        _ => {
+        "eq" => {
             let uid = shared(alloc, case.one)?;
             put(alloc, at, ActionConstraint::is_eq(uid))
         }
+        _ => no_case(alloc),
     }
 }
 
 pub fn bind(alloc: Global, case: &Case<'_>, at: &mut SlotEnv) -> Answer {
-    let before = at.insert(slot(case.verb), uid(alloc, case.one)?);
-    match before {
+    let Some(slot) = slot(case.verb) else {
+        return no_case(alloc);
+    };
+    match at.insert(slot, uid(alloc, case.one)?) {
         Some(uid) => told(alloc, &uid),
         None => show(alloc, at.clone(alloc)),
     }

@@ -58,10 +58,11 @@ pub fn add(alloc: Global, verb: &str, policies: &mut Policies, held: &mut Sets) 
             mem::swap(set, &mut held.theirs);
             text(alloc, "ok")
         }
-        _ => {
+        "fresh" => {
             *set = PolicySet::new(alloc);
             text(alloc, "ok")
         }
+        _ => no_case(alloc),
     }
 }
 
@@ -130,7 +131,8 @@ pub fn edit(alloc: Global, case: &Case<'_>, bindings: &mut SlotEnv, held: &mut S
         "unlink" => policy_id(alloc, set.unlink(&id)),
         "remove-static" => policy_id(alloc, set.remove_static(&id)),
         "remove-template" => template_id(alloc, set.remove_template(&id)),
-        _ => links(alloc, set.get_linked_policies(&id)),
+        "linked" => links(alloc, set.get_linked_policies(&id)),
+        _ => no_case(alloc),
     }
 }
 
@@ -168,7 +170,8 @@ pub fn ask(alloc: Global, verb: &str, extensions: &Extensions<'_>, held: &mut Se
         "all-templates" => listed(alloc, set.all_templates().map(Template::id).collect(alloc)),
         "templates" => listed(alloc, set.templates().map(Template::id).collect(alloc)),
         "validate" => done(alloc, set.try_validate(alloc, extensions)),
-        _ => given_up(alloc, mem::replace(set, PolicySet::new(alloc))),
+        "give-up" => given_up(alloc, mem::replace(set, PolicySet::new(alloc))),
+        _ => no_case(alloc),
     }
 }
 
@@ -206,6 +209,7 @@ pub fn merge(alloc: Global, verb: &str, held: &mut Sets) -> Answer {
         "renaming" => renamed(alloc, renaming_of(alloc, set, theirs)),
         "merge" => renamed(alloc, set.merge_policyset(alloc, theirs, true)),
         "merge-as-named" => renamed(alloc, set.merge_policyset(alloc, theirs, false)),
-        _ => done(alloc, joined(alloc, held)),
+        "join" => done(alloc, joined(alloc, held)),
+        _ => no_case(alloc),
     }
 }

@@ -48,11 +48,11 @@ pub fn none() -> Policies {
     }
 }
 
-fn effect(word: &str) -> Effect {
-    if word == "permit" {
-        Effect::Permit
-    } else {
-        Effect::Forbid
+fn effect(word: &str) -> Option<Effect> {
+    match word {
+        "permit" => Some(Effect::Permit),
+        "forbid" => Some(Effect::Forbid),
+        _ => None,
     }
 }
 
@@ -105,18 +105,18 @@ pub fn make(
     held: &mut Policies,
 ) -> Answer {
     let id = PolicyID::from_string(alloc, case.one)?;
-    let effect = effect(case.two);
     let scope = mem::replace(scope, scopes::any(alloc));
     let clause = stack.pop();
-    match case.verb {
-        "template" => {
+    match (case.verb, effect(case.two)) {
+        ("template", Some(effect)) => {
             let template = template(alloc, id, effect, scope, clause);
             keep(alloc, &mut held.template, template)
         }
-        _ => {
+        ("static", Some(effect)) => {
             let own = static_policy(alloc, id, effect, scope, clause);
             keep(alloc, &mut held.own, own)
         }
+        _ => no_case(alloc),
     }
 }
 
@@ -128,14 +128,13 @@ pub fn clause(
     at: &mut Option<Policy>,
 ) -> Answer {
     let id = PolicyID::from_string(alloc, case.one)?;
-    let effect = effect(case.verb);
-    match stack.pop() {
-        Some(when) => keep(
+    match (effect(case.verb), stack.pop()) {
+        (Some(effect), Some(when)) => keep(
             alloc,
             at,
             Policy::from_when_clause(alloc, effect, when, id, None),
         ),
-        None => no_case(alloc),
+        _ => no_case(alloc),
     }
 }
 
@@ -161,12 +160,12 @@ pub fn annotated(
 ) -> Answer {
     let id = PolicyID::from_string(alloc, case.one)?;
     let annotations = mem::replace(&mut scope.annotations, Annotations::new(alloc));
-    match stack.pop() {
-        Some(when) => {
-            let policy = from_clause(alloc, effect(case.verb), when, id, annotations);
+    match (effect(case.verb), stack.pop()) {
+        (Some(effect), Some(when)) => {
+            let policy = from_clause(alloc, effect, when, id, annotations);
             keep(alloc, &mut held.policy, policy)
         }
-        None => no_case(alloc),
+        _ => no_case(alloc),
     }
 }
 
@@ -174,7 +173,8 @@ fn of_body(alloc: Global, verb: &str, body: &TemplateBody) -> Answer {
     match verb {
         "principal" => show(alloc, body.principal_constraint_expr(alloc)),
         "action" => show(alloc, body.action_constraint_expr(alloc)),
-        _ => show(alloc, body.resource_constraint_expr(alloc)),
+        "resource" => show(alloc, body.resource_constraint_expr(alloc)),
+        _ => no_case(alloc),
     }
 }
 
@@ -193,7 +193,8 @@ fn of_static(alloc: Global, verb: &str, own: &StaticPolicy) -> Answer {
         "condition" => show(alloc, own.condition(alloc)),
         "principal" => show(alloc, own.principal_constraint_expr(alloc)),
         "action" => show(alloc, own.action_constraint_expr(alloc)),
-        _ => show(alloc, own.resource_constraint_expr(alloc)),
+        "resource" => show(alloc, own.resource_constraint_expr(alloc)),
+        _ => no_case(alloc),
     }
 }
 
@@ -267,7 +268,8 @@ fn of_two(alloc: Global, verb: &str, template: &Template, second: &Template) -> 
     match verb {
         "same-syntax" => said(alloc, template.has_same_syntax(second)),
         "second-id" => told(alloc, second.id()),
-        _ => said(alloc, template == second),
+        "equal" => said(alloc, template == second),
+        _ => no_case(alloc),
     }
 }
 
@@ -278,7 +280,8 @@ pub fn turn(alloc: Global, verb: &str, held: &mut Policies) -> Answer {
     };
     match verb {
         "share" => keep(alloc, &mut held.shared, Rc::new(alloc, template)),
-        _ => keep(alloc, &mut held.own, StaticPolicy::try_from(template)),
+        "as-static" => keep(alloc, &mut held.own, StaticPolicy::try_from(template)),
+        _ => no_case(alloc),
     }
 }
 
@@ -303,7 +306,8 @@ pub fn link(alloc: Global, case: &Case<'_>, bindings: &mut SlotEnv, held: &mut P
             let bindings = mem::replace(bindings, SlotEnv::new());
             keep(alloc, at, Template::link(alloc, template, id, bindings))
         }
-        _ => keep(alloc, at, Template::try_as_policy(template)),
+        "as-policy" => keep(alloc, at, Template::try_as_policy(template)),
+        _ => no_case(alloc),
     }
 }
 
@@ -320,7 +324,8 @@ pub fn own(alloc: Global, verb: &str, held: &mut Policies) -> Answer {
     match verb {
         "link" => show_linked(alloc, Template::link_static_policy(alloc, own)),
         "template" => keep(alloc, &mut held.shared, Rc::from_in(alloc, own)),
-        _ => keep(alloc, &mut held.policy, Policy::from_in(alloc, own)),
+        "policy" => keep(alloc, &mut held.policy, Policy::from_in(alloc, own)),
+        _ => no_case(alloc),
     }
 }
 
@@ -368,18 +373,17 @@ pub fn policy(alloc: Global, verb: &str, policy: Option<&Policy>) -> Answer {
         "condition" => show(alloc, policy.condition(alloc)),
         "principal" => show(alloc, policy.principal_constraint(alloc)),
         "resource" => show(alloc, policy.resource_constraint(alloc)),
-        _ => show_uids(alloc, policy.unknown_entities(alloc)),
+        "unknowns" => show_uids(alloc, policy.unknown_entities(alloc)),
+        _ => no_case(alloc),
     }
 }
 
 /// What is told of this slot, or of want of memory, where a static policy was expected.
 pub fn unexpected(alloc: Global, verb: &str) -> Answer {
-    let error = match verb {
-        "memory" => UnexpectedSlotError::Memory(AllocError),
-        _ => UnexpectedSlotError::FoundSlot(Slot {
-            id: slot(verb),
-            loc: None,
-        }),
+    let error = match (verb, slot(verb)) {
+        ("memory", _) => UnexpectedSlotError::Memory(AllocError),
+        (_, Some(id)) => UnexpectedSlotError::FoundSlot(Slot { id, loc: None }),
+        _ => return no_case(alloc),
     };
     show(alloc, ExpectedStaticPolicy::try_from(error))
 }

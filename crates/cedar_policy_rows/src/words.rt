@@ -45,6 +45,7 @@ pub fn said(alloc: Global, holds: bool) -> Answer {
     text(alloc, if holds { "true" } else { "false" })
 }
 
+/// That no step is written so, or that nothing is held of which it could be asked.
 pub fn no_case(alloc: Global) -> Answer {
     text(alloc, "no case")
 }
@@ -128,8 +129,9 @@ pub fn sorted<T: Display + Ord>(alloc: Global, items: Result<Vec<&T>, AllocError
     listed(alloc, Ok(items))
 }
 
-pub fn number(text: &str) -> i64 {
-    text.parse::<i64>().unwrap_or(0)
+/// The number that the word writes, if it writes one.
+pub fn number(text: &str) -> Option<i64> {
+    text.parse::<i64>().ok()
 }
 
 /// The uid of a type and an id with a dot between them.

@@ -11,34 +11,21 @@ pub fn said(alloc: Global, holds: bool) -> Answer {
     String::from_str(alloc, if holds { "true" } else { "false" })
 }
 
-/// That nothing is held of which a step could be asked.
+/// That no step is written so, or that nothing is held of which it could be asked.
 pub fn no_case(alloc: Global) -> Answer {
     String::from_str(alloc, "no case")
 }
 
-/// Why nothing was made, by the error's text for programmers.
-pub fn refused<E: Debug + Drop>(alloc: Global, error: E) -> Answer {
-    format!(in alloc; "refused {error:?}")
-}
-
 /// Why nothing was made, by the error's text.
-pub fn refused_for<E: Display + Drop>(alloc: Global, error: E) -> Answer {
+pub fn refused<E: Display + Drop>(alloc: Global, error: E) -> Answer {
     format!(in alloc; "refused: {error}")
 }
 
-/// The text of what was made, or that of the error for programmers.
-pub fn show<T: Display + Drop, E: Debug + Drop>(alloc: Global, found: Result<T, E>) -> Answer {
+/// The text of what was made, or why it was not.
+pub fn show<T: Display + Drop, E: Display + Drop>(alloc: Global, found: Result<T, E>) -> Answer {
     match found {
         Ok(value) => value.to_string(alloc),
         Err(error) => refused(alloc, error),
-    }
-}
-
-/// The text of what was made, or why it was not.
-pub fn explain<T: Display + Drop, E: Display + Drop>(alloc: Global, found: Result<T, E>) -> Answer {
-    match found {
-        Ok(value) => value.to_string(alloc),
-        Err(error) => refused_for(alloc, error),
     }
 }
 

@@ -1,11 +1,12 @@
 // Expressions by the builder of the library, whose place is that of what it builds.
-use crate::stack::{place, told_place, top};
-use crate::trees::{binary_op, literal, made, path, pattern, slot, unary_op, unknown, variable};
-use crate::{Answer, count_of, mapped, no_case, number, paired, put, taken, tell};
+use crate::stack::{is_place, place, told_place, top};
+use crate::trees::{is_literal, literal, made, path, pattern, slot, unary_op, unknown, variable};
+use crate::{Answer, count_of, has, has_each, mapped, no_case, number, paired, push, taken, tell};
 use cedar_builders::expr_builder;
 use cedar_builders::expr_builder::ExprBuilder as _;
 use cedar_builders::own_builder::ExprBuilder;
 use cedar_literals::literals::Literal;
+use cedar_literals::operators::BinaryOp;
 use cedar_literals::uids::EntityType;
 use cedar_literals::variables::Var;
 use cedar_names::errors::ParseNameError;
@@ -49,21 +50,25 @@ fn leaf(
     builder: ExprBuilder,
     stack: &mut Vec<Expr>,
 ) -> Answer {
-    match verb {
-        "var" => put(alloc, stack, builder.var(variable(word))),
-        "slot" => put(alloc, stack, builder.slot(slot(word))),
-        "unknown" => put(alloc, stack, unknown_of(builder, unknown(alloc, word, ""))),
-        "val" => put(alloc, stack, builder.val(Literal::Long(1))),
-        _ => put(alloc, stack, leaf_of(alloc, literal(alloc, verb, word))),
+    match (verb, variable(word), slot(word)) {
+        ("var", Some(var), _) => push(alloc, stack, builder.var(var)),
+        ("slot", _, Some(slot)) => push(alloc, stack, builder.slot(slot)),
+        ("unknown", _, _) => push(alloc, stack, unknown_of(builder, unknown(alloc, word, ""))),
+        ("val", _, _) => push(alloc, stack, builder.val(Literal::Long(1))),
+        _ if is_literal(verb, word) => {
+            push(alloc, stack, leaf_of(alloc, literal(alloc, verb, word)))
+        }
+        _ => no_case(alloc),
     }
 }
 
-fn of_one(verb: &str, op: &str, builder: ExprBuilder, arg: Expr) -> Made {
+fn of_one(verb: &str, op: &str, builder: ExprBuilder, arg: Expr) -> Option<Made> {
     match verb {
-        "not" => builder.not(arg),
-        "neg" => builder.neg(arg),
-        "is_empty" => builder.is_empty(arg),
-        _ => builder.unary_app(unary_op(op), arg),
+        "not" => Some(builder.not(arg)),
+        "neg" => Some(builder.neg(arg)),
+        "is_empty" => Some(builder.is_empty(arg)),
+        "unary_app" => Some(builder.unary_app(unary_op(op)?, arg)),
+        _ => None,
     }
 }
 
@@ -75,59 +80,56 @@ fn unary(
     stack: &mut Vec<Expr>,
 ) -> Answer {
     let arg = top(stack);
-    put(alloc, stack, of_one(verb, op, builder, arg))
+    match of_one(verb, op, builder, arg) {
+        Some(made) => push(alloc, stack, made),
+        None => no_case(alloc),
+    }
 }
 
-fn of_two(verb: &str, builder: ExprBuilder, a: Expr, b: Expr) -> Made {
+fn of_two(verb: &str, builder: ExprBuilder, a: Expr, b: Expr) -> Option<Made> {
     match verb {
-        "is_eq" => builder.is_eq(a, b),
-        "noteq" => builder.noteq(a, b),
-        "and" => builder.and(a, b),
-        "or" => builder.or(a, b),
-        "less" => builder.less(a, b),
-        "lesseq" => builder.lesseq(a, b),
-        "greater" => builder.greater(a, b),
-        "greatereq" => builder.greatereq(a, b),
-        "add" => builder.add(a, b),
-        "sub" => builder.sub(a, b),
-        "mul" => builder.mul(a, b),
+        "is_eq" => Some(builder.is_eq(a, b)),
+        "noteq" => Some(builder.noteq(a, b)),
+        "and" => Some(builder.and(a, b)),
+        "or" => Some(builder.or(a, b)),
+        "less" => Some(builder.less(a, b)),
+        "lesseq" => Some(builder.lesseq(a, b)),
+        "greater" => Some(builder.greater(a, b)),
+        "greatereq" => Some(builder.greatereq(a, b)),
+        "add" => Some(builder.add(a, b)),
+        "sub" => Some(builder.sub(a, b)),
+        "mul" => Some(builder.mul(a, b)),
         _ => of_members(verb, builder, a, b),
     }
 }
 
-fn of_members(verb: &str, builder: ExprBuilder, a: Expr, b: Expr) -> Made {
+fn of_members(verb: &str, builder: ExprBuilder, a: Expr, b: Expr) -> Option<Made> {
     match verb {
-        "is_in" => builder.is_in(a, b),
-        "contains" => builder.contains(a, b),
-        "contains_all" => builder.contains_all(a, b),
-        "contains_any" => builder.contains_any(a, b),
-        "get_tag" => builder.get_tag(a, b),
-        "has_tag" => builder.has_tag(a, b),
-        _ => builder.binary_app(binary_op(verb), a, b),
+        "is_in" => Some(builder.is_in(a, b)),
+        "contains" => Some(builder.contains(a, b)),
+        "contains_all" => Some(builder.contains_all(a, b)),
+        "contains_any" => Some(builder.contains_any(a, b)),
+        "get_tag" => Some(builder.get_tag(a, b)),
+        "has_tag" => Some(builder.has_tag(a, b)),
+        "binary_app" => Some(builder.binary_app(BinaryOp::Eq, a, b)),
+        _ => None,
     }
 }
 
 fn binary(alloc: Global, verb: &str, builder: ExprBuilder, stack: &mut Vec<Expr>) -> Answer {
     let b = top(stack);
     let a = top(stack);
-    put(alloc, stack, of_two(verb, builder, a, b))
+    match of_two(verb, builder, a, b) {
+        Some(made) => push(alloc, stack, made),
+        None => no_case(alloc),
+    }
 }
 
 fn ternary(alloc: Global, builder: ExprBuilder, stack: &mut Vec<Expr>) -> Answer {
     let c = top(stack);
     let b = top(stack);
     let a = top(stack);
-    put(alloc, stack, builder.ite(a, b, c))
-}
-
-fn of_type(verb: &str, builder: ExprBuilder, stack: &mut Vec<Expr>, ty: EntityType) -> Made {
-    if verb == "is_entity_type" {
-        let expr = top(stack);
-        return builder.is_entity_type(expr, ty);
-    }
-    let group = top(stack);
-    let expr = top(stack);
-    builder.is_in_entity_type(expr, ty, group)
+    push(alloc, stack, builder.ite(a, b, c))
 }
 
 fn typed(
@@ -137,12 +139,17 @@ fn typed(
     builder: ExprBuilder,
     stack: &mut Vec<Expr>,
 ) -> Answer {
-    match EntityType::from_normalized_str(alloc, word) {
-        Ok(ty) => {
-            let expr = of_type(verb, builder, stack, ty);
-            put(alloc, stack, expr)
+    match (verb, EntityType::from_normalized_str(alloc, word)) {
+        ("is_entity_type", Ok(ty)) => {
+            let expr = top(stack);
+            push(alloc, stack, builder.is_entity_type(expr, ty))
         }
-        Err(_) => no_case(alloc),
+        ("is_in_entity_type", Ok(ty)) => {
+            let group = top(stack);
+            let expr = top(stack);
+            push(alloc, stack, builder.is_in_entity_type(expr, ty, group))
+        }
+        _ => no_case(alloc),
     }
 }
 
@@ -157,23 +164,24 @@ fn attribute(
         "get_attr" => {
             let attr = RcStr::from_str(alloc, word)?;
             let expr = top(stack);
-            put(alloc, stack, builder.get_attr(expr, attr))
+            push(alloc, stack, builder.get_attr(expr, attr))
         }
         "has_attr" => {
             let attr = RcStr::from_str(alloc, word)?;
             let expr = top(stack);
-            put(alloc, stack, builder.has_attr(expr, attr))
+            push(alloc, stack, builder.has_attr(expr, attr))
         }
         "extended_has_attr" => {
             let attrs = path(alloc, word)?;
             let expr = top(stack);
-            put(alloc, stack, builder.extended_has_attr(expr, attrs))
+            push(alloc, stack, builder.extended_has_attr(expr, attrs))
         }
-        _ => {
+        "like" => {
             let pattern = pattern(alloc, word)?;
             let expr = top(stack);
-            put(alloc, stack, builder.like(expr, pattern))
+            push(alloc, stack, builder.like(expr, pattern))
         }
+        _ => no_case(alloc),
     }
 }
 
@@ -184,16 +192,22 @@ fn call(
     builder: ExprBuilder,
     stack: &mut Vec<Expr>,
 ) -> Answer {
+    if !has(count, stack) {
+        return no_case(alloc);
+    }
     let args = taken(alloc, number(count), stack)?;
     match Name::from_normalized_str(alloc, name) {
-        Ok(name) => put(alloc, stack, builder.call_extension_fn(name, args)),
+        Ok(name) => push(alloc, stack, builder.call_extension_fn(name, args)),
         Err(_) => no_case(alloc),
     }
 }
 
 fn set(alloc: Global, count: &str, builder: ExprBuilder, stack: &mut Vec<Expr>) -> Answer {
+    if !has(count, stack) {
+        return no_case(alloc);
+    }
     let items = taken(alloc, number(count), stack)?;
-    put(alloc, stack, builder.set(items))
+    push(alloc, stack, builder.set(items))
 }
 
 fn record(
@@ -203,14 +217,18 @@ fn record(
     builder: ExprBuilder,
     stack: &mut Vec<Expr>,
 ) -> Answer {
+    if !has_each(keys, stack) {
+        return no_case(alloc);
+    }
     let items = taken(alloc, count_of(keys), stack)?;
     let pairs = paired(alloc, keys, items)?;
     match verb {
-        "record" => put(alloc, stack, builder.record(pairs)),
-        _ => {
+        "record" => push(alloc, stack, builder.record(pairs)),
+        "record_arc" => {
             let entries = mapped(alloc, pairs)?;
-            put(alloc, stack, made(builder.record_arc(entries)))
+            push(alloc, stack, made(builder.record_arc(entries)))
         }
+        _ => no_case(alloc),
     }
 }
 
@@ -241,23 +259,33 @@ fn moved(
     *builder = match verb {
         "with_same_source_loc" => beside(copy, stack.last())?,
         "with_source_loc" => at(copy, loc),
-        _ => copy.with_maybe_source_loc(loc),
+        "with_maybe_source_loc" => copy.with_maybe_source_loc(loc),
+        _ => return no_case(alloc),
     };
     told_place(alloc, builder.loc())
 }
 
 /// The construct of the variable, at the builder's place.
 fn construct(alloc: Global, word: &str, builder: ExprBuilder, stack: &mut Vec<Expr>) -> Answer {
-    let kind = ExprKind::Var(variable(word));
-    put(alloc, stack, made(builder.with_expr_kind(kind)))
+    match variable(word) {
+        Some(var) => push(
+            alloc,
+            stack,
+            made(builder.with_expr_kind(ExprKind::Var(var))),
+        ),
+        None => no_case(alloc),
+    }
 }
 
 /// The data of what a builder with data builds.
 fn data(alloc: Global, word: &str) -> Answer {
+    let Ok(data) = word.parse::<u8>() else {
+        return no_case(alloc);
+    };
     let builder = ExprBuilder {
         alloc,
         source_loc: None,
-        data: word.parse::<u8>().unwrap_or(0),
+        data,
     };
     tell(
         alloc,
@@ -281,7 +309,7 @@ pub fn answer(
         "leaf" => leaf(alloc, verb, word, builder, stack),
         "unary" => unary(alloc, verb, word, builder, stack),
         "binary" => binary(alloc, verb, builder, stack),
-        "ternary" => ternary(alloc, builder, stack),
+        "ternary" if verb == "ite" => ternary(alloc, builder, stack),
         "attribute" => attribute(alloc, verb, word, builder, stack),
         "type" => typed(alloc, verb, word, builder, stack),
         "call" => call(alloc, verb, word, builder, stack),
@@ -289,6 +317,7 @@ pub fn answer(
         "record" => record(alloc, verb, word, builder, stack),
         "kind" => construct(alloc, verb, builder, stack),
         "data" => data(alloc, verb),
-        _ => moved(alloc, verb, word, stack, held),
+        "move" if is_place(word) => moved(alloc, verb, word, stack, held),
+        _ => no_case(alloc),
     }
 }

@@ -18,8 +18,7 @@ pub mod uids;
 pub mod values;
 
 pub use answers::{
-    Answer, alike, explain, maybe, no_case, refused, refused_for, said, separate, show, spell,
-    tell, text_of,
+    Answer, alike, maybe, no_case, refused, said, separate, show, spell, tell, text_of,
 };
-pub use registers::{count_of, hold, keep, mapped, paired, push, put, taken};
-pub use steps::{Step, cut, number, plain, read};
+pub use registers::{count_of, has, has_each, hold, keep, mapped, paired, push, taken};
+pub use steps::{Step, cut, index, number, plain, read};

@@ -1,9 +1,9 @@
 // Patterns and types.
 use crate::names::Names;
+use crate::trees::variable;
 use crate::{Answer, alike, keep, no_case, said, show, tell};
 use cedar_literals::patterns::{Pattern, PatternElem};
 use cedar_literals::types::Type;
-use cedar_literals::variables::Var;
 use cedar_names::conversions::FromIn;
 use cedar_names::identifiers::{Id, UnreservedId};
 use std::alloc::{AllocError, Global};
@@ -75,17 +75,19 @@ fn called(alloc: Global, verb: &str, text: &str, held: &Literals) -> Answer {
         "pattern-len" => tell(alloc, pattern.len()),
         "pattern-empty" => said(alloc, pattern.is_empty()),
         "pattern-elems" => tell(alloc, pattern.get_elems().len()),
-        _ => tell(alloc, pattern.iter().count()),
+        "pattern-seen" => tell(alloc, pattern.iter().count()),
+        _ => no_case(alloc),
     }
 }
 
-fn plain_type(text: &str) -> Type {
+fn plain_type(text: &str) -> Option<Type> {
     match text {
-        "bool" => Type::Bool,
-        "long" => Type::Long,
-        "string" => Type::String,
-        "set" => Type::Set,
-        _ => Type::Record,
+        "bool" => Some(Type::Bool),
+        "long" => Some(Type::Long),
+        "string" => Some(Type::String),
+        "set" => Some(Type::Set),
+        "record" => Some(Type::Record),
+        _ => None,
     }
 }
 
@@ -98,7 +100,10 @@ pub fn types(
     names: &mut Names,
 ) -> Answer {
     match verb {
-        "type" => keep(alloc, &mut held.ty, Ok::<_, AllocError>(plain_type(text))),
+        "type" => match plain_type(text) {
+            Some(ty) => keep(alloc, &mut held.ty, Ok::<_, AllocError>(ty)),
+            None => no_case(alloc),
+        },
         "type-of-name" => match names.name.take() {
             Some(name) => {
                 keep(
@@ -117,7 +122,8 @@ pub fn types(
             Some(ty) => keep(alloc, &mut held.second_type, ty.clone()),
             None => no_case(alloc),
         },
-        _ => types_alike(alloc, held),
+        "alike" => types_alike(alloc, held),
+        _ => no_case(alloc),
     }
 }
 
@@ -128,19 +134,11 @@ fn types_alike(alloc: Global, held: &Literals) -> Answer {
     }
 }
 
-fn variable(word: &str) -> Var {
-    match word {
-        "principal" => Var::Principal,
-        "action" => Var::Action,
-        "resource" => Var::Resource,
-        _ => Var::Context,
-    }
-}
-
 /// The variable as an identifier.
 pub fn variables(alloc: Global, verb: &str, word: &str) -> Answer {
-    match verb {
-        "id" => show(alloc, Id::from_in(alloc, variable(word))),
-        _ => show(alloc, UnreservedId::from_in(alloc, variable(word))),
+    match (verb, variable(word)) {
+        ("id", Some(var)) => show(alloc, Id::from_in(alloc, var)),
+        ("unreserved", Some(var)) => show(alloc, UnreservedId::from_in(alloc, var)),
+        _ => no_case(alloc),
     }
 }

@@ -1,5 +1,5 @@
 // Identifiers, names and places.
-use crate::{Answer, alike, keep, no_case, number, refused, said, show, tell};
+use crate::{Answer, alike, index, keep, no_case, number, refused, said, show, tell};
 use cedar_names::conversions::FromIn;
 use cedar_names::identifiers::{AnyId, Id, UnreservedId, is_normalized_ident};
 use cedar_names::names::{InternalName, Name};
@@ -76,11 +76,12 @@ pub fn read(alloc: Global, verb: &str, text: &str, held: &mut Names) -> Answer {
             &mut held.name,
             Name::from_normalized_str(alloc, text),
         ),
-        _ => keep(
+        "second" => keep(
             alloc,
             &mut held.second,
             Name::from_normalized_str(alloc, text),
         ),
+        _ => no_case(alloc),
     }
 }
 
@@ -94,7 +95,8 @@ pub fn called(alloc: Global, verb: &str, held: &mut Names) -> Answer {
         "namespace" => show(alloc, internal.namespace(alloc)),
         "is-placed" => said(alloc, internal.loc().is_some()),
         "qualified-by-name" => show(alloc, internal.qualify_with_name(alloc, held.name.as_ref())),
-        _ => show(alloc, internal.qualify_with(alloc, Some(other))),
+        "qualified" => show(alloc, internal.qualify_with(alloc, Some(other))),
+        _ => no_case(alloc),
     }
 }
 
@@ -105,7 +107,8 @@ pub fn qualified(alloc: Global, verb: &str, held: &Names) -> Answer {
     };
     match verb {
         "by-other" => show(alloc, name.qualify_with(alloc, held.other.as_ref())),
-        _ => show(alloc, name.qualify_with_name(alloc, held.second.as_ref())),
+        "by-second" => show(alloc, name.qualify_with_name(alloc, held.second.as_ref())),
+        _ => no_case(alloc),
     }
 }
 
@@ -144,10 +147,11 @@ pub fn converted(alloc: Global, verb: &str, held: &mut Names) -> Answer {
             }
             _ => no_case(alloc),
         },
-        _ => match held.internal.take() {
+        "id-of-internal" => match held.internal.take() {
             Some(name) => keep(alloc, &mut held.id, Id::from_in(alloc, name)),
             None => no_case(alloc),
         },
+        _ => no_case(alloc),
     }
 }
 
@@ -159,12 +163,14 @@ pub fn loc(alloc: Global, start: &str, end: &str) -> Result<Loc, AllocError> {
 
 /// The name held at the place between two numbers, or the text of that place.
 pub fn placed(alloc: Global, verb: &str, start: &str, end: &str, held: &mut Names) -> Answer {
+    if index(start).is_none() || index(end).is_none() {
+        return no_case(alloc);
+    }
     let loc = loc(alloc, start, end)?;
-    match &held.name {
-        Some(name) if verb == "place" => {
-            keep(alloc, &mut held.second, name.with_loc(alloc, Some(&loc)))
-        }
-        _ => tell(alloc, loc.snippet()),
+    match (verb, &held.name) {
+        ("place", Some(name)) => keep(alloc, &mut held.second, name.with_loc(alloc, Some(&loc))),
+        ("snippet", _) => tell(alloc, loc.snippet()),
+        _ => no_case(alloc),
     }
 }
 
@@ -176,6 +182,7 @@ pub fn compared(alloc: Global, verb: &str, held: &Names) -> Answer {
     match verb {
         "below" => said(alloc, name < second),
         "alike" => said(alloc, alike(name, second)),
-        _ => said(alloc, second.loc().is_some()),
+        "has-place" => said(alloc, second.loc().is_some()),
+        _ => no_case(alloc),
     }
 }

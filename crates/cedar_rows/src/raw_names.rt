@@ -30,10 +30,11 @@ pub fn answer(alloc: Global, verb: &str, text: &str) -> Answer {
             }
             Err(error) => refused(alloc, error),
         },
-        _ => match RawName::from_normalized_str(alloc, text) {
+        "in-none" | "in-internal" | "in-name" => match RawName::from_normalized_str(alloc, text) {
             Ok(name) => within(alloc, verb, name),
             Err(error) => refused(alloc, error),
         },
+        _ => no_case(alloc),
     }
 }
 
@@ -54,7 +55,8 @@ fn within(alloc: Global, verb: &str, name: RawName) -> Answer {
     match verb {
         "in-none" => show(alloc, name.qualify_with(alloc, None)),
         "in-internal" => show(alloc, name.qualify_with(alloc, Some(namespace.as_ref()))),
-        _ => show(alloc, name.qualify_with_name(alloc, Some(&namespace))),
+        "in-name" => show(alloc, name.qualify_with_name(alloc, Some(&namespace))),
+        _ => no_case(alloc),
     }
 }
 

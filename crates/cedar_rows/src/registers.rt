@@ -1,12 +1,13 @@
 // What is kept of what a step makes: one thing at a place, or many on a stack.
-use crate::answers::{Answer, refused, refused_for, tell};
+use crate::answers::{Answer, refused, tell};
+use crate::steps::index;
 use std::alloc::{AllocError, Global};
 use std::collections::BTreeMap;
-use std::fmt::{Debug, Display};
+use std::fmt::Display;
 use std::rc::{Rc, RcStr};
 
-/// Keeps what was made, and answers its text; or answers the error's text for programmers.
-pub fn keep<T: Display + Drop, E: Debug + Drop>(
+/// Keeps what was made, and answers its text; or answers why it was not made.
+pub fn keep<T: Display + Drop, E: Display + Drop>(
     alloc: Global,
     at: &mut Option<T>,
     found: Result<T, E>,
@@ -27,8 +28,8 @@ fn push_made<T: Display + Drop>(alloc: Global, stack: &mut Vec<T>, value: T) -> 
     Ok(text)
 }
 
-/// Puts what was made on the stack, and answers its text; or answers the error's text for programmers.
-pub fn push<T: Display + Drop, E: Debug + Drop>(
+/// Puts what was made on the stack, and answers its text; or answers why it was not made.
+pub fn push<T: Display + Drop, E: Display + Drop>(
     alloc: Global,
     stack: &mut Vec<T>,
     found: Result<T, E>,
@@ -36,18 +37,6 @@ pub fn push<T: Display + Drop, E: Debug + Drop>(
     match found {
         Ok(value) => push_made(alloc, stack, value),
         Err(error) => refused(alloc, error),
-    }
-}
-
-/// Puts what was made on the stack, and answers its text; or answers why it was not made.
-pub fn put<T: Display + Drop, E: Display + Drop>(
-    alloc: Global,
-    stack: &mut Vec<T>,
-    found: Result<T, E>,
-) -> Answer {
-    match found {
-        Ok(value) => push_made(alloc, stack, value),
-        Err(error) => refused_for(alloc, error),
     }
 }
 
@@ -63,8 +52,21 @@ pub fn hold<T: Drop, E: Display + Drop>(
             stack.push(value)?;
             tell(alloc, stack.len())
         }
-        Err(error) => refused_for(alloc, error),
+        Err(error) => refused(alloc, error),
     }
+}
+
+/// Whether the word writes a number, and the stack has as many.
+pub fn has<T>(word: &str, stack: &[T]) -> bool {
+    match index(word) {
+        Some(count) => count <= stack.len(),
+        None => false,
+    }
+}
+
+/// Whether the stack has an item for each key of the word.
+pub fn has_each<T>(keys: &str, stack: &[T]) -> bool {
+    count_of(keys) <= stack.len()
 }
 
 /// So many from the top of the stack, the lowest first; all where there are fewer. Refused for memory

@@ -1,8 +1,9 @@
 // Shapes of expressions compared, hashed and walked, and chains that take no stack.
 use crate::stack::{place, told_place};
-use crate::trees::{numbered, slot};
-use crate::{Answer, hold, no_case, number, said, separate, tell};
+use crate::trees::numbered;
+use crate::{Answer, hold, index, no_case, number, said, separate, tell};
 use cedar_literals::literals::Literal;
+use cedar_literals::slots::SlotId;
 use cedar_literals::types::Type;
 use cedar_literals::variables::Var;
 use cedar_names::errors::ParseNameError;
@@ -25,10 +26,11 @@ fn call(alloc: Global, expr: Expr) -> Result<Expr, ParseNameError> {
     Ok(Expr::call_extension_fn(alloc, name, args)?)
 }
 
+/// A link of the kind that `chain` lets through.
 fn link(alloc: Global, verb: &str, expr: Expr) -> Result<Expr, ParseNameError> {
     match verb {
         "and" => Ok(Expr::and(alloc, expr, Expr::var(Var::Principal))?),
-        "or" => Ok(Expr::or(alloc, expr, Expr::slot(slot("resource")))?),
+        "or" => Ok(Expr::or(alloc, expr, Expr::slot(SlotId::resource()))?),
         "is_eq" => Ok(Expr::is_eq(alloc, expr, Expr::val(Literal::Long(1)))?),
         _ => call(alloc, expr),
     }
@@ -44,9 +46,11 @@ fn links(alloc: Global, verb: &str, count: usize, expr: Expr) -> Result<Expr, Pa
 
 /// A chain of so many links, the first of which is on the stack. It is too long to be shown.
 pub fn chain(alloc: Global, verb: &str, count: &str, stack: &mut Vec<Expr>) -> Answer {
-    match stack.pop() {
-        Some(expr) => hold(alloc, stack, links(alloc, verb, number(count), expr)),
-        None => no_case(alloc),
+    match (verb, stack.pop()) {
+        ("and" | "or" | "is_eq" | "call", Some(expr)) if index(count).is_some() => {
+            hold(alloc, stack, links(alloc, verb, number(count), expr))
+        }
+        _ => no_case(alloc),
     }
 }
 
@@ -82,13 +86,13 @@ fn signs(alloc: Global, expr: &Expr, kept: &[Expr]) -> Answer {
 
 /// Keeps the top of the stack, or compares it with all that were kept.
 pub fn kept(alloc: Global, verb: &str, stack: &mut Vec<Expr>, kept: &mut Vec<Expr>) -> Answer {
-    match stack.pop() {
-        Some(expr) if verb == "keep" => {
+    match (verb, stack.pop()) {
+        ("keep", Some(expr)) => {
             kept.push(expr)?;
             tell(alloc, kept.len())
         }
-        Some(expr) => signs(alloc, &expr, kept),
-        None => no_case(alloc),
+        ("compare", Some(expr)) => signs(alloc, &expr, kept),
+        _ => no_case(alloc),
     }
 }
 
@@ -107,7 +111,8 @@ fn of_shapes(
     match verb {
         "only_eq" => said(alloc, one == other),
         "only_cmp" => tell(alloc, one.cmp(other)),
-        _ => said(alloc, hash_only(one) == hash_only(other)),
+        "only_hash" => said(alloc, hash_only(one) == hash_only(other)),
+        _ => no_case(alloc),
     }
 }
 
@@ -226,6 +231,7 @@ pub fn walked<F: FunctionTypes>(alloc: Global, verb: &str, stack: &[Expr], table
         "is_projectable" => said(alloc, expr.is_projectable()),
         "try_type_of" => told_type(alloc, expr.try_type_of(alloc, table)),
         "numbered" => is_numbered(alloc, expr),
-        _ => said(alloc, hash_alike(expr)),
+        "hash" => said(alloc, hash_alike(expr)),
+        _ => no_case(alloc),
     }
 }

@@ -28,7 +28,12 @@ pub fn cut(text: &str) -> (&str, &str) {
     text.split_once(' ').unwrap_or((text, ""))
 }
 
-/// The number that the word writes, or 0.
+/// The number that the word writes, if it writes one.
+pub fn index(word: &str) -> Option<usize> {
+    word.parse::<usize>().ok()
+}
+
+/// The number that the word writes; 0 where it writes none, which a step has to refuse by itself.
 pub fn number(word: &str) -> usize {
     word.parse::<usize>().unwrap_or(0)
 }

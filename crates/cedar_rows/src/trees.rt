@@ -1,6 +1,8 @@
 // Expressions by their constructors, and what they say of themselves.
-use crate::stack::{place, told_place, top};
-use crate::{Answer, count_of, explain, mapped, no_case, number, paired, put, said, taken, tell};
+use crate::stack::{is_place, place, told_place, top};
+use crate::{
+    Answer, count_of, has, has_each, mapped, no_case, number, paired, push, said, show, taken, tell,
+};
 use cedar_literals::literals::Literal;
 use cedar_literals::operators::{BinaryOp, UnaryOp};
 use cedar_literals::patterns::{Pattern, PatternElem};
@@ -23,7 +25,17 @@ fn entity(alloc: Global, eid: &str) -> Result<Literal, ParseNameError> {
     Ok(Literal::EntityUID(Rc::new(alloc, uid)?))
 }
 
-/// The literal of this kind that the text writes.
+/// Whether the text writes a literal of this kind.
+pub fn is_literal(verb: &str, text: &str) -> bool {
+    match verb {
+        "bool" => text == "true" || text == "false",
+        "long" => text.parse::<i64>().is_ok(),
+        "entity" | "text" => true,
+        _ => false,
+    }
+}
+
+/// The literal of this kind that the text writes, where `is_literal` says that it writes one.
 pub fn literal(alloc: Global, verb: &str, text: &str) -> Result<Literal, ParseNameError> {
     match verb {
         "bool" => Ok(Literal::Bool(text == "true")),
@@ -33,22 +45,24 @@ pub fn literal(alloc: Global, verb: &str, text: &str) -> Result<Literal, ParseNa
     }
 }
 
-/// The variable of this name; `context` of any other.
-pub fn variable(text: &str) -> Var {
+/// The variable of this name.
+pub fn variable(text: &str) -> Option<Var> {
     match text {
-        "principal" => Var::Principal,
-        "action" => Var::Action,
-        "resource" => Var::Resource,
-        _ => Var::Context,
+        "principal" => Some(Var::Principal),
+        "action" => Some(Var::Action),
+        "resource" => Some(Var::Resource),
+        "context" => Some(Var::Context),
+        _ => None,
     }
 }
 
-/// The principal's slot, or of another word the resource's.
-pub fn slot(text: &str) -> SlotId {
-    if text == "principal" {
-        return SlotId::principal();
+/// The slot of the variable of this name.
+pub fn slot(text: &str) -> Option<SlotId> {
+    match text {
+        "principal" => Some(SlotId::principal()),
+        "resource" => Some(SlotId::resource()),
+        _ => None,
     }
-    SlotId::resource()
 }
 
 /// The type of this name, which is that of an entity where it names no other.
@@ -87,11 +101,12 @@ pub fn made(expr: Expr) -> Result<Expr, AllocError> {
 
 /// Puts the leaf that the words name on the stack.
 pub fn leaf(alloc: Global, verb: &str, text: &str, ty: &str, stack: &mut Vec<Expr>) -> Answer {
-    match verb {
-        "var" => put(alloc, stack, made(Expr::var(variable(text)))),
-        "slot" => put(alloc, stack, made(Expr::slot(slot(text)))),
-        "unknown" => put(alloc, stack, unknown_of(unknown(alloc, text, ty))),
-        _ => put(alloc, stack, leaf_of(literal(alloc, verb, text))),
+    match (verb, variable(text), slot(text)) {
+        ("var", Some(var), _) => push(alloc, stack, made(Expr::var(var))),
+        ("slot", _, Some(slot)) => push(alloc, stack, made(Expr::slot(slot))),
+        ("unknown", _, _) => push(alloc, stack, unknown_of(unknown(alloc, text, ty))),
+        _ if is_literal(verb, text) => push(alloc, stack, leaf_of(literal(alloc, verb, text))),
+        _ => no_case(alloc),
     }
 }
 
@@ -105,74 +120,83 @@ pub fn unknowns(alloc: Global, verb: &str, name: &str, ty: &str) -> Answer {
     match (unknown(alloc, name, ty), unknown(alloc, name, "")) {
         (Ok(typed), Ok(untyped)) => match verb {
             "clone" => copied(alloc, &typed),
-            "shown" => explain(alloc, made(Expr::unknown(typed))),
-            _ => said(alloc, typed == untyped),
+            "shown" => show(alloc, made(Expr::unknown(typed))),
+            "equal" => said(alloc, typed == untyped),
+            _ => no_case(alloc),
         },
         _ => no_case(alloc),
     }
 }
 
-/// The operator of this name; `isEmpty` of any other.
-pub fn unary_op(text: &str) -> UnaryOp {
+/// The operator of this name on one operand.
+pub fn unary_op(text: &str) -> Option<UnaryOp> {
     match text {
-        "not" => UnaryOp::Not,
-        "neg" => UnaryOp::Neg,
-        _ => UnaryOp::IsEmpty,
+        "not" => Some(UnaryOp::Not),
+        "neg" => Some(UnaryOp::Neg),
+        "is_empty" => Some(UnaryOp::IsEmpty),
+        _ => None,
     }
 }
 
-/// The operator of this name; `==` of any other.
-pub fn binary_op(text: &str) -> BinaryOp {
+/// The operator of this name whose long may be none.
+pub fn binary_op(text: &str) -> Option<BinaryOp> {
     match text {
-        "less" => BinaryOp::Less,
-        "add" => BinaryOp::Add,
-        "sub" => BinaryOp::Sub,
-        "mul" => BinaryOp::Mul,
-        _ => BinaryOp::Eq,
+        "add" => Some(BinaryOp::Add),
+        "sub" => Some(BinaryOp::Sub),
+        "mul" => Some(BinaryOp::Mul),
+        _ => None,
     }
 }
 
-fn of_one(alloc: Global, verb: &str, op: &str, arg: Expr) -> Result<Expr, AllocError> {
+/// What was made, or none where no operator is written so.
+type Found = Option<Result<Expr, AllocError>>;
+
+fn of_one(alloc: Global, verb: &str, op: &str, arg: Expr) -> Found {
     match verb {
-        "not" => Expr::not(alloc, arg),
-        "neg" => Expr::neg(alloc, arg),
-        "is_empty" => Expr::is_empty(alloc, arg),
-        _ => Expr::unary_app(alloc, unary_op(op), arg),
+        "not" => Some(Expr::not(alloc, arg)),
+        "neg" => Some(Expr::neg(alloc, arg)),
+        "is_empty" => Some(Expr::is_empty(alloc, arg)),
+        "unary_app" => Some(Expr::unary_app(alloc, unary_op(op)?, arg)),
+        _ => None,
     }
 }
 
 /// An operator on the top of the stack.
 pub fn unary(alloc: Global, verb: &str, op: &str, stack: &mut Vec<Expr>) -> Answer {
     let arg = top(stack);
-    put(alloc, stack, of_one(alloc, verb, op, arg))
+    match of_one(alloc, verb, op, arg) {
+        Some(made) => push(alloc, stack, made),
+        None => no_case(alloc),
+    }
 }
 
-fn of_two(alloc: Global, verb: &str, a: Expr, b: Expr) -> Result<Expr, AllocError> {
+fn of_two(alloc: Global, verb: &str, a: Expr, b: Expr) -> Found {
     match verb {
-        "is_eq" => Expr::is_eq(alloc, a, b),
-        "noteq" => Expr::noteq(alloc, a, b),
-        "and" => Expr::and(alloc, a, b),
-        "or" => Expr::or(alloc, a, b),
-        "less" => Expr::less(alloc, a, b),
-        "lesseq" => Expr::lesseq(alloc, a, b),
-        "greater" => Expr::greater(alloc, a, b),
-        "greatereq" => Expr::greatereq(alloc, a, b),
-        "add" => Expr::add(alloc, a, b),
-        "sub" => Expr::sub(alloc, a, b),
-        "mul" => Expr::mul(alloc, a, b),
+        "is_eq" => Some(Expr::is_eq(alloc, a, b)),
+        "noteq" => Some(Expr::noteq(alloc, a, b)),
+        "and" => Some(Expr::and(alloc, a, b)),
+        "or" => Some(Expr::or(alloc, a, b)),
+        "less" => Some(Expr::less(alloc, a, b)),
+        "lesseq" => Some(Expr::lesseq(alloc, a, b)),
+        "greater" => Some(Expr::greater(alloc, a, b)),
+        "greatereq" => Some(Expr::greatereq(alloc, a, b)),
+        "add" => Some(Expr::add(alloc, a, b)),
+        "sub" => Some(Expr::sub(alloc, a, b)),
+        "mul" => Some(Expr::mul(alloc, a, b)),
         _ => of_members(alloc, verb, a, b),
     }
 }
 
-fn of_members(alloc: Global, verb: &str, a: Expr, b: Expr) -> Result<Expr, AllocError> {
+fn of_members(alloc: Global, verb: &str, a: Expr, b: Expr) -> Found {
     match verb {
-        "is_in" => Expr::is_in(alloc, a, b),
-        "contains" => Expr::contains(alloc, a, b),
-        "contains_all" => Expr::contains_all(alloc, a, b),
-        "contains_any" => Expr::contains_any(alloc, a, b),
-        "get_tag" => Expr::get_tag(alloc, a, b),
-        "has_tag" => Expr::has_tag(alloc, a, b),
-        _ => Expr::binary_app(alloc, binary_op(verb), a, b),
+        "is_in" => Some(Expr::is_in(alloc, a, b)),
+        "contains" => Some(Expr::contains(alloc, a, b)),
+        "contains_all" => Some(Expr::contains_all(alloc, a, b)),
+        "contains_any" => Some(Expr::contains_any(alloc, a, b)),
+        "get_tag" => Some(Expr::get_tag(alloc, a, b)),
+        "has_tag" => Some(Expr::has_tag(alloc, a, b)),
+        "binary_app" => Some(Expr::binary_app(alloc, BinaryOp::Eq, a, b)),
+        _ => None,
     }
 }
 
@@ -180,7 +204,10 @@ fn of_members(alloc: Global, verb: &str, a: Expr, b: Expr) -> Result<Expr, Alloc
 pub fn binary(alloc: Global, verb: &str, stack: &mut Vec<Expr>) -> Answer {
     let b = top(stack);
     let a = top(stack);
-    put(alloc, stack, of_two(alloc, verb, a, b))
+    match of_two(alloc, verb, a, b) {
+        Some(made) => push(alloc, stack, made),
+        None => no_case(alloc),
+    }
 }
 
 fn shared(alloc: Global, a: Expr, b: Expr, c: Expr) -> Result<Expr, AllocError> {
@@ -196,8 +223,9 @@ pub fn ternary(alloc: Global, verb: &str, stack: &mut Vec<Expr>) -> Answer {
     let b = top(stack);
     let a = top(stack);
     match verb {
-        "ite" => put(alloc, stack, Expr::ite(alloc, a, b, c)),
-        _ => put(alloc, stack, shared(alloc, a, b, c)),
+        "ite" => push(alloc, stack, Expr::ite(alloc, a, b, c)),
+        "ite_arc" => push(alloc, stack, shared(alloc, a, b, c)),
+        _ => no_case(alloc),
     }
 }
 
@@ -240,28 +268,29 @@ pub fn attribute(alloc: Global, verb: &str, word: &str, stack: &mut Vec<Expr>) -
         "get_attr" => {
             let attr = RcStr::from_str(alloc, word)?;
             let expr = top(stack);
-            put(alloc, stack, Expr::get_attr(alloc, expr, attr))
+            push(alloc, stack, Expr::get_attr(alloc, expr, attr))
         }
         "has_attr" => {
             let attr = RcStr::from_str(alloc, word)?;
             let expr = top(stack);
-            put(alloc, stack, Expr::has_attr(alloc, expr, attr))
+            push(alloc, stack, Expr::has_attr(alloc, expr, attr))
         }
         "extended_has_attr" => {
             let attrs = path(alloc, word)?;
             let expr = top(stack);
-            put(alloc, stack, Expr::extended_has_attr(alloc, expr, attrs))
+            push(alloc, stack, Expr::extended_has_attr(alloc, expr, attrs))
         }
         "like" => {
             let pattern = pattern(alloc, word)?;
             let expr = top(stack);
-            put(alloc, stack, Expr::like(alloc, expr, pattern))
+            push(alloc, stack, Expr::like(alloc, expr, pattern))
         }
-        _ => {
+        "is_entity_type" => {
             let ty = EntityType::from_normalized_str(alloc, word);
             let expr = top(stack);
-            put(alloc, stack, of_type(alloc, expr, ty))
+            push(alloc, stack, of_type(alloc, expr, ty))
         }
+        _ => no_case(alloc),
     }
 }
 
@@ -275,15 +304,21 @@ fn called(
 
 /// A call of the function of this name on as many from the top as the word says.
 pub fn call(alloc: Global, name: &str, count: &str, stack: &mut Vec<Expr>) -> Answer {
+    if !has(count, stack) {
+        return no_case(alloc);
+    }
     let args = taken(alloc, number(count), stack)?;
     let name = Name::from_normalized_str(alloc, name);
-    put(alloc, stack, called(alloc, name, args))
+    push(alloc, stack, called(alloc, name, args))
 }
 
 /// A set of as many from the top as the word says.
 pub fn set(alloc: Global, count: &str, stack: &mut Vec<Expr>) -> Answer {
+    if !has(count, stack) {
+        return no_case(alloc);
+    }
     let items = taken(alloc, number(count), stack)?;
-    put(alloc, stack, Expr::set(alloc, items))
+    push(alloc, stack, Expr::set(alloc, items))
 }
 
 fn shared_record(
@@ -295,11 +330,15 @@ fn shared_record(
 
 /// A record of these keys, whose expressions are on top.
 pub fn record(alloc: Global, verb: &str, keys: &str, stack: &mut Vec<Expr>) -> Answer {
+    if !has_each(keys, stack) {
+        return no_case(alloc);
+    }
     let items = taken(alloc, count_of(keys), stack)?;
     let pairs = paired(alloc, keys, items)?;
     match verb {
-        "record" => put(alloc, stack, Expr::record(alloc, pairs)),
-        _ => put(alloc, stack, shared_record(alloc, pairs)),
+        "record" => push(alloc, stack, Expr::record(alloc, pairs)),
+        "record_arc" => push(alloc, stack, shared_record(alloc, pairs)),
+        _ => no_case(alloc),
     }
 }
 
@@ -310,19 +349,23 @@ pub fn key(alloc: Global, verb: &str, key: &str) -> Answer {
         "told" => error.to_string(alloc),
         "key" => String::from_str(alloc, error.key()),
         "with_context" => error.with_context("in context").to_string(alloc),
-        _ => ExpressionConstructionError::from(error.with_context("in context")).to_string(alloc),
+        "error" => {
+            let error = error.with_context("in context");
+            ExpressionConstructionError::from(error).to_string(alloc)
+        }
+        _ => no_case(alloc),
     }
 }
 
 fn moved(alloc: Global, word: &str, stack: &mut Vec<Expr>) -> Answer {
     let place = place(alloc, word)?;
     let expr = top(stack);
-    put(alloc, stack, made(expr.with_maybe_source_loc(place)))
+    push(alloc, stack, made(expr.with_maybe_source_loc(place)))
 }
 
 /// What the expression on top says of itself, and its copies.
 pub fn asked(alloc: Global, verb: &str, word: &str, stack: &mut Vec<Expr>) -> Answer {
-    if verb == "with_maybe_source_loc" {
+    if verb == "with_maybe_source_loc" && is_place(word) {
         return moved(alloc, word, stack);
     }
     let Some(expr) = stack.last() else {
@@ -334,10 +377,11 @@ pub fn asked(alloc: Global, verb: &str, word: &str, stack: &mut Vec<Expr>) -> An
         "is_slot" => said(alloc, expr.is_slot()),
         "is_ref_set" => said(alloc, expr.is_ref_set()),
         "source_loc" => told_place(alloc, expr.source_loc()),
-        _ => {
+        "clone" => {
             let copy = expr.clone(alloc);
-            put(alloc, stack, copy)
+            push(alloc, stack, copy)
         }
+        _ => no_case(alloc),
     }
 }
 
@@ -375,13 +419,17 @@ fn copied_parts(alloc: Global, copy: Result<Expr<u8>, AllocError>) -> Answer {
 
 /// Of a literal whose data was 7 and is the word's number now.
 pub fn data(alloc: Global, verb: &str, word: &str) -> Answer {
+    let Ok(data) = word.parse::<u8>() else {
+        return no_case(alloc);
+    };
     let mut expr = numbered(7);
-    expr.set_data(word.parse::<u8>().unwrap_or(0));
+    expr.set_data(data);
     match verb {
         "data" => tell(alloc, *expr.data()),
         "clone" => copied_parts(alloc, expr.clone(alloc)),
         "into_data" => tell(alloc, expr.into_data()),
         "into_parts" => parts(alloc, expr),
-        _ => kind_of(alloc, expr.into_expr_kind()),
+        "into_expr_kind" => kind_of(alloc, expr.into_expr_kind()),
+        _ => no_case(alloc),
     }
 }

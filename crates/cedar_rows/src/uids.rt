@@ -1,5 +1,6 @@
 // Entity uids, their types and slots.
 use crate::names::{Names, loc};
+use crate::trees::slot;
 use crate::{Answer, alike, keep, no_case, said, show, tell};
 use cedar_literals::slots::{Slot, SlotId};
 use cedar_literals::types::StaticallyTyped;
@@ -67,8 +68,12 @@ pub fn read(alloc: Global, verb: &str, text: &str, held: &mut Uids) -> Answer {
                 EntityUID::with_eid_and_type(alloc, "User", text),
             )
         }
-        "slot" => show(alloc, Ok::<_, AllocError>(slot(text))),
-        _ => slots(alloc),
+        "slot" => match slot(text) {
+            Some(slot) => show(alloc, Ok::<_, AllocError>(slot)),
+            None => no_case(alloc),
+        },
+        "slots" => slots(alloc),
+        _ => no_case(alloc),
     }
 }
 
@@ -76,14 +81,6 @@ fn reserved(alloc: Global, read: Result<EntityUID, ParseNameError>) -> Answer {
     match &read {
         Err(ParseNameError::Reserved(error)) => format!(in alloc; "{}", error.name()),
         _ => no_case(alloc),
-    }
-}
-
-fn slot(text: &str) -> SlotId {
-    if text == "principal" {
-        SlotId::principal()
-    } else {
-        SlotId::resource()
     }
 }
 
@@ -133,7 +130,8 @@ pub fn called(alloc: Global, verb: &str, held: &mut Uids) -> Answer {
                 uid.entity_type().with_loc(alloc, Some(&loc)),
             )
         }
-        _ => put_together(alloc, held),
+        "put-together" => put_together(alloc, held),
+        _ => no_case(alloc),
     }
 }
 
@@ -158,9 +156,10 @@ pub fn compared(alloc: Global, verb: &str, held: &Uids) -> Answer {
     match verb {
         "uid-below" => said(alloc, uid < second),
         "uids-alike" => said(alloc, alike(uid, second)),
-        _ => said(
+        "have-places" => said(
             alloc,
             second.loc().is_some() && second.entity_type().loc().is_some(),
         ),
+        _ => no_case(alloc),
     }
 }

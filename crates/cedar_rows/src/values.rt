@@ -1,7 +1,9 @@
 // Values that are put on a stack, and what is asked of those on its top.
 use crate::names::loc;
+use crate::trees::is_literal;
 use crate::{
-    Answer, alike, count_of, mapped, no_case, number, paired, push, said, show, taken, tell,
+    Answer, alike, count_of, has, has_each, index, mapped, no_case, number, paired, push, said,
+    show, taken, tell,
 };
 use cedar_literals::bounded_display::BoundedToString;
 use cedar_literals::literals::Literal;
@@ -30,7 +32,7 @@ fn setted(set: Result<Set, AllocError>) -> Result<Value, AllocError> {
     Ok(Value::new(ValueKind::Set(set?), None))
 }
 
-/// The long that the word writes, or 0.
+/// The long that the word writes; 0 where it writes none.
 pub fn long(text: &str) -> Literal {
     Literal::from(text.parse::<i64>().unwrap_or(0))
 }
@@ -44,8 +46,10 @@ pub fn made(
     stack: &mut Stack,
 ) -> Answer {
     match verb {
-        "bool" => push(alloc, stack, literal(Ok(Literal::from(text == "true")))),
-        "long" => push(alloc, stack, literal(Ok(long(text)))),
+        "bool" if is_literal(verb, text) => {
+            push(alloc, stack, literal(Ok(Literal::from(text == "true"))))
+        }
+        "long" if is_literal(verb, text) => push(alloc, stack, literal(Ok(long(text)))),
         "text" => push(alloc, stack, literal(Literal::from_in(alloc, text))),
         "string" => {
             let text: String = String::from_str(alloc, text)?;
@@ -70,7 +74,8 @@ pub fn made(
         "empty-record" => push(alloc, stack, Value::empty_record(alloc, None)),
         "empty-kind" => push(alloc, stack, valued(ValueKind::empty_set(alloc))),
         "empty-record-kind" => push(alloc, stack, valued(ValueKind::empty_record(alloc))),
-        _ => push(alloc, stack, setted(Set::empty(alloc))),
+        "no-set" => push(alloc, stack, setted(Set::empty(alloc))),
+        _ => no_case(alloc),
     }
 }
 
@@ -81,6 +86,11 @@ fn arguments(alloc: Global, text: &str) -> Result<Vec<Argument>, AllocError> {
     }
     let argument = Argument::Lit(Literal::from_in(alloc, text)?);
     Ok(Vec::from_array(alloc, [argument])?)
+}
+
+/// Whether a rank has such a key: a number below 256.
+pub fn is_key(word: &str) -> bool {
+    word.parse::<u8>().is_ok()
 }
 
 /// The value of the type `rank` with this key.
@@ -113,32 +123,44 @@ fn extended(
 
 /// Puts the rank with this key on the stack, made by a call of `func`.
 pub fn ranked(alloc: Global, text: &str, key: &str, func: &str, stack: &mut Stack) -> Answer {
+    if !is_key(key) {
+        return no_case(alloc);
+    }
     push(alloc, stack, extended(alloc, rank(alloc, key, func, text)))
 }
 
 /// A set of as many values as the word says.
 pub fn set(alloc: Global, verb: &str, count: &str, stack: &mut Stack) -> Answer {
+    if !has(count, stack) {
+        return no_case(alloc);
+    }
     let values = taken(alloc, number(count), stack)?;
     match verb {
         "set" => push(alloc, stack, Value::set(alloc, values, None)),
         "set-in" => push(alloc, stack, Value::from_in(alloc, values)),
         "kind" => push(alloc, stack, valued(ValueKind::set(alloc, values))),
         "kind-in" => push(alloc, stack, valued(ValueKind::from_in(alloc, values))),
-        _ => push(alloc, stack, setted(Set::new(alloc, values))),
+        "set-new" => push(alloc, stack, setted(Set::new(alloc, values))),
+        _ => no_case(alloc),
     }
 }
 
-fn literals(alloc: Global, numbers: &str) -> Result<Vec<Literal>, AllocError> {
+fn literals(alloc: Global, numbers: &str) -> Result<Option<Vec<Literal>>, AllocError> {
     let mut literals = Vec::new(alloc);
     for text in numbers.split(',') {
+        if !is_literal("long", text) {
+            return Ok(None);
+        }
         literals.push(long(text))?;
     }
-    Ok(literals)
+    Ok(Some(literals))
 }
 
 /// A set of the numbers between commas, made as the verb says.
 pub fn literal_set(alloc: Global, verb: &str, numbers: &str, stack: &mut Stack) -> Answer {
-    let literals = literals(alloc, numbers)?;
+    let Some(literals) = literals(alloc, numbers)? else {
+        return no_case(alloc);
+    };
     match verb {
         "set-of-literals" => push(alloc, stack, Value::set_of_lits(alloc, literals, None)),
         "kind-of-literals" => push(
@@ -146,18 +168,22 @@ pub fn literal_set(alloc: Global, verb: &str, numbers: &str, stack: &mut Stack) 
             stack,
             valued(ValueKind::set_of_lits(alloc, literals)),
         ),
-        _ => push(alloc, stack, setted(Set::from_lits(alloc, literals))),
+        "set-from-literals" => push(alloc, stack, setted(Set::from_lits(alloc, literals))),
+        _ => no_case(alloc),
     }
 }
 
 /// A record of these keys, whose values are on top.
 pub fn record(alloc: Global, verb: &str, keys: &str, stack: &mut Stack) -> Answer {
+    if !has_each(keys, stack) {
+        return no_case(alloc);
+    }
     let values = taken(alloc, count_of(keys), stack)?;
     let pairs = paired(alloc, keys, values)?;
     match verb {
         "record" => push(alloc, stack, Value::record(alloc, pairs, None)),
         "record-kind" => push(alloc, stack, valued(ValueKind::record(alloc, pairs))),
-        _ => {
+        "record-arc" => {
             let map = mapped(alloc, pairs)?;
             push(
                 alloc,
@@ -165,6 +191,7 @@ pub fn record(alloc: Global, verb: &str, keys: &str, stack: &mut Stack) -> Answe
                 Ok::<_, AllocError>(Value::record_arc(map, None)),
             )
         }
+        _ => no_case(alloc),
     }
 }
 
@@ -247,19 +274,20 @@ fn of_sets(alloc: Global, verb: &str, set: &Set, other: &Value) -> Answer {
     }
     match as_set(other) {
         Some(other) if verb == "two-nest" => said(alloc, set.is_subset(other)),
-        Some(other) => said(alloc, set.is_disjoint(other)),
-        None => no_case(alloc),
+        Some(other) if verb == "two-disjoint" => said(alloc, set.is_disjoint(other)),
+        _ => no_case(alloc),
     }
-}
-
-fn bound(text: &str) -> Option<usize> {
-    text.parse::<usize>().ok()
 }
 
 fn of_one(alloc: Global, verb: &str, text: &str, value: &Value) -> Answer {
     match verb {
-        "show" => show(alloc, BoundedToString::to_string(value, alloc, bound(text))),
-        "bounded" => show(alloc, value.to_string_bounded(alloc, number(text))),
+        "show" if text.is_empty() || index(text).is_some() => {
+            show(alloc, BoundedToString::to_string(value, alloc, index(text)))
+        }
+        "bounded" if index(text).is_some() => show(
+            alloc,
+            value.to_string_bounded(alloc, number(text)),
+        ),
         "unbounded" => show(alloc, value.to_string_unbounded(alloc)),
         "type-of" => show(alloc, value.type_of(alloc)),
         "has-place" => said(alloc, value.source_loc().is_some()),
@@ -276,7 +304,8 @@ fn of_set(alloc: Global, verb: &str, set: &Set) -> Answer {
     match verb {
         "len" => tell(alloc, set.len()),
         "copied-set" => show(alloc, setted(set.clone(alloc))),
-        _ => said(alloc, set.is_empty()),
+        "is-empty" => said(alloc, set.is_empty()),
+        _ => no_case(alloc),
     }
 }
 
@@ -286,7 +315,8 @@ fn of_literal(alloc: Global, verb: &str, literal: &Literal) -> Answer {
         "literal-type" => show(alloc, literal.type_of(alloc)),
         "literal-copy" => show(alloc, literal.clone()),
         "literal-alike" => said(alloc, alike(literal, &literal.clone()?)),
-        _ => said(alloc, literal.is_ref()),
+        "is-ref" => said(alloc, literal.is_ref()),
+        _ => no_case(alloc),
     }
 }
 

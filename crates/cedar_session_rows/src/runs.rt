@@ -1,5 +1,5 @@
 // Runs of a session over memory, and of the program's work, at devices of each kind.
-use crate::devices::{Asking, Broken, Drip, Hearing, Narrow};
+use crate::devices::{Asking, Broken, Drip, Faltering, Halting, Hearing, Narrow};
 use crate::ranks::Ranks;
 use crate::words::{bytes, one_line};
 use cedar_rows::{Answer, cut, number};
@@ -48,14 +48,16 @@ pub(crate) fn of_command(verb: &str, body: &str, session: &mut Session<'_, '_, R
     }
 }
 
-/// A run over any bytes: whole, a byte at a time, with a reader that breaks behind them, with a writer that
-/// has room for so many bytes, or at a client that waits for a line at each NUL.
+/// A run over any bytes: whole, a byte at a time, with a reader that breaks behind them or once at each NUL, with
+/// a writer that has room for so many bytes or fails once, at a write or a flush, or at a client that waits for a
+/// line at each NUL.
 pub(crate) fn at_devices(text: &str, session: &mut Session<'_, '_, Ranks>) -> Answer {
     let alloc = session.allocator();
     let (device, text) = cut(text);
     match device {
         "narrow" => return at_narrow(text, session),
         "client" => return at_client(text, session),
+        "faltering" => return at_faltering(text, session),
         _ => {}
     }
     let given = bytes(alloc, text)?;
@@ -63,6 +65,7 @@ pub(crate) fn at_devices(text: &str, session: &mut Session<'_, '_, Ranks>) -> An
     let end = match device {
         "whole" => ended(session, given.as_slice(), &mut written),
         "drip" => ended(session, Drip(given.as_slice()), &mut written),
+        "halting" => ended(session, Halting(given.as_slice()), &mut written),
         _ => ended(session, Broken(given.as_slice()), &mut written),
     };
     told(alloc, written.as_slice(), end)
@@ -75,6 +78,22 @@ fn at_narrow(text: &str, session: &mut Session<'_, '_, Ranks>) -> Answer {
     let mut narrow = Narrow::with_room(alloc, number(room));
     let end = ended(session, given.as_slice(), &mut narrow);
     told(alloc, narrow.taken.as_slice(), end)
+}
+
+/// A run whose writer fails once: `write` behind so many bytes, or `flush` behind so many others.
+fn at_faltering(text: &str, session: &mut Session<'_, '_, Ranks>) -> Answer {
+    let alloc = session.allocator();
+    let (call, text) = cut(text);
+    let (count, text) = cut(text);
+    let given = bytes(alloc, text)?;
+    let before = Some(number(count));
+    let mut faltering = Faltering {
+        taken: Vec::new(alloc),
+        bytes: if call == "write" { before } else { None },
+        flushes: if call == "flush" { before } else { None },
+    };
+    let end = ended(session, given.as_slice(), &mut faltering);
+    told(alloc, faltering.taken.as_slice(), end)
 }
 
 fn at_client(text: &str, session: &mut Session<'_, '_, Ranks>) -> Answer {

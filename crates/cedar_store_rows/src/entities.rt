@@ -74,15 +74,15 @@ fn restrict(
     }
 }
 
-fn value(word: &str) -> PartialValue {
-    PartialValue::Value(Value::from(Literal::Long(number(word))))
+fn value(number: i64) -> PartialValue {
+    PartialValue::Value(Value::from(Literal::Long(number)))
 }
 
 /// A part of the next entity: a number, or the topmost expression.
 pub(crate) fn part(alloc: Global, case: &Case<'_>, stack: &mut Stack, held: &mut Made) -> Answer {
-    match case.verb {
-        "attr" => put(alloc, &mut held.attrs, case.one, value(case.two)),
-        "tag" => put(alloc, &mut held.tags, case.one, value(case.two)),
+    match (case.verb, number(case.two)) {
+        ("attr", Some(number)) => put(alloc, &mut held.attrs, case.one, value(number)),
+        ("tag", Some(number)) => put(alloc, &mut held.tags, case.one, value(number)),
         _ => match stack.pop() {
             Some(expr) => open_part(alloc, case, expr, held),
             None => no_case(alloc),
@@ -101,12 +101,13 @@ fn open_part(alloc: Global, case: &Case<'_>, expr: Expr, held: &mut Made) -> Ans
             name,
             RestrictedExpr::new(alloc, expr),
         ),
-        _ => restrict(
+        "tag-expr" => restrict(
             alloc,
             &mut held.tag_exprs,
             name,
             RestrictedExpr::new(alloc, expr),
         ),
+        _ => no_case(alloc),
     }
 }
 
@@ -129,7 +130,7 @@ pub(crate) fn make(
                 Entity::new_with_attr_partial_value(alloc, uid, attrs, indirect, parents, tags),
             )
         }
-        _ => {
+        "evaluated" => {
             let attrs = mem::replace(&mut held.attr_exprs, BTreeMap::new(alloc));
             let tags = mem::replace(&mut held.tag_exprs, BTreeMap::new(alloc));
             push(
@@ -138,6 +139,7 @@ pub(crate) fn make(
                 Entity::new(alloc, uid, attrs, indirect, parents, tags, extensions, 9),
             )
         }
+        _ => no_case(alloc),
     }
 }
 
@@ -169,10 +171,11 @@ pub(crate) fn edit(alloc: Global, case: &Case<'_>, entities: &mut Vec<Entity>) -
             entity.remove_ancestors(&uids(alloc, case.one)?);
             text(alloc, "ok")
         }
-        _ => {
+        "copy" => {
             let copy = entity.clone(alloc);
             push(alloc, entities, copy)
         }
+        _ => no_case(alloc),
     }
 }
 
@@ -215,7 +218,8 @@ fn lineage(alloc: Global, case: &Case<'_>, entity: &Entity) -> Answer {
         "key" => told(alloc, entity.get_key()),
         "has-edge" => said(alloc, entity.has_edge_to(&uid(alloc, case.one)?)),
         "descends" => said(alloc, entity.is_descendant_of(&uid(alloc, case.one)?)),
-        _ => lent(alloc, entity),
+        "lent" => lent(alloc, entity),
+        _ => no_case(alloc),
     }
 }
 
@@ -235,7 +239,8 @@ fn of_two(alloc: Global, verb: &str, low: &Entity, high: &Entity) -> Answer {
     match verb {
         "two-same" => said(alloc, low.deep_eq(high)),
         "two-equal" => said(alloc, low == high),
-        _ => said(alloc, hash_of(low) == hash_of(high)),
+        "two-hashed" => said(alloc, hash_of(low) == hash_of(high)),
+        _ => no_case(alloc),
     }
 }
 
@@ -269,6 +274,7 @@ pub(crate) fn take(
     match verb {
         "parts" => counted(alloc, entity.into_inner()),
         "validate" => push(alloc, entities, entity.validate(alloc, extensions)),
-        _ => valid(alloc, entity.try_validate(alloc, extensions)),
+        "is-valid" => valid(alloc, entity.try_validate(alloc, extensions)),
+        _ => no_case(alloc),
     }
 }

@@ -1,5 +1,5 @@
 // Graphs over numbers, their closures and what is refused of them.
-use cedar_policy_rows::words::{Answer, Case, done, sorted, text, told};
+use cedar_policy_rows::words::{Answer, Case, done, no_case, sorted, text, told};
 use cedar_store::transitive_closure::{
     TCNode, TcError, compute_tc, enforce_tc_and_dag, rebuild_tc, repair_tc,
 };
@@ -135,22 +135,22 @@ fn edges(alloc: Global, nodes: &Graph, key: u32) -> Answer {
     }
 }
 
-fn natural(text: &str) -> u32 {
-    text.parse::<u32>().unwrap_or(0)
+fn natural(text: &str) -> Option<u32> {
+    text.parse::<u32>().ok()
 }
 
 pub(crate) fn answer(alloc: Global, case: &Case<'_>, nodes: &mut Graph) -> Answer {
-    let (one, two) = (natural(case.one), natural(case.two));
-    match case.verb {
-        "numbers" => made(alloc, nodes, numbers(alloc, one)),
-        "chain" => made(alloc, nodes, chain(alloc, one)),
-        "connect" => done(alloc, connect(nodes, one, two)),
-        "shorten" => done(alloc, shorten(nodes, one, two)),
-        "compute" => closed(alloc, compute_tc(alloc, nodes, false)),
-        "compute-acyclic" => closed(alloc, compute_tc(alloc, nodes, true)),
-        "repair" => closed(alloc, repair_tc(alloc, nodes, &[one], true)),
-        "rebuild" => closed(alloc, rebuild_tc(alloc, nodes, true)),
-        "enforce" => closed(alloc, enforce_tc_and_dag(alloc, nodes)),
-        _ => edges(alloc, nodes, one),
+    match (case.verb, natural(case.one), natural(case.two)) {
+        ("numbers", Some(last), _) => made(alloc, nodes, numbers(alloc, last)),
+        ("chain", Some(last), _) => made(alloc, nodes, chain(alloc, last)),
+        ("connect", Some(from), Some(to)) => done(alloc, connect(nodes, from, to)),
+        ("shorten", Some(from), Some(to)) => done(alloc, shorten(nodes, from, to)),
+        ("compute", _, _) => closed(alloc, compute_tc(alloc, nodes, false)),
+        ("compute-acyclic", _, _) => closed(alloc, compute_tc(alloc, nodes, true)),
+        ("repair", Some(key), _) => closed(alloc, repair_tc(alloc, nodes, &[key], true)),
+        ("rebuild", _, _) => closed(alloc, rebuild_tc(alloc, nodes, true)),
+        ("enforce", _, _) => closed(alloc, enforce_tc_and_dag(alloc, nodes)),
+        ("edges", Some(key), _) => edges(alloc, nodes, key),
+        _ => no_case(alloc),
     }
 }

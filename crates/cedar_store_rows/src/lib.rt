@@ -15,7 +15,7 @@ use cedar_policy_rows::expressions::{self, Stack};
 use cedar_policy_rows::scopes::{self, Scope};
 use cedar_policy_rows::sets::{self, Sets};
 use cedar_policy_rows::templates::{self, Policies};
-use cedar_policy_rows::words::{self, Answer, Case};
+use cedar_policy_rows::words::{self, Answer, Case, no_case};
 use cedar_store::ast::SlotEnv;
 use std::alloc::{AllocError, Global};
 use std::collections::HashMap;
@@ -97,20 +97,21 @@ fn policies(alloc: Global, case: &Case<'_>, held: &mut Held) -> Answer {
         "clause" => templates::clause(alloc, case, &mut held.stack, &mut made.policy),
         "annotated" => templates::annotated(alloc, case, scope, &mut held.stack, made),
         "asked" => templates::asked(alloc, case.verb, made),
-        "binds" => templates::binds(alloc, &held.bindings, made),
+        "binds" if case.verb == "template" => templates::binds(alloc, &held.bindings, made),
         "template" => templates::ask(alloc, case, table, made),
         "turn" => templates::turn(alloc, case.verb, made),
         "shared" => templates::link(alloc, case, &mut held.bindings, made),
         "static" => templates::own(alloc, case.verb, made),
         "unexpected" => templates::unexpected(alloc, case.verb),
         "policy" => templates::policy(alloc, case.verb, made.policy.as_ref()),
-        "policy-template" => templates::lend(alloc, made),
+        "policy-template" if case.verb == "copy" => templates::lend(alloc, made),
         "add" => sets::add(alloc, case.verb, made, &mut held.sets),
         "collect" => sets::collect(alloc, case.verb, &mut made.policy, &mut held.sets),
         "in-set" => sets::edit(alloc, case, &mut held.bindings, &mut held.sets),
         "index" => sets::index(alloc, case, &mut held.sets),
         "merged" => sets::merge(alloc, case.verb, &mut held.sets),
-        _ => sets::ask(alloc, case.verb, table, &mut held.sets),
+        "set" => sets::ask(alloc, case.verb, table, &mut held.sets),
+        _ => no_case(alloc),
     }
 }
 

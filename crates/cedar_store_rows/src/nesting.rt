@@ -1,7 +1,7 @@
 // Users in groups that nest, each user and each group with three parents.
 use cedar_literals::uids::EntityUID;
 use cedar_names::errors::ParseNameError;
-use cedar_policy_rows::words::{Answer, told};
+use cedar_policy_rows::words::{Answer, no_case, told};
 use cedar_store::ast::Entity;
 use std::alloc::Global;
 
@@ -51,7 +51,9 @@ fn put_level(
 
 /// Puts so many users, and their groups, on the stack, and answers how many entities stand there.
 pub(crate) fn put_users(alloc: Global, word: &str, entities: &mut Vec<Entity>) -> Answer {
-    let users = word.parse::<u32>().unwrap_or(0);
+    let Ok(users) = word.parse::<u32>() else {
+        return no_case(alloc);
+    };
     let groups = (users / USERS_TO_A_GROUP).max(1);
     put_level(alloc, 0, users, groups, entities)?;
     for level in 1..=LEVELS {

@@ -56,11 +56,13 @@ fn taken(alloc: Global, at: &mut Entities) -> Entities {
     mem::replace(at, Entities::new(alloc))
 }
 
-fn computation(verb: &str) -> TCComputation {
+/// How the closure comes about by each way to fill a store.
+fn computation(verb: &str) -> Option<TCComputation> {
     match verb {
-        "of-closed" => TCComputation::AssumeAlreadyComputed,
-        "of-enforced" => TCComputation::EnforceAlreadyComputed,
-        _ => TCComputation::ComputeNow,
+        "add" | "put" | "of" => Some(TCComputation::ComputeNow),
+        "of-closed" => Some(TCComputation::AssumeAlreadyComputed),
+        "of-enforced" => Some(TCComputation::EnforceAlreadyComputed),
+        _ => None,
     }
 }
 
@@ -73,7 +75,9 @@ pub(crate) fn fill(
 ) -> Answer {
     let at = &mut held.store;
     let entities = all(alloc, entities);
-    let computation = computation(verb);
+    let Some(computation) = computation(verb) else {
+        return no_case(alloc);
+    };
     match verb {
         "add" => {
             let edited = taken(alloc, at).add_entities(alloc, entities, computation);
@@ -83,11 +87,12 @@ pub(crate) fn fill(
             let edited = taken(alloc, at).upsert_entities(alloc, entities, computation);
             kept(alloc, at, edited)
         }
-        _ => kept(
+        "of" | "of-closed" | "of-enforced" => kept(
             alloc,
             at,
             Entities::from_entities(alloc, entities, computation),
         ),
+        _ => no_case(alloc),
     }
 }
 
@@ -95,14 +100,17 @@ pub(crate) fn fill(
 pub(crate) fn edit(alloc: Global, case: &Case<'_>, held: &mut Stores) -> Answer {
     let at = &mut held.store;
     let gone = uids(alloc, case.one)?;
-    let store = taken(alloc, at);
     match case.verb {
-        "remove" => kept(
-            alloc,
-            at,
-            store.remove_entities(alloc, &gone, TCComputation::ComputeNow),
-        ),
-        _ => kept(alloc, at, Ok(store.partial())),
+        "remove" => {
+            let store = taken(alloc, at);
+            let edited = store.remove_entities(alloc, &gone, TCComputation::ComputeNow);
+            kept(alloc, at, edited)
+        }
+        "partial" => {
+            let store = taken(alloc, at);
+            kept(alloc, at, Ok(store.partial()))
+        }
+        _ => no_case(alloc),
     }
 }
 
@@ -170,7 +178,8 @@ pub(crate) fn ask(
         "given-up" => given_up(alloc, store.clone(alloc)),
         "validate" => done(alloc, store.try_validate(alloc, extensions)),
         "same" => said(alloc, store.deep_eq(&held.other)),
-        _ => copied(alloc, held),
+        "copy" => copied(alloc, held),
+        _ => no_case(alloc),
     }
 }
 
