@@ -7,9 +7,7 @@ use anyhow::Result;
 use cedar_evaluator::ast::{Context, EntityUIDEntry, Request};
 use cedar_evaluator::{Authorizer, Diagnostics, Extensions, Response};
 use cedar_expressions::ast::{Literal, RestrictedExpr};
-use cedar_parser::ExtStyles;
-use cedar_parser::prelude::StylesOfExtensions;
-use cedar_parser::strict::parse_policyset_strict;
+use cedar_parser::strict::parse_policyset;
 use cedar_store::ast::{Entity, EntityUID, PolicySet};
 use cedar_store::entities::{Entities, TCComputation};
 use cedar_store::prelude::{EvaluateEntity, FromIn};
@@ -45,8 +43,7 @@ pub(crate) fn read_policies(
     extensions: &Extensions<'_>,
     text: &str,
 ) -> Result<PolicySet> {
-    let styles = ExtStyles::for_policies(alloc, extensions)?;
-    Ok(parse_policyset_strict(alloc, text, &styles, DEPTH)?)
+    Ok(parse_policyset(alloc, text, extensions, DEPTH)?)
 }
 
 /// Alice is in the family, which is among the friends; bob is among these too; and there is a photo.

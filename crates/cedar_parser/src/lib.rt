@@ -23,6 +23,13 @@ mod styles;
 pub mod text_to_cst;
 pub mod unescape;
 
+pub use cedar_builders::expr_builder::ExprBuilder;
 pub use cedar_cst::node::Node;
+pub use cedar_extensions::evaluation_error::EvaluationError;
+pub use cedar_extensions::extensions::Extensions;
 pub use cedar_faults::ExtStyles;
+pub use cedar_literals::uids::{EntityType, EntityUID};
 pub use cedar_names::places::Loc;
+pub use cedar_policy_parts::PolicyID;
+pub use cedar_policy_set::sets::PolicySet;
+pub use cedar_restricted::restricted::RestrictedExpr;

@@ -2,18 +2,23 @@
 ghost use Rattle.std.specs.Prelude.{IfErr};
 ghost use Rattle.std.specs.Option.{option_map};
 ghost use Rattle.cedar_grammar.specs.Converting.{policies_syntax};
+ghost use Rattle.cedar_grammar.specs.Functions.{policy_names};
 ghost use Rattle.cedar_grammar.specs.LooseReading.{read_policies};
 ghost use Rattle.cedar_policy_set.specs.Texts.{text_entries};
 ghost use Rattle.cedar_cst.specs.View.{shown_policies};
 ghost use Rattle.cedar_policy_conversion.specs.Shows.{policies_show};
 ghost use Rattle.cedar_parser.specs.Faults.{TellOnly, text_shows};
+ghost use Rattle.cedar_parser.specs.Settings.{functions_of};
 ghost use Rattle.cedar_parser.specs.Strict.{Writes, ReadsSet};
 
-use crate::errors::ParseErrors;
+use crate::errors::{ParseError, ParseErrors};
 use crate::refusals::refused;
+use crate::styles::StylesOfExtensions;
 use crate::text_to_cst::parse_policies;
 use cedar_cst::cst;
 use cedar_cst::node::Node;
+use cedar_extensions::extensions::Extensions;
+use cedar_extensions::objects::ExtensionFunctionObject;
 use cedar_faults::ExtStyles;
 use cedar_grammar::{at_most_one_meaning, converting_is_the_grammar, wider_limits_change_nothing};
 use cedar_policy_conversion::to_policyset;
@@ -45,6 +50,23 @@ pub fn parse_policyset_strict(
         Ok(tree) => converted(alloc, &tree, styles),
         Err(errors) => Err(errors),
     }
+}
+
+/// The policies and templates that a text is, as [`parse_policyset_strict`] reads it, where the functions of this table
+/// may be called, but for `unknown`, which policies never call.
+pub fn parse_policyset<F: ExtensionFunctionObject>(
+    alloc: Global,
+    text: &str,
+    extensions: &Extensions<'_, F>,
+    depth: u32,
+) -> Result<PolicySet, ParseErrors>
+    ensures set { ReadsSet (policy_names (functions_of F.answers extensions.now)) depth text.now result }
+    ensures shown { IfErr result (λ errors. TellOnly errors (text_shows read_policies depth text.now (policies_show (policy_names (functions_of F.answers extensions.now))))) }
+{
+    let Ok(styles) = ExtStyles::for_policies(alloc, extensions) else {
+        return Err(ParseErrors::one(alloc, ParseError::Memory));
+    };
+    parse_policyset_strict(alloc, text, &styles, depth)
 }
 
 // The policies that a loose tree writes.
