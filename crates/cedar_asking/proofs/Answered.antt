@@ -79,6 +79,8 @@ module _ (exist : WorldsHaveFacts) (stores : StoresHaveWorldFacts) (tables : Tab
 
   -- what it doesn't say is refused for a limit that was met, or for want of memory
   pub not_answered : (refused : Refusal) → SaysResponse response (Err refused) → AnswersAsked by world q (Err refused)
-  not_answered refusal.Depth some = λ known. answered.limit are.setting (subst SomeAtLimit (ap (λ (h : Holding). h.errors) responds.holds) some) known
+  not_answered refusal.Depth some =
+      let met : SomeAtLimit (holding_of responds.kept).errors = subst SomeAtLimit (ap (λ (h : Holding). h.errors) responds.holds) some in
+      (answered.in_force met, λ known. answered.limit are.setting met known)
   not_answered refusal.Memory h = tt
   not_answered refused h = absurd h

@@ -1,11 +1,12 @@
--- Why nothing is told, as the answer to the question has it.
-use Rattle.std.proofs.Common.{◌≡◌, sym, subst, ℕ, List, Err}
+-- Why nothing is answered once more is told.
+use Rattle.std.proofs.Common.{◌≡◌, inl, inr, sym, subst, ℕ, List, Err}
 use Rattle.std.specs.declared.alloc.Global.{Global}
 use Rattle.std.specs.declared.rc.RcStr.{RcStr}
 use Rattle.cedar_language.specs.Value.{Value}
 use Rattle.cedar_world.specs.Answer.{Answer}
 use Rattle.cedar_world.specs.Asking.{Question}
 use Rattle.cedar_world.specs.Setting.{Setting}
+use Rattle.cedar_world.specs.Step.{SomeInForce}
 use Rattle.cedar_world.specs.World.{World}
 use Rattle.cedar_held.specs.BodyRefusals.{refusal_by}
 use Rattle.cedar_entities.specs.declared.store.Entities.{Entities}
@@ -13,12 +14,14 @@ use Rattle.cedar_extensions.specs.Failures.{Failure, OfKind, LimitMet, MemoryRan
 use Rattle.cedar_extensions.specs.Table.{Table}
 use Rattle.cedar_replies.specs.declared.refusal.Refusal.{Refusal}
 use Rattle.cedar_replies.specs.declared.refusal.Refusal.TheVariants as refusal
+use Rattle.cedar_evaluator.specs.Holding.{holding_in}
 use Rattle.cedar_evaluator.specs.Reauthorizing.{Reauthorizes}
 use Rattle.cedar_evaluator.specs.declared.errors.ConcretizationError.TheVariants as concretization
 use Rattle.cedar_evaluator.specs.declared.errors.ReauthorizationError.{ReauthorizationError}
 use Rattle.cedar_evaluator.specs.declared.errors.ReauthorizationError.TheVariants as reauthorization
 use Rattle.cedar_evaluator.specs.declared.partial_response.PartialResponse.{PartialResponse}
-use Rattle.cedar_asking.specs.Responses.{AnswersTold, IsToldAs}
+use Rattle.cedar_asking.specs.Erring.{SomeAtLimit}
+use Rattle.cedar_asking.specs.Responses.{SaysResponse, AnswersTold, IsToldAs}
 use Rattle.cedar_asking.specs.TellLaws.{IsContextFailure, IsWhyNotTold}
 use Rattle.std.specs.Prelude.{Result}
 
@@ -31,7 +34,7 @@ reauthorizes_at s t table n depth told first found e f h =
 module _ (by : Setting) (world : World) (q : Question) (first : PartialResponse) (old told : List (RcStr Global × Value)) (last : Answer) where
   by_failure : (f : Failure) → IsContextFailure by q told f → AnswersTold by world q first old told last (Err (refusal_by f))
   by_failure (OfKind k) h = h
-  by_failure LimitMet h = tt
+  by_failure LimitMet h = inr h
   by_failure MemoryRanOut h = tt
 
   refused_by : (r s : Refusal) → r ≡ s → AnswersTold by world q first old told last (Err s) → AnswersTold by world q first old told last (Err r)
@@ -43,3 +46,10 @@ module _ (by : Setting) (world : World) (q : Question) (first : PartialResponse)
   tells_nothing (reauthorization.ConcretizationError (concretization.Memory e)) r why is = refused_by r refusal.Memory is tt
   tells_nothing (reauthorization.Memory e) r why is = refused_by r refusal.Memory is tt
   tells_nothing e r why is = absurd why
+
+  -- and what isn't said of values that are
+  pub says_nothing : (again : PartialResponse) → (SomeAtLimit (holding_in again).errors → SomeInForce world) → (r : Refusal) → SaysResponse again (Err r)
+      → AnswersTold by world q first old told last (Err r)
+  says_nothing again of_policies refusal.Depth some = inl (of_policies some)
+  says_nothing again of_policies refusal.Memory h = tt
+  says_nothing again of_policies r h = absurd h

@@ -23,7 +23,7 @@ use Rattle.cedar_world.specs.First.{NamesNoUnknown, EarlyAnswersStand}
 use Rattle.cedar_world.specs.Question.{IsKnown}
 use Rattle.cedar_world.specs.Setting.{Setting}
 use Rattle.cedar_world.specs.Standing.{StandsEarly, IsJudged, Judges, ErrOnce, AnswersAreMade}
-use Rattle.cedar_world.specs.Step.{IsFirstAnswer}
+use Rattle.cedar_world.specs.Step.{IsFirstAnswer, SomeInForce}
 use Rattle.cedar_grammar.specs.Syntax.{PolicySyntax, condition}
 use Rattle.cedar_world.specs.World.{World, in_force_at}
 use Rattle.cedar_world.specs.WorldFacts.{AreFactsOf}
@@ -47,7 +47,7 @@ use Rattle.cedar_world.proofs.OrdinaryAnswers.{rules_list}
 use Rattle.cedar_asking.specs.Laws.{SaysHeld}
 use Rattle.cedar_asking.specs.Requests.{IsRequestOf}
 use Rattle.cedar_asking.proofs.Errors.{errors_listed, settled_listed, limit_kept}
-use Rattle.cedar_asking.proofs.InForce.{written_entry, is_bound, is_there, is_in_force, written_by}
+use Rattle.cedar_asking.proofs.InForce.{written_entry, is_bound, is_there, is_in_force, some_in_force, written_by}
 use Rattle.cedar_asking.proofs.Lists.{IsAmong, contained, contains, mapped, unmapped}
 use Rattle.cedar_asking.proofs.Naming.{is_other, no_unknown, no_call}
 use Rattle.cedar_asking.proofs.Sayings.{says_rules}
@@ -162,6 +162,13 @@ module _ (r : RequestParts) (store : Entities) (table : Table) (depth : ℕ) whe
         let settled = settled_listed listed ks have errors in
         law by world facts q (map judged ks) answer are facts_made names_none asked.is_data asked.request (asked.accepted facts served) (judges settled)
         (says_rules ks made (once settled) answer decides must may (erring ∙ ap finite.from_entries (errors_listed listed ks errors)))
+
+    -- a limit is met by a policy that is in force
+    pub meets_in_force : SomeAtLimit (errors_of ks) → SomeInForce world
+    meets_in_force (id, c) =
+        let (k, among, found) = limit_kept ks id c in
+        let (e, in_set, of) = kept_of (untold r) store table depth (policies_of es) ks kept k among in
+        some_in_force es whole slots finds world held e in_set
 
     -- a known question meets the limit only where a condition is higher
     pub meets_limit : MentionedIsMeant → LinkingKeepsHeight → IsSettingOf table depth by → SomeAtLimit (errors_of ks) → IsKnown q → SomeTooHigh by world

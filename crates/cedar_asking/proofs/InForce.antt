@@ -1,5 +1,5 @@
 -- The policies of a set that are in force in a world that has them.
-use Rattle.std.proofs.Common.{◌≡◌, true, if◌then◌else◌, Option, Some, None, refl, sym, ◌∙◌, ap}
+use Rattle.std.proofs.Common.{◌≡◌, true, if◌then◌else◌, Option, Some, None, IsSome, refl, sym, ◌∙◌, ap, subst}
 use Rattle.std.specs.Option.{option_map}
 use Rattle.std.specs.FinMap as finite
 use Rattle.std.specs.Cmp.Lexicographic.{bytes_decides, nat_list_eq_equiv}
@@ -9,6 +9,7 @@ use Rattle.cedar_language.specs.Uid.{Text}
 use Rattle.cedar_grammar.specs.Bindings.{linked}
 use Rattle.cedar_grammar.specs.Syntax.{PolicySyntax}
 use Rattle.cedar_world.specs.World.{World, Policy, template_of, template_at, standing_for, in_force_as, in_force_at}
+use Rattle.cedar_world.specs.Step.{SomeInForce}
 use Rattle.cedar_asking.proofs.Lists.{IsAmong, contained, contains}
 use Rattle.cedar_policy_set.specs.Entries.{Entry, static_policy, template, link, Entries, bound_at, HasItsTemplate, IsFull, IsWhole, is_policy, policies_of}
 use Rattle.cedar_policy_set.specs.Texts.{AreToldBySlots, syntax_in}
@@ -57,6 +58,12 @@ module _ (es : Entries) (whole : IsWhole es) where
     -- a policy is in force as it is written
     pub is_in_force : (id : Text) (e : Entry) → bound_at es id ≡ Some e → is_policy e ≡ true → in_force_at world.policies id ≡ Some (written_entry e)
     is_in_force id e at is = in_force id (Some e) at ∙ ap (λ b. option_map written_entry (if b then Some e else None)) is
+
+    -- where the set has a policy, some policy is in force
+    pub some_in_force : (e : Text × Entry) → IsAmong e (policies_of es) → SomeInForce world
+    some_in_force e a =
+        let (at, policy) = is_bound e a in
+        (e.0, subst IsSome (sym (is_in_force e.0 e.1 at policy)) refl)
 
     -- the world holds a static policy, and the template of a link
     pub is_held : (id : Text) (e : Entry) → bound_at es id ≡ Some e → (own : Text) × (finite.get world.policies own ≡ Some (Policy (syntax_in e)))

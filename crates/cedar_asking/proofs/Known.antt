@@ -36,7 +36,7 @@ mutual
   named_nothing (Apply (Call f) ts) r h = all_named_nothing ts r h
   named_nothing _ r h = cc
 
-  all_named_nothing : (ts : Trees) → are_restricted ts ≡ true → ((n : Text) → some_name_of (text_eq n) ts ≡ false) → all_mention_only (λ v. false) false ts ≡ true
+  pub all_named_nothing : (ts : Trees) → are_restricted ts ≡ true → ((n : Text) → some_name_of (text_eq n) ts ≡ false) → all_mention_only (λ v. false) false ts ≡ true
   all_named_nothing no_trees r h = refl
   all_named_nothing (a_tree t ts) r h =
       and_both (mentions_only (λ v. false) false t) (all_mention_only (λ v. false) false ts)

@@ -1,5 +1,5 @@
 -- A first response taken up again once values are told answers its question, and only its context may be why it isn't.
-use Rattle.std.proofs.Common.{◌≡◌, ◌∙◌, refl, ap, sym, subst, true, false, Option, Some, None, option_map, List, ◌++◌, map, ℕ, Err}
+use Rattle.std.proofs.Common.{◌≡◌, ◌∙◌, refl, ap, sym, subst, true≢false, Bool, true, false, Option, Some, None, option_map, List, ◌++◌, map, ℕ, Err}
 use Rattle.std.specs.FinMap as finite
 use Rattle.std.specs.declared.alloc.Global.{Global}
 use Rattle.std.specs.declared.rc.RcStr.{RcStr}
@@ -8,14 +8,14 @@ use Rattle.either.specs.declared.Either.TheVariants.{Left, Right}
 use Rattle.cedar_grammar.specs.Laws.{LinkConditions}
 use Rattle.cedar_language.specs.Answering.{decision, in_must, in_may, ids_with}
 use Rattle.cedar_language.specs.Facts.{Facts}
-use Rattle.cedar_language.specs.Tree.{Context, Tree, Trees}
+use Rattle.cedar_language.specs.Tree.{MakeRecord, Context, Tree, Apply, Trees}
 use Rattle.cedar_language.specs.Uid.{Text}
 use Rattle.cedar_language.specs.Value.{Value, Kind}
-use Rattle.cedar_partial_evaluation.specs.Leaves.{LeavesDontMatter}
+use Rattle.cedar_partial_evaluation.specs.Leaves.{is_left, AreKnown, KnownIsNeverLeft, LeavesDontMatter}
 use Rattle.cedar_partial_evaluation.specs.MadeAgain.{HoldsMade}
-use Rattle.cedar_partial_evaluation.specs.Partial.{Failed}
+use Rattle.cedar_partial_evaluation.specs.Partial.{ResidualTree, Failed, LeafAnswers}
 use Rattle.cedar_partial_evaluation.specs.Prompt.{IsPrompt}
-use Rattle.cedar_partial_evaluation.specs.Question.{Extends, AreMadeTold, IsAccepted, context_held, held_of}
+use Rattle.cedar_partial_evaluation.specs.Question.{Extends, AreMadeTold, IsAccepted, held_names, context_held, held_of}
 use Rattle.cedar_partial_evaluation.specs.Telling.{ContextsStay}
 use Rattle.cedar_world.specs.Again.{StandsAgain, AgainIsSound}
 use Rattle.cedar_world.specs.ContextErrors.{ContextsErrInParts}
@@ -28,6 +28,8 @@ use Rattle.cedar_world.specs.Asking.{Entries as Written, NoContext, WithEntries,
 use Rattle.cedar_grammar.specs.UnknownCalls.{hold_call}
 use Rattle.cedar_world.specs.Bodies.{some_name_of, is_one_of}
 use Rattle.cedar_world.specs.First.{IsData}
+use Rattle.cedar_world.specs.Orders.{text_eq}
+use Rattle.cedar_world.specs.Question.{names_some}
 use Rattle.cedar_world.specs.Setting.{Setting, functions_alone}
 use Rattle.cedar_world.specs.Standing.{Says, AnswersAreMade, UnsatisfiedSayNothing}
 use Rattle.cedar_world.specs.Values.{variable_names, context_errs}
@@ -71,9 +73,11 @@ use Rattle.cedar_asking.proofs.AgainJudged.{all_out, says_of_all, judges_again, 
 use Rattle.cedar_asking.proofs.ContextsTold.{holds_told, context_fails, no_unknown_asked, nothing_held}
 use Rattle.cedar_asking.proofs.Errors.{errors_listed, settled_listed}
 use Rattle.cedar_asking.proofs.Facts.{store_has_facts, table_is_served, built_is_made}
+use Rattle.cedar_asking.proofs.Known.{all_named_nothing}
 use Rattle.cedar_asking.proofs.Lists.{IsAmong}
 use Rattle.cedar_asking.proofs.Plainness.{functions_are_made, or_right}
 use Rattle.cedar_asking.proofs.Rejudged.{first_served, first_made, first_names}
+use Rattle.cedar_asking.proofs.Requested.{all_absent}
 use Rattle.cedar_asking.proofs.RequestTold.{no_conflicts, variable_again, held_again}
 use Rattle.cedar_asking.proofs.Sayings.{says_rules}
 use Rattle.cedar_asking.proofs.Standings.{judged, is_settled, no_slots}
@@ -101,6 +105,19 @@ asked_fails : (o : Option (Either Value Tree)) (k : Kind) → context_asked o �
 asked_fails None k e = cc
 asked_fails (Some (Left v)) k e = cc
 asked_fails (Some (Right t)) k e = cc
+
+none_known : (holds : LeafAnswers) → AreKnown (λ v. false) false holds
+none_known holds = record { variable = λ v h. absurd (true≢false (sym h)); slot = λ s h. absurd (true≢false (sym h)) }
+
+-- what is left of a context names an unknown
+names_left : KnownIsNeverLeft → (facts : Facts) (ks : List Text) (ts : Trees) → IsData (WithEntries ks ts) → (b : Bool) → some_name_of (λ n. true) ts ≡ b
+    → (t : Tree) → ResidualTree t ≡ context_held facts finite.empty (WithEntries ks ts) → b ≡ true
+names_left never facts ks ts given true is t e = refl
+names_left never facts ks ts given false is t e =
+    sym
+    (ap is_left e
+    ∙ never facts (λ v. false) false (held_names finite.empty) (none_known (held_names finite.empty)) (Apply (MakeRecord ks) ts)
+    (all_named_nothing ts given (λ n. all_absent (text_eq n) (λ m. true) (λ m h. refl) ts is)))
 
 not_both : {X : Type 0} (x : X) (o : Option X) → o ≡ None → o ≡ Some x → ⊥
 not_both x None e f = cc
@@ -211,19 +228,30 @@ module _ (c : Rests) (by : Setting) (world : World) (q : Question) (first : Part
       c.parts.fails by (told_in told) ks ts given (uncalled ks ts named) k
       (context_fails c.plain c.apart c.stay c.tell alone alone_good table depth now.setting.functions told (made_told alone now.setting.functions) ks ts given named p (sym (ap context_asked is) ∙ e) error k tells of)
 
-  context_failure : (p : Either Value Tree) (error : EvaluationError) → (request_asked first).context ≡ Some p → TellsContext table depth told p (Err error) → (f : Failure) → failure_of error ≡ f → IsContextFailure by q told f
-  context_failure p error is tells (OfKind k) of = written_errs q.context first.request.value.context p error k asked.is_data response.named (asked.holds alone response.of.setting.functions Context) is tells of
-  context_failure p error is tells LimitMet of = tt
-  context_failure p error is tells MemoryRanOut of = tt
+  -- a context that meets the limit names an unknown: a value isn't evaluated again
+  context_open : KnownIsNeverLeft → (x : Written) (o : Option contexts.Context) (p : Either Value Tree) (error : EvaluationError) → IsData x
+      → context_asked (option_map context_part o) ≡ context_held alone finite.empty x → option_map context_part o ≡ Some p → TellsContext table depth told p (Err error)
+      → names_some x ≡ true
+  context_open never NoContext None p error given e is tells = cc
+  context_open never NoContext (Some d) p error given e is tells = absurd (no_unknown_asked d _ (e ∙ nothing_held))
+  context_open never (WithEntries ks ts) o (Left v) error given e is tells = absurd tells
+  context_open never (WithEntries ks ts) o (Right t) error given e is tells =
+      names_left never alone ks ts given (some_name_of (λ n. true) ts) refl t (sym (ap context_asked is) ∙ e)
 
-  refused_by : (e : ConcretizationError) → IsRefused table depth told (request_asked first) e → IsWhyNotTold by q told (reauthorization.ConcretizationError e)
-  refused_by (concretization.ValueError name kind given) (v, h, is) = not_both _ _ conflicts_none h.first
-  refused_by (concretization.VarConfictError name existing given) (v, h, is) = not_both _ _ conflicts_none h.first
-  refused_by (concretization.EntityTypeConfictError name existing given) (v, h, is) = not_both _ _ conflicts_none h.first
-  refused_by (concretization.ValueEval error) (none, errs) = let (p, is, tells) = errs in context_failure p error is tells (failure_of error) refl
-  refused_by (concretization.Memory error) h = tt
+  context_failure : KnownIsNeverLeft → (p : Either Value Tree) (error : EvaluationError) → (request_asked first).context ≡ Some p → TellsContext table depth told p (Err error) → (f : Failure) → failure_of error ≡ f → IsContextFailure by q told f
+  context_failure never p error is tells (OfKind k) of = written_errs q.context first.request.value.context p error k asked.is_data response.named (asked.holds alone response.of.setting.functions Context) is tells of
+  context_failure never p error is tells LimitMet of =
+      context_open never q.context first.request.value.context p error asked.is_data (asked.holds alone response.of.setting.functions Context) is tells
+  context_failure never p error is tells MemoryRanOut of = tt
 
-  pub is_refused : (e : ReauthorizationError) → Reauthorizes s table depth told first (Err e) → IsWhyNotTold by q told e
-  is_refused (reauthorization.PolicySetError error) h = h response.responds.apart
-  is_refused (reauthorization.ConcretizationError error) h = refused_by error h
-  is_refused (reauthorization.Memory error) h = tt
+  refused_by : KnownIsNeverLeft → (e : ConcretizationError) → IsRefused table depth told (request_asked first) e → IsWhyNotTold by q told (reauthorization.ConcretizationError e)
+  refused_by never (concretization.ValueError name kind given) (v, h, is) = not_both _ _ conflicts_none h.first
+  refused_by never (concretization.VarConfictError name existing given) (v, h, is) = not_both _ _ conflicts_none h.first
+  refused_by never (concretization.EntityTypeConfictError name existing given) (v, h, is) = not_both _ _ conflicts_none h.first
+  refused_by never (concretization.ValueEval error) (none, errs) = let (p, is, tells) = errs in context_failure never p error is tells (failure_of error) refl
+  refused_by never (concretization.Memory error) h = tt
+
+  pub is_refused : KnownIsNeverLeft → (e : ReauthorizationError) → Reauthorizes s table depth told first (Err e) → IsWhyNotTold by q told e
+  is_refused never (reauthorization.PolicySetError error) h = h response.responds.apart
+  is_refused never (reauthorization.ConcretizationError error) h = refused_by never error h
+  is_refused never (reauthorization.Memory error) h = tt

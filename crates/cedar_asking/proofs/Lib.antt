@@ -26,6 +26,7 @@ pub mod TellBodies
 pub mod MoreTold
 pub mod Plainness
 pub mod Taken
+pub mod MetAgain
 pub mod Exactness
 pub mod Waiting
 pub mod Accepting

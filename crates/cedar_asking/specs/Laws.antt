@@ -10,7 +10,7 @@ use Rattle.cedar_world.specs.Asking.{Question}
 use Rattle.cedar_world.specs.Question.{IsKnown}
 use Rattle.cedar_world.specs.Setting.{Setting, functions_alone}
 use Rattle.cedar_world.specs.Standing.{StandsEarly}
-use Rattle.cedar_world.specs.Step.{IsFirstAnswer}
+use Rattle.cedar_world.specs.Step.{IsFirstAnswer, SomeInForce}
 use Rattle.cedar_world.specs.World.{World}
 use Rattle.cedar_world.specs.WorldFacts.{AreFactsOf}
 use Rattle.cedar_world.specs.Lookups.{ListsStanding}
@@ -75,7 +75,9 @@ module _ (by : Setting) (world : World) (facts : Facts) (es : Entries) (s : Enti
     pub first : HoldsMade facts → (listed : List (Text × ErrorKind)) (answer : Answer) → SaysHeld (holding_of ks) listed answer → IsFirstAnswer by world q answer
     -- and its errors are those with which the policies in force stand
     pub errors : (listed : List (Text × ErrorKind)) (answer : Answer) → SaysHeld (holding_of ks) listed answer → ListsStanding world (StandsEarly facts q finite.empty) answer
-    -- the limit is met at a known question only where a condition in force is higher
+    -- the limit is met only where a policy is in force
+    pub in_force : SomeAtLimit (holding_of ks).errors → SomeInForce world
+    -- and at a known question only where the condition of one is higher
     pub limit : IsSettingOf table depth by → SomeAtLimit (holding_of ks).errors → IsKnown q → SomeTooHigh by world
 
 -- what is kept of the policies held, evaluated for the request of a question, answers it

@@ -1,5 +1,5 @@
 -- What a question is answered over the policies and entities of a world, when it is asked and once more is told.
-use Rattle.std.specs.Prelude.{◌≡◌, ⊤, true, Result, Ok, Err, List, []}
+use Rattle.std.specs.Prelude.{◌≡◌, ◌⊎◌, ⊤, true, Result, Ok, Err, List, []}
 use Rattle.std.specs.FinMap as finite
 use Rattle.std.specs.declared.alloc.Global.{Global}
 use Rattle.std.specs.declared.rc.RcStr.{RcStr}
@@ -7,10 +7,10 @@ use Rattle.cedar_language.specs.Uid.{Text}
 use Rattle.cedar_language.specs.Value.{Value}
 use Rattle.cedar_world.specs.Answer as answers
 use Rattle.cedar_world.specs.Asking.{Question}
-use Rattle.cedar_world.specs.Question.{IsKnown}
+use Rattle.cedar_world.specs.Question.{IsKnown, HasOpenContext}
 use Rattle.cedar_world.specs.Setting.{Setting}
 use Rattle.cedar_world.specs.Standing.{StandsEarly}
-use Rattle.cedar_world.specs.Step.{IsFirstAnswer}
+use Rattle.cedar_world.specs.Step.{IsFirstAnswer, SomeInForce}
 use Rattle.cedar_world.specs.Values.{context_errs}
 use Rattle.cedar_world.specs.World.{World}
 use Rattle.cedar_world.specs.WorldFacts.{facts_of}
@@ -48,10 +48,11 @@ pub record IsAnswered (by : Setting) (world : World) (q : Question) (first : Par
   pub errors : ListsStanding world (StandsEarly (facts_of by world) q finite.empty) answer
   pub keeps : KeepsQuestion by world q first [] answer
 
--- At a known question the limit is met only where a condition in force is higher. Want of memory says nothing.
+-- The limit is met only where some policy is in force, and at a known question only where the condition of one is higher. Want of
+-- memory says nothing.
 abbrev pub AnswersAsked : Setting → World → Question → Result (PartialResponse × Answer) Refusal → Type 0
 AnswersAsked by world q (Ok found) = IsAnswered by world q found.0 (answer_of found.1)
-AnswersAsked by world q (Err Depth) = IsKnown q → SomeTooHigh by world
+AnswersAsked by world q (Err Depth) = SomeInForce world × (IsKnown q → SomeTooHigh by world)
 AnswersAsked by world q (Err Memory) = ⊤
 AnswersAsked by world q (Err r) = ⊥
 
@@ -62,10 +63,11 @@ IsToldAs (reauthorization.ConcretizationError (concretization.Memory e)) r = r �
 IsToldAs (reauthorization.Memory e) r = r ≡ Memory
 IsToldAs e r = ⊤
 
--- the answer once these values are told besides the old ones, or why there is none
+-- The answer once these values are told besides the old ones, or why there is none. The limit is met only where some policy is in
+-- force, or the question's context names an unknown, and is evaluated again.
 abbrev pub AnswersTold : Setting → World → Question → PartialResponse → List (RcStr Global × Value) → List (RcStr Global × Value) → answers.Answer → Result Answer Refusal → Type 0
 AnswersTold by world q first old told last (Ok answer) = IsAnsweredLater by world q first old told last (answer_of answer)
 AnswersTold by world q first old told last (Err Evaluation) = context_errs by q.context (told_in told) ≡ true
-AnswersTold by world q first old told last (Err Depth) = ⊤
+AnswersTold by world q first old told last (Err Depth) = SomeInForce world ⊎ HasOpenContext q
 AnswersTold by world q first old told last (Err Memory) = ⊤
 AnswersTold by world q first old told last (Err r) = ⊥

@@ -9,7 +9,8 @@ use Rattle.cedar_world.specs.Answer.{Answer}
 use Rattle.cedar_world.specs.Asking.{Question}
 use Rattle.cedar_world.specs.Bodies.{Fields}
 use Rattle.cedar_world.specs.Setting.{Setting}
-use Rattle.cedar_world.specs.Step.{IsLaterAnswer}
+use Rattle.cedar_world.specs.Question.{HasOpenContext}
+use Rattle.cedar_world.specs.Step.{IsLaterAnswer, SomeInForce}
 use Rattle.cedar_world.specs.Values.{context_errs}
 use Rattle.cedar_world.specs.World.{World}
 use Rattle.cedar_world.specs.WorldFacts.{facts_of}
@@ -17,7 +18,7 @@ use Rattle.cedar_world.specs.Again.{StandsAgain}
 use Rattle.cedar_world.specs.Joined.{IsJoined}
 use Rattle.cedar_world.specs.Lookups.{ListsStanding}
 use Rattle.cedar_entities.specs.declared.store.Entities.{Entities}
-use Rattle.cedar_extensions.specs.Failures.{Failure, OfKind, failure_of}
+use Rattle.cedar_extensions.specs.Failures.{Failure, OfKind, LimitMet, failure_of}
 use Rattle.cedar_extensions.specs.Table.{Table}
 use Rattle.cedar_interpreter.specs.Asking.{untold}
 use Rattle.cedar_policy_set.specs.Entries.{Entries, IsWhole}
@@ -32,6 +33,7 @@ use Rattle.cedar_evaluator.specs.declared.errors.ReauthorizationError.{Reauthori
 use Rattle.cedar_evaluator.specs.declared.errors.ReauthorizationError.TheVariants as reauthorization
 use Rattle.cedar_evaluator.specs.declared.partial_response.PartialResponse.{PartialResponse}
 use Rattle.cedar_asking.specs.Answering.{AreOf}
+use Rattle.cedar_asking.specs.Erring.{SomeAtLimit}
 use Rattle.cedar_asking.specs.Keeping.{IsNamed, AreTold, KeepsQuestion}
 use Rattle.cedar_asking.specs.Laws.{SaysHeld}
 use Rattle.cedar_asking.specs.Requests.{IsRequestOf}
@@ -69,9 +71,11 @@ TellsAreAnswered =
     → Reauthorizes s table depth told first (Ok again) → SaysHeld (holding_in again) listed new → IsJoined last new answer
     → IsAnsweredLater by world q first old told last answer
 
--- the context's evaluation failed, by an error that it meets wherever it is evaluated; or the limit was met, or memory ran out
+-- the context's evaluation failed, by an error that it meets wherever it is evaluated; or the limit was met, which is so only of a context
+-- that names an unknown; or memory ran out
 abbrev pub IsContextFailure : Setting → Question → List (RcStr Global × Value) → Failure → Type 0
 IsContextFailure by q told (OfKind k) = context_errs by q.context (told_in told) ≡ true
+IsContextFailure by q told LimitMet = HasOpenContext q
 IsContextFailure by q told f = Unit {0}
 
 -- nothing but the context is refused
@@ -81,9 +85,18 @@ IsWhyNotTold by q told (reauthorization.ConcretizationError (concretization.Memo
 IsWhyNotTold by q told (reauthorization.Memory e) = Unit {0}
 IsWhyNotTold by q told e = ⊥
 
+-- values that are of their unknowns' kinds are refused for the context alone
 abbrev pub TellsAreRefused : Type 0
 TellsAreRefused =
     (by : Setting) (world : World) (q : Question) (first : PartialResponse) (old told : List (RcStr Global × Value)) (es : Entries) (s : Entities) (table : Table) (depth : ℕ) (last : Answer) (e : ReauthorizationError)
     → GivesBuilt table → KeepsQuestion by world q first old last → AreOf by world es s table depth → AreTold q told
     → Reauthorizes s table depth told first (Err e)
     → IsWhyNotTold by q told e
+
+-- a first response that is taken up again meets the limit only where some policy is in force
+abbrev pub LimitsAreOfPolicies : Type 0
+LimitsAreOfPolicies =
+    (by : Setting) (world : World) (q : Question) (first again : PartialResponse) (old told : List (RcStr Global × Value))
+    (s : Entities) (table : Table) (depth : ℕ) (last : Answer)
+    → KeepsQuestion by world q first old last → Reauthorizes s table depth told first (Ok again) → SomeAtLimit (holding_in again).errors
+    → SomeInForce world

@@ -119,8 +119,8 @@ fn why_not_told(error: &ReauthorizationError) -> Refusal
 /// The answer to a question once more is told: its first response taken up again with all values told, joined
 /// with the answer that was given last. (Cedar language reference, "Partial evaluation".)
 ///
-/// It is refused `Evaluation` where the context errs with these values, `Depth` where an evaluation nests
-/// deeper than `depth`, and `Memory`.
+/// It is refused `Evaluation` where the context errs with these values, `Depth` where the evaluation of a
+/// context that names an unknown, or of some policy, nests deeper than `depth`, and `Memory`.
 pub fn answer_told<F: ExtensionFunctionObject>(
     alloc: Global,
     first: &PartialResponse,

@@ -13,7 +13,7 @@ mod wanted;
 
 ghost use Rattle.cedar_asking.specs.Contexts.{QuestionsAreAsked};
 ghost use Rattle.cedar_asking.specs.Laws.{StoresHaveWorldFacts, TablesServeWorlds, WorldsAreMade, ResponsesAnswerQuestions};
-ghost use Rattle.cedar_asking.specs.TellLaws.{MoreIsTold, QuestionsAreKept, TellsAreAnswered, TellsAreRefused};
+ghost use Rattle.cedar_asking.specs.TellLaws.{MoreIsTold, QuestionsAreKept, TellsAreAnswered, TellsAreRefused, LimitsAreOfPolicies};
 
 pub use answering::{answer, answer_told};
 pub use bodies::request_of;
@@ -34,7 +34,8 @@ pub fn questions_are_asked()
 {}
 
 /// What is kept of the policies held, each evaluated for the request of a question, gives a first answer to
-/// the question, and meets the limit at a known one only where a condition in force is higher.
+/// the question, and meets the limit only where some policy is in force, at a known one only where a condition
+/// in force is higher.
 pub fn responses_answer_questions()
     ensures { ResponsesAnswerQuestions }
 {
@@ -85,10 +86,14 @@ pub fn tells_are_answered()
     cedar_world::telling::later_answers_stand();
 }
 
-/// Values that are of their unknowns' kinds are refused only where the question's context errs with them.
+/// Values that are of their unknowns' kinds are refused only where the question's context errs with them, or
+/// names an unknown and meets the limit; and a response that is taken up again meets the limit only where some
+/// policy is in force.
 pub fn tells_are_refused()
-    ensures { TellsAreRefused }
+    ensures context { TellsAreRefused }
+    ensures limit { LimitsAreOfPolicies }
 {
+    cedar_partial_evaluation::known_is_never_left();
     cedar_partial_evaluation::leaves_dont_matter();
     cedar_partial_evaluation::contexts_stay();
     cedar_world::worlds_have_facts();

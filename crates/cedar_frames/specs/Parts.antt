@@ -1,5 +1,5 @@
 -- What the parts of a frame are read as.
-use Rattle.std.specs.Prelude.{◌≡◌, ◌≢◌, ℕ, ◌<◌, ◌≤◌, List, [], ◌∷◌, ◌++◌, length, take, true, Option, IfSome}
+use Rattle.std.specs.Prelude.{◌≡◌, ◌≢◌, ℕ, ◌<◌, ◌≤◌, List, [], ◌∷◌, ◌++◌, length, take, true, Option, MatchOption}
 use Rattle.cedar_frames.specs.declared.body.Body.{Body}
 use Rattle.cedar_frames.specs.declared.body.Body.TheVariants.{Cut as CutBody, Whole as WholeBody}
 use Rattle.cedar_frames.specs.declared.frame.Line.{Line}
@@ -25,7 +25,7 @@ ReadsLine remaining Cut taken line reader = IsPartialLine taken × (taken ≢ []
 ReadsLine remaining Endless taken line reader = IsEndless taken
 ReadsLine remaining (Whole len) taken line reader = (len ≤ head_limit) × (taken ≡ take len line ++ 10 ∷ []) × (lacks 10 (take len line) ≡ true)
 
--- These bytes are the body of so many bytes, or, where the input ended, a beginning of it.
+-- These bytes are the body of so many bytes, or, where the input ended, a beginning of it. One that isn't kept has a byte.
 abbrev pub ReadsBody : {D : Type 0} → (D → Option (List ℕ)) → ℕ → Body → List ℕ → Watched D → Type 0
 ReadsBody remaining len CutBody taken reader = (length taken < len) × IsReadOut remaining reader
-ReadsBody remaining len (WholeBody body) taken reader = (length taken ≡ len) × IfSome body (λ bytes. bytes.items ≡ taken)
+ReadsBody remaining len (WholeBody body) taken reader = (length taken ≡ len) × MatchOption body (taken ≢ []) (λ bytes. bytes.items ≡ taken)

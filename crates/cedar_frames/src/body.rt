@@ -1,6 +1,6 @@
 // The body of a frame.
-ghost use Rattle.std.specs.Prelude.{◌≡◌, ℕ, List, ◌<◌, length, is_err, ◌||◌, IfOk, OnErr};
-ghost use Rattle.cedar_frames.specs.Watching.{watched_failed};
+ghost use Rattle.std.specs.Prelude.{◌≡◌, ℕ, List, ◌<◌, length, false, is_err, ◌||◌, IfOk, OnErr};
+ghost use Rattle.cedar_frames.specs.Watching.{watched_failed, watched_late};
 ghost use Rattle.cedar_frames.specs.Reading.{Reads};
 ghost use Rattle.cedar_frames.specs.Parts.{ReadsBody};
 
@@ -17,7 +17,7 @@ const PIECE: usize = 512;
 pub(crate) enum Body {
     /// The input ended inside it.
     Cut,
-    /// It was read, and is here unless there was no memory for it.
+    /// It was read, and is here unless it has a byte and there was no memory for it.
     Whole(Option<Vec<u8>>),
 }
 
@@ -33,6 +33,7 @@ impl Body {
         ensures err { OnErr result ((taken : List ℕ) × Reads R.remaining reader.old reader.new taken
             × (length taken < len)) }
         ensures failed { watched_failed reader.new ≡ (is_err result || watched_failed reader.old) }
+        ensures late { watched_failed reader.old ≡ false → watched_late reader.new ≡ false }
     {
         let mut scratch = [0u8; PIECE];
         let mut bytes = Vec::new(alloc);

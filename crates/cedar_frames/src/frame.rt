@@ -1,6 +1,6 @@
 // One frame after another.
-ghost use Rattle.std.specs.Prelude.{◌≡◌, ℕ, List, is_err, ◌||◌, IfOk, OnErr};
-ghost use Rattle.cedar_frames.specs.Watching.{watched_failed};
+ghost use Rattle.std.specs.Prelude.{◌≡◌, ℕ, List, false, is_err, ◌||◌, IfOk, OnErr};
+ghost use Rattle.cedar_frames.specs.Watching.{watched_failed, watched_late};
 ghost use Rattle.cedar_frames.specs.Frames.{IsPartial, IsPartialLine};
 ghost use Rattle.cedar_frames.specs.Reading.{Reads, ReadsNext};
 ghost use Rattle.cedar_frames.specs.Parts.{ReadsLine};
@@ -21,7 +21,7 @@ pub enum Next {
     End,
     /// No frame.
     Fault(Fault),
-    /// A command: its verb, and its body unless there was no memory for it.
+    /// A command: its verb, and its body unless there was no memory for it. An empty body takes none.
     Frame(Verb, Option<Vec<u8>>),
 }
 
@@ -51,6 +51,7 @@ fn read_line<R: Read>(
     ensures err { OnErr result ((taken : List ℕ) × Reads R.remaining reader.old reader.new taken
         × IsPartialLine taken) }
     ensures failed { watched_failed reader.new ≡ (is_err result || watched_failed reader.old) }
+    ensures late { watched_failed reader.old ≡ false → watched_late reader.new ≡ false }
 {
     for at in 0..LINE_ROOM {
         let Some(byte) = read_byte(reader)? else {
@@ -66,15 +67,17 @@ fn read_line<R: Read>(
 
 /// Reads what stands next in a stream of frames.
 ///
-/// A body for which there is no memory is read past, and isn't in the answer. A fault is answered
-/// as soon as a byte shows it, and nothing behind that byte is read. An error is answered only
-/// where the reader has failed; the bytes taken are then no more than a part of a frame.
+/// A body for which there is no memory is read past, and isn't in the answer; an empty one takes
+/// none. A fault is answered as soon as a byte shows it, and nothing behind that byte is read. An
+/// error is answered only where the reader has failed; the bytes taken are then no more than a part
+/// of a frame, and the reader isn't called again.
 pub fn next_frame<R: Read>(alloc: Global, reader: &mut Watched<R>) -> Result<Next, ReadFailed>
     ensures next { IfOk result (λ next. (taken : List ℕ) × Reads R.remaining reader.old reader.new taken
         × ReadsNext R.remaining next taken reader.new) }
     ensures err { OnErr result ((taken : List ℕ) × Reads R.remaining reader.old reader.new taken
         × IsPartial taken) }
     ensures failed { watched_failed reader.new ≡ (is_err result || watched_failed reader.old) }
+    ensures late { watched_failed reader.old ≡ false → watched_late reader.new ≡ false }
 {
     let mut line = [0u8; LINE_ROOM];
     let len = match read_line(reader, &mut line)? {

@@ -1,6 +1,6 @@
 // Reads of a watched reader. None is tried again where it failed.
-ghost use Rattle.std.specs.Prelude.{◌≡◌, [], ◌∷◌, ◌<◌, ◌≤◌, take, length, codes, Some, is_err, ◌||◌, IfOk, OnErr, IfSome, IfNone};
-ghost use Rattle.cedar_frames.specs.Watching.{watched_failed};
+ghost use Rattle.std.specs.Prelude.{◌≡◌, [], ◌∷◌, ◌<◌, ◌≤◌, take, length, codes, Some, false, is_err, ◌||◌, IfOk, OnErr, IfSome, IfNone};
+ghost use Rattle.cedar_frames.specs.Watching.{watched_failed, watched_late};
 ghost use Rattle.cedar_frames.specs.Reading.{Reads, IsReadOut};
 
 use crate::watched::Watched;
@@ -33,6 +33,7 @@ pub fn read_byte<R: Read>(reader: &mut Watched<R>) -> Result<Option<u8>, ReadFai
         × IsReadOut R.remaining reader.new)) }
     ensures err { OnErr result (Reads R.remaining reader.old reader.new []) }
     ensures failed { watched_failed reader.new ≡ (is_err result || watched_failed reader.old) }
+    ensures late { watched_failed reader.old ≡ false → watched_late reader.new ≡ false }
 {
     let mut cell = [0u8; 1];
     match reader.read(&mut cell) {
@@ -55,6 +56,7 @@ pub(crate) fn read_piece<R: Read>(
     ensures end { IfOk result (λ count. count ≡ 0 → 0 < most → IsReadOut R.remaining reader.new) }
     ensures err { OnErr result (Reads R.remaining reader.old reader.new []) }
     ensures failed { watched_failed reader.new ≡ (is_err result || watched_failed reader.old) }
+    ensures late { watched_failed reader.old ≡ false → watched_late reader.new ≡ false }
 {
     reader.read(&mut scratch[..most]).map_err(|_| ReadFailed)
 }

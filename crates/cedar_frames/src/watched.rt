@@ -1,11 +1,22 @@
-// A reader or a writer, and whether one of its calls has failed.
-ghost use Rattle.std.specs.Prelude.{◌≡◌, false, length, is_err, ◌||◌};
+// A reader or a writer, and what became of its calls.
+ghost use Rattle.std.specs.Prelude.{◌≡◌, false, length, is_err, ◌&&◌, ◌||◌};
 ghost use Rattle.std.specs.Io.{ReadsAtMost, WritesAtMost};
 ghost use Rattle.std.specs.Io.KnownBytes.{Keeps, ReadConsumes, WriteAppends};
-ghost use Rattle.cedar_frames.specs.Watching.{watched_inner, watched_failed, write_fails};
+ghost use Rattle.cedar_frames.specs.Watching.{watched_inner, watched_failed, watched_late, watched_unsent, write_fails, writes_some};
 
 use std::io;
 use std::io::{Read, Write};
+
+/// What became of a device's calls.
+#[derive(Clone, Copy, Debug)]
+enum Calls {
+    /// None has failed.
+    Sound,
+    /// One failed, and none was made behind it.
+    Failed,
+    /// One failed, and another was made behind it.
+    Late,
+}
 
 /// A device that passes calls on, and keeps for good whether one of them failed.
 ///
@@ -14,18 +25,23 @@ use std::io::{Read, Write};
 #[derive(Debug, Drop)]
 pub struct Watched<D> {
     inner: D,
-    failed: bool,
+    calls: Calls,
+    // Whether something was written behind the last flush that didn't fail.
+    unsent: bool,
 }
 
 impl<D> Watched<D> {
-    /// A device of which no call has failed yet.
+    /// A device of which no call has failed yet, and to which nothing was written.
     pub fn new(inner: D) -> Watched<D>
         ensures inner { watched_inner result ≡ inner }
         ensures failed { watched_failed result ≡ false }
+        ensures late { watched_late result ≡ false }
+        ensures unsent { watched_unsent result ≡ false }
     {
         Watched {
             inner,
-            failed: false,
+            calls: Calls::Sound,
+            unsent: false,
         }
     }
 
@@ -33,15 +49,23 @@ impl<D> Watched<D> {
     pub fn failed(&self) -> bool
         ensures { result ≡ watched_failed self.now }
     {
-        self.failed
+        !matches!(self.calls, Calls::Sound)
     }
 
-    /// Keeps in mind whether a call failed.
+    /// Keeps in mind a call, and whether it failed.
     fn note(&mut self, fails: bool)
         ensures inner { watched_inner self.new ≡ watched_inner self.old }
         ensures failed { watched_failed self.new ≡ (fails || watched_failed self.old) }
+        ensures late { watched_late self.new ≡ watched_failed self.old }
+        ensures unsent { watched_unsent self.new ≡ watched_unsent self.old }
     {
-        self.failed |= fails;
+        self.calls = if self.failed() {
+            Calls::Late
+        } else if fails {
+            Calls::Failed
+        } else {
+            Calls::Sound
+        };
     }
 }
 
@@ -53,6 +77,8 @@ impl<R: Read> Read for Watched<R> {
         ensures bytes { ReadConsumes (R.remaining (watched_inner self.old))
             (R.remaining (watched_inner self.new)) result buf.new }
         ensures failed { watched_failed self.new ≡ (is_err result || watched_failed self.old) }
+        ensures late { watched_late self.new ≡ watched_failed self.old }
+        ensures unsent { watched_unsent self.new ≡ watched_unsent self.old }
     {
         let outcome = self.inner.read(buf);
         self.note(outcome.is_err());
@@ -69,6 +95,8 @@ impl<W: Write> Write for Watched<W> {
             (W.contents (watched_inner self.new)) result buf.now }
         ensures failed { watched_failed self.new
             ≡ (write_fails result (length buf.now) || watched_failed self.old) }
+        ensures late { watched_late self.new ≡ watched_failed self.old }
+        ensures unsent { watched_unsent self.new ≡ (writes_some result || watched_unsent self.old) }
     {
         let outcome = self.inner.write(buf);
         let fails = match outcome {
@@ -76,15 +104,19 @@ impl<W: Write> Write for Watched<W> {
             Err(_) => true,
         };
         self.note(fails);
+        self.unsent |= matches!(outcome, Ok(count) if count > 0);
         outcome
     }
 
     fn flush(&mut self) -> io::Result<()>
         ensures bytes { Keeps (W.contents (watched_inner self.old)) (W.contents (watched_inner self.new)) }
         ensures failed { watched_failed self.new ≡ (is_err result || watched_failed self.old) }
+        ensures late { watched_late self.new ≡ watched_failed self.old }
+        ensures unsent { watched_unsent self.new ≡ (is_err result && watched_unsent self.old) }
     {
         let outcome = self.inner.flush();
         self.note(outcome.is_err());
+        self.unsent &= outcome.is_err();
         outcome
     }
 }

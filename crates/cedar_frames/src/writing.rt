@@ -6,7 +6,7 @@ use std::io::Write;
 
 /// Writes the bytes, unless the writer fails or has failed.
 ///
-/// Nothing is written once the writer has failed, so texts can be put one behind the other and the
+/// The writer isn't called once it has failed, so texts can be put one behind the other and the
 /// writer be asked at the end.
 pub fn put<W: Write>(writer: &mut Watched<W>, bytes: &[u8])
     ensures { Writes W.contents writer.old writer.new bytes.now }

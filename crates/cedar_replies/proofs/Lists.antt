@@ -1,6 +1,7 @@
 -- Lists of items, written one behind the other.
-use Rattle.std.proofs.Common.{◌≡◌, ℕ, ◌+◌, ◌<◌, Bool, List, [], ◌∷◌, ◌++◌, length, take, get_or, map, codes, Option, refl, sym, ap, subst, ◌∙◌, append_assoc, append-nil}
+use Rattle.std.proofs.Common.{◌≡◌, ℕ, ◌+◌, ◌<◌, List, [], ◌∷◌, ◌++◌, length, take, get_or, map, codes, Option, refl, sym, ap, subst, ◌∙◌, append_assoc, append-nil}
 use Rattle.std.proofs.lemmas.List.{take_more}
+use Rattle.cedar_frames.specs.declared.watched.Calls.{Calls}
 use Rattle.cedar_frames.specs.Quoting.{escaped_all, quoted}
 use Rattle.cedar_frames.specs.Writing.{Puts}
 use Rattle.cedar_frames.proofs.Bytes.{puts_more}
@@ -27,7 +28,7 @@ further_longer f xs i x h at =
     ∙ further_more (map f (take i xs)) (f x)
 
 -- one item more, behind a comma
-pub item_more : {A : Type 0} (f : A → List ℕ) (f0 f1 f2 f3 : Bool) (a b c d : Option (List ℕ)) (xs : List A) (i : ℕ) (x : A) → i < length xs → x ≡ get_or xs i x
+pub item_more : {A : Type 0} (f : A → List ℕ) (f0 f1 f2 f3 : Calls) (a b c d : Option (List ℕ)) (xs : List A) (i : ℕ) (x : A) → i < length xs → x ≡ get_or xs i x
     → Puts f0 a f1 b (further (map f (take i xs))) → Puts f1 b f2 c (codes ",") → Puts f2 c f3 d (f x)
     → Puts f0 a f3 d (further (map f (take (i + 1) xs)))
 item_more f f0 f1 f2 f3 a b c d xs i x h at before comma item =
@@ -36,7 +37,7 @@ item_more f f0 f1 f2 f3 a b c d xs i x h at before comma item =
     subst (Puts f0 a f3 d) (sym (further_longer f xs i x h at)) whole
 
 -- items in brackets
-pub items_listed : {A : Type 0} (f : A → List ℕ) (f0 f1 f2 f3 f4 : Bool) (a b c d e : Option (List ℕ)) (all : List A) (x : A) (xs : List A) → all ≡ x ∷ xs
+pub items_listed : {A : Type 0} (f : A → List ℕ) (f0 f1 f2 f3 f4 : Calls) (a b c d e : Option (List ℕ)) (all : List A) (x : A) (xs : List A) → all ≡ x ∷ xs
     → Puts f0 a f1 b (codes "[") → Puts f1 b f2 c (f x) → Puts f2 c f3 d (further (map f xs)) → Puts f3 d f4 e (codes "]")
     → Puts f0 a f4 e (listed (map f all))
 items_listed f f0 f1 f2 f3 f4 a b c d e all x xs is opened first others closed =
@@ -89,7 +90,7 @@ map_firsts f (e ∷ es) = ap (λ l. f e.0 ∷ l) (map_firsts f es)
 
 -- ---- an answer's line
 
-pub answer_put : (f0 f1 f2 f3 f4 f5 f6 f7 f8 : Bool) (a b c d e f g h i : Option (List ℕ)) (name must may erring : List ℕ)
+pub answer_put : (f0 f1 f2 f3 f4 f5 f6 f7 f8 : Calls) (a b c d e f g h i : Option (List ℕ)) (name must may erring : List ℕ)
     → Puts f0 a f1 b name → Puts f1 b f2 c (codes " must=") → Puts f2 c f3 d must → Puts f3 d f4 e (codes " may=") → Puts f4 e f5 f may
     → Puts f5 f f6 g (codes " erring=") → Puts f6 g f7 h erring → Puts f7 h f8 i (codes "\n")
     → Puts f0 a f8 i (((((((name ++ codes " must=") ++ must) ++ codes " may=") ++ may) ++ codes " erring=") ++ erring) ++ codes "\n")
@@ -108,5 +109,5 @@ answer_put f0 f1 f2 f3 f4 f5 f6 f7 f8 a b c d e f g h i name must may erring p1 
     puts_more f0 f7 f8 a h i (t6 ++ erring) (codes "\n") q7 p8
 
 -- three texts, one behind the other
-pub three_put : (f0 f1 f2 f3 : Bool) (a b c d : Option (List ℕ)) (x y z : List ℕ) → Puts f0 a f1 b x → Puts f1 b f2 c y → Puts f2 c f3 d z → Puts f0 a f3 d ((x ++ y) ++ z)
+pub three_put : (f0 f1 f2 f3 : Calls) (a b c d : Option (List ℕ)) (x y z : List ℕ) → Puts f0 a f1 b x → Puts f1 b f2 c y → Puts f2 c f3 d z → Puts f0 a f3 d ((x ++ y) ++ z)
 three_put f0 f1 f2 f3 a b c d x y z p q r = puts_more f0 f2 f3 a c d (x ++ y) z (puts_more f0 f1 f2 a b c x y p q) r

@@ -87,7 +87,7 @@ module _ (by : Setting) (old : World) (text : uid.Text) (once : BodiesAreOne by)
       same_question t p is states = same_some p q (sym states ∙ ap ask_body (once text t tree is (by.depth, reads)) ∙ asks)
 
       pub unanswered : (r : Refusal) → AnswersAsked by old q (Err r) → Step by old Ask text (Refused (refusal_of r)) old
-      unanswered Depth h = (inr (stands, λ t p is states known. h (subst IsKnown (same_question t p is states) known)), refl)
+      unanswered Depth h = (inr (stands, h.0, λ t p is states known. h.1 (subst IsKnown (same_question t p is states) known)), refl)
       unanswered Memory h = ask_lacks_memory by old text
       unanswered r h = absurd h
 

@@ -1,5 +1,5 @@
 -- What is kept of the open question, for the policies and entities held; and what it is answered once more is told.
-use Rattle.std.proofs.Common.{BuildHasherDefault, FoldHasher, ◌≡◌, ◌∙◌, sym, ap, subst, refl, ◌≤◌, true, false, Option, Some, None, Ok, Err, List, []}
+use Rattle.std.proofs.Common.{BuildHasherDefault, FoldHasher, ◌≡◌, ◌⊎◌, inl, inr, ◌<◌, ◌∙◌, sym, ap, subst, refl, ◌≤◌, ℕ, Bool, true, false, true≢false, Option, Some, None, IsSome, is_some, Ok, Err, List, [], ◌∷◌, arith}
 use mathlib.Core.Bool.{Bool-set}
 use Rattle.std.proofs.Math.Logic.{∥∥₁_elim, ∥∥₁_map}
 use Rattle.std.specs.Option.{unwrap_or, option_map}
@@ -16,12 +16,14 @@ use Rattle.cedar_world.specs.Answer as world
 use Rattle.cedar_world.specs.Asking.{Question}
 use Rattle.cedar_world.specs.Bodies.{Fields, ask_body, is_restricted, tell_body}
 use Rattle.cedar_world.specs.Commands.{Tell, Reply, Answered, Refused}
-use Rattle.cedar_world.specs.InForce.{AnswersReadWhatIsInForce}
+use Rattle.cedar_world.specs.InForce.{AreInForce, AnswersReadWhatIsInForce}
 use Rattle.cedar_world.specs.KnownKinds.{IsOrdinary, IsFound}
 use Rattle.cedar_world.specs.Session.{Command, IsReached}
 use Rattle.cedar_world.specs.Setting.{Setting, IsBodyWithin, IsBody, BodiesAreOne}
-use Rattle.cedar_world.specs.Step.{Step, IsLaterAnswer, opens}
-use Rattle.cedar_world.specs.World.{World, Policies, Entities}
+use Rattle.cedar_world.specs.Question.{names_some, HasOpenContext}
+use Rattle.cedar_world.specs.Step.{Step, IsLaterAnswer, SomeInForce, opens}
+use Rattle.cedar_world.specs.World.{World, Policies, Entities, in_force, in_force_at}
+use Rattle.cedar_grammar.specs.Syntax.{PolicySyntax}
 use Rattle.cedar_world.specs.Lookups.{IsAskedBy, AnswersErrOrdinarily}
 use Rattle.cedar_world.proofs.Parts.{not_none}
 use Rattle.cedar_asking.specs.Answering.{AreOf}
@@ -43,7 +45,7 @@ use Rattle.cedar_replies.specs.declared.refusal.Refusal.{Refusal}
 use Rattle.cedar_replies.specs.declared.refusal.Refusal.TheVariants as refusal
 use Rattle.cedar_restricted.specs.Views.{restricted_tree}
 use Rattle.cedar_session.specs.Open.{KeepsAsked, KeepsOpen, question_in, nothing_given, bare}
-use Rattle.cedar_session.specs.OrdinaryErrors.{AnswersOrdinarily, AnswersToldOrdinarily}
+use Rattle.cedar_world.specs.OrdinaryReplies.{AnswersOrdinarily, AnswersToldOrdinarily}
 use Rattle.cedar_session.specs.Sessions.{asked_of}
 use Rattle.cedar_session.specs.declared.asked.Asked.{Asked}
 use Rattle.cedar_session.proofs.LaterProp.{later_prop}
@@ -64,6 +66,29 @@ ordinary_prop _ x y = refl
 found_prop : (k : Kind) (x y : IsFound k) → x ≡ y
 found_prop FailedExtensionFunctionLookup x y = absurd x
 found_prop _ x y = refl
+
+-- ---- what is evaluated once more is told
+
+is_value : {A : Type 0} (o : Option A) → is_some o ≡ true → (x : A) × (o ≡ Some x)
+is_value (Some x) h = (x, refl)
+is_value None h = cc
+
+below_none : (k : ℕ) → k < 0 → ⊥
+below_none k l = omega arith
+
+nothing_evaluates : (held : World) (q : Question) → AreInForce held [] → names_some q.context ≡ false → SomeInForce held ⊎ HasOpenContext q → ⊥
+nothing_evaluates held q listed known (inl (id, some)) =
+    let (s, force) = is_value (in_force_at held.policies id) some in
+    let c = listed.every id s force in
+    below_none c.0 c.1
+nothing_evaluates held q listed known (inr named) = true≢false (sym named ∙ known)
+
+-- whether something is, is read off the policies in force and the question
+evaluates : (held : World) (q : Question) (ps : List (uid.Text × PolicySyntax)) → AreInForce held ps → (b : Bool) → names_some q.context ≡ b
+    → ((SomeInForce held ⊎ HasOpenContext q → ⊥) → ⊥) → SomeInForce held ⊎ HasOpenContext q
+evaluates held q ps listed true is some = inr is
+evaluates held q (p ∷ ps) listed false is some = inl (p.0, subst IsSome (sym (listed.each 0 p (omega arith))) refl)
+evaluates held q [] listed false is some = absurd (some (nothing_evaluates held q listed is))
 
 abbrev Map : Type 0
 Map = HashMap (RcStr Global) Value (BuildHasherDefault FoldHasher)
@@ -207,6 +232,9 @@ module _ (by : Setting) (policies : Policies) (entities : Entities) where
         pub refused : (r : Refusal) → Says table all s (Err r) → Step by (world_with o) Tell text (Refused (refusal_of r)) (world_with o)
         refused refusal.Evaluation says =
             context_fails by (world_with o) text once (asked_of asked) was_open tree is_read low restricted fs body (told_in all.entries) more (∥∥₁_elim kept (Bool-set _ _) (answered (Err refusal.Evaluation) says))
-        refused refusal.Depth says = too_deep by (world_with o) text once (asked_of asked) was_open tree is_read low restricted fs body (told_in all.entries) more
+        refused refusal.Depth says =
+            too_deep by (world_with o) text once (asked_of asked) was_open tree is_read low restricted fs body (told_in all.entries) more
+            (evaluates held question (in_force policies) (reads.listed held) (names_some question.context) refl
+            (λ none. ∥∥₁_elim kept no_two (λ k. none (answered (Err refusal.Depth) says k))))
         refused refusal.Memory says = no_memory by (world_with o) text once (asked_of asked) was_open tree is_read low restricted fs body (told_in all.entries) more
         refused r says = absurd (∥∥₁_elim kept no_two (answered (Err r) says))

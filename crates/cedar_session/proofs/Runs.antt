@@ -1,5 +1,5 @@
 -- Steps of a run, over what its devices give and hold.
-use Rattle.std.proofs.Common.{◌≡◌, ◌≢◌, ℕ, ◌+◌, ◌<◌, ◌⊎◌, List, [], ◌++◌, Option, Some, None, Result, Ok, Err, IfOk, refl, sym, subst, append-nil}
+use Rattle.std.proofs.Common.{◌≡◌, ◌≢◌, ℕ, ◌+◌, ◌<◌, ◌⊎◌, List, [], ◌++◌, Option, Some, None, Result, Ok, Err, IfOk, IfSome, refl, sym, subst, append-nil}
 use Rattle.std.specs.Prelude.{IsErrOf, OnErr}
 use Rattle.std.specs.Io.KnownBytes.{Consumes, Appends}
 use Rattle.cedar_frames.specs.declared.verb.Verb.{Verb}
@@ -11,7 +11,7 @@ use Rattle.cedar_world.specs.World.{World}
 use Rattle.cedar_world.specs.Setting.{Setting}
 use Rattle.cedar_world.specs.Commands.{Reply}
 use Rattle.cedar_world.specs.Lines.{line_of}
-use Rattle.cedar_world.specs.RunText.{most_frames, Ran, Turn, FrameStep, Ends, Faulty, last_line, RunText, TextBeforeFailure, TextCutShort, DueEnd, DueAnswer}
+use Rattle.cedar_world.specs.RunText.{most_frames, Ran, Turn, FrameStep, End as RunEnd, Ends, Faulty, last_line, RunText, TextBeforeFailure, TextCutShort, DueEnd, DueAnswer}
 use Rattle.cedar_session.specs.declared.running.End.{End}
 use Rattle.cedar_session.specs.declared.running.RunError.{RunError}
 use Rattle.cedar_session.specs.declared.running.RunError.TheVariants.{Write}
@@ -67,16 +67,35 @@ module _ (by : Setting) (r0 r1 r2 c0 c1 c2 : Option (List ℕ)) (start : World) 
               )
           by_result (Err e) ok = tt
 
-      pub cut_at_end : (failed sound : Type 0) → OnErr result (failed × sound × ((part more : List ℕ) × (last_line (end_of end) ≡ part ++ more) × Appends c1 c2 part)) → IsErrOf result Write
-          → (bytes text : List ℕ) × Consumes r0 r2 bytes × Appends c0 c2 text × TextCutShort by bytes start text new
-      cut_at_end failed sound err h =
+      pub cut_at_end : (failed sound : Type 0) (EndsInput : RunEnd → Type 0) → EndsInput (end_of end)
+          → OnErr result (failed × sound × ((part more : List ℕ) × (last_line (end_of end) ≡ part ++ more) × Appends c1 c2 part)) → IsErrOf result Write
+          → (bytes text : List ℕ) × Consumes r0 r2 bytes × Appends c0 c2 text × ((cut : TextCutShort by bytes start text new) × IfSome cut.ending EndsInput)
+      cut_at_end failed sound EndsInput input err h =
           let said_so = subst (λ r. OnErr r (failed × sound × ((part more : List ℕ) × (last_line (end_of end) ≡ part ++ more) × Appends c1 c2 part))) h err in
           let some = said_so.2 in (
             frames ++ tail,
             said ++ some.0,
             consumes_more r0 r1 r2 frames tail read rest,
             appends_more c0 c1 c2 said some.0 wrote some.3,
-            record { count = n; frames = frames; said = said; mid = new; ran = ran; tail = tail; line = last_line (end_of end); due = DueEnd (end_of end) ends; part = some.0; more = some.1; beginning = some.2; read = refl; wrote = refl },
+            (
+              record {
+                count = n;
+                frames = frames;
+                said = said;
+                mid = new;
+                ran = ran;
+                tail = tail;
+                line = last_line (end_of end);
+                ending = Some (end_of end);
+                due = DueEnd (end_of end) ends;
+                part = some.0;
+                more = some.1;
+                beginning = some.2;
+                read = refl;
+                wrote = refl;
+              },
+              input,
+            ),
           )
 
   -- ---- a frame
@@ -87,13 +106,32 @@ module _ (by : Setting) (r0 r1 r2 c0 c1 c2 : Option (List ℕ)) (start : World) 
     stepped = subst (λ s. FrameStep s mid verb body reply new) same step
 
     -- its answer is cut short
-    pub cut_at_answer : (part more : List ℕ) → line_of reply ≡ part ++ more → Appends c1 c2 part → (bytes text : List ℕ) × Consumes r0 r2 bytes × Appends c0 c2 text × TextCutShort by bytes start text new
-    cut_at_answer part more beginning added = (
+    pub cut_at_answer : (EndsInput : RunEnd → Type 0) (part more : List ℕ) → line_of reply ≡ part ++ more → Appends c1 c2 part
+        → (bytes text : List ℕ) × Consumes r0 r2 bytes × Appends c0 c2 text × ((cut : TextCutShort by bytes start text new) × IfSome cut.ending EndsInput)
+    cut_at_answer EndsInput part more beginning added = (
       frames ++ frame,
       said ++ part,
       consumes_more r0 r1 r2 frames frame read rest,
       appends_more c0 c1 c2 said part wrote added,
-      record { count = n; frames = frames; said = said; mid = mid; ran = ran; tail = frame; line = line_of reply; due = DueAnswer few is stepped; part = part; more = more; beginning = beginning; read = refl; wrote = refl },
+      (
+        record {
+          count = n;
+          frames = frames;
+          said = said;
+          mid = mid;
+          ran = ran;
+          tail = frame;
+          line = line_of reply;
+          ending = None;
+          due = DueAnswer few is stepped;
+          part = part;
+          more = more;
+          beginning = beginning;
+          read = refl;
+          wrote = refl;
+        },
+        tt,
+      ),
     )
 
     -- it is answered

@@ -4,8 +4,8 @@ use Rattle.std.specs.Prelude.{IsErrOf}
 use Rattle.cedar_frames.specs.declared.fault.Fault as frames
 use Rattle.cedar_frames.specs.declared.watched.Watched.{Watched}
 use Rattle.cedar_frames.specs.Reading.{Reads}
-use Rattle.cedar_frames.specs.Watching.{watched_failed}
-use Rattle.cedar_world.specs.RunText.{RunText, TextBeforeFailure, TextCutShort}
+use Rattle.cedar_frames.specs.Watching.{watched_failed, watched_unsent}
+use Rattle.cedar_world.specs.RunText.{RunText, TextBeforeFailure}
 use Rattle.cedar_world.specs.Setting.{Setting}
 use Rattle.cedar_world.specs.World.{World, new_world}
 use Rattle.cedar_session.specs.declared.running.End.{End}
@@ -13,7 +13,7 @@ use Rattle.cedar_session.specs.declared.running.End.TheVariants.{Clean, Fault}
 use Rattle.cedar_session.specs.declared.running.RunError.{RunError}
 use Rattle.cedar_session.specs.declared.running.RunError.TheVariants.{Read, Write}
 use Rattle.cedar_session.specs.Programs.{status_of, Answers, FailsToRead, FailsToWrite}
-use Rattle.cedar_session.specs.Running.{end_of, EndsInput, Adds}
+use Rattle.cedar_session.specs.Running.{end_of, EndsInput, Adds, CutsShort}
 
 pub is_one_of_three : (outcome : Result End RunError) → (status_of outcome ≢ 1) × (status_of outcome ≢ 4) × (status_of outcome ≤ 4)
 is_one_of_three (Ok Clean) = (λ h. cc, λ h. cc, omega arith)
@@ -42,28 +42,34 @@ module _ {R W : Type 0} (remaining : R → Option (List ℕ)) (contents : W → 
     (given by : Setting) (same : given ≡ by) (start : World) (fresh : start ≡ new_world) (new : World) where
   -- what `run` says of a session that is a new one
   abbrev pub Reaches : End → Type 0
-  Reaches end = (bytes text : List ℕ) × Reads remaining input input' bytes × EndsInput remaining end input' × Adds contents output output' text × RunText given bytes start text (end_of end) new
+  Reaches end =
+      (bytes text : List ℕ) × Reads remaining input input' bytes × EndsInput remaining (end_of end) input' × Adds contents output output' text
+      × RunText given bytes start text (end_of end) new
 
-  pub answers : (outcome : Result End RunError) → IfOk outcome (λ end. (watched_failed input' ≡ false) × (watched_failed output' ≡ false)) → IfOk outcome Reaches
-      → IfOk outcome (Answers remaining contents by input input' output output')
-  answers (Ok end) sound h = record {
+  pub answers : (outcome : Result End RunError) → IfOk outcome (λ end. (watched_failed input' ≡ false) × (watched_failed output' ≡ false))
+      → IfOk outcome (λ end. watched_unsent output' ≡ false) → IfOk outcome Reaches → IfOk outcome (Answers remaining contents by input input' output output')
+  answers (Ok end) sound sent h = record {
     reader_sound = sound.0;
     writer_sound = sound.1;
     ends = h.3;
+    sent = sent;
     text = (h.0, h.1, new, h.2, h.4, subst (λ s. RunText s h.0 new_world h.1 (end_of end) new) same (subst (λ w. RunText given h.0 w h.1 (end_of end) new) fresh h.5));
   }
-  answers (Err error) sound h = tt
+  answers (Err error) sound sent h = tt
 
-  pub fails_to_read : watched_failed input' ≡ true → (bytes text : List ℕ) × Reads remaining input input' bytes × Adds contents output output' text × TextBeforeFailure given bytes start text new
+  pub fails_to_read : watched_failed input' ≡ true → (watched_unsent output ≡ false → watched_unsent output' ≡ false)
+      → (bytes text : List ℕ) × Reads remaining input input' bytes × Adds contents output output' text × TextBeforeFailure given bytes start text new
       → FailsToRead remaining contents by input input' output output'
-  fails_to_read failed h = record {
+  fails_to_read failed sent h = record {
     failed = failed;
+    sent = sent;
     text = (h.0, h.1, new, h.2, h.3, subst (λ s. TextBeforeFailure s h.0 new_world h.1 new) same (subst (λ w. TextBeforeFailure given h.0 w h.1 new) fresh h.4));
   }
 
-  pub fails_to_write : watched_failed output' ≡ true → (bytes text : List ℕ) × Reads remaining input input' bytes × Adds contents output output' text × TextCutShort given bytes start text new
+  pub fails_to_write : watched_failed output' ≡ true
+      → (bytes text : List ℕ) × Reads remaining input input' bytes × Adds contents output output' text × CutsShort remaining input' given bytes start text new
       → FailsToWrite remaining contents by input input' output output'
   fails_to_write failed h = record {
     failed = failed;
-    text = (h.0, h.1, new, h.2, h.3, subst (λ s. TextCutShort s h.0 new_world h.1 new) same (subst (λ w. TextCutShort given h.0 w h.1 new) fresh h.4));
+    text = (h.0, h.1, new, h.2, h.3, subst (λ s. CutsShort remaining input' s h.0 new_world h.1 new) same (subst (λ w. CutsShort remaining input' given h.0 w h.1 new) fresh h.4));
   }

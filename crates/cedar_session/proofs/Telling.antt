@@ -1,5 +1,5 @@
 -- Steps of a session that tells.
-use Rattle.std.proofs.Common.{◌≡◌, inl, inr, ◌<◌, ◌≤◌, false, true, Some, None, Err, refl, sym, ◌∙◌, ap, subst, arith}
+use Rattle.std.proofs.Common.{◌≡◌, ◌⊎◌, inl, inr, ◌<◌, ◌≤◌, false, true, Some, None, Err, refl, sym, ◌∙◌, ap, subst, arith}
 use Rattle.std.specs.Prelude.{IsSome}
 use Rattle.cedar_language.specs.Uid as uid
 use Rattle.cedar_language.specs.Tree.{Tree}
@@ -8,10 +8,10 @@ use Rattle.cedar_world.specs.Answer as world
 use Rattle.cedar_world.specs.World.{World, Asked}
 use Rattle.cedar_world.specs.Asking.{Told}
 use Rattle.cedar_world.specs.Bodies.{Fields, is_restricted, tell_body}
-use Rattle.cedar_world.specs.Question.{Portion, told_with}
+use Rattle.cedar_world.specs.Question.{Portion, HasOpenContext, told_with}
 use Rattle.cedar_world.specs.Refusals.{Refuses, Stands, IsFirst, BodyStands, TellCases, ContextErrs}
 use Rattle.cedar_world.specs.Setting.{Setting, IsBodyWithin, IsBody, BodiesAreOne}
-use Rattle.cedar_world.specs.Step.{Step, IsLaterAnswer, opens}
+use Rattle.cedar_world.specs.Step.{Step, IsLaterAnswer, SomeInForce, opens}
 use Rattle.cedar_world.specs.Values.{context_errs, values}
 use Rattle.cedar_world.specs.Commands as commands
 use Rattle.cedar_world.specs.Commands.{Tell, Answered, Refused, rank}
@@ -153,9 +153,9 @@ module _ (by : Setting) (old : World) (text : uid.Text) (once : BodiesAreOne by)
         refl,
       )
 
-      -- an evaluation met the limit, or memory ran out
-      pub too_deep : Step by old Tell text (Refused commands.Depth) old
-      too_deep = (inr (some_asked, stands), refl)
+      -- an evaluation met the limit, where something is evaluated
+      pub too_deep : SomeInForce old ⊎ HasOpenContext asked.question → Step by old Tell text (Refused commands.Depth) old
+      too_deep evaluates = (inr (asked, was_open, stands, evaluates), refl)
 
       pub no_memory : Step by old Tell text (Refused commands.Memory) old
       no_memory = lacks_memory

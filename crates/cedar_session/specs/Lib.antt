@@ -4,7 +4,6 @@ pub mod TextReading
 pub mod PolicyReading
 pub mod Commands
 pub mod Open
-pub mod OrdinaryErrors
 pub mod Programs
 pub mod Reading
 pub mod Running

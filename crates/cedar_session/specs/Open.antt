@@ -10,7 +10,7 @@ use Rattle.cedar_world.specs.World.{World, Policies, Entities}
 use Rattle.cedar_asking.specs.Keeping.{KeepsQuestion}
 use Rattle.cedar_replies.specs.Replies.{answer_of}
 use Rattle.cedar_restricted.specs.Views.{restricted_tree}
-use Rattle.cedar_session.specs.OrdinaryErrors.{AnswersToldOrdinarily}
+use Rattle.cedar_world.specs.OrdinaryReplies.{AnswersToldOrdinarily}
 use Rattle.cedar_session.specs.declared.asked.Asked.{Asked}
 
 -- a question of which nothing is given

@@ -1,7 +1,7 @@
 -- What the program's exit status says.
 use Rattle.std.specs.Prelude.{◌≡◌, ℕ, List, true, false, Option, Result, Ok, Err}
 use Rattle.cedar_frames.specs.declared.watched.Watched.{Watched}
-use Rattle.cedar_frames.specs.Watching.{watched_failed}
+use Rattle.cedar_frames.specs.Watching.{watched_failed, watched_unsent}
 use Rattle.cedar_frames.specs.Reading.{Reads}
 use Rattle.cedar_extensions.specs.Answering.{no_answers}
 use Rattle.cedar_extensions.specs.Lookups.{IsUnknownAlone}
@@ -9,10 +9,10 @@ use Rattle.cedar_extensions.specs.Tables.{functions_in}
 use Rattle.cedar_extensions.specs.declared.extensions.Extensions.{Extensions}
 use Rattle.cedar_extensions.specs.declared.objects.NoFunction.{NoFunction}
 use Rattle.cedar_session.specs.Settings.{setting_with}
-use Rattle.cedar_world.specs.RunText.{RunText, TextBeforeFailure, TextCutShort}
+use Rattle.cedar_world.specs.RunText.{RunText, TextBeforeFailure}
 use Rattle.cedar_world.specs.Setting.{Setting}
 use Rattle.cedar_world.specs.World.{World, new_world}
-use Rattle.cedar_session.specs.Running.{end_of, EndsInput, Adds}
+use Rattle.cedar_session.specs.Running.{end_of, EndsInput, Adds, CutsShort}
 use Rattle.cedar_session.specs.declared.running.End.{End}
 use Rattle.cedar_session.specs.declared.running.End.TheVariants.{Clean, Fault}
 use Rattle.cedar_session.specs.declared.running.RunError.{RunError}
@@ -41,19 +41,21 @@ module _ {R W : Type 0} (remaining : R → Option (List ℕ)) (contents : W → 
   abbrev pub Exchanges : (List ℕ → List ℕ → World → Type 0) → Type 0
   Exchanges Holds = (bytes text : List ℕ) × (new : World) × Reads remaining input input' bytes × Adds contents output output' text × Holds bytes text new
 
-  -- a new session answered the input, which ended so, and neither device failed
+  -- a new session answered the input, which ended so, neither device failed, and what was written is out
   pub record Answers (end : End) : Type 0 where
     pub reader_sound : watched_failed input' ≡ false
     pub writer_sound : watched_failed output' ≡ false
-    pub ends : EndsInput remaining end input'
+    pub ends : EndsInput remaining (end_of end) input'
+    pub sent : watched_unsent output' ≡ false
     pub text : Exchanges (λ bytes text new. RunText by bytes new_world text (end_of end) new)
 
-  -- a new session answered the whole frames that came before the reader failed
+  -- a new session answered the whole frames that came before the reader failed, and the answers are out
   pub record FailsToRead : Type 0 where
     pub failed : watched_failed input' ≡ true
+    pub sent : watched_unsent output ≡ false → watched_unsent output' ≡ false
     pub text : Exchanges (λ bytes text new. TextBeforeFailure by bytes new_world text new)
 
   -- a new session answered the input until the writer failed
   pub record FailsToWrite : Type 0 where
     pub failed : watched_failed output' ≡ true
-    pub text : Exchanges (λ bytes text new. TextCutShort by bytes new_world text new)
+    pub text : Exchanges (λ bytes text new. CutsShort remaining input' by bytes new_world text new)

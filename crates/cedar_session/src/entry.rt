@@ -1,7 +1,7 @@
 // The program's work, from its arguments to its status.
 ghost use Rattle.std.specs.Prelude.{◌≡◌, ◌≢◌, ◌⊎◌, ◌↔◌, ◌<◌, ◌≤◌, false, true};
 ghost use Rattle.cedar_frames.specs.declared.fault.Fault as frames;
-ghost use Rattle.cedar_frames.specs.Watching.{watched_failed};
+ghost use Rattle.cedar_frames.specs.Watching.{watched_failed, watched_late};
 ghost use Rattle.cedar_session.specs.Programs.{IsProgramSetting, program_setting, status_of, Answers, FailsToRead, FailsToWrite};
 ghost use Rattle.cedar_world.specs.Setting.{Setting};
 
@@ -44,6 +44,7 @@ fn answered<R: Read, W: Write>(
     ensures device { result ≡ 3 → FailsToRead R.remaining W.contents (program_setting extensions.now) input.old input.new output.old output.new
         ⊎ FailsToWrite R.remaining W.contents (program_setting extensions.now) input.old input.new output.old output.new }
     ensures unread { result ≡ 4 → (input.new ≡ input.old) × (output.new ≡ output.old) }
+    ensures in_time { (watched_late input.new ≡ false) × (watched_late output.new ≡ false) }
     ensures bound { result ≤ 4 }
 {
     let Ok(mut session) = Session::new(alloc, extensions, DEPTH) else {
@@ -58,7 +59,8 @@ fn answered<R: Read, W: Write>(
 /// It is 0 at the end of the input, 2 at a fault, 3 where a device failed, and 4 where there was no
 /// memory for the extensions or the session, and then nothing is read. With any argument, words after
 /// the program's name, nothing is read either, a line on `errors` says how the program is called, and
-/// the status is 1.
+/// the status is 1. What is written is out at 0 and 2, and at 3 where the reader failed. No device is
+/// called once it has failed.
 pub fn program<R: Read, W: Write, E: Write>(
     alloc: Global,
     arguments: usize,
@@ -80,6 +82,9 @@ pub fn program<R: Read, W: Write, E: Write>(
     // At the statuses 1 and 4 the session has done nothing.
     ensures uncalled { 0 < arguments → (input.new ≡ input.old) × (output.new ≡ output.old) }
     ensures no_memory { result ≡ 4 → (input.new ≡ input.old) × (output.new ≡ output.old) }
+
+    // At any status neither device was called behind a failure of its own.
+    ensures in_time { (watched_late input.new ≡ false) × (watched_late output.new ≡ false) }
 
     ensures quiet { result ≢ 1 → errors.new ≡ errors.old }
     ensures bound { result ≤ 4 }

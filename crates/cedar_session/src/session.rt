@@ -5,7 +5,7 @@ ghost use Rattle.cedar_world.specs.World.{new_world};
 ghost use Rattle.cedar_replies.specs.Replies.{answer_of, reply_of};
 ghost use Rattle.cedar_session.specs.Commands.{command_verb, command_text};
 ghost use Rattle.cedar_session.specs.Open.{KeepsOpen};
-ghost use Rattle.cedar_session.specs.OrdinaryErrors.{AnswersOrdinarily, AnswersToldOrdinarily, RepliesOrdinarily};
+ghost use Rattle.cedar_world.specs.OrdinaryReplies.{AnswersOrdinarily, AnswersToldOrdinarily, RepliesOrdinarily};
 ghost use Rattle.cedar_session.specs.Settings.{setting_with};
 
 use crate::asked::{Asked, close, go_on};

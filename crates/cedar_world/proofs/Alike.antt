@@ -9,17 +9,17 @@ use Rattle.cedar_world.specs.Answer.{Answer}
 use Rattle.cedar_world.specs.World.{World, Asked, Policy, Entities, AreFacts}
 use Rattle.cedar_world.specs.Asking.{Question, Told}
 use Rattle.cedar_world.specs.Setting.{Setting}
-use Rattle.cedar_world.specs.Answers.{judge, answer_of, known_answer, IsKnownAnswer, IsDecided, IsOut, AllOut, SomeHolds, SaysDecided, SaysKinds, IsFair, NamesNoGhosts, IsPromptButKinds}
+use Rattle.cedar_world.specs.Answers.{judge, answer_of, known_answer, IsKnownAnswer, IsDecided, IsOut, AllOut, SomeHolds, SaysDecided, SaysKinds, IsFair, NamesNoGhosts, IsPromptButKinds, NamesKinds}
 use Rattle.cedar_world.specs.LinkLaws.{LinkingIsWriting}
 use Rattle.cedar_grammar.specs.Bindings.{linked}
 use Rattle.cedar_world.specs.Step.{IsFirstAnswer, IsLaterAnswer}
 use Rattle.cedar_world.specs.InForce.{AreAlike, AnswerAlike, AnswersReadWhatIsInForce, LinksAreAnsweredAsWritten}
 use Rattle.cedar_world.proofs.InForce.{listed, found_in_force, one_list}
 
-swapped : (world other : World) → AreAlike world other → AreAlike other world
+pub swapped : (world other : World) → AreAlike world other → AreAlike other world
 swapped world other alike = record { entities = sym alike.entities; policies = λ id. sym (alike.policies id) }
 
-same_known : (by : Setting) (world other : World) (facts : Facts) (request : Known) → AreAlike world other → known_answer by world facts request ≡ known_answer by other facts request
+pub same_known : (by : Setting) (world other : World) (facts : Facts) (request : Known) → AreAlike world other → known_answer by world facts request ≡ known_answer by other facts request
 same_known by world other facts request alike = ap (λ ps. answer_of (map (judge facts request) ps)) (one_list world.policies other.policies alike.policies)
 
 module _ (by : Setting) (world other : World) (alike : AreAlike world other) where
@@ -77,11 +77,14 @@ module _ (by : Setting) (world other : World) (alike : AreAlike world other) whe
   back : AreAlike other world
   back = swapped world other alike
 
-  fair_there : (q : Question) (told : Told) (answer : Answer) → IsFair by world q told answer → IsFair by other q told answer
+  pub fair_there : (q : Question) (told : Told) (answer : Answer) → IsFair by world q told answer → IsFair by other q told answer
   fair_there q told answer fair filling request whole agrees known = fair filling request whole agrees (known_there by other world back request whole known)
 
-  prompt_there : (q : Question) (told : Told) (answer : Answer) → IsPromptButKinds by world q told answer → IsPromptButKinds by other q told answer
+  pub prompt_there : (q : Question) (told : Told) (answer : Answer) → IsPromptButKinds by world q told answer → IsPromptButKinds by other q told answer
   prompt_there q told answer prompt facts are = decided_said by world other alike facts q told answer (prompt facts (facts_there by other world back facts are))
+
+  pub kinds_there : (q : Question) (told : Told) (answer : Answer) → NamesKinds by world q told answer → NamesKinds by other q told answer
+  kinds_there q told answer kinds facts are = kinds_said by world other alike facts q told answer (kinds facts (facts_there by other world back facts are))
 
   ghosts_there : (answer : Answer) → NamesNoGhosts by world answer → NamesNoGhosts by other answer
   ghosts_there answer names = record {
@@ -90,16 +93,16 @@ module _ (by : Setting) (world other : World) (alike : AreAlike world other) whe
     erring = λ id h. ap is_some (sym (alike.policies id)) ∙ names.erring id h;
   }
 
-  first_there : (q : Question) (answer : Answer) → IsFirstAnswer by world q answer → IsFirstAnswer by other q answer
+  pub first_there : (q : Question) (answer : Answer) → IsFirstAnswer by world q answer → IsFirstAnswer by other q answer
   first_there q answer first = record {
     known = λ is. let (request, filling, known) = first.known is in (request, filling, known_there by world other alike request answer known);
     fair = fair_there q finite.empty answer first.fair;
     prompt = prompt_there q finite.empty answer first.prompt;
-    kinds = λ facts are. kinds_said by world other alike facts q finite.empty answer (first.kinds facts (facts_there by other world back facts are));
+    kinds = kinds_there q finite.empty answer first.kinds;
     in_force = ghosts_there answer first.in_force;
   }
 
-  later_there : (asked : Asked) (told : Told) (answer : Answer) → IsLaterAnswer by world asked told answer → IsLaterAnswer by other asked told answer
+  pub later_there : (asked : Asked) (told : Told) (answer : Answer) → IsLaterAnswer by world asked told answer → IsLaterAnswer by other asked told answer
   later_there asked told answer later = record {
     follows = later.follows;
     fair = fair_there asked.question told answer later.fair;

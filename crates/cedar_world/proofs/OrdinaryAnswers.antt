@@ -32,7 +32,7 @@ all_fine IsFine last new answer joined old now id k e = of_either (either (finit
     of_either (inl h) = old id k h
     of_either (inr h) = now id k h
 
-ordinary_found : (k : Kind) → IsOrdinary k → IsFound k
+pub ordinary_found : (k : Kind) → IsOrdinary k → IsFound k
 ordinary_found FailedExtensionFunctionLookup h = h
 ordinary_found UnlinkedSlot h = tt
 ordinary_found k h = tt

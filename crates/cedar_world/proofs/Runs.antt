@@ -8,8 +8,8 @@ use Rattle.cedar_frames.specs.Frames.{IsFrame, AreFrames, IsFault}
 use Rattle.cedar_frames.specs.Laws.{FramesBegin, FramesAreOne, FaultsStay, FaultsAreOne}
 use Rattle.cedar_world.specs.World.{World}
 use Rattle.cedar_world.specs.Setting.{Setting}
-use Rattle.cedar_world.specs.RunText.{End, Clean, Faulty, most_frames, Ends, Ran, Start, Turn}
-use Rattle.cedar_world.specs.RunLaws.{Leaves, RunsReadTheSame}
+use Rattle.cedar_world.specs.RunText.{End, Clean, Faulty, most_frames, Ends, Ran, Start, Turn, RunText}
+use Rattle.cedar_world.specs.RunLaws.{Leaves, RunsReadTheSame, BeginWith, CutRunsBeginAlike}
 
 -- ---- the frames of a run
 
@@ -159,3 +159,42 @@ module _ (frames_begin : FramesBegin) (frames_one : FramesAreOne) (faults_stay :
           absurd (fewer run.frames other.frames run.tail left (other.tail ++ left') commands others end p q below (omega (arith, j, v)) (subst (λ n. Ends n end run.tail) (sym i) run.ends) l whole)
       compared commands others p q i j u v (inr (inr above)) =
           absurd (fewer other.frames run.frames other.tail left' (run.tail ++ left) others commands end' q p above (omega (arith, i, u)) (subst (λ n. Ends n end' other.tail) (sym j) other.ends) m (sym whole))
+
+  -- ---- a run that was cut short
+
+  begins : (by : Setting) (read text left bytes' text' left' : List ℕ) (n : ℕ) (start mid start' new' : World) (end : End)
+      → Ran by start n read text mid → (whole : RunText by bytes' start' text' end new')
+      → Leaves end left' → read ++ left ≡ bytes' ++ left' → BeginWith whole.frames whole.count read n
+  begins by read text left bytes' text' left' n start mid start' new' end ran whole l e =
+      let f = ran_frames ran in
+      let g = ran_frames whole.ran in
+      compared f.0 g.0 f.1 g.1 f.2 g.2 f.3 (cases_order (length f.0) (length g.0))
+    where
+      there : read ++ left ≡ whole.frames ++ (whole.tail ++ left')
+      there = e ∙ ap (λ x. x ++ left') whole.read ∙ append_assoc whole.frames whole.tail left'
+
+      not_above : (commands others : List (Verb × List ℕ)) → AreFrames commands read → AreFrames others whole.frames
+          → length commands ≡ n → length others ≡ whole.count → length commands ≤ length others → BeginWith whole.frames whole.count read n
+      not_above commands others p q i j below =
+          let (last, frames, more, are, is) = frames_begin commands others read whole.frames left (whole.tail ++ left') p q below there in
+          (last, frames, are, is, sym j ∙ ap length more ∙ length-append commands last ∙ ap (λ m. m + length last) i)
+
+      compared : (commands others : List (Verb × List ℕ)) → AreFrames commands read → AreFrames others whole.frames
+          → length commands ≡ n → length others ≡ whole.count → n ≤ most_frames
+          → (length commands ≡ length others) ⊎ ((length commands < length others) ⊎ (length others < length commands))
+          → BeginWith whole.frames whole.count read n
+      compared commands others p q i j u (inl same) = not_above commands others p q i j (omega (arith, same))
+      compared commands others p q i j u (inr (inl below)) = not_above commands others p q i j (omega (arith, below))
+      compared commands others p q i j u (inr (inr above)) =
+          let ends = subst (λ m. Ends m end whole.tail) (sym j) whole.ends in
+          absurd (fewer whole.frames read whole.tail left' left others commands end q p above (omega (arith, i, u)) ends l (sym there))
+
+  pub cut_runs_begin_alike : CutRunsBeginAlike
+  cut_runs_begin_alike = record {
+    by_reader = λ by bytes text left bytes' text' left' start new start' new' end cut whole l e.
+        let read = sym (ap (λ x. x ++ left) cut.read ∙ append_assoc cut.frames cut.tail left) in
+        begins by cut.frames text (cut.tail ++ left) bytes' text' left' cut.count start new start' new' end cut.ran whole l (read ∙ e);
+    by_writer = λ by bytes text left bytes' text' left' start new start' new' end cut whole l e.
+        let read = sym (ap (λ x. x ++ left) cut.read ∙ append_assoc cut.frames cut.tail left) in
+        begins by cut.frames cut.said (cut.tail ++ left) bytes' text' left' cut.count start cut.mid start' new' end cut.ran whole l (read ∙ e);
+  }

@@ -22,6 +22,7 @@ use Rattle.cedar_world.specs.Setting.{Setting, ArePoliciesWithin, ArePolicies, I
 use Rattle.cedar_frames.specs.Frames.{IsHeadLine, IsFrame}
 use Rattle.cedar_world.specs.Commands.{Load, Ask, Named, Answered}
 use Rattle.cedar_world.specs.Lines.{line_of}
+use Rattle.cedar_world.specs.Lookups.{NamesOrdinaryErrors}
 use Rattle.cedar_world.specs.RunText.{Clean, RunText, Start, Turn}
 use Rattle.cedar_world.specs.Step.{Step, opens}
 use Rattle.cedar_world.specs.Rows.{for_all, allowed}
@@ -122,6 +123,9 @@ module _ (reads_tokens : ReadsTokens) (reads_exprs : ReadsExprs) (reads_policies
   asked : Step by one_policy Ask (codes "{}") (Answered allowed) (opens one_policy all_missing map.empty allowed)
   asked = ask_stands by one_policy (codes "{}") (reads_once one_list one_expr by) (Apply (MakeRecord []) no_trees) braces_within (omega arith) refl all_missing allowed _ refl refl refl (all_are_allowed by) refl
 
+  no_error : NamesOrdinaryErrors allowed
+  no_error id k h = absurd (not_none k (sym (map.get-empty text_cmp id) ∙ h))
+
   row_three : Step by new_world Load (codes "permit(principal, action, resource);") (Named (codes "policy0" ∷ [])) one_policy → Step by one_policy Ask (codes "{}") (Answered allowed) (opens one_policy all_missing map.empty allowed)
       → RunText by (codes "load 36\npermit(principal, action, resource);\nask 2\n{}\n") new_world
       (codes "ok [\"policy0\"]\nallow must=[\"policy0\"] may=[\"policy0\"] erring=[]\nend\n") Clean (opens one_policy all_missing map.empty allowed)
@@ -129,7 +133,9 @@ module _ (reads_tokens : ReadsTokens) (reads_exprs : ReadsExprs) (reads_policies
     count = 2;
     frames = codes "load 36\npermit(principal, action, resource);\nask 2\n{}\n";
     said = line_of (Named (codes "policy0" ∷ [])) ++ line_of (Answered allowed);
-    ran = Turn (Turn (Start new_world) (omega arith) load_frame (inr (inr (permit_is_utf8, load)))) (omega arith) ask_frame (inr (inr (braces_are_utf8, ask)));
+    ran =
+        Turn (Turn (Start new_world) (omega arith) load_frame (inr (inr (permit_is_utf8, load, tt)))) (omega arith) ask_frame
+        (inr (inr (braces_are_utf8, ask, λ commands replies reached. no_error)));
     tail = [];
     ends = refl;
     read = refl;

@@ -1,13 +1,11 @@
 -- Commands that tell are tells.
 use Rattle.std.proofs.Common.{List, [], ◌∷◌}
-use Rattle.cedar_language.specs.Uid.{Text}
 use Rattle.cedar_world.specs.World.{World}
 use Rattle.cedar_world.specs.Question.{Portion}
 use Rattle.cedar_world.specs.Setting.{Setting}
-use Rattle.cedar_world.specs.Commands.{Verb, Load, Link, Unlink, RemoveStatic, RemoveTemplate, Add, Put, Remove, Ask, Tell, Reply, Done, Named, Answered, Refused}
+use Rattle.cedar_world.specs.Commands.{Tell, Reply, Answered, Refused}
 use Rattle.cedar_world.specs.Laws.{TellingAllIsKnowing}
 use Rattle.cedar_world.specs.Session.{Command, Answers, no_command, a_command}
-use Rattle.cedar_world.specs.Step.{Step}
 use Rattle.cedar_world.specs.Telling.{Tells, all_told, one_refused, one_told}
 use Rattle.cedar_world.specs.TellingLaws.{TellEach, ToldCommandsEndKnown}
 

@@ -1,5 +1,5 @@
--- A static policy of which the scope doesn't hold has no part in any answer.
-use Rattle.std.proofs.Common.{◌≡◌, ◌⊎◌, inl, inr, Bool, true, false, cond, not, ◌&&◌, List, Option, Some, None, option_map, map, refl, sym, ◌∙◌, ap, subst, true≢false}
+-- A policy of which the scope doesn't hold has no part in any answer.
+use Rattle.std.proofs.Common.{◌≡◌, ◌⊎◌, inl, inr, Bool, true, false, cond, not, ◌&&◌, List, Option, Some, None, IsSome, IsTrue, is_some, option_map, map, refl, sym, ◌∙◌, ap, subst, true≢false}
 use Rattle.std.specs.Cmp.{both_ways}
 use Rattle.std.specs.FinMap as finite
 use Rattle.cedar_language.specs.Uid.{Text, Uid}
@@ -11,14 +11,20 @@ use Rattle.cedar_language.specs.Authorization.{Known, request_at, standing_of}
 use Rattle.cedar_partial_evaluation.specs.Settling.{Is, kindless, MeaningIsSettled, leaf_settlings_of}
 use Rattle.cedar_partial_evaluation.specs.Question.{part_settled, settled_of}
 use Rattle.cedar_partial_evaluation.specs.Filling as early
-use Rattle.cedar_world.specs.Answer.{Answer}
-use Rattle.cedar_grammar.specs.Bindings.{linked}
+use Rattle.cedar_world.specs.Answer.{has_id, Answer}
+use Rattle.cedar_grammar.specs.Bindings.{Bindings, linked}
 use Rattle.cedar_grammar.specs.Syntax.{PolicySyntax, condition, is_template}
-use Rattle.cedar_world.specs.World.{World, Bound, Policy, Link, template_of, template_at, standing_for, in_force, in_force_as, in_force_at}
+use Rattle.cedar_world.specs.World.{World, Bound, Policy, Link, only_template, template_of, template_at, standing_for, in_force, in_force_as, in_force_at}
 use Rattle.cedar_world.specs.Asking.{Part, Given, Missing, Question, Told}
 use Rattle.cedar_world.specs.Setting.{Setting, means}
-use Rattle.cedar_world.specs.Answers.{judge, answer_of, known_answer, IsFair, IsDecided, IsOut, AllOut, SomeHolds, SaysDecided, SaysKinds}
-use Rattle.cedar_world.specs.UnmetScopes.{with_policy, parts_of, IsUnmet, IsUnmetIn, SaysNothing, UnmetScopesSayNothing}
+use Rattle.cedar_world.specs.Answers.{judge, answer_of, known_answer, IsKnownAnswer, IsFair, IsPromptButKinds, NamesKinds, NamesNoGhosts, IsDecided, IsOut, AllOut, SomeHolds, SaysDecided, SaysKinds}
+use Rattle.cedar_world.specs.Fillings.{IsFilling}
+use Rattle.cedar_world.specs.InForce.{AreAlike}
+use Rattle.cedar_world.specs.LinkLaws.{LinkLaws}
+use Rattle.cedar_world.specs.WorldFacts.{AreFactsOf, facts_of, WorldsHaveFacts}
+use Rattle.cedar_world.specs.UnmetScopes.{with_policy, with_link, parts_of, IsUnmet, IsUnmetIn, CanBeFilled, SaysNothing, UnmetScopesSayNothing, UnmetLinksSayNothing}
+use Rattle.cedar_world.proofs.Alike as alike
+use Rattle.cedar_world.proofs.Alike.{swapped, same_known as known_alike}
 use Rattle.cedar_world.proofs.Parts.{not_none}
 use Rattle.cedar_world.proofs.Lists.{IsAmong, mapped, unmapped, some_of, of_some}
 use Rattle.cedar_world.proofs.Maps.{same_or_not, put_there, put_elsewhere}
@@ -115,30 +121,38 @@ module _ (js ks : List Judged) (there : (j : Judged) → IsAmong j js → IsAmon
 
 -- ---- the two worlds
 
+module _ (world : World) (id : Text) (v : Bound) (free : finite.get world.policies id ≡ None) (none : only_template v ≡ None) where
+  abbrev held : World
+  held = record world { policies = finite.insert world.policies id v }
+
+  templates_stay : (t : Text) → template_at held.policies t ≡ template_at world.policies t
+  templates_stay t = elim (same_or_not t id) [
+    | inl is ↦
+        ap (template_at held.policies) is ∙ ap template_of (put_there world.policies id v) ∙ none
+        ∙ sym (ap template_of free) ∙ sym (ap (template_at world.policies) is)
+    | inr differs ↦ ap template_of (put_elsewhere world.policies id v t differs)
+  ]
+
+  stands_same : (b : Bound) → standing_for held.policies b ≡ standing_for world.policies b
+  stands_same (Policy p) = refl
+  stands_same (Link t b) = ap (option_map (linked b)) (templates_stay t)
+
+  bound_same : (o : Option Bound) → in_force_as held.policies o ≡ in_force_as world.policies o
+  bound_same None = refl
+  bound_same (Some b) = stands_same b
+
+  others_stay : (x : Text) → (x ≡ id → ⊥) → in_force_at held.policies x ≡ in_force_at world.policies x
+  others_stay x differs = ap (in_force_as held.policies) (put_elsewhere world.policies id v x differs) ∙ bound_same (finite.get world.policies x)
+
 module _ (world : World) (id : Text) (s : PolicySyntax) (free : finite.get world.policies id ≡ None) (static : is_template s ≡ false) where
   abbrev other : World
   other = with_policy world id s
 
-  template_same : (t : Text) → template_at other.policies t ≡ template_at world.policies t
-  template_same t = elim (same_or_not t id) [
-    | inl is ↦
-        ap (template_at other.policies) is ∙ ap template_of (put_there world.policies id (Policy s)) ∙ none ∙ sym (ap template_of free) ∙ sym (ap (template_at world.policies) is)
-    | inr differs ↦ ap template_of (put_elsewhere world.policies id (Policy s) t differs)
-  ]
-    where
-      none : template_of (Some (Policy s)) ≡ None
-      none = rw static refl
-
-  stands_same : (b : Bound) → standing_for other.policies b ≡ standing_for world.policies b
-  stands_same (Policy p) = refl
-  stands_same (Link t b) = ap (option_map (linked b)) (template_same t)
-
-  bound_same : (o : Option Bound) → in_force_as other.policies o ≡ in_force_as world.policies o
-  bound_same None = refl
-  bound_same (Some b) = stands_same b
+  no_template : only_template (Policy s) ≡ None
+  no_template = rw static refl
 
   elsewhere : (x : Text) → (x ≡ id → ⊥) → in_force_at other.policies x ≡ in_force_at world.policies x
-  elsewhere x differs = ap (in_force_as other.policies) (put_elsewhere world.policies id (Policy s) x differs) ∙ bound_same (finite.get world.policies x)
+  elsewhere x differs = others_stay world id (Policy s) free no_template x differs
 
   here : in_force_at other.policies id ≡ Some s
   here = ap (in_force_as other.policies) (put_there world.policies id (Policy s)) ∙ rw static refl
@@ -295,24 +309,129 @@ module _ (settled : MeaningIsSettled) (by : Setting) (world : World) (id : Text)
   known_there : (facts : Facts) (request : Known) → means facts request (condition s) ≡ Gives (Plain (Boolean false)) → known_answer by (with_policy world id s) facts request ≡ known_answer by world facts request
   known_there facts request = same_known world id s free static facts request
 
+  -- a known question, by values that fill one, has the same answer in both worlds
+  filled_known : (q : Question) (filling : Told) (request : Known) → IsFilling by q filling request → IsUnmetIn by world q s
+      → (facts : Facts) → AreFactsOf by world facts → known_answer by (with_policy world id s) facts request ≡ known_answer by world facts request
+  filled_known q filling request filled unmet facts are =
+      let given : AreGiven facts (leaf_settlings_of (request_at request (λ x. None))) q = record {
+        principal = λ u e. ap (λ x. Is (Plain (Entity x))) (filled_part q.principal _ request.principal u filled.fills.principal e);
+        action = λ u e. ap (λ x. Is (Plain (Entity x))) (filled_part q.action _ request.action u filled.fills.action e);
+        resource = λ u e. ap (λ x. Is (Plain (Entity x))) (filled_part q.resource _ request.resource u filled.fills.resource e);
+      } in
+      known_there facts request (unsatisfied_at facts request q given (unmet facts are))
+
+  known_with : (q : Question) (filling : Told) (request : Known) (whole : Answer) → IsFilling by q filling request → IsUnmetIn by world q s
+      → IsKnownAnswer by world request whole → IsKnownAnswer by (with_policy world id s) request whole
+  known_with q filling request whole filled unmet known =
+      record { facts = known.facts; facts_are = known.facts_are; is = known.is ∙ sym (filled_known q filling request filled unmet known.facts known.facts_are) }
+
+  known_without : (q : Question) (filling : Told) (request : Known) (whole : Answer) → IsFilling by q filling request → IsUnmetIn by world q s
+      → IsKnownAnswer by (with_policy world id s) request whole → IsKnownAnswer by world request whole
+  known_without q filling request whole filled unmet known =
+      record { facts = known.facts; facts_are = known.facts_are; is = known.is ∙ filled_known q filling request filled unmet known.facts known.facts_are }
+
   fair_there : (q : Question) (told : Told) (answer : Answer) → IsUnmetIn by world q s → IsFair by (with_policy world id s) q told answer → IsFair by world q told answer
   fair_there q told answer unmet fair filling request whole agrees known =
-      let fills = agrees.filling_is.fills in
-      let given : AreGiven known.facts (leaf_settlings_of (request_at request (λ x. None))) q = record {
-        principal = λ u e. ap (λ x. Is (Plain (Entity x))) (filled_part q.principal _ request.principal u fills.principal e);
-        action = λ u e. ap (λ x. Is (Plain (Entity x))) (filled_part q.action _ request.action u fills.action e);
-        resource = λ u e. ap (λ x. Is (Plain (Entity x))) (filled_part q.resource _ request.resource u fills.resource e);
-      } in
-      let unsatisfied = unsatisfied_at known.facts request q given (unmet known.facts known.facts_are) in
-      fair filling request whole agrees (record { facts = known.facts; facts_are = known.facts_are; is = known.is ∙ sym (known_there known.facts request unsatisfied) })
+      fair filling request whole agrees (known_with q filling request whole agrees.filling_is unmet known)
 
-  says_nothing : SaysNothing by world id s
-  says_nothing = record {
+  prompt_there : (q : Question) (told : Told) (answer : Answer) → IsUnmetIn by world q s
+      → IsPromptButKinds by (with_policy world id s) q told answer → IsPromptButKinds by world q told answer
+  prompt_there q told answer unmet prompt facts are = decided_said world id s free static by facts q told (unmet facts are) answer (prompt facts are)
+
+  kinds_there : (q : Question) (told : Told) (answer : Answer) → IsUnmetIn by world q s
+      → NamesKinds by (with_policy world id s) q told answer → NamesKinds by world q told answer
+  kinds_there q told answer unmet kinds facts are = kinds_said world id s free static by facts q told (unmet facts are) answer (kinds facts are)
+
+  -- no error of a known answer is that of an id under which nothing is in force
+  error_in_force : (facts : Facts) (request : Known) (x : Text)
+      → IsSome (finite.get (known_answer by world facts request).erring x) → IsSome (in_force_at world.policies x)
+  error_in_force facts request x h =
+      let (k, is) = the_value (finite.get (known_answer by world facts request).erring x) h in
+      let failed = error_with (map (judge facts request) (in_force world.policies)) x k is in
+      let (p, among, judged) = unmapped (judge facts request) (in_force world.policies) failed.policy failed.among in
+      let one : p.0 ≡ x = ap (λ (j : Judged). j.id) judged ∙ failed.id_is in
+      ap is_some (ap (in_force_at world.policies) (sym one) ∙ listed_in_force world.policies p.0 p.1 among)
+
+  module _ (exist : AreFactsOf by world (facts_of by world)) (q : Question) (told : Told) (answer : Answer)
+      (unmet : IsUnmetIn by world q s) (can : CanBeFilled by q told) (fair : IsFair by (with_policy world id s) q told answer)
+      (prompt : IsPromptButKinds by (with_policy world id s) q told answer) (names : NamesNoGhosts by (with_policy world id s) answer) where
+    may_at : (x : Text) → IsTrue (has_id answer.may x) → (x ≡ id) ⊎ (x ≡ id → ⊥) → IsSome (in_force_at world.policies x)
+    may_at x h (inl is) =
+        let out = added_is_out world id s free static by (facts_of by world) q told (unmet (facts_of by world) exist) s.effect refl in
+        absurd ((prompt (facts_of by world) exist).may_not id s.effect out (ap (has_id answer.may) (sym is) ∙ h))
+    may_at x h (inr differs) = ap is_some (sym (elsewhere world id s free static x differs)) ∙ names.may x h
+
+    erring_at : (x : Text) → IsSome (finite.get answer.erring x) → IsSome (in_force_at world.policies x)
+    erring_at x h =
+        let whole = known_answer by world (facts_of by world) can.1 in
+        let known : IsKnownAnswer by world can.1 whole = record { facts = facts_of by world; facts_are = exist; is = refl } in
+        let holds = fair_there q told answer unmet fair can.0 can.1 whole can.2 known in
+        error_in_force (facts_of by world) can.1 x (holds.erring x h)
+
+    ghosts_there : NamesNoGhosts by world answer
+    ghosts_there = record { must = names.must; may = λ x h. may_at x h (same_or_not x id); erring = λ x h. erring_at x h }
+
+  says_nothing : AreFactsOf by world (facts_of by world) → SaysNothing by world (with_policy world id s) s
+  says_nothing exist = record {
     known = λ facts request unmet. known_there facts request (unsatisfied_at facts request (parts_of request) (own_parts facts request) unmet);
     fair = fair_there;
-    prompt = λ q told answer unmet prompt facts are. decided_said world id s free static by facts q told (unmet facts are) answer (prompt facts are);
-    kinds = λ q told answer unmet kinds facts are. kinds_said world id s free static by facts q told (unmet facts are) answer (kinds facts are);
+    prompt = prompt_there;
+    kinds = kinds_there;
+    first = λ q answer unmet can first. record {
+      known = λ is. let (request, filled, known) = first.known is in (request, filled, known_without q finite.empty request answer filled unmet known);
+      fair = fair_there q finite.empty answer unmet first.fair;
+      prompt = prompt_there q finite.empty answer unmet first.prompt;
+      kinds = kinds_there q finite.empty answer unmet first.kinds;
+      in_force = ghosts_there exist q finite.empty answer unmet can first.fair first.prompt first.in_force;
+    };
+    later = λ asked told answer unmet can later. record {
+      follows = later.follows;
+      fair = fair_there asked.question told answer unmet later.fair;
+      prompt = prompt_there asked.question told answer unmet later.prompt;
+      whole = λ request whole filled known. later.whole request whole filled (known_with asked.question told request whole filled unmet known);
+      in_force = ghosts_there exist asked.question told answer unmet can later.fair later.prompt later.in_force;
+    };
   }
 
-pub unmet_scopes_say_nothing : MeaningIsSettled → UnmetScopesSayNothing
-unmet_scopes_say_nothing settled by world id s free static = says_nothing settled by world id s free static
+pub unmet_scopes_say_nothing : MeaningIsSettled → WorldsHaveFacts → UnmetScopesSayNothing
+unmet_scopes_say_nothing settled have by world id s free static = says_nothing settled by world id s free static (have.exist by world)
+
+-- ---- links
+
+module _ (world : World) (id template : Text) (b : Bindings) (s : PolicySyntax) (free : finite.get world.policies id ≡ None)
+    (template_is : template_at world.policies template ≡ Some s) (static : is_template (linked b s) ≡ false) where
+  link_here : in_force_at (with_link world id template b).policies id ≡ Some (linked b s)
+  link_here =
+      ap (in_force_as (with_link world id template b).policies) (put_there world.policies id (Link template b))
+      ∙ ap (option_map (linked b)) (templates_stay world id (Link template b) free refl template ∙ template_is)
+
+  link_at : (x : Text) → (x ≡ id) ⊎ (x ≡ id → ⊥)
+      → in_force_at (with_policy world id (linked b s)).policies x ≡ in_force_at (with_link world id template b).policies x
+  link_at x (inl is) =
+      ap (in_force_at (with_policy world id (linked b s)).policies) is ∙ here world id (linked b s) free static
+      ∙ sym link_here ∙ sym (ap (in_force_at (with_link world id template b).policies) is)
+  link_at x (inr differs) = elsewhere world id (linked b s) free static x differs ∙ sym (others_stay world id (Link template b) free refl x differs)
+
+  link_alike : AreAlike (with_policy world id (linked b s)) (with_link world id template b)
+  link_alike = record { entities = refl; policies = λ x. link_at x (same_or_not x id) }
+
+  -- what is said of the policy that the link writes is said of the link
+  link_says_nothing : (by : Setting) → SaysNothing by world (with_policy world id (linked b s)) (linked b s)
+      → SaysNothing by world (with_link world id template b) (linked b s)
+  link_says_nothing by says =
+      let back = swapped (with_policy world id (linked b s)) (with_link world id template b) link_alike in
+      let more = with_policy world id (linked b s) in
+      let link = with_link world id template b in
+      record {
+        known = λ facts request unmet. known_alike by link more facts request back ∙ says.known facts request unmet;
+        fair = λ q told answer unmet fair. says.fair q told answer unmet (alike.fair_there by link more back q told answer fair);
+        prompt = λ q told answer unmet prompt. says.prompt q told answer unmet (alike.prompt_there by link more back q told answer prompt);
+        kinds = λ q told answer unmet kinds. says.kinds q told answer unmet (alike.kinds_there by link more back q told answer kinds);
+        first = λ q answer unmet can first. says.first q answer unmet can (alike.first_there by link more back q answer first);
+        later = λ asked told answer unmet can later. says.later asked told answer unmet can (alike.later_there by link more back asked told answer later);
+      }
+
+pub unmet_links_say_nothing : LinkLaws → UnmetScopesSayNothing → UnmetLinksSayNothing
+unmet_links_say_nothing laws say by world id template b s free template_is exact =
+    let static = laws.static b s exact in
+    link_says_nothing world id template b s free template_is static by (say by world id (linked b s) free static)

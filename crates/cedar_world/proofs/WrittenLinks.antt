@@ -1,18 +1,13 @@
 -- What a written link is read as, and how it is answered.
-use Rattle.std.proofs.Common.{◌≡◌, ℕ, zero, suc, true, List, [], ◌∷◌, Some, map}
-use Rattle.std.specs.FinMap as finite
-use Rattle.cedar_language.specs.Uid.{Text}
+use Rattle.std.proofs.Common.{ℕ, zero, suc, List, [], ◌∷◌}
 use Rattle.cedar_grammar.specs.Laws.{LinksAreRead}
 use Rattle.cedar_grammar.specs.Names.{Names}
-use Rattle.cedar_grammar.specs.Policies.{PolicyWithin, ArePolicies, IsWrittenLink, no_more, one_more}
-use Rattle.cedar_grammar.specs.Policy.{Policy, bound}
+use Rattle.cedar_grammar.specs.Policies.{PolicyWithin, ArePolicies, no_more, one_more}
+use Rattle.cedar_grammar.specs.Policy.{Policy}
 use Rattle.cedar_grammar.specs.Token.{Token}
-use Rattle.cedar_grammar.specs.Tokens.{IsTokens}
 use Rattle.cedar_grammar.specs.Functions.{policy_names}
 use Rattle.cedar_world.specs.InForce.{LinksAreAnsweredAsWritten, WrittenLinksAreAnswered}
-use Rattle.cedar_world.specs.Setting.{Setting}
-use Rattle.cedar_grammar.specs.Bindings.{Bindings, binding_of, linked}
-use Rattle.cedar_grammar.specs.Syntax.{PolicySyntax}
+use Rattle.cedar_grammar.specs.Bindings.{binding_of, linked}
 
 one_policy : (names : Names) (n : ℕ) (ts : List Token) (p : Policy) → PolicyWithin names n ts p [] → ArePolicies names n ts (p ∷ [])
 one_policy names zero ts p is = elim is [ ]

@@ -1,5 +1,5 @@
 -- By early answers: each policy kept stands as the evaluation of what is written of it says.
-use Rattle.cedar_asking.proofs.Firsts.{says_first, lists_first, meets_limit}
+use Rattle.cedar_asking.proofs.Firsts.{says_first, lists_first, meets_in_force, meets_limit}
 use Rattle.cedar_asking.proofs.responses_answer_questions.Goals as goal
 
 pub returns : goal.returns
@@ -10,6 +10,9 @@ returns c by world facts es s table depth q r ks held asked kept = record {
   errors = λ listed answer says.
       lists_first r s table depth c.linking_is_writing_early.ensures c.linking_binds_the_condition.ensures es held.whole held.slots held.names c.policy_sets_are_worlds.ensures.finds ks kept by world held.policies facts held.store held.functions q asked
       c.answers_are_made.ensures listed answer says;
+  in_force = λ some.
+      meets_in_force r s table depth c.linking_is_writing_early.ensures c.linking_binds_the_condition.ensures es held.whole held.slots held.names
+      c.policy_sets_are_worlds.ensures.finds ks kept by world held.policies facts held.store held.functions q asked some;
   limit = λ setting some known.
       meets_limit r s table depth c.linking_is_writing_early.ensures c.linking_binds_the_condition.ensures es held.whole held.slots held.names c.policy_sets_are_worlds.ensures.finds ks kept by world held.policies facts held.store held.functions q asked
       c.mentioned_is_meant.ensures c.linking_keeps_height.ensures setting some known;

@@ -1,9 +1,10 @@
--- By what is told, which is in no conflict with the request, and by the parts of the context.
+-- By what is told, which is in no conflict with the request, and by the parts of the context; and by what was left of policies.
 use Rattle.cedar_asking.proofs.LaterTells.{is_refused}
+use Rattle.cedar_asking.proofs.MetAgain.{met_again}
 use Rattle.cedar_asking.proofs.tells_are_refused.Goals as goal
 
-pub returns : goal.returns
-returns c by world q first old told es s table depth last e gives keeps now are refused =
+pub returns-clause-context : goal.returns-clause-context
+returns-clause-context c by world q first old told es s table depth last e gives keeps now are refused =
     is_refused
     (record {
       exist = c.worlds_have_facts.ensures;
@@ -14,4 +15,8 @@ returns c by world q first old told es s table depth last e gives keeps now are 
       parts = c.contexts_err_in_parts.ensures;
       tell = c.told_contexts_are_evaluated.ensures;
     })
-    by world q first keeps.response told are es s table gives depth now e refused
+    by world q first keeps.response told are es s table gives depth now c.known_is_never_left.ensures e refused
+
+pub returns-clause-limit : goal.returns-clause-limit
+returns-clause-limit c by world q first again old told s table depth last keeps taken some =
+    met_again c.policy_sets_are_worlds.ensures.finds by world q first keeps.response told s table depth again taken some

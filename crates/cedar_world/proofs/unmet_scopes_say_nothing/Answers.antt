@@ -3,4 +3,4 @@ use Rattle.cedar_world.proofs.UnmetScopes.{unmet_scopes_say_nothing}
 use Rattle.cedar_world.proofs.unmet_scopes_say_nothing.Goals as goal
 
 pub returns : goal.returns
-returns c = unmet_scopes_say_nothing c.meaning_is_settled.ensures
+returns c = unmet_scopes_say_nothing c.meaning_is_settled.ensures c.worlds_have_facts.ensures

@@ -5,13 +5,13 @@ use Rattle.cedar_session.proofs.entry.answered.Goals as goal
 
 pub returns-clause-end : goal.returns-clause-end
 returns-clause-end g c = λ h.
-    at_end _ c.run.result (sym c.status_of.ensures ∙ h) (answers _ _ _ _ _ _ _ _ c.in-Ok.ensures.setting _ c.in-Ok.ensures.world _ c.run.result c.run.ensures.none_failed c.run.ensures.text)
+    at_end _ c.run.result (sym c.status_of.ensures ∙ h) (answers _ _ _ _ _ _ _ _ c.in-Ok.ensures.setting _ c.in-Ok.ensures.world _ c.run.result c.run.ensures.none_failed c.run.ensures.sent c.run.ensures.text)
 
 pub returns-clause-fault : goal.returns-clause-fault
 returns-clause-fault g c = λ h.
-    at_fault _ c.run.result (sym c.status_of.ensures ∙ h) (answers _ _ _ _ _ _ _ _ c.in-Ok.ensures.setting _ c.in-Ok.ensures.world _ c.run.result c.run.ensures.none_failed c.run.ensures.text)
+    at_fault _ c.run.result (sym c.status_of.ensures ∙ h) (answers _ _ _ _ _ _ _ _ c.in-Ok.ensures.setting _ c.in-Ok.ensures.world _ c.run.result c.run.ensures.none_failed c.run.ensures.sent c.run.ensures.text)
 
 pub returns-clause-device : goal.returns-clause-device
 returns-clause-device g c = λ h.
-    at_failure _ _ c.run.result (sym c.status_of.ensures ∙ h) (λ read. fails_to_read _ _ _ _ _ _ _ _ c.in-Ok.ensures.setting _ c.in-Ok.ensures.world _ (c.run.ensures.read_failed read) (c.run.ensures.before_failure read))
+    at_failure _ _ c.run.result (sym c.status_of.ensures ∙ h) (λ read. fails_to_read _ _ _ _ _ _ _ _ c.in-Ok.ensures.setting _ c.in-Ok.ensures.world _ (c.run.ensures.read_failed read) (c.run.ensures.sent_before_failure read) (c.run.ensures.before_failure read))
     (λ write. fails_to_write _ _ _ _ _ _ _ _ c.in-Ok.ensures.setting _ c.in-Ok.ensures.world _ (c.run.ensures.write_failed write) (c.run.ensures.cut_short write))

@@ -1,5 +1,5 @@
-use Rattle.std.proofs.Common.{◌≡◌, ℕ, List, false}
-use Rattle.cedar_frames.specs.Watching.{watched_failed}
+use Rattle.std.proofs.Common.{◌≡◌, ◌<◌, ℕ, List, false}
+use Rattle.cedar_frames.specs.Watching.{watched_failed, watched_unsent}
 use Rattle.cedar_frames.specs.Reading.{Reads}
 use Rattle.cedar_world.specs.RunText.{Ran}
 use Rattle.cedar_session.specs.Sessions.{world_of, setting_of}
@@ -10,6 +10,8 @@ abbrev pub invariant-loop-turn : goal.invariant-loop-turn
 invariant-loop-turn g l = record {
   reader_sound : watched_failed l.reader ≡ false;
   writer_sound : watched_failed l.writer ≡ false;
+  sent : 0 < l.turn → watched_unsent l.writer ≡ false;
+  kept : watched_unsent l.initial.writer ≡ false → watched_unsent l.writer ≡ false;
   setting : setting_of l.session ≡ setting_of l.initial.session;
   so_far : (bytes said : List ℕ)
       × Reads g.R.Read.remaining l.initial.reader l.reader bytes

@@ -4,7 +4,7 @@ use Rattle.cedar_world.specs.Commands.{Done, Answered}
 use Rattle.cedar_world.specs.Step.{Step}
 use Rattle.cedar_replies.specs.Replies.{answer_of}
 use Rattle.cedar_session.specs.Commands.{command_verb, command_text}
-use Rattle.cedar_session.specs.OrdinaryErrors.{RepliesOrdinarily}
+use Rattle.cedar_world.specs.OrdinaryReplies.{RepliesOrdinarily}
 use Rattle.cedar_session.specs.Sessions.{setting_of, world_of}
 use Rattle.cedar_session.proofs.session.Session.apply.Goals as goal
 
