@@ -46,8 +46,7 @@ class Tree:
 
     def __init__(self):
         self.files = tracked()
-        lines = [it.partition("#")[0].partition(":")[0].split() for it in text_of("crates.txt").splitlines()]
-        self.crates = {it[0] for it in lines if it}
+        self.crates = set(rooms.read())
         kit = os.path.realpath(os.path.join(os.path.dirname(os.path.realpath(shutil.which("rt") or "/")), "..", "rlibs"))
         self.kit = {it.removesuffix(".rlib") for it in os.listdir(kit)} if os.path.isdir(kit) else set()
         self.words = {it: set() for it in self.crates}

@@ -14,14 +14,12 @@ import os
 import subprocess
 import sys
 
+sys.dont_write_bytecode = True
+from cases import bytes_of
+
 FOLDER = "crates/cedar_layer_rows"
 SECONDS = 600
 MARK = " => "
-
-
-def bytes_of(path):
-    with open(path, "rb") as it:
-        return it.read()
 
 
 def lines_of(text):

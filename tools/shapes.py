@@ -11,6 +11,9 @@ import subprocess
 import sys
 import time
 
+sys.dont_write_bytecode = True
+from cases import frame
+
 SIZE = 1048576
 STACK, MEMORY = 8 << 20, 2 << 30
 VERBS = ("load", "put", "ask")
@@ -105,10 +108,6 @@ def cases():
 def bounded():
     resource.setrlimit(resource.RLIMIT_STACK, (STACK, STACK))
     resource.setrlimit(resource.RLIMIT_AS, (MEMORY, MEMORY))
-
-
-def frame(verb, body):
-    return f"{verb} {len(body)}\n".encode() + body + b"\n"
 
 
 def told(program, verb, body, seconds):
