@@ -45,4 +45,4 @@ pub use cedar_trees::errors::{DuplicateKeyError, ExpressionConstructionError};
 pub use cedar_trees::expr::{Expr, ExprKind};
 pub use cedar_trees::unknowns::{NonEmpty, Unknown};
 pub use cedar_values::extension_values::{Argument, ExtensionValue, RepresentableExtensionValue};
-pub use cedar_values::values::{Set, Value, ValueKind};
+pub use cedar_values::values::{LiteralSet, Literals, Set, Value, ValueKind};

@@ -275,6 +275,17 @@ fn of_sets(alloc: Global, verb: &str, set: &Set, other: &Value) -> Answer {
     match as_set(other) {
         Some(other) if verb == "two-nest" => said(alloc, set.is_subset(other)),
         Some(other) if verb == "two-disjoint" => said(alloc, set.is_disjoint(other)),
+        Some(other) => of_literal_sets(alloc, verb, set, other),
+        None => no_case(alloc),
+    }
+}
+
+fn of_literal_sets(alloc: Global, verb: &str, set: &Set, other: &Set) -> Answer {
+    match (set.fast(), other.fast()) {
+        (Some(set), Some(other)) if verb == "two-nest-fast" => said(alloc, set.is_subset(&other)),
+        (Some(set), Some(other)) if verb == "two-disjoint-fast" => {
+            said(alloc, set.is_disjoint(&other))
+        }
         _ => no_case(alloc),
     }
 }
@@ -305,8 +316,22 @@ fn of_set(alloc: Global, verb: &str, set: &Set) -> Answer {
         "len" => tell(alloc, set.len()),
         "copied-set" => show(alloc, setted(set.clone(alloc))),
         "is-empty" => said(alloc, set.is_empty()),
+        "fast" => show_literals(alloc, set),
         _ => no_case(alloc),
     }
+}
+
+/// How many literals a set of literals lends, and each of them behind a semicolon.
+fn show_literals(alloc: Global, set: &Set) -> Answer {
+    let Some(literals) = set.fast() else {
+        return String::from_str(alloc, "None");
+    };
+    let mut text = format!(in alloc; "{}", literals.len())?;
+    for literal in literals.iter() {
+        text.push(';')?;
+        text.push_str(literal.to_string(alloc)?.as_str())?;
+    }
+    Ok(text)
 }
 
 fn of_literal(alloc: Global, verb: &str, literal: &Literal) -> Answer {

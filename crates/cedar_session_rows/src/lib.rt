@@ -12,13 +12,13 @@ mod runs;
 mod words;
 
 use crate::ranks::Ranks;
-use cedar_rows::{Answer, cut};
+use cedar_rows::{Answer, cut, no_case};
 use cedar_session::{Extensions, Refusal, Session};
 use cedar_trees::expr::Expr;
 pub use ranks::Tables;
 use std::alloc::Global;
 
-/// How deep texts and evaluations may be where a line doesn't say it.
+/// How deep texts and evaluations may be where no line says it.
 const DEPTH: u32 = 256;
 
 /// What earlier lines left.
@@ -63,8 +63,17 @@ fn begin<'e, 'f>(
     }
 }
 
-fn depth_of(text: &str) -> u32 {
-    text.parse::<u32>().unwrap_or(DEPTH)
+/// Begins a fresh session with the limit that the text spells.
+fn begin_within<'e, 'f>(
+    alloc: Global,
+    extensions: &'e Extensions<'f, Ranks>,
+    text: &str,
+    held: &mut Held<'e, 'f>,
+) -> Answer {
+    match text.parse::<u32>() {
+        Ok(depth) => begin(alloc, extensions, depth, held),
+        Err(_) => no_case(alloc),
+    }
 }
 
 /// What a line answers. Refused for memory alone.
@@ -72,8 +81,11 @@ pub fn answer(alloc: Global, line: &str, held: &mut Held<'_, '_>) -> Answer {
     let (verb, text) = cut(line);
     match verb {
         "" => begin(alloc, held.tables.bare(), DEPTH, held),
-        "session" => begin(alloc, held.tables.bare(), depth_of(text), held),
-        "ranks" => begin(alloc, held.tables.with_ranks(), depth_of(text), held),
+        "session" => begin_within(alloc, held.tables.bare(), text, held),
+        "ranks" => match text {
+            "" => begin(alloc, held.tables.with_ranks(), DEPTH, held),
+            _ => no_case(alloc),
+        },
         "run" => runs::at_devices(text, &mut held.session),
         "program" => runs::of_program(alloc, text),
         "failure" => runs::of_failure(alloc, text),

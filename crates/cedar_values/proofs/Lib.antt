@@ -1,3 +1,5 @@
+pub mod LiteralSets
+pub mod Lookups
 pub mod Records
 pub mod Sameness
 pub mod Sets

@@ -61,6 +61,10 @@ same_truth true b f g = sym (f refl)
 same_truth false true f g = g refl
 same_truth false false f g = refl
 
+-- a test that tells members is the language's
+pub member_test : (vs : List Value) (v : Value) (b : Bool) → IsTrue b ↔ Contains vs v → b ≡ has_member (all_of vs) v
+member_test vs v b f = same_truth b (has_member (all_of vs) v) (λ t. (member_is vs v).1 (f.0 t)) (λ t. f.1 ((member_is vs v).0 t))
+
 pub members_of : (vs : List Value) → members (all_of vs) ≡ vs
 members_of [] = refl
 members_of (v ∷ vs) = ap (λ ws. v ∷ ws) (members_of vs)
@@ -95,7 +99,7 @@ not_true : (b : Bool) → not b ≡ true → b ≡ true → ⊥
 not_true true h k = absurd (cc)
 not_true false h k = absurd (cc)
 
-not_false : (b : Bool) → (b ≡ true → ⊥) → b ≡ false
+pub not_false : (b : Bool) → (b ≡ true → ⊥) → b ≡ false
 not_false true h = absurd (h refl)
 not_false false h = refl
 
@@ -109,6 +113,9 @@ disjoint_is vs ws = (
       list_any_none (has_member (all_of ws)) vs (λ k d l. not_false (has_member (all_of ws) (get_or vs k d)) (λ t. f (get_or vs k d) (Contains-get_or vs k d l) ((member_is ws (get_or vs k d)).0 t))) in
       ap not (some_is (all_of ws) vs ∙ none),
 )
+
+pub no_test : (vs : List Value) (v : Value) → (Contains vs v → ⊥) → has_member (all_of vs) v ≡ false
+no_test vs v f = not_false (has_member (all_of vs) v) (λ t. f ((member_is vs v).0 t))
 
 -- ---- what a binary search finds
 
@@ -145,8 +152,3 @@ found vs v (Err i) h range parted = (
         | inr g ↦ not_equal (get_or vs m.0 v) v Greater (parts.1 m.0 v g m.1) greater_is_not m.2
       ]),
 )
-
-pub found_is : (vs : List Value) (v : Value) (r : Result ℕ ℕ) → IsStrictlySortedBy value_cmp vs → IsSearchInRange r (length vs) → IsBinarySearchResult (λ w. value_cmp w v) vs r → is_ok r ≡ has_member (all_of vs) v
-found_is vs v r h range at =
-    let f = found vs v r h range at in
-    same_truth (is_ok r) (has_member (all_of vs) v) (λ t. (member_is vs v).1 (f.0 t)) (λ t. f.1 ((member_is vs v).0 t))

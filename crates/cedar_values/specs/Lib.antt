@@ -5,6 +5,9 @@ pub mod Falls
 pub mod Hashes
 pub mod Kinds
 pub mod Laws
+pub mod LiteralSets
+pub mod LiteralsLeft
+pub mod Lookups
 pub mod Occurring
 pub mod Orders
 pub mod Readers

@@ -1,8 +1,12 @@
 -- What a value is, where it is of one type.
 use Rattle.std.specs.Prelude.{ℤ, Bool, Option, Some, None}
 use Rattle.cedar_language.specs.Uid.{Text, Uid}
-use Rattle.cedar_language.specs.Tree.{Boolean, Long, String, Entity}
+use Rattle.cedar_language.specs.Tree.{Literal, Boolean, Long, String, Entity}
 use Rattle.cedar_language.specs.Value.{Extension, Value, Plain, SetOf, ExtensionOf, Values}
+
+abbrev pub literal_in : Value → Option Literal
+literal_in (Plain l) = Some l
+literal_in v = None
 
 abbrev pub boolean_in : Value → Option Bool
 boolean_in (Plain (Boolean b)) = Some b

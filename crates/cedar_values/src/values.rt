@@ -3,20 +3,26 @@ ghost use Rattle.std.specs.Prelude.{◌≡◌};
 ghost use Rattle.cedar_values.specs.Kinds.{value_of};
 
 use crate::extension_values::RepresentableExtensionValue;
+use crate::values::lookups::Lookup;
 use cedar_literals::literals::Literal;
 use cedar_names::places::Loc;
 use std::collections::BTreeMap;
+use std::fmt;
 use std::marker::Model;
 use std::rc::{Rc, RcStr};
 
 mod constructors;
 mod displays;
 mod hashes;
+mod literal_sets;
+mod lookups;
 mod orders;
 mod readers;
 mod sets;
 mod types;
 mod uids;
+
+pub use literal_sets::{LiteralSet, Literals};
 
 /// A value, and where it was written, if that is known. Contracts see the value, as the language has
 /// it, and no place; so do `==`, order and hash. (Cedar language reference, "Data types".)
@@ -63,15 +69,48 @@ impl Drop for ValueKind {
 /// A finite set of values. Contracts see its members, each below the next in the order of values: so
 /// two sets are one exactly where they have the same members.
 #[cycle(value)]
-#[derive(Debug)]
 pub struct Set {
-    authoritative: Rc<Vec<Value>>,
+    members: Rc<Members>,
 }
 
 impl Drop for Set {
     #[cycle(value)]
     fn drop(self) {
-        let Set { authoritative: _ } = self;
+        let Set { members: _ } = self;
+    }
+}
+
+// The members alone are shown, not how they are looked up.
+impl fmt::Debug for Set {
+    #[cycle(values_debug)]
+    fn fmt<W: fmt::Write>(&self, f: &mut fmt::Formatter<W>) -> fmt::Result {
+        f.debug_struct("Set")
+            .field("authoritative", &self.members)
+            .finish()
+    }
+}
+
+impl fmt::Debug for Members {
+    #[cycle(values_debug)]
+    fn fmt<W: fmt::Write>(&self, f: &mut fmt::Formatter<W>) -> fmt::Result {
+        fmt::Debug::fmt(&self.authoritative, f)
+    }
+}
+
+// What the copies of a set share: its members, each below the next, and how they are looked up.
+#[cycle(value)]
+struct Members {
+    authoritative: Vec<Value>,
+    lookup: Lookup,
+}
+
+impl Drop for Members {
+    #[cycle(value)]
+    fn drop(self) {
+        let Members {
+            authoritative: _,
+            lookup: _,
+        } = self;
     }
 }
 
@@ -109,16 +148,18 @@ impl Model for Set {
 
     ghost coded = { coded_list value_code };
 
-    ghost view = { λ a. a.authoritative.value.items };
+    ghost view = { λ a. a.members.value.authoritative.items };
 
-    ghost invariant = { λ a. IsStrictlySortedBy value_cmp a.authoritative.value.items };
+    ghost use Rattle.cedar_values.specs.Lookups.{FitsMembers};
+
+    ghost invariant = { λ a. (IsStrictlySortedBy value_cmp a.members.value.authoritative.items) × FitsMembers a.members.value.lookup a.members.value.authoritative.items };
 
     ghost size = { λ vs. weigh_all (all_of vs) };
 
     ghost use Rattle.std.proofs.Common.{arith};
     ghost use Rattle.cedar_values.specs.Falls.{items_fall};
 
-    ghost size_decreases = { λ a h. Prim.omega (arith, items_fall a.authoritative.value.items) };
+    ghost size_decreases = { λ a h. Prim.omega (arith, items_fall a.members.value.authoritative.items) };
 }
 
 impl Value {

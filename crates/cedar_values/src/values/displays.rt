@@ -38,7 +38,7 @@ fn write_members<W: fmt::Write>(
 ) -> fmt::Result {
     let mut is_first = true;
     let mut left = n;
-    for member in set.authoritative.iter() {
+    for member in set.members.authoritative.iter() {
         write_separator(is_first, f)?;
         if left == Some(0) {
             return write!(f, ".. ");

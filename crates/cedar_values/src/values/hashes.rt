@@ -37,7 +37,7 @@ fn hash_kind<H: Hasher>(kind: &ValueKind, state: &mut H)
 fn hash_members<H: Hasher>(set: &Set, state: &mut H)
     ensures { state.new ≡ fold H.write state.old (values_hash (all_of set.now)) }
 {
-    for member in set.authoritative.iter() {
+    for member in set.members.authoritative.iter() {
         hash_kind(&member.value, state);
     }
 }

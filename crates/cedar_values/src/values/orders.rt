@@ -3,7 +3,7 @@
 ghost use Rattle.std.specs.Prelude.{◌≡◌};
 ghost use Rattle.std.specs.Cmp.Lexicographic.{slice_cmp};
 ghost use Rattle.cedar_language.specs.Order.{value_cmp, code_all, nodes_cmp, text_cmp, all_of};
-ghost use Rattle.cedar_values.specs.Kinds.{value_of, keys_of, values_of};
+ghost use Rattle.cedar_values.specs.Kinds.{value_of, plain_of, keys_of, values_of};
 ghost use Rattle.cedar_values.specs.Orders as orders;
 
 use crate::values::{Set, Value, ValueKind};
@@ -23,6 +23,18 @@ fn kind_number(kind: &ValueKind) -> u8
         ValueKind::Set(_) => 4,
         ValueKind::Record(_) => 5,
         ValueKind::ExtensionValue(_) => 6,
+    }
+}
+
+// What is no literal stands above it.
+pub(super) fn cmp_literal(value: &Value, literal: &Literal) -> Ordering
+    ensures { result ≡ value_cmp value.now (plain_of literal.now) }
+{
+    match &value.value {
+        ValueKind::Lit(own) => own.cmp(literal),
+        ValueKind::Set(_) | ValueKind::Record(_) | ValueKind::ExtensionValue(_) => {
+            Ordering::Greater
+        }
     }
 }
 
@@ -46,8 +58,8 @@ fn cmp_kinds(a: &ValueKind, b: &ValueKind) -> Ordering
 fn cmp_sets(a: &Set, b: &Set) -> Ordering
     ensures { result ≡ nodes_cmp (code_all (all_of a.now)) (code_all (all_of b.now)) }
 {
-    let mut others = b.authoritative.iter();
-    for x in a.authoritative.iter() {
+    let mut others = b.members.authoritative.iter();
+    for x in a.members.authoritative.iter() {
         match others.next() {
             None => return Ordering::Greater,
             Some(y) => {

@@ -7,8 +7,11 @@ ghost use Rattle.cedar_language.specs.Operators.{has_member, has_all, has_some};
 ghost use Rattle.cedar_language.specs.Order.{value_cmp, all_of, rising};
 ghost use Rattle.cedar_language.specs.Value as language;
 ghost use Rattle.cedar_values.specs.Kinds.{plain_of};
+ghost use Rattle.cedar_values.specs.LiteralSets.{are_literals, literals_in};
 
-use crate::values::{Set, Value, ValueKind};
+use crate::values::literal_sets::LiteralSet;
+use crate::values::lookups::{Lookup, has_hashed, has_literal, has_value};
+use crate::values::{Members, Set, Value, ValueKind};
 use cedar_literals::literals::Literal;
 use std::alloc::{AllocError, Global};
 use std::rc::Rc;
@@ -19,9 +22,7 @@ impl Set {
     pub fn empty(alloc: Global) -> Result<Set, AllocError>
         ensures { IfOk result (λ set. set ≡ []) }
     {
-        Ok(Set {
-            authoritative: Rc::new(alloc, Vec::new(alloc))?,
-        })
+        Set::of_rising(alloc, Vec::new(alloc))
     }
 
     /// The set of these values, each once; refused for memory alone.
@@ -33,8 +34,20 @@ impl Set {
         let mut members = values;
         members.sort()?;
         members.dedup();
+        Set::of_rising(alloc, members)
+    }
+
+    fn of_rising(alloc: Global, authoritative: Vec<Value>) -> Result<Set, AllocError>
+        requires { IsStrictlySortedBy value_cmp authoritative.items }
+        ensures { IfOk result (λ set. set ≡ authoritative.items) }
+    {
+        let lookup = Lookup::of(alloc, &authoritative)?;
+        let members = Members {
+            authoritative,
+            lookup,
+        };
         Ok(Set {
-            authoritative: Rc::new(alloc, members)?,
+            members: Rc::new(alloc, members)?,
         })
     }
 
@@ -54,14 +67,14 @@ impl Set {
     pub fn len(&self) -> usize
         ensures { result ≡ length self.now }
     {
-        self.authoritative.len()
+        self.members.authoritative.len()
     }
 
     /// Whether it has no member. (Cedar language reference, "isEmpty() (set emptiness test)".)
     pub fn is_empty(&self) -> bool
         ensures { IsTrue result ↔ (self.now ≡ []) }
     {
-        self.authoritative.is_empty()
+        self.members.authoritative.is_empty()
     }
 
     /// Its members, each below the next.
@@ -69,23 +82,57 @@ impl Set {
         ensures members { result.now ≡ self.now }
         ensures rising { IsStrictlySortedBy value_cmp self.now }
     {
-        self.authoritative.as_slice()
+        self.members.authoritative.as_slice()
     }
 
     /// Its members, each below the next.
     pub fn iter(&self) -> Iter<'_, Value>
         ensures { iter_rest result ≡ self.now }
     {
-        self.authoritative.iter()
+        self.members.authoritative.iter()
     }
 
-    /// Whether `value` is a member. It compares `value` with about as many members as `len` has binary
-    /// digits.
+    /// The set of its literals, if each member is one, as in the empty set. Takes no memory.
+    pub fn fast(&self) -> Option<LiteralSet<'_>>
+        ensures { literals_in self.now ≡ result }
+    {
+        if self.is_of_literals() {
+            Some(LiteralSet { set: self })
+        } else {
+            None
+        }
+    }
+
+    fn is_of_literals(&self) -> bool
+        ensures { result ≡ are_literals self.now }
+    {
+        match &self.members.lookup {
+            Lookup::Values => false,
+            Lookup::FewLiterals | Lookup::HashedLiterals(_) => true,
+        }
+    }
+
+    /// Whether `value` is a member. A literal is looked up by its hash among many literals, and nothing
+    /// else is among literals. Otherwise, and where hashes tie, it compares `value` with about as many
+    /// members as `len` has binary digits.
     pub fn contains(&self, value: &Value) -> bool
         ensures members { IsTrue result ↔ Contains self.now value.now }
         ensures language { result ≡ has_member (all_of self.now) value.now }
     {
-        self.authoritative.binary_search(value).is_ok()
+        match value.as_literal() {
+            Some(literal) => self.contains_literal(literal),
+            None => !self.is_of_literals() && has_value(&self.members.authoritative, value),
+        }
+    }
+
+    pub(super) fn contains_literal(&self, literal: &Literal) -> bool
+        ensures { IsTrue result ↔ Contains self.now (plain_of literal.now) }
+    {
+        let members = &self.members.authoritative;
+        match &self.members.lookup {
+            Lookup::Values | Lookup::FewLiterals => has_literal(members, literal),
+            Lookup::HashedLiterals(places) => has_hashed(places, members, literal),
+        }
     }
 
     /// Whether each member is one of `other` too.
@@ -93,6 +140,9 @@ impl Set {
         ensures members { IsTrue result ↔ ((v : language.Value) → Contains self.now v → Contains other.now v) }
         ensures language { result ≡ has_all (all_of other.now) (all_of self.now) }
     {
+        if other.is_of_literals() && !self.is_of_literals() {
+            return false;
+        }
         are_members(self.authoritative(), other)
     }
 
@@ -129,7 +179,7 @@ impl Clone for Set {
 
     fn clone(&self) -> Result<Set, AllocError> {
         Ok(Set {
-            authoritative: self.authoritative.clone()?,
+            members: self.members.clone()?,
         })
     }
 }

@@ -59,7 +59,7 @@ fn gather_members(
 ) -> Result<(), AllocError>
     ensures { OnOk result ((u : Uid) → contains uid_cmp uids.new u ≡ (contains uid_cmp uids.old u || occurs_among (all_of set.now) u)) }
 {
-    for member in set.authoritative.iter() {
+    for member in set.members.authoritative.iter() {
         gather_uids(alloc, &member.value, uids)?;
     }
     Ok(())

@@ -2,6 +2,6 @@
 use Rattle.std.specs.List.Sorted.{IsStrictlySortedBy}
 use Rattle.cedar_values.proofs.values.Set.empty.Goals as goal
 
-pub invariant_of-result : goal.invariant_of-result
+pub of_rising-requires : goal.of_rising-requires
 unfolding IsStrictlySortedBy
-invariant_of-result c = rw (c.in_ok-new.ensures.ok, c.new.ensures.items) tt
+of_rising-requires c = rw c.new.ensures.items tt
