@@ -1,3 +1,4 @@
+pub mod Apart
 pub mod CountedCalls
 pub mod Defined
 pub mod Finding

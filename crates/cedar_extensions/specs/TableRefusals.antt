@@ -5,7 +5,7 @@ use Rattle.cedar_literals.specs.Types.{value_type_of}
 use Rattle.cedar_extensions.specs.declared.table_errors.FuncMultiplyDefinedError.{FuncMultiplyDefinedError}
 use Rattle.cedar_extensions.specs.declared.table_errors.MultipleConstructorsSameSignatureError.{MultipleConstructorsSameSignatureError}
 
--- the name that two functions have
+-- the name that is defined twice
 abbrev pub name_repeated : FuncMultiplyDefinedError → Name
 name_repeated e = e.name
 

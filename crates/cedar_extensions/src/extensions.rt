@@ -1,14 +1,15 @@
 // Tables of extensions.
-ghost use Rattle.std.specs.Prelude.{◌≡◌, true};
+ghost use Rattle.std.specs.Prelude.{◌≡◌, true, None};
 ghost use Rattle.std.specs.List.{flat_map};
-ghost use Rattle.cedar_extensions.specs.Holding.{extension_functions, are_named};
+ghost use Rattle.cedar_language.specs.Constructing.{the_constructor};
+ghost use Rattle.cedar_extensions.specs.Holding.{extension_functions, are_named, found_in};
 
 use crate::available::partial_evaluation;
 use crate::extension::{Extension, find_among};
 use crate::functions::{ExtensionFunction, SchemaType};
 use crate::iteration::{ExtNames, ExtTypes, Funcs, OrderedTypes};
 use crate::lookups::{ExtensionFunctionLookupError, FuncDoesNotExistError};
-use crate::making::{first_repeated, function_names, types_made};
+use crate::making::{first_repeated, names_taken, types_made};
 use crate::objects::{ExtensionFunctionObject, NoFunction};
 use crate::table_errors::{
     ExtensionInitializationError, FuncMultiplyDefinedError, MultipleConstructorsSameSignatureError,
@@ -21,13 +22,16 @@ use std::marker::PhantomData;
 
 /// The extension functions that texts may call and that an evaluation knows: one table for both. Those
 /// of a caller's are each an `F`.
-/// A function of it is named `unknown` exactly where it is the built-in one.
+/// A function of it is named `unknown` exactly where it is the built-in one, and none is named
+/// `extension_value`, as the language's own constructor of extension values is: so each function that a
+/// text calls is the one that is evaluated.
 /// (Cedar language reference, "Extension functions".)
 #[derive(Drop)]
 pub struct Extensions<'a, F = NoFunction> {
     extensions: Vec<Extension<F>>,
     lender: PhantomData<&'a ()>,
     pub ghost named: { are_named (flat_map extension_functions extensions.items) ≡ true },
+    pub ghost apart: { found_in (flat_map extension_functions extensions.items) the_constructor ≡ None },
 }
 
 impl<'a> Extensions<'a> {
@@ -48,7 +52,9 @@ impl<'a> Extensions<'a> {
         })
     }
 
-    /// The table of no extension: each call of a function is refused there, `unknown` too.
+    /// The table of no extension: no text may call a function there, `unknown` neither. The language's own
+    /// constructor stands in no table: a tree that calls `extension_value`, as what is written of an
+    /// extension value does, evaluates to the value there too.
     pub fn none(alloc: Global) -> Extensions<'a>
         ensures unknown { holds_unknown result ≡ false }
         ensures functions { functions_in result ≡ [] }
@@ -65,10 +71,12 @@ impl<'a, F: Drop> Extensions<'a, F> {
     ghost use Rattle.cedar_extensions.specs.Making.{MakesTable};
 
     /// The table of these extensions. Refused `FuncMultiplyDefined` where two of all their functions have
-    /// one name, with the first name that another function has before it; else
+    /// one name, or one has the name `extension_value` of the language's own constructor of extension
+    /// values, which is defined before all of them: with the first name that stands before it too. Else
     /// `MultipleConstructorsSameSignature`, likewise, where two functions that aren't methods make values
     /// of one extension type from one text; and `Memory`. Names count as `==` has them, which looks past
-    /// their places. (Cedar language reference, "Extension functions".)
+    /// their places. Whatever functions a table has, a tree that calls `extension_value` evaluates by the
+    /// language's own constructor; no text calls it. (Cedar language reference, "Extension functions".)
     pub fn specific_extensions(
         alloc: Global,
         extensions: Vec<Extension<F>>,
@@ -76,7 +84,7 @@ impl<'a, F: Drop> Extensions<'a, F> {
         requires named { are_named (flat_map extension_functions extensions.items) ≡ true }
         ensures { MakesTable extensions.items result }
     {
-        if let Some(name) = first_repeated(alloc, function_names(alloc, &extensions)?)? {
+        if let Some(name) = first_repeated(alloc, names_taken(alloc, &extensions)?)? {
             let error = FuncMultiplyDefinedError::new(name);
             return Err(ExtensionInitializationError::from(error));
         }
@@ -96,7 +104,7 @@ impl<F> Extensions<'_, F> {
     ghost use Rattle.std.specs.Prelude.{map};
     ghost use Rattle.std.specs.List.{filter_map};
     ghost use Rattle.cedar_extensions.specs.Functions.{extension_type_of};
-    ghost use Rattle.cedar_extensions.specs.Holding.{extension_name, ordered_types, found_in};
+    ghost use Rattle.cedar_extensions.specs.Holding.{extension_name, ordered_types};
     ghost use Rattle.cedar_extensions.specs.Lookups.{Finds};
     ghost use Rattle.cedar_extensions.specs.Tables.{extensions_in, functions_in, holds_unknown, functions_left, names_left, type_names_left, ordered_left};
 
@@ -163,15 +171,25 @@ impl<F> Extensions<'_, F> {
 }
 
 impl<F: ExtensionFunctionObject> Extensions<'_, F> {
+    ghost use Rattle.std.specs.Prelude.{IsSome};
     ghost use Rattle.cedar_language.specs.Uid as language;
     ghost use Rattle.cedar_grammar.specs.Functions.{function_of};
     ghost use Rattle.cedar_extensions.specs.Defining.{defined};
+    ghost use Rattle.cedar_extensions.specs.Table.{as_table};
     ghost use Rattle.cedar_extensions.specs.Tables.{functions_in, function_called};
 
     /// What a name calls is what the definitions say of these functions.
     pub fn names_are_defined(&self)
         ensures { (name : language.Name) →
             function_of (defined F.answers (functions_in self.now)) name ≡ function_called F.answers self.now name }
+    {}
+
+    /// No function has the name of the language's own constructor of extension values; so each is the one
+    /// that its name calls in an evaluation.
+    pub fn names_are_apart(&self)
+        ensures apart { function_of (defined F.answers (functions_in self.now)) the_constructor ≡ None }
+        ensures evaluated { (name : language.Name) → IsSome (function_called F.answers self.now name) →
+            (as_table F.answers self.now).function name ≡ function_called F.answers self.now name }
     {}
 }
 

@@ -14,15 +14,17 @@ use crate::iteration::Funcs;
 use cedar_names::names::Name;
 use std::alloc::{AllocError, Global};
 
-/// The names of all functions of these extensions.
-pub(crate) fn function_names<F>(
+/// The names that functions can't have once more: that of the language's own constructor of extension
+/// values, and those of all functions of these extensions. Refused for memory alone.
+pub(crate) fn names_taken<F>(
     alloc: Global,
     extensions: &[Extension<F>],
 ) -> Result<Vec<(Name, ())>, AllocError>
     ensures { IfOk result (λ names.
-        keys_of names.items ≡ making.function_names (flat_map extension_functions extensions.now)) }
+        keys_of names.items ≡ making.names_taken (flat_map extension_functions extensions.now)) }
 {
-    let mut names = Vec::new(alloc);
+    let constructor = Name::of_identifier(alloc, "extension_value")?;
+    let mut names = vec![in alloc; (constructor, ())]?;
     for function in Funcs::new(extensions) {
         names.push((function.name().clone(alloc)?, ()))?;
     }

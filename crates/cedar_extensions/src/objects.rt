@@ -41,6 +41,19 @@ pub trait ExtensionFunctionObject: Drop {
         ensures { Answered ((answers self.now).given (all_of args.now)) result };
 }
 
+/// A function of a caller's in a box, so that one table may have functions of unlike types. The box
+/// answers what the function in it does. A function that makes a box may lend it, or a table of it, but
+/// hands out neither; so one that makes such a table takes its boxes.
+pub type BoxedFunction = Box<dyn ExtensionFunctionObject>;
+
+impl ExtensionFunctionObject for Box<dyn ExtensionFunctionObject> {
+    ghost answers = { λ boxed. (ExtensionFunctionObject-box boxed).answers boxed.value };
+
+    fn call(&self, alloc: Global, args: &[Value]) -> Result<Value, CallError> {
+        (**self).call(alloc, args)
+    }
+}
+
 /// The caller's functions of a table that has none: one that never has an answer.
 #[derive(Drop)]
 pub struct NoFunction;

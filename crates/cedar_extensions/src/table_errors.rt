@@ -8,7 +8,8 @@ use cedar_names::names::Name;
 use std::alloc::AllocError;
 use thiserror::Error;
 
-/// Two functions of a table have one name.
+/// Two functions of a table have one name, or one has that of the language's own constructor of extension
+/// values.
 #[derive(Debug, PartialEq, Eq, Drop, Error)]
 #[error("extension function `{name}` is defined multiple times")]
 pub struct FuncMultiplyDefinedError {
@@ -16,7 +17,7 @@ pub struct FuncMultiplyDefinedError {
 }
 
 impl FuncMultiplyDefinedError {
-    /// The error of the name that two functions have.
+    /// The error of the name that is defined twice.
     pub fn new(name: Name) -> FuncMultiplyDefinedError
         ensures { name_repeated result ≡ name }
     {
@@ -40,11 +41,11 @@ impl MultipleConstructorsSameSignatureError {
     }
 }
 
-/// Why no table is made of extensions: two functions have one name, two make values of one extension
+/// Why no table is made of extensions: a name is defined twice, two functions make values of one extension
 /// type, or memory ran out.
 #[derive(Debug, PartialEq, Eq, Drop, Error)]
 pub enum ExtensionInitializationError {
-    /// Two functions have one name.
+    /// Two functions have one name, or one has that of the language's own constructor.
     #[error(transparent)]
     FuncMultiplyDefined(FuncMultiplyDefinedError),
     /// Two functions make values of one extension type.

@@ -1,19 +1,21 @@
 -- What texts may call is what the table answers.
-use Rattle.std.proofs.Common.{◌≡◌, Bool, true, false, not, ◌&&◌, ◌||◌, if◌then◌else◌, Option, Some, None, is_some, List, [], ◌∷◌, filter, refl, sym, ◌∙◌, ap, true≢false}
+use Rattle.std.proofs.Common.{◌≡◌, Bool, true, false, cond, not, ◌&&◌, ◌||◌, if◌then◌else◌, Option, Some, None, is_some, List, [], ◌∷◌, filter, refl, sym, ◌∙◌, ap, true≢false}
 use Rattle.std.specs.List.{list_any, list_all}
 use Rattle.std.proofs.lemmas.Cmp.{nat_list_eq_equiv, lists_equiv}
 use Rattle.std.specs.Cmp.{IsEquivalence}
+use Rattle.std.specs.Cmp.Lexicographic.{pointwise_decides, bytes_decides}
 use Rattle.cedar_language.specs.Uid.{Text, Name}
 use Rattle.cedar_language.specs.Tree.{String, Operator, Call, Tree, Lit, Var, Slot, Unknown, If, And, Or, Apply, Trees, no_trees, a_tree}
 use Rattle.cedar_language.specs.Facts.{Function}
+use Rattle.cedar_language.specs.Constructing.{the_constructor, is_the_constructor, constructor_function}
 use Rattle.cedar_grammar.specs.Calls.{is_method, is_in_table, calls_none_but, calls_only, all_call_only, ExprsCallTheTable, ConditionsCallTheTable}
 use Rattle.cedar_grammar.specs.Names.{Names, is_text, is_name, is_among, is_function}
-use Rattle.cedar_grammar.specs.Functions.{CallStyle, as_function, as_method, NamedFunction, Functions, the_unknown, is_the_unknown, unknown_function, callers_functions, with_function, function_names, with_method, method_names, policy_names, body_names, first_named, function_of}
+use Rattle.cedar_grammar.specs.Functions.{CallStyle, as_function, as_method, NamedFunction, Functions, the_unknown, is_the_unknown, unknown_function, callers_functions, with_function, function_names, with_method, method_names, policy_names, body_names, first_named, function_of, evaluated_function}
 use Rattle.cedar_partial_evaluation.specs.ReadUnknowns.{unknown_or_call, read_call, UnknownsAreRead}
 use Rattle.cedar_grammar.specs.UnknownCalls.{unknown_or, named, all_named}
 use Rattle.cedar_world.specs.Setting.{Setting}
 use Rattle.cedar_grammar.specs.Syntax.{PolicySyntax, condition}
-use Rattle.cedar_world.specs.NameLaws.{NamesAreFound, NamesAreRead, is_answered, CallsAreFound}
+use Rattle.cedar_world.specs.NameLaws.{HasNoConstructor, NamesAreFound, NamesAreRead, is_answered, CallsAreFound}
 
 names_equiv : IsEquivalence is_name
 names_equiv = lists_equiv nat_list_eq_equiv
@@ -108,12 +110,20 @@ module _ (fs : Functions) where
   no_policy_calls true e = absurd (true≢false (sym (function_found the_unknown (callers_functions fs) e) ∙ ap is_some (unknown_is_none the_unknown (names_equiv.refl the_unknown) fs.table)))
   no_policy_calls false e = refl
 
+  found_evaluated : HasNoConstructor fs → (name : Name) → is_some (function_of fs name) ≡ true → evaluated_function fs name ≡ function_of fs name
+  found_evaluated none name found = by_name (is_the_constructor name) refl
+    where
+      by_name : (b : Bool) → is_the_constructor name ≡ b → cond b (Some constructor_function) (function_of fs name) ≡ function_of fs name
+      by_name true is = absurd (true≢false (sym found ∙ ap is_some (ap (function_of fs) ((pointwise_decides bytes_decides name the_constructor).0 is) ∙ none)))
+      by_name false is = refl
+
 pub names_are_found : (fs : Functions) → NamesAreFound fs
 names_are_found fs = record {
   policy_function = policy_function fs fs.has_unknown;
   policy_method = policy_method fs fs.has_unknown;
   body_function = body_function fs fs.has_unknown;
   body_method = body_method fs fs.has_unknown;
+  evaluated = found_evaluated fs;
   no_unknown = no_policy_calls fs _ refl;
 }
 
