@@ -2,9 +2,9 @@
 use Rattle.std.specs.Prelude.{List, [], ◌∷◌, Option, Some, None, Result, Ok, Err, Bool, true, false}
 use Rattle.cedar_grammar.specs.Token as token
 use Rattle.cedar_grammar.specs.Token.{Mark, Token, word, number, text, slot}
-use Rattle.cedar_grammar.specs.Reading.{is_mark, eat_in}
+use Rattle.cedar_grammar.specs.Reading.{is_mark, eat, eat_in}
 use Rattle.cedar_grammar.specs.Loose.{Slot, Expr, Add, Relation, common, adds}
-use Rattle.cedar_grammar.specs.LooseReading.{slot_of, Fault, syntax, Reader, ◌>>◌, mapped, links_of, rel_op, add_of, is_step}
+use Rattle.cedar_grammar.specs.LooseReading.{slot_of, Fault, syntax, Reader, ◌>>◌, mapped, needed, links_of, rel_op, add_of, is_step}
 
 -- the mark is next
 abbrev pub begins : Mark → List Token → Bool
@@ -58,3 +58,9 @@ is_of inner a ts = add_of inner ts >> λ t. is_step inner a t.0 t.1 (eat_in t.1)
 -- what a is compared with
 abbrev pub comparisons_of : Reader Expr → Add → Reader Relation
 comparisons_of inner a ts = mapped (λ bs. common a (adds bs)) (links_of rel_op (add_of inner) ts)
+
+-- ---- what is closed
+
+-- the mark, which has to be next, and what stood before it
+abbrev pub closed_by : {A : Type 0} → Mark → A → Reader A
+closed_by m x ts = needed (eat m ts) >> λ us. Ok (x, us)

@@ -93,6 +93,7 @@ impl<'t> Cursor<'t> {
 
     /// That the next token can't stand there. Behind a name a `::` may stand, so the fault is then what
     /// follows it.
+    #[inline(never)]
     pub fn unexpected(&self) -> Unexpected {
         let expected = self.expected.get();
         if self.is_separator() && expected.meets(Kinds::COLON_COLON) {
@@ -146,8 +147,21 @@ impl<'t> Cursor<'t> {
         Ok(Node::with_source_loc(Some(value), loc))
     }
 
+    /// The same in a box.
+    pub(crate) fn boxed_node<T: Drop>(
+        &self,
+        start: usize,
+        value: T,
+    ) -> Result<Box<Node<Option<T>>>, AllocError>
+        ensures { IfOk result (λ b. b.value.node ≡ Some value) }
+    {
+        let node = self.node(start, value)?;
+        Ok(Box::new(self.alloc, node)?)
+    }
+
     /// The place of these bytes; refused for memory alone. The nodes round an operand that stands alone
     /// share one, since each of them is made after what it holds.
+    #[inline(never)]
     fn place(&self, span: Span) -> Result<Loc, AllocError> {
         let last = self.last.take();
         let loc = match &last {
@@ -159,6 +173,7 @@ impl<'t> Cursor<'t> {
     }
 
     /// Takes the next token, if there is one.
+    #[inline(never)]
     pub fn skip(&mut self)
         ensures { self.new ≡ without_first self.old }
     {
@@ -268,6 +283,7 @@ impl<'t> Cursor<'t> {
     }
 
     /// Takes the mark, which has to be next.
+    #[inline(never)]
     pub fn expect(&mut self, mark: Mark) -> Result<(), ReadError>
         ensures { Leaves result self.new (needed (eat (mark_view mark) self.old)) }
     {
@@ -291,6 +307,7 @@ impl<'t> Cursor<'t> {
     }
 
     /// Takes `then`, which has to be next.
+    #[inline(never)]
     pub fn expect_then(&mut self) -> Result<(), ReadError>
         ensures { Leaves result self.new (needed (eat_then self.old)) }
     {
@@ -303,6 +320,7 @@ impl<'t> Cursor<'t> {
     }
 
     /// Takes `else`, which has to be next.
+    #[inline(never)]
     pub fn expect_else(&mut self) -> Result<(), ReadError>
         ensures { Leaves result self.new (needed (eat_else self.old)) }
     {

@@ -1,17 +1,18 @@
-// Expressions: one reader for each rule of the loose grammar.
+// Expressions: one reader for each rule of the loose grammar. They stand on the stack once for each level of
+// nested brackets, so what they hand on stands in boxes, and nothing that they call is inlined.
 ghost use Rattle.std.specs.Prelude.{map};
 ghost use Rattle.cedar_tokens.specs.View.{mark_view};
 ghost use Rattle.cedar_grammar.specs.Token as token;
-ghost use Rattle.cedar_grammar.specs.LooseReading.{items_of, expr_at, choice_of, or_of, and_of, relation_of, add_of, mult_of, unary_of, member_of, access_of, primary_of, rec_init_of};
-ghost use Rattle.cedar_cst.specs.View.{shown_expr, shown_or, shown_and, shown_relation, shown_add, shown_mult, shown_unary, shown_member, shown_mem_access, shown_primary, shown_rec_init};
+ghost use Rattle.cedar_grammar.specs.Loose as loose;
+ghost use Rattle.cedar_grammar.specs.LooseReading.{mapped, each_of, items_of, begins_access, expr_at, choice_of, or_of, and_of, relation_of, add_of, mult_of, unary_of, member_of, access_of, primary_of, rec_init_of};
+ghost use Rattle.cedar_cst.specs.View.{shown_expr, shown_and, shown_relation, shown_add, shown_mult, shown_unary, shown_member, shown_mem_access, shown_primary, shown_rec_init};
 ghost use Rattle.cedar_loose.specs.Gives.{Gives};
 ghost use Rattle.cedar_loose.specs.Steps.{is_of, comparisons_of};
 
 use crate::cursor::Cursor;
 use crate::error::ReadError;
-use cedar_cst::cst::{
-    Add, And, Expr, MemAccess, Member, Mult, Or, Primary, RecInit, Relation, Unary,
-};
+use crate::lists::{add, add_boxed, add_link};
+use cedar_cst::cst::{Add, And, Expr, MemAccess, Member, Mult, Primary, RecInit, Relation, Unary};
 use cedar_cst::node::Node;
 use cedar_tokens::Mark;
 use std::alloc::Global;
@@ -19,6 +20,7 @@ use std::alloc::Global;
 impl<'t> Cursor<'t> {
     /// Takes an expression, round whose tokens less than `depth` constructs stand.
     #[cycle(expression)]
+    #[inline(never)]
     pub fn expr(&mut self, alloc: Global, depth: u32) -> Result<Node<Option<Expr>>, ReadError>
         ensures { Gives shown_expr result self.new (expr_at depth self.old) }
     {
@@ -29,14 +31,14 @@ impl<'t> Cursor<'t> {
         if self.eat_if() {
             self.choice(alloc, depth - 1, start)
         } else {
-            let or = self.or(alloc, depth - 1)?;
-            Ok(self.or_expr(alloc, start, or)?)
+            self.or(alloc, depth - 1, start)
         }
     }
 
     /// Takes what follows `if`.
     #[tactic(auto, unfolding(cedar_grammar::specs::LooseReading::choice_of))]
     #[cycle(expression)]
+    #[inline(never)]
     fn choice(
         &mut self,
         alloc: Global,
@@ -55,47 +57,49 @@ impl<'t> Cursor<'t> {
 
     /// Takes a chain of `||`.
     #[cycle(expression)]
-    fn or(&mut self, alloc: Global, depth: u32) -> Result<Node<Option<Or>>, ReadError>
-        ensures { Gives shown_or result self.new (or_of (expr_at depth) self.old) }
+    #[inline(never)]
+    fn or(
+        &mut self,
+        alloc: Global,
+        depth: u32,
+        start: usize,
+    ) -> Result<Node<Option<Expr>>, ReadError>
+        ensures { Gives shown_expr result self.new (mapped loose.or_expr (or_of (expr_at depth) self.old)) }
     {
-        let start = self.start();
         let first = self.and(alloc, depth)?;
         let mut extended = Vec::new(alloc);
         'links: while let Some(()) = self.or_operator() {
             let next = self.and(alloc, depth)?;
-            extended.push(next)?;
+            add_boxed(&mut extended, next)?;
         }
-        Ok(self.or_node(start, first, extended)?)
+        Ok(self.or_expr(alloc, start, first, extended)?)
     }
 
     /// Takes a chain of `&&`.
     #[cycle(expression)]
-    fn and(&mut self, alloc: Global, depth: u32) -> Result<Node<Option<And>>, ReadError>
-        ensures { Gives shown_and result self.new (and_of (expr_at depth) self.old) }
+    #[inline(never)]
+    fn and(&mut self, alloc: Global, depth: u32) -> Result<Box<Node<Option<And>>>, ReadError>
+        ensures { Gives (λ b. shown_and b.value) result self.new (and_of (expr_at depth) self.old) }
     {
         let start = self.start();
         let first = self.relation(alloc, depth)?;
         let mut extended = Vec::new(alloc);
         'links: while let Some(()) = self.and_operator() {
             let next = self.relation(alloc, depth)?;
-            extended.push(next)?;
+            add_boxed(&mut extended, next)?;
         }
         Ok(self.and_node(start, first, extended)?)
     }
 
-    /// Takes an operand of a relation.
-    #[cycle(expression)]
-    fn operand(&mut self, alloc: Global, depth: u32) -> Result<Box<Node<Option<Add>>>, ReadError>
-        ensures { Gives (λ b. shown_add b.value) result self.new (add_of (expr_at depth) self.old) }
-    {
-        let operand = self.add(alloc, depth)?;
-        Ok(Box::new(alloc, operand)?)
-    }
-
     /// Takes a comparison, or another relation.
     #[cycle(expression)]
-    fn relation(&mut self, alloc: Global, depth: u32) -> Result<Node<Option<Relation>>, ReadError>
-        ensures { Gives shown_relation result self.new (relation_of (expr_at depth) self.old) }
+    #[inline(never)]
+    fn relation(
+        &mut self,
+        alloc: Global,
+        depth: u32,
+    ) -> Result<Box<Node<Option<Relation>>>, ReadError>
+        ensures { Gives (λ b. shown_relation b.value) result self.new (relation_of (expr_at depth) self.old) }
     {
         let start = self.start();
         let target = self.operand(alloc, depth)?;
@@ -114,14 +118,15 @@ impl<'t> Cursor<'t> {
 
     /// Takes what follows `target is`.
     #[cycle(expression)]
+    #[inline(never)]
     fn is(
         &mut self,
         alloc: Global,
         depth: u32,
         start: usize,
         target: Box<Node<Option<Add>>>,
-    ) -> Result<Node<Option<Relation>>, ReadError>
-        ensures { Gives shown_relation result self.new (is_of (expr_at depth) (shown_add target.value) self.old) }
+    ) -> Result<Box<Node<Option<Relation>>>, ReadError>
+        ensures { Gives (λ b. shown_relation b.value) result self.new (is_of (expr_at depth) (shown_add target.value) self.old) }
     {
         let entity_type = self.operand(alloc, depth)?;
         if self.eat_in() {
@@ -134,57 +139,68 @@ impl<'t> Cursor<'t> {
 
     /// Takes what `target` is compared with.
     #[cycle(expression)]
+    #[inline(never)]
     fn comparisons(
         &mut self,
         alloc: Global,
         depth: u32,
         start: usize,
         target: Box<Node<Option<Add>>>,
-    ) -> Result<Node<Option<Relation>>, ReadError>
-        ensures { Gives shown_relation result self.new (comparisons_of (expr_at depth) (shown_add target.value) self.old) }
+    ) -> Result<Box<Node<Option<Relation>>>, ReadError>
+        ensures { Gives (λ b. shown_relation b.value) result self.new (comparisons_of (expr_at depth) (shown_add target.value) self.old) }
     {
         let mut extended = Vec::new(alloc);
         'links: while let Some(operator) = self.rel_operator() {
-            let next = self.add(alloc, depth)?;
-            extended.push((operator, next))?;
+            let next = self.operand(alloc, depth)?;
+            add_link(&mut extended, operator, next)?;
         }
         Ok(self.common_relation(start, target, extended)?)
     }
 
     /// Takes a chain of `+` and `-`.
-    #[cycle(expression)]
     pub fn add(&mut self, alloc: Global, depth: u32) -> Result<Node<Option<Add>>, ReadError>
         ensures { Gives shown_add result self.new (add_of (expr_at depth) self.old) }
+    {
+        Ok(Box::into_inner(self.operand(alloc, depth)?))
+    }
+
+    /// Takes an operand of a relation: a chain of `+` and `-`.
+    #[cycle(expression)]
+    #[inline(never)]
+    fn operand(&mut self, alloc: Global, depth: u32) -> Result<Box<Node<Option<Add>>>, ReadError>
+        ensures { Gives (λ b. shown_add b.value) result self.new (add_of (expr_at depth) self.old) }
     {
         let start = self.start();
         let first = self.mult(alloc, depth)?;
         let mut extended = Vec::new(alloc);
         'links: while let Some(operator) = self.add_operator() {
             let next = self.mult(alloc, depth)?;
-            extended.push((operator, next))?;
+            add_link(&mut extended, operator, next)?;
         }
         Ok(self.add_node(start, first, extended)?)
     }
 
     /// Takes a chain of `*`, `/` and `%`.
     #[cycle(expression)]
-    fn mult(&mut self, alloc: Global, depth: u32) -> Result<Node<Option<Mult>>, ReadError>
-        ensures { Gives shown_mult result self.new (mult_of (expr_at depth) self.old) }
+    #[inline(never)]
+    fn mult(&mut self, alloc: Global, depth: u32) -> Result<Box<Node<Option<Mult>>>, ReadError>
+        ensures { Gives (λ b. shown_mult b.value) result self.new (mult_of (expr_at depth) self.old) }
     {
         let start = self.start();
         let first = self.unary(alloc, depth)?;
         let mut extended = Vec::new(alloc);
         'links: while let Some(operator) = self.mult_operator() {
             let next = self.unary(alloc, depth)?;
-            extended.push((operator, next))?;
+            add_link(&mut extended, operator, next)?;
         }
         Ok(self.mult_node(start, first, extended)?)
     }
 
     /// Takes an operand and the signs before it.
     #[cycle(expression)]
-    fn unary(&mut self, alloc: Global, depth: u32) -> Result<Node<Option<Unary>>, ReadError>
-        ensures { Gives shown_unary result self.new (unary_of (expr_at depth) self.old) }
+    #[inline(never)]
+    fn unary(&mut self, alloc: Global, depth: u32) -> Result<Box<Node<Option<Unary>>>, ReadError>
+        ensures { Gives (λ b. shown_unary b.value) result self.new (unary_of (expr_at depth) self.old) }
     {
         let start = self.start();
         let op = self.signs();
@@ -194,49 +210,74 @@ impl<'t> Cursor<'t> {
 
     /// Takes a primary and what is accessed of it.
     #[cycle(expression)]
+    #[inline(never)]
     fn member(&mut self, alloc: Global, depth: u32) -> Result<Node<Option<Member>>, ReadError>
         ensures { Gives shown_member result self.new (member_of (expr_at depth) self.old) }
     {
         let start = self.start();
-        let item = self.primary(alloc, depth)?;
+        let item = self.item(alloc, depth)?;
+        let access = self.accesses(alloc, depth)?;
+        Ok(self.member_node(start, item, access)?)
+    }
+
+    /// Takes all accesses that are next.
+    #[cycle(expression)]
+    #[inline(never)]
+    fn accesses(
+        &mut self,
+        alloc: Global,
+        depth: u32,
+    ) -> Result<Vec<Node<Option<MemAccess>>>, ReadError>
+        ensures { Gives (λ v. map shown_mem_access v.items) result self.new (each_of begins_access (access_of (expr_at depth)) self.old) }
+    {
         let mut access = Vec::new(alloc);
         'links: while self.begins_access() {
             let next = self.access(alloc, depth)?;
-            access.push(next)?;
+            add_boxed(&mut access, next)?;
         }
-        Ok(self.member_node(alloc, start, item, access)?)
+        Ok(access)
     }
 
     /// Takes an access, which has to be next.
     #[cycle(expression)]
-    fn access(&mut self, alloc: Global, depth: u32) -> Result<Node<Option<MemAccess>>, ReadError>
-        ensures { Gives shown_mem_access result self.new (access_of (expr_at depth) self.old) }
+    #[inline(never)]
+    fn access(
+        &mut self,
+        alloc: Global,
+        depth: u32,
+    ) -> Result<Box<Node<Option<MemAccess>>>, ReadError>
+        ensures { Gives (λ b. shown_mem_access b.value) result self.new (access_of (expr_at depth) self.old) }
     {
         let start = self.start();
         if self.eat(Mark::Dot) {
-            let field = self.ident(alloc)?;
-            Ok(self.field_access(start, field)?)
+            self.field(alloc, start)
         } else if self.eat(Mark::LeftParen) {
             let arguments = self.exprs(alloc, depth, Mark::RightParen)?;
             Ok(self.call_access(start, arguments)?)
         } else {
             self.expect(Mark::LeftBracket)?;
             let index = self.expr(alloc, depth)?;
-            self.expect(Mark::RightBracket)?;
-            Ok(self.index_access(start, index)?)
+            self.close_index(start, index)
         }
     }
 
     /// Takes an operand without signs and accesses.
-    #[cycle(expression)]
     pub fn primary(&mut self, alloc: Global, depth: u32) -> Result<Node<Option<Primary>>, ReadError>
         ensures { Gives shown_primary result self.new (primary_of (expr_at depth) self.old) }
+    {
+        Ok(Box::into_inner(self.item(alloc, depth)?))
+    }
+
+    /// Takes what signs and accesses stand round.
+    #[cycle(expression)]
+    #[inline(never)]
+    fn item(&mut self, alloc: Global, depth: u32) -> Result<Box<Node<Option<Primary>>>, ReadError>
+        ensures { Gives (λ b. shown_primary b.value) result self.new (primary_of (expr_at depth) self.old) }
     {
         let start = self.start();
         if self.eat(Mark::LeftParen) {
             let expr = self.expr(alloc, depth)?;
-            self.expect(Mark::RightParen)?;
-            Ok(self.expr_primary(start, expr)?)
+            self.close_group(start, expr)
         } else if self.eat(Mark::LeftBracket) {
             let items = self.exprs(alloc, depth, Mark::RightBracket)?;
             Ok(self.list_primary(start, items)?)
@@ -250,6 +291,7 @@ impl<'t> Cursor<'t> {
 
     /// Takes expressions with a comma between each two, up to the mark that closes them.
     #[cycle(expression)]
+    #[inline(never)]
     fn exprs(
         &mut self,
         alloc: Global,
@@ -261,7 +303,7 @@ impl<'t> Cursor<'t> {
         let mut items = Vec::new(alloc);
         'items: while !self.eat(close) {
             let item = self.expr(alloc, depth)?;
-            items.push(item)?;
+            add(&mut items, item)?;
             if self.eat(close) {
                 return Ok(items);
             }
@@ -272,6 +314,7 @@ impl<'t> Cursor<'t> {
 
     /// Takes entries up to the brace that closes their record.
     #[cycle(expression)]
+    #[inline(never)]
     fn rec_inits(
         &mut self,
         alloc: Global,
@@ -282,7 +325,7 @@ impl<'t> Cursor<'t> {
         let mut items = Vec::new(alloc);
         'items: while !self.eat(Mark::RightBrace) {
             let item = self.rec_init(alloc, depth)?;
-            items.push(item)?;
+            add_boxed(&mut items, item)?;
             if self.eat(Mark::RightBrace) {
                 return Ok(items);
             }
@@ -294,8 +337,13 @@ impl<'t> Cursor<'t> {
     /// Takes an entry of a record.
     #[tactic(auto, unfolding(cedar_grammar::specs::LooseReading::rec_init_of))]
     #[cycle(expression)]
-    fn rec_init(&mut self, alloc: Global, depth: u32) -> Result<Node<Option<RecInit>>, ReadError>
-        ensures { Gives shown_rec_init result self.new (rec_init_of (expr_at depth) self.old) }
+    #[inline(never)]
+    fn rec_init(
+        &mut self,
+        alloc: Global,
+        depth: u32,
+    ) -> Result<Box<Node<Option<RecInit>>>, ReadError>
+        ensures { Gives (λ b. shown_rec_init b.value) result self.new (rec_init_of (expr_at depth) self.old) }
     {
         let start = self.start();
         let key = self.expr(alloc, depth)?;

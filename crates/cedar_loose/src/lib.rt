@@ -2,12 +2,14 @@
 //! with `parse_policies`; `Cursor` is where its readers stand.
 #![tactic(auto)]
 
+mod closing;
 pub mod cursor;
 pub mod error;
 mod errors;
 mod expressions;
 mod kinds;
 mod leaves;
+mod lists;
 mod names;
 mod nodes;
 mod operators;

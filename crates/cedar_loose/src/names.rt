@@ -93,8 +93,8 @@ impl<'t> Cursor<'t> {
 
     /// Takes a name or an entity, one of which has to be next.
     #[tactic(auto, unfolding(cedar_grammar::specs::LooseReading::named_of))]
-    pub(crate) fn named(&mut self, alloc: Global) -> Result<Node<Option<Primary>>, ReadError>
-        ensures { Gives shown_primary result self.new (named_of self.old) }
+    pub(crate) fn named(&mut self, alloc: Global) -> Result<Box<Node<Option<Primary>>>, ReadError>
+        ensures { Gives (λ b. shown_primary b.value) result self.new (named_of self.old) }
     {
         let start = self.start();
         let path = self.name(alloc)?;
@@ -107,8 +107,9 @@ impl<'t> Cursor<'t> {
     }
 
     /// Takes a literal, a name, an entity or a slot, one of which has to be next.
-    pub(crate) fn leaf(&mut self, alloc: Global) -> Result<Node<Option<Primary>>, ReadError>
-        ensures { (inner : Reader Expr) → eat token.LeftParen self.old ≡ None → eat token.LeftBracket self.old ≡ None → eat token.LeftBrace self.old ≡ None → Gives shown_primary result self.new (primary_of inner self.old) }
+    #[inline(never)]
+    pub(crate) fn leaf(&mut self, alloc: Global) -> Result<Box<Node<Option<Primary>>>, ReadError>
+        ensures { (inner : Reader Expr) → eat token.LeftParen self.old ≡ None → eat token.LeftBracket self.old ≡ None → eat token.LeftBrace self.old ≡ None → Gives (λ b. shown_primary b.value) result self.new (primary_of inner self.old) }
     {
         let start = self.start();
         if self.begins_literal() {

@@ -81,6 +81,7 @@ impl<'t> Cursor<'t> {
     }
 
     /// Takes the signs before an operand.
+    #[inline(never)]
     pub(crate) fn signs(&mut self) -> Option<NegOp>
         ensures { (inner : Reader Expr) → unary_of inner self.old ≡ mapped (unary (option_map view_neg_op result)) (member_of inner self.new) }
     {

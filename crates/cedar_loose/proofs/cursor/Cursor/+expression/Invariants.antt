@@ -22,26 +22,26 @@ decreases-exprs l = 16 * l.depth + 2
 abbrev pub decreases-rec_inits : goal.decreases-rec_inits
 decreases-rec_inits l = 16 * l.depth + 2
 
-abbrev pub decreases-primary : goal.decreases-primary
-decreases-primary l = 16 * l.depth + 3
+abbrev pub decreases-item : goal.decreases-item
+decreases-item l = 16 * l.depth + 3
 
 abbrev pub decreases-access : goal.decreases-access
 decreases-access l = 16 * l.depth + 3
 
+abbrev pub decreases-accesses : goal.decreases-accesses
+decreases-accesses l = 16 * l.depth + 4
+
 abbrev pub decreases-member : goal.decreases-member
-decreases-member l = 16 * l.depth + 4
+decreases-member l = 16 * l.depth + 5
 
 abbrev pub decreases-unary : goal.decreases-unary
-decreases-unary l = 16 * l.depth + 5
+decreases-unary l = 16 * l.depth + 6
 
 abbrev pub decreases-mult : goal.decreases-mult
-decreases-mult l = 16 * l.depth + 6
-
-abbrev pub decreases-add : goal.decreases-add
-decreases-add l = 16 * l.depth + 7
+decreases-mult l = 16 * l.depth + 7
 
 abbrev pub decreases-comparisons : goal.decreases-comparisons
-decreases-comparisons l = 16 * l.depth + 8
+decreases-comparisons l = 16 * l.depth + 9
 
 abbrev pub decreases-operand : goal.decreases-operand
 decreases-operand l = 16 * l.depth + 8
@@ -76,11 +76,11 @@ invariant-comparisons-links l = Links rel_op (add_of (expr_at l.depth)) (map (li
 abbrev pub decreases-comparisons-links : goal.decreases-comparisons-links
 decreases-comparisons-links l = length l.self
 
-abbrev pub invariant-add-links : goal.invariant-add-links
-invariant-add-links l = Links add_op (mult_of (expr_at l.depth)) (map (linked_mult) l.extended.items) l.self (links_of add_op (mult_of (expr_at l.depth)) l.initial.self)
+abbrev pub invariant-operand-links : goal.invariant-operand-links
+invariant-operand-links l = Links add_op (mult_of (expr_at l.depth)) (map (linked_mult) l.extended.items) l.self (links_of add_op (mult_of (expr_at l.depth)) l.initial.self)
 
-abbrev pub decreases-add-links : goal.decreases-add-links
-decreases-add-links l = length l.self
+abbrev pub decreases-operand-links : goal.decreases-operand-links
+decreases-operand-links l = length l.self
 
 abbrev pub invariant-mult-links : goal.invariant-mult-links
 invariant-mult-links l = Links mult_op (unary_of (expr_at l.depth)) (map (linked_unary) l.extended.items) l.self (links_of mult_op (unary_of (expr_at l.depth)) l.initial.self)
@@ -88,11 +88,11 @@ invariant-mult-links l = Links mult_op (unary_of (expr_at l.depth)) (map (linked
 abbrev pub decreases-mult-links : goal.decreases-mult-links
 decreases-mult-links l = length l.self
 
-abbrev pub invariant-member-links : goal.invariant-member-links
-invariant-member-links l = Each begins_access (access_of (expr_at l.depth)) (map shown_mem_access l.access.items) l.self (each_of begins_access (access_of (expr_at l.depth)) l.initial.self)
+abbrev pub invariant-accesses-links : goal.invariant-accesses-links
+invariant-accesses-links l = Each begins_access (access_of (expr_at l.depth)) (map shown_mem_access l.access.items) l.self (each_of begins_access (access_of (expr_at l.depth)) l.initial.self)
 
-abbrev pub decreases-member-links : goal.decreases-member-links
-decreases-member-links l = length l.self
+abbrev pub decreases-accesses-links : goal.decreases-accesses-links
+decreases-accesses-links l = length l.self
 
 abbrev pub invariant-exprs-items : goal.invariant-exprs-items
 invariant-exprs-items l = Items (mark_view l.close) (expr_at l.depth) (map shown_expr l.items.items) l.self (items_of (mark_view l.close) (expr_at l.depth) l.initial.self)

@@ -7,4 +7,4 @@ use Rattle.cedar_cst.proofs.Views.{seen, view_mem_access_call}
 use Rattle.cedar_loose.proofs.cursor.Cursor.call_access.Goals as goal
 
 pub returns : goal.returns
-returns c = IfOk-weaker c.node.result _ _ (λ n h. seen loose.missing_access view_mem_access n _ h ∙ view_mem_access_call _ c.args.arguments refl) c.node.ensures
+returns c = IfOk-weaker c.boxed_node.result _ _ (λ b h. seen loose.missing_access view_mem_access b.value _ h ∙ view_mem_access_call _ c.args.arguments refl) c.boxed_node.ensures

@@ -7,4 +7,4 @@ use Rattle.cedar_cst.proofs.Views.{seen, view_relation_common}
 use Rattle.cedar_loose.proofs.cursor.Cursor.common_relation.Goals as goal
 
 pub returns : goal.returns
-returns c = IfOk-weaker c.node.result _ _ (λ n h. seen loose.missing_relation view_relation n _ h ∙ view_relation_common _ c.args.initial c.args.extended refl) c.node.ensures
+returns c = IfOk-weaker c.boxed_node.result _ _ (λ b h. seen loose.missing_relation view_relation b.value _ h ∙ view_relation_common _ c.args.initial c.args.extended refl) c.boxed_node.ensures

@@ -19,7 +19,7 @@ returns-in_ok-literal_primary c = λ inner e f g.
     primary_literal inner c.args.self.now c.if-begins_literal.ensures ∙ (ap (mapped loose.literal) c.in_ok-literal.ensures ∙ ap (λ o. Ok (o, c.literal.new.self)) (sym c.in_ok-literal_primary.ensures))
 
 pub returns-then-begins_name : goal.returns-then-begins_name
-returns-then-begins_name c = λ inner e f g. gives_as shown_primary c.named.result c.named.new.self (primary_of inner c.args.self.now) (named_of c.args.self.now) (primary_name inner c.args.self.now c.if-begins_name.ensures) c.named.ensures
+returns-then-begins_name c = λ inner e f g. gives_as (λ b. shown_primary b.value) c.named.result c.named.new.self (primary_of inner c.args.self.now) (named_of c.args.self.now) (primary_name inner c.args.self.now c.if-begins_name.ensures) c.named.ensures
 
 pub returns-in_err-slot : goal.returns-in_err-slot
 returns-in_err-slot c = λ inner e f g.

@@ -7,4 +7,4 @@ use Rattle.cedar_cst.proofs.Views.{seen, view_primary_e_list}
 use Rattle.cedar_loose.proofs.cursor.Cursor.list_primary.Goals as goal
 
 pub returns : goal.returns
-returns c = IfOk-weaker c.node.result _ _ (λ n h. seen loose.missing_primary view_primary n _ h ∙ view_primary_e_list _ c.args.items refl) c.node.ensures
+returns c = IfOk-weaker c.boxed_node.result _ _ (λ b h. seen loose.missing_primary view_primary b.value _ h ∙ view_primary_e_list _ c.args.items refl) c.boxed_node.ensures
