@@ -1,5 +1,5 @@
 // What of a text is left to read.
-ghost use Rattle.std.specs.Prelude.{◌≡◌, [], IfOk, Some, true, slice_index, IsTrue};
+ghost use Rattle.std.specs.Prelude.{◌≡◌, [], ◌↔◌, IfOk, Some, true, slice_index, IsTrue};
 ghost use Rattle.std.specs.Char.{is_ascii_digit};
 ghost use Rattle.std.specs.Str.{chars};
 ghost use Rattle.std.specs.Str.Parse.{digits_value};
@@ -44,13 +44,15 @@ impl<'t> Reader<'t> {
 
     /// Whether nothing is left.
     pub fn is_at_end(&self) -> bool
-        ensures { IsTrue result → self.now ≡ [] }
+        ensures { IsTrue result ↔ (self.now ≡ []) }
     {
         self.rest.is_empty()
     }
 
     /// The next byte; 0 where nothing is left.
-    pub fn next_byte(&self) -> u8 {
+    pub fn next_byte(&self) -> u8
+        ensures { result ≡ slice_index self.now 0 }
+    {
         byte_at(self.rest, 0)
     }
 

@@ -1,6 +1,10 @@
 // What an operand is, or TypeError where it isn't of the type that an operator takes.
+ghost use Rattle.std.specs.Prelude.{◌≡◌, [], ◌∷◌, IfOk, codes};
+ghost use Rattle.std.specs.Option.{option_copied};
 ghost use Rattle.std.specs.Rc.{rc_str_bytes};
 ghost use Rattle.cedar_language.specs.Order.{all_of};
+ghost use Rattle.cedar_language.specs.Tree.{EntityType};
+ghost use Rattle.cedar_literals.specs.Types.{value_type_of};
 ghost use Rattle.cedar_operators.specs.Operands.{boolean_in, long_in, text_in, uid_in, members_in, IsOperand};
 
 use cedar_extensions::evaluation_error::EvaluationError;
@@ -64,12 +68,16 @@ pub fn get_as_entity(alloc: Global, value: &Value) -> Result<&Rc<EntityUID>, Eva
 }
 
 // What errors call the type of all entities; refused for memory alone.
-pub fn any_entity_type(alloc: Global) -> Result<Type, AllocError> {
+pub fn any_entity_type(alloc: Global) -> Result<Type, AllocError>
+    ensures { IfOk result (λ ty. value_type_of ty ≡ EntityType (codes "any_entity_type" ∷ [])) }
+{
     Ok(Type::entity_type(Name::of_identifier(alloc, "any_entity_type")?))
 }
 
 // A copy of a place; refused for memory alone.
-pub fn copied(alloc: Global, loc: Option<&Loc>) -> Result<Option<Loc>, AllocError> {
+pub fn copied(alloc: Global, loc: Option<&Loc>) -> Result<Option<Loc>, AllocError>
+    ensures { IfOk result (λ copy. copy ≡ option_copied loc.entry) }
+{
     match loc {
         None => Ok(None),
         Some(loc) => Ok(Some(loc.clone(alloc)?)),

@@ -6,7 +6,7 @@ ghost use Rattle.cedar_partial_evaluation.specs.Question.{Given, Missing, entity
 ghost use Rattle.cedar_trees.specs.Unknowns.{unknown_name, unknown_type};
 ghost use Rattle.cedar_restricted.specs.PartialValues.{partial_of};
 ghost use Rattle.cedar_restricted_evaluation.specs.Evaluations.{part_answer};
-ghost use Rattle.cedar_requests.specs.Parts.{part_of, uid_given, type_stated};
+ghost use Rattle.cedar_requests.specs.Parts.{part_of, entry_place, uid_given, type_stated};
 
 use cedar_literals::literals::Literal;
 use cedar_literals::types::Type;
@@ -56,7 +56,8 @@ impl EntityUIDEntry {
         euid: EntityUID,
         loc: Option<Loc>,
     ) -> Result<EntityUIDEntry, AllocError>
-        ensures { IfOk result (λ entry. part_of entry ≡ Given euid) }
+        ensures entity { IfOk result (λ entry. part_of entry ≡ Given euid) }
+        ensures place { IfOk result (λ entry. entry_place entry ≡ loc) }
     {
         Ok(EntityUIDEntry::Known {
             euid: Rc::new(alloc, euid)?,
@@ -76,7 +77,8 @@ impl EntityUIDEntry {
 
     /// An entity of which the type alone is known, read at `loc`.
     pub fn unknown_with_type(ty: EntityType, loc: Option<Loc>) -> EntityUIDEntry
-        ensures { part_of result ≡ Missing (Some ty) }
+        ensures entity { part_of result ≡ Missing (Some ty) }
+        ensures place { entry_place result ≡ loc }
     {
         EntityUIDEntry::Unknown { ty: Some(ty), loc }
     }

@@ -13,7 +13,7 @@ impl FromIn<EntityUID> for EntityUIDEntry {
 
     ghost from_in_gives = { λ uid result. IfOk result (λ entry. part_of entry ≡ Given uid) };
 
-    /// The entity of this uid, at the uid's place; refused for memory alone.
+    /// The entity of this uid; refused for memory alone. Its place is the uid's, of which no contract speaks.
     fn from_in(alloc: Global, uid: EntityUID) -> Result<EntityUIDEntry, AllocError> {
         let loc = match uid.loc() {
             None => None,

@@ -1,8 +1,9 @@
 // Positions by entities.
-ghost use Rattle.std.specs.Prelude.{◌≡◌, [], ◌∷◌, ◌++◌, IsTrue, OnOk, OnErr, cond};
+ghost use Rattle.std.specs.HashMap.{get};
+ghost use Rattle.std.specs.Prelude.{◌≡◌, ◌↔◌, [], ◌∷◌, ◌++◌, IsTrue, OnOk, OnErr, cond};
 ghost use Rattle.cedar_language.specs.Uid.{Uid};
 ghost use Rattle.cedar_language.specs.Order.{same_uid};
-ghost use Rattle.cedar_scope_index.specs.Finding.{positions_at};
+ghost use Rattle.cedar_scope_index.specs.Lists.{ListsSome};
 
 use cedar_literals::uids::EntityUID;
 use std::alloc::{AllocError, Global};
@@ -11,6 +12,7 @@ use std::collections::HashMap;
 /// Positions in a policy set, listed under entities. Contracts see those of an entity through `positions_at`.
 pub struct Positions {
     by_uid: HashMap<EntityUID, Vec<usize>>,
+    ghost listing: { ListsSome (get same_uid by_uid) },
 }
 
 // Written by hand, so that a function which may return early lets go of them by a call.
@@ -21,6 +23,8 @@ impl Drop for Positions {
 }
 
 impl Positions {
+    ghost use Rattle.cedar_scope_index.specs.Finding.{positions_at};
+
     // None is listed; takes no memory.
     pub(crate) fn new(alloc: Global) -> Positions
         ensures { (uid : Uid) → positions_at result uid ≡ [] }
@@ -42,7 +46,7 @@ impl Positions {
 
     /// Whether none is listed under any entity.
     pub fn is_empty(&self) -> bool
-        ensures { IsTrue result → (uid : Uid) → positions_at self.now uid ≡ [] }
+        ensures { IsTrue result ↔ ((uid : Uid) → positions_at self.now uid ≡ []) }
     {
         self.by_uid.is_empty()
     }
