@@ -5,7 +5,9 @@ pub use cedar_extensions::collecting::{CollectError, collect_no_duplicates};
 pub use cedar_extensions::extensions::Extensions;
 pub use cedar_extensions::iteration::{ExtNames, ExtTypes, Funcs, OrderedTypes};
 pub use cedar_extensions::lookups::{ExtensionFunctionLookupError, FuncDoesNotExistError};
-pub use cedar_extensions::objects::{BoxedFunction, CallError, ExtensionFunctionObject, NoFunction};
+pub use cedar_extensions::objects::{
+    BoxedFunction, CallError, ExtensionFunctionObject, NoFunction,
+};
 pub use cedar_extensions::table_errors::{
     ExtensionInitializationError, FuncMultiplyDefinedError, MultipleConstructorsSameSignatureError,
 };

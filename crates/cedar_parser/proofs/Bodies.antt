@@ -1,7 +1,7 @@
 -- Restricted expressions, from the trees of their texts.
 use Rattle.std.proofs.Common.{◌≡◌, sym, inl, inr, ℕ, Bool, true, false, Option, Some, None, Result, Ok, Err, refl, ◌∙◌, arith}
 use Rattle.std.proofs.lemmas.Bool.{leb-true, leb-false}
-use Rattle.std.specs.Prelude.{nat_le}
+use Rattle.std.specs.Prelude.{nat_le, IfErr}
 use Rattle.cedar_language.specs.Uid.{Text}
 use Rattle.cedar_language.specs.Height.{height}
 use Rattle.cedar_language.specs.Restricted.{is_restricted}
@@ -17,7 +17,7 @@ use Rattle.cedar_restricted.specs.declared.errors.RestrictedExpressionError.TheV
 use Rattle.cedar_restricted.specs.declared.restricted.RestrictedExpr.{RestrictedExpr}
 use Rattle.cedar_parser.specs.declared.restricted.RestrictedExpressionParseError.{RestrictedExpressionParseError}
 use Rattle.cedar_parser.specs.declared.restricted.RestrictedExpressionParseError.TheVariants as parse
-use Rattle.cedar_parser.specs.Strict.{IsRefused, IsUnread, ReadsRestricted, Keeps}
+use Rattle.cedar_parser.specs.Strict.{IsRefused, IsUnread, ReadsRestricted, TellsOffence, Keeps}
 
 not_true : (b : Bool) → (b ≡ true → ⊥) → b ≡ false
 not_true true h = absurd (h refl)
@@ -28,7 +28,7 @@ none_is_some o some none = cc (sym some ∙ none)
 
 -- what is refused for an offence is kept back
 pub unrestricted : OffencesAreWhatIsNotRestricted → (t : Tree) (e : RestrictedExpressionError) → Restricts restricted_tree t (Err e) → Keeps t (Err (parse.InvalidRestrictedExpression e))
-unrestricted law t (refused.InvalidRestrictedExpression e) offends = not_true (is_restricted t) (λ is. none_is_some (offence t) offends ((law t).1 is))
+unrestricted law t (refused.InvalidRestrictedExpression e) offends = (not_true (is_restricted t) (λ is. none_is_some (offence t) offends ((law t).1 is)), offends)
 unrestricted law t (refused.Memory e) offends = tt
 
 module _ (names : Names) (n : ℕ) (text : Text) where
@@ -46,5 +46,11 @@ module _ (names : Names) (n : ℕ) (text : Text) where
     pub tree_kept : nat_le (height t) n ≡ true → (r : Result RestrictedExpr RestrictedExpressionParseError) → Keeps t r → ReadsRestricted names n text r
     tree_kept low (Ok body) kept = (t, is, leb-true (height t) n low, sym kept)
     tree_kept low (Err (parse.Parse errors)) kept = absurd kept
-    tree_kept low (Err (parse.InvalidRestrictedExpression (refused.InvalidRestrictedExpression e))) kept = (t, is, leb-true (height t) n low, kept)
+    tree_kept low (Err (parse.InvalidRestrictedExpression (refused.InvalidRestrictedExpression e))) kept = (t, is, leb-true (height t) n low, kept.0)
     tree_kept low (Err (parse.InvalidRestrictedExpression (refused.Memory e))) kept = tt
+
+    pub offence_told : nat_le (height t) n ≡ true → (r : Result RestrictedExpr RestrictedExpressionParseError) → Keeps t r → IfErr r (TellsOffence names n text)
+    offence_told low (Ok body) kept = tt
+    offence_told low (Err (parse.Parse errors)) kept = tt
+    offence_told low (Err (parse.InvalidRestrictedExpression (refused.InvalidRestrictedExpression e))) kept = (t, is, leb-true (height t) n low, kept.1)
+    offence_told low (Err (parse.InvalidRestrictedExpression (refused.Memory e))) kept = tt

@@ -1,6 +1,7 @@
 -- Faults of a tree, told as errors of its text.
 use Rattle.std.proofs.Common.{◌≡◌, ◌⊎◌, inl, inr, ℕ, List, [], ◌∷◌, map, Result, Ok, Err, refl, sym, ap, ◌∙◌, subst}
 use Rattle.std.specs.Prelude.{IfErr}
+use Rattle.std.specs.List.{AllByRecursion}
 use Rattle.cedar_language.specs.Uid.{Text}
 use Rattle.cedar_grammar.specs.Token.{Token}
 use Rattle.cedar_grammar.specs.LooseReading.{Fault}
@@ -9,7 +10,8 @@ use Rattle.cedar_faults.specs.Reasons.{listed, faults_of}
 use Rattle.cedar_faults.specs.Telling.{AreOf, TellsOnly}
 use Rattle.cedar_faults.specs.declared.kinds.ToASTErrorKind.{ToASTErrorKind}
 use Rattle.cedar_faults.specs.declared.errors.ConversionError.{ConversionError}
-use Rattle.cedar_parser.specs.Errors.{means_nothing, cause_of}
+use Rattle.cedar_parser.specs.Errors as cause
+use Rattle.cedar_parser.specs.Errors.{Cause, means_nothing, cause_of}
 use Rattle.cedar_parser.specs.LooseTexts.{Refuses, RefusesFlat}
 use Rattle.cedar_loose.specs.Texts.{IsRead, IsRefused, IsOutside}
 use Rattle.cedar_parser.specs.declared.errors.ParseError.{ParseError}
@@ -24,12 +26,29 @@ use Rattle.cedar_parser.specs.declared.restricted.RestrictedExpressionParseError
 use Rattle.cedar_parser.specs.declared.restricted.RestrictedExpressionParseError.TheVariants as restricted
 use Rattle.cedar_parser.specs.Literals.{TakesLiteral}
 use Rattle.cedar_parser.specs.Strict.{Keeps}
-use Rattle.cedar_parser.specs.Faults.{HoldFault, TellOnly, LiteralTellsOnly, RestrictedTellsOnly, text_shows}
+use Rattle.cedar_parser.specs.Faults.{HoldFault, StandBehind, TellOnly, LiteralTellsOnly, RestrictedTellsOnly, text_shows}
 
 of_faults : (fs : List (PlacedError ToASTErrorKind)) (k : ToASTErrorKind) → HoldFault (map (λ f. error.ToAST f) fs) k → AreOf fs k
 of_faults [] k held = held
 of_faults (f ∷ fs) k (inl same) = inl same
 of_faults (f ∷ fs) k (inr held) = inr (of_faults fs k held)
+
+abbrev AreFaults : List ParseError → Type 0
+AreFaults es = AllByRecursion (λ e. cause_of e ≡ means_nothing) es
+
+are_faults : (fs : List (PlacedError ToASTErrorKind)) → AreFaults (map (λ f. error.ToAST f) fs)
+are_faults [] = tt
+are_faults (f ∷ fs) = (refl, are_faults fs)
+
+faults_behind : (e : ParseError) (es : List ParseError) (fs : List (PlacedError ToASTErrorKind)) → e ∷ es ≡ map (λ f. error.ToAST f) fs → AreFaults es
+faults_behind e es [] is = cc
+faults_behind e es (f ∷ fs) is = let same : es ≡ map (λ f. error.ToAST f) fs = cc in subst AreFaults (sym same) (are_faults fs)
+
+none_behind : (c : Cause) (es : List ParseError) → es ≡ [] → StandBehind c es
+none_behind cause.outside_the_grammar es none = none
+none_behind cause.means_nothing es none = subst AreFaults (sym none) tt
+none_behind cause.nested_too_deep es none = none
+none_behind cause.out_of_memory es none = none
 
 -- an error alone that is no fault
 none_held : (e : ParseError) (k : ToASTErrorKind) → (cause_of e ≡ means_nothing → ⊥) → HoldFault (e ∷ []) k → ⊥
@@ -39,7 +58,24 @@ none_held error.Depth k other held = held
 none_held error.Memory k other held = held
 
 alone_tells : (errors : ParseErrors) (p : ToASTErrorKind → Type 0) → (cause_of errors.0.head ≡ means_nothing → ⊥) → errors.0.tail.items ≡ [] → TellOnly errors p
-alone_tells errors p other alone = record { each = λ k held. absurd (none_held errors.0.head k other (subst (λ es. HoldFault (errors.0.head ∷ es) k) alone held)) }
+alone_tells errors p other alone = record {
+  each = λ k held. absurd (none_held errors.0.head k other (subst (λ es. HoldFault (errors.0.head ∷ es) k) alone held));
+  behind = none_behind (cause_of errors.0.head) errors.0.tail.items alone;
+}
+
+held_alone : (e : ParseError) (f : PlacedError ToASTErrorKind) (k : ToASTErrorKind) → e ≡ error.ToAST f → HoldFault (e ∷ []) k → f.kind ≡ k
+held_alone e f k is held = by (subst (λ x. HoldFault (x ∷ []) k) is held)
+  where
+    by : HoldFault (error.ToAST f ∷ []) k → f.kind ≡ k
+    by (inl same) = same
+    by (inr none) = absurd none
+
+-- a fault alone
+pub fault_tells : (errors : ParseErrors) (f : PlacedError ToASTErrorKind) (p : ToASTErrorKind → Type 0) → errors.0.head ≡ error.ToAST f → errors.0.tail.items ≡ [] → p f.kind → TellOnly errors p
+fault_tells errors f p is alone shown = record {
+  each = λ k held. subst p (held_alone errors.0.head f k is (subst (λ es. HoldFault (errors.0.head ∷ es) k) alone held)) shown;
+  behind = none_behind (cause_of errors.0.head) errors.0.tail.items alone;
+}
 
 -- the first error that is no fault is the only one
 pub one_tells : (errors : ParseErrors) (e : ParseError) (p : ToASTErrorKind → Type 0) → errors.0.head ≡ e → (cause_of e ≡ means_nothing → ⊥) → errors.0.tail.items ≡ [] → TellOnly errors p
@@ -57,7 +93,10 @@ pub refused_tells : {E : Type 0} (errors : ParseErrors) (e : ConversionError E) 
 refused_tells errors e p faults alone only = by (fault_or_none errors.0.head)
   where
     by : (cause_of errors.0.head ≡ means_nothing) ⊎ (cause_of errors.0.head ≡ means_nothing → ⊥) → TellOnly errors p
-    by (inl fault) = record { each = λ k held. only.each k (of_faults (faults_of e) k (subst (λ es. HoldFault es k) (faults fault) held)) }
+    by (inl fault) = record {
+      each = λ k held. only.each k (of_faults (faults_of e) k (subst (λ es. HoldFault es k) (faults fault) held));
+      behind = subst (λ c. StandBehind c errors.0.tail.items) (sym fault) (faults_behind errors.0.head errors.0.tail.items (faults_of e) (faults fault));
+    }
     by (inr other) = alone_tells errors p other (alone other)
 
 module _ {A : Type 0} (read : ℕ → List Token → Result A Fault) (n : ℕ) (text : Text) where
@@ -72,11 +111,11 @@ module _ {A : Type 0} (read : ℕ → List Token → Result A Fault) (n : ℕ) (
   -- what its tree shows is shown of the text
   pub text_told : {D : Type 0} (r : Result D ParseErrors) (x : A) (shows : A → ToASTErrorKind → Type 0) → IsRead read n text x → IfErr r (λ errors. TellOnly errors (shows x)) → IfErr r (λ errors. TellOnly errors (text_shows read n text shows))
   text_told (Ok d) x shows is only = tt
-  text_told (Err errors) x shows is only = record { each = λ k held. (x, is, only.each k held) }
+  text_told (Err errors) x shows is only = record { each = λ k held. (x, is, only.each k held); behind = only.behind }
 
   pub literal_told : {D : Type 0} (r : Result D LiteralParseError) (x : A) (shows : A → ToASTErrorKind → Type 0) → IsRead read n text x → IfErr r (λ e. LiteralTellsOnly e (shows x)) → IfErr r (λ e. LiteralTellsOnly e (text_shows read n text shows))
   literal_told (Ok d) x shows is only = tt
-  literal_told (Err (literal.Parse errors)) x shows is only = record { each = λ k held. (x, is, only.each k held) }
+  literal_told (Err (literal.Parse errors)) x shows is only = record { each = λ k held. (x, is, only.each k held); behind = only.behind }
   literal_told (Err (literal.InvalidLiteral e)) x shows is only = tt
 
 -- what is taken of a tree, or kept of it, tells no fault

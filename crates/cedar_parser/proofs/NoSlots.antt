@@ -56,4 +56,4 @@ module _ (o : Option Tree) (x : Expr (Unit {0})) (is : o ≡ Some (bare x)) (r :
     where
       by : (q : Result (Expr (Unit {0})) ParseErrors) → IfErr q (λ errors. TellOnly errors (slots_show (Some (bare x)))) → IfErr q (λ errors. TellOnly errors (λ kind. shown kind ⊎ slots_show o kind))
       by (Ok e) told = tt
-      by (Err errors) told = record { each = λ kind held. inr (subst (λ p. slots_show p kind) (sym is) (told.each kind held)) }
+      by (Err errors) told = record { each = λ kind held. inr (subst (λ p. slots_show p kind) (sym is) (told.each kind held)); behind = told.behind }

@@ -1,6 +1,6 @@
 -- Which kinds of faults the errors of a text tell: kinds that the loose tree of the text shows.
 use Rattle.std.specs.Prelude.{◌≡◌, ◌⊎◌, ⊤, ℕ, true, List, [], ◌∷◌, Option, Some, None, Result}
-use Rattle.std.specs.List.{list_any}
+use Rattle.std.specs.List.{AllByRecursion, list_any}
 use Rattle.std.specs.Rc.{rc_str_bytes}
 use Rattle.cedar_language.specs.Slots.{tree_slots}
 use Rattle.cedar_language.specs.Tree.{SlotId, Tree}
@@ -17,6 +17,7 @@ use Rattle.cedar_faults.specs.declared.kinds.ToASTErrorKind.{ToASTErrorKind}
 use Rattle.cedar_faults.specs.declared.kinds.ToASTErrorKind.TheVariants as kinds
 use Rattle.cedar_conversion.specs.Shows.{expr_shows, operand_shows}
 use Rattle.cedar_loose.specs.Texts.{IsRead}
+use Rattle.cedar_parser.specs.Errors.{Cause, outside_the_grammar, means_nothing, nested_too_deep, out_of_memory, cause_of}
 use Rattle.cedar_parser.specs.declared.errors.ParseError.{ParseError}
 use Rattle.cedar_parser.specs.declared.errors.ParseError.TheVariants as error
 use Rattle.cedar_parser.specs.declared.errors.ParseErrors.{ParseErrors}
@@ -33,9 +34,17 @@ HoldFault (error.ToAST f ∷ es) kind = (f.kind ≡ kind) ⊎ HoldFault es kind
 HoldFault (error.Depth ∷ es) kind = HoldFault es kind
 HoldFault (error.Memory ∷ es) kind = HoldFault es kind
 
--- each kind that the errors tell is shown
+-- what stands behind an error: behind a fault other faults, and behind each other error nothing
+abbrev pub StandBehind : Cause → List ParseError → Type 0
+StandBehind outside_the_grammar others = others ≡ []
+StandBehind means_nothing others = AllByRecursion (λ e. cause_of e ≡ means_nothing) others
+StandBehind nested_too_deep others = others ≡ []
+StandBehind out_of_memory others = others ≡ []
+
+-- the errors are faults, each of a kind that is shown; or another error alone
 pub record TellOnly (errors : ParseErrors) (shown : ToASTErrorKind → Type 0) : Type 0 where
   pub each : (kind : ToASTErrorKind) → HoldFault (listed errors.0) kind → shown kind
+  pub behind : StandBehind (cause_of errors.0.head) errors.0.tail.items
 
 -- the fault of this slot of templates
 abbrev pub IsSlotFault : SlotId → ToASTErrorKind → Type 0

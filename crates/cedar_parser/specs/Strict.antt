@@ -18,6 +18,7 @@ use Rattle.cedar_parser.specs.Errors.{Cause, outside_the_grammar, means_nothing,
 use Rattle.cedar_parser.specs.declared.errors.ParseErrors.{ParseErrors}
 use Rattle.cedar_policy_set.specs.Entries.{Entries}
 use Rattle.cedar_policy_set.specs.Texts.{text_entries}
+use Rattle.cedar_restricted.specs.Offences.{offence, refused_offence}
 use Rattle.cedar_restricted.specs.Views.{restricted_tree}
 use Rattle.cedar_restricted.specs.declared.errors.RestrictedExpressionError.TheVariants as refused
 use Rattle.cedar_restricted.specs.declared.restricted.RestrictedExpr.{RestrictedExpr}
@@ -95,11 +96,17 @@ ReadsRestricted names n text (Err (parse.Parse errors)) = IsUnread names n text 
 ReadsRestricted names n text (Err (parse.InvalidRestrictedExpression (refused.InvalidRestrictedExpression e))) = IsLowTree names n text (λ t. is_restricted t ≡ false)
 ReadsRestricted names n text (Err (parse.InvalidRestrictedExpression (refused.Memory e))) = ⊤
 
--- the same tree, known to be restricted
+-- the error of a tree that isn't restricted has the first part that may not stand in it, and what that part is called
+abbrev pub TellsOffence : Names → ℕ → Text → RestrictedExpressionParseError → Type 0
+TellsOffence names n text (parse.Parse errors) = ⊤
+TellsOffence names n text (parse.InvalidRestrictedExpression (refused.InvalidRestrictedExpression e)) = IsLowTree names n text (λ t. offence t ≡ Some (refused_offence e))
+TellsOffence names n text (parse.InvalidRestrictedExpression (refused.Memory e)) = ⊤
+
+-- the same tree, known to be restricted; or why it isn't
 abbrev pub Keeps : Tree → Result RestrictedExpr RestrictedExpressionParseError → Type 0
 Keeps t (Ok e) = restricted_tree e ≡ t
 Keeps t (Err (parse.Parse errors)) = ⊥
-Keeps t (Err (parse.InvalidRestrictedExpression (refused.InvalidRestrictedExpression e))) = is_restricted t ≡ false
+Keeps t (Err (parse.InvalidRestrictedExpression (refused.InvalidRestrictedExpression e))) = (is_restricted t ≡ false) × (offence t ≡ Some (refused_offence e))
 Keeps t (Err (parse.InvalidRestrictedExpression (refused.Memory e))) = ⊤
 
 -- ---- entities and literals

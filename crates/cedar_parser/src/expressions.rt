@@ -27,7 +27,7 @@ use std::alloc::Global;
 /// The first error is `ToCST` or `ToAST`, with a place, where the text is none within any nesting; `Depth`
 /// where it is none within this one and more places in it open a construct; and `Memory`. With `ToAST` the
 /// errors are all faults of the text, in order, each of a kind that its loose tree shows; where it has none
-/// of these, a slot that stands in it is told as `InvalidSlot`.
+/// of these, a slot that stands in it is told as `InvalidSlot`. Each other error stands alone.
 pub fn parse_expr_strict(
     alloc: Global,
     text: &str,

@@ -23,7 +23,7 @@ use std::alloc::Global;
 ///
 /// The first error is `ToCST` or `ToAST`, with a place, where the text is none, and `Memory` for want of
 /// memory alone. With `ToAST` the errors are all faults of the text, in order, each of a kind that its loose tree
-/// shows.
+/// shows; each other error stands alone.
 pub fn parse_euid_strict(alloc: Global, text: &str) -> Result<EntityUID, ParseErrors>
     ensures uid { ReadsUid text.now result }
     ensures shown { IfErr result (λ errors. TellOnly errors (text_shows (flat read_ref) 0 text.now ref_shows)) }

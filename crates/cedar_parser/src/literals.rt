@@ -81,7 +81,7 @@ impl From<ParseErrors> for LiteralParseError {
 /// literal; else `Parse`. Of that the first error is `ToCST` or `ToAST`, with a place, where the text is none
 /// within any nesting; `Depth` where it is none within this one and more places in it open a construct; and
 /// `Memory`. With `ToAST` the errors are all faults of the text, in order; where it has none of these, a slot
-/// that stands in it is told as `InvalidSlot`.
+/// that stands in it is told as `InvalidSlot`. Each other error stands alone.
 pub fn parse_literal_strict(
     alloc: Global,
     text: &str,

@@ -5,7 +5,7 @@ ghost use Rattle.cedar_trees.specs.Bare.{bare};
 ghost use Rattle.cedar_grammar.specs.UnknownCalls.{holds_call};
 ghost use Rattle.cedar_grammar.specs.LooseReading.{read_expr};
 ghost use Rattle.cedar_parser.specs.Faults.{RestrictedTellsOnly, strict_shows, text_shows};
-ghost use Rattle.cedar_parser.specs.Strict.{LacksUnknown, Keeps, ReadsRestricted};
+ghost use Rattle.cedar_parser.specs.Strict.{LacksUnknown, Keeps, ReadsRestricted, TellsOffence};
 
 use crate::errors::{ParseError, ParseErrors};
 use crate::expressions::parse_expr_strict;
@@ -57,7 +57,7 @@ impl From<RestrictedExpressionError> for RestrictedExpressionParseError {
 ///
 /// It is refused `Parse` as [`parse_expr_strict`] refuses it, so for a slot too, and for `Depth` also where
 /// its tree is higher than `depth`; and `InvalidRestrictedExpression` with its first part that may not stand
-/// there, or for memory.
+/// there and what that part is called, or for memory.
 pub fn parse_restrictedexpr(
     alloc: Global,
     text: &str,
@@ -65,6 +65,7 @@ pub fn parse_restrictedexpr(
     depth: u32,
 ) -> Result<RestrictedExpr, RestrictedExpressionParseError>
     ensures body { ReadsRestricted styles.now depth text.now result }
+    ensures offence { IfErr result (TellsOffence styles.now depth text.now) }
     ensures calls { IfOk result (λ body. LacksUnknown styles.now → holds_call (restricted_tree body) ≡ false) }
     ensures shown { IfErr result (λ error. RestrictedTellsOnly error (text_shows read_expr depth text.now (strict_shows styles.now))) }
 {

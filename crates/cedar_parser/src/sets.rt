@@ -31,7 +31,8 @@ use std::alloc::Global;
 ///
 /// The first error is `ToCST` or `ToAST`, with a place, where the text is none within any nesting; `Depth`
 /// where it is none within this one and more places in it open a construct; and `Memory`. With `ToAST` the
-/// errors are all faults of the text, in order, each of a kind that its loose tree shows.
+/// errors are all faults of the text, in order, each of a kind that its loose tree shows; each other error
+/// stands alone.
 pub fn parse_policyset_strict(
     alloc: Global,
     text: &str,

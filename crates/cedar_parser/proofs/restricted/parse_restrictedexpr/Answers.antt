@@ -4,7 +4,7 @@ use Rattle.cedar_trees.specs.Bare.{bare}
 use Rattle.cedar_parser.specs.Errors.{cause_of}
 use Rattle.cedar_parser.specs.Strict.{IsUnread}
 use Rattle.cedar_parser.specs.declared.restricted.RestrictedExpressionParseError.TheVariants as parse
-use Rattle.cedar_parser.proofs.Bodies.{tree_refused, too_high, tree_kept}
+use Rattle.cedar_parser.proofs.Bodies.{tree_refused, too_high, tree_kept, offence_told}
 use Rattle.cedar_parser.proofs.Callers.{kept_calls}
 use Rattle.cedar_parser.proofs.Faults.{one_tells, kept_tells}
 use Rattle.cedar_parser.proofs.restricted.parse_restrictedexpr.Goals as goal
@@ -23,6 +23,10 @@ returns-then-not-is_low-clause-body c =
 pub returns-clause-body : goal.returns-clause-body
 returns-clause-body c =
     tree_kept c.args.styles.now c.args.depth c.args.text.now (bare c.in_ok-expr.expr) c.in_ok-expr.ensures.tree (search rules) c.restricted.result c.restricted.ensures
+
+pub returns-clause-offence : goal.returns-clause-offence
+returns-clause-offence c =
+    offence_told c.args.styles.now c.args.depth c.args.text.now (bare c.in_ok-expr.expr) c.in_ok-expr.ensures.tree (search rules) c.restricted.result c.restricted.ensures
 
 pub returns-clause-calls : goal.returns-clause-calls
 returns-clause-calls c =
