@@ -35,6 +35,7 @@ use Rattle.cedar_substitution.specs.Told.{told_for}
 use Rattle.cedar_evaluator.specs.Evaluations.{Unsatisfied, bindings_in, condition_in, Kept, IsKept, AreKept}
 use Rattle.cedar_evaluator.specs.Residuals.{residuals_with, is_any}
 use Rattle.cedar_evaluator.specs.declared.partial_response.PartialResponse.{PartialResponse}
+use Rattle.cedar_evaluator.proofs.Standings.{standing_found, judged, is_settled, stands_as_found}
 use Rattle.cedar_asking.specs.Keeping.{IsFirstResponse}
 use Rattle.cedar_asking.specs.Tells.{told_in}
 use Rattle.cedar_asking.proofs.Exactness.{clause_stands, clause_calls}
@@ -44,7 +45,7 @@ use Rattle.cedar_asking.proofs.Lists.{IsAmong, contained, contains, mapped, unma
 use Rattle.cedar_asking.proofs.Members.{among_left, among_right, among_either, filtered, unfiltered}
 use Rattle.cedar_asking.proofs.Naming.{is_other, no_unknown}
 use Rattle.cedar_asking.proofs.Rejudged.{binds_written, names_nothing, is_named, taken_up, clause_calls_nothing}
-use Rattle.cedar_asking.proofs.Standings.{standing_found, judged, is_settled, stands_as_found, no_slots}
+use Rattle.cedar_asking.proofs.Standings.{no_slots}
 use Rattle.cedar_asking.proofs.Taken.{clause_of, is_out, out_clause, IsLeftOf, is_left, left_of}
 
 along : (w x y z : Text) → w ≡ x → x ≡ y → y ≡ z → w ≡ z
@@ -53,7 +54,7 @@ along w x y z e f g = e ∙ f ∙ g
 -- ---- the policies that aren't satisfied whatever is told
 
 abbrev again_out : Kept → Kept
-again_out k = record { id = k.id; effect = k.effect; found = Unsatisfied }
+again_out k = record { id = k.id; effect = k.effect; annotations = k.annotations; found = Unsatisfied }
 
 abbrev pub all_out : List Kept → List Kept
 all_out ks = map again_out (filter (λ (k : Kept). is_out k.found) ks)

@@ -40,6 +40,7 @@ use Rattle.cedar_replies.specs.Erring.{have_kinds, with_kinds}
 use Rattle.cedar_replies.specs.declared.error_kind.ErrorKind.{ErrorKind}
 use Rattle.cedar_evaluator.specs.Evaluations.{Kept, IsKept, AreKept, IsServed, condition_in}
 use Rattle.cedar_evaluator.specs.Responses.{errors_of, holding_of, judged_held}
+use Rattle.cedar_evaluator.proofs.Standings.{judged, is_settled, stands_as_found}
 use Rattle.cedar_asking.specs.Answers.{IsSettingOf, SomeTooHigh}
 use Rattle.cedar_asking.specs.Erring.{with_failure, SomeAtLimit}
 use Rattle.cedar_world.specs.Lookups.{ListsStanding}
@@ -51,7 +52,7 @@ use Rattle.cedar_asking.proofs.InForce.{written_entry, is_bound, is_there, is_in
 use Rattle.cedar_asking.proofs.Lists.{IsAmong, contained, contains, mapped, unmapped}
 use Rattle.cedar_asking.proofs.Naming.{is_other, no_unknown, no_call}
 use Rattle.cedar_asking.proofs.Sayings.{says_rules}
-use Rattle.cedar_asking.proofs.Standings.{judged, is_settled, stands_as_found, stands_as_written, all_given, height_as_written, names_as_written}
+use Rattle.cedar_asking.proofs.Standings.{stands_as_written, all_given, height_as_written, names_as_written}
 
 -- each of the list, by its members
 pub all_among : {X : Type 0} (P : X → Type 0) (xs : List X) → ((x : X) → IsAmong x xs → P x) → All P xs

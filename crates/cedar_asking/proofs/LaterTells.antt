@@ -1,6 +1,7 @@
 -- A first response taken up again once values are told answers its question, and only its context may be why it isn't.
 use Rattle.std.proofs.Common.{◌≡◌, ◌∙◌, refl, ap, sym, subst, true≢false, Bool, true, false, Option, Some, None, option_map, List, ◌++◌, map, ℕ, Err}
 use Rattle.std.specs.FinMap as finite
+use Rattle.std.specs.Map.{keys_of}
 use Rattle.std.specs.declared.alloc.Global.{Global}
 use Rattle.std.specs.declared.rc.RcStr.{RcStr}
 use Rattle.either.specs.declared.Either.{Either}
@@ -43,6 +44,7 @@ use Rattle.cedar_extensions.specs.Table.{Table}
 use Rattle.cedar_interpreter.specs.Asking.{context_asked, request_held}
 use Rattle.cedar_interpreter.specs.Operating.{HasFunctions}
 use Rattle.cedar_policy_set.specs.Entries.{Entries}
+use Rattle.cedar_policy_set.specs.declared.errors.PolicySetError.TheVariants as adding
 use Rattle.cedar_held.specs.PolicyWorlds.{FindsAsWorlds}
 use Rattle.cedar_replies.specs.declared.error_kind.ErrorKind.{ErrorKind}
 use Rattle.cedar_requests.specs.Contexts.{context_part}
@@ -53,12 +55,15 @@ use Rattle.cedar_evaluator.specs.Concretizing.{first_conflict, IsRefused}
 use Rattle.cedar_evaluator.specs.Evaluations.{Kept}
 use Rattle.cedar_evaluator.specs.Holding.{request_asked, holding_in}
 use Rattle.cedar_evaluator.specs.Reauthorizing.{IsReauthorized, Reauthorizes}
+use Rattle.cedar_evaluator.specs.Residuals.{residuals_with, is_any}
+use Rattle.cedar_evaluator.proofs.Twice.{not_apart}
 use Rattle.cedar_evaluator.specs.Responses.{Holding, errors_of, judged_held}
 use Rattle.cedar_evaluator.specs.declared.errors.ConcretizationError.{ConcretizationError}
 use Rattle.cedar_evaluator.specs.declared.errors.ConcretizationError.TheVariants as concretization
 use Rattle.cedar_evaluator.specs.declared.errors.ReauthorizationError.{ReauthorizationError}
 use Rattle.cedar_evaluator.specs.declared.errors.ReauthorizationError.TheVariants as reauthorization
 use Rattle.cedar_evaluator.specs.declared.partial_response.PartialResponse.{PartialResponse}
+use Rattle.cedar_evaluator.proofs.Standings.{judged, is_settled}
 use Rattle.cedar_held.specs.Built.{GivesBuilt}
 use Rattle.cedar_asking.specs.Answering.{AreOf}
 use Rattle.cedar_asking.specs.Erring.{with_failure}
@@ -80,7 +85,7 @@ use Rattle.cedar_asking.proofs.Rejudged.{first_served, first_made, first_names}
 use Rattle.cedar_asking.proofs.Requested.{all_absent}
 use Rattle.cedar_asking.proofs.RequestTold.{no_conflicts, variable_again, held_again}
 use Rattle.cedar_asking.proofs.Sayings.{says_rules}
-use Rattle.cedar_asking.proofs.Standings.{judged, is_settled, no_slots}
+use Rattle.cedar_asking.proofs.Standings.{no_slots}
 
 -- what is held once values are told rests on these
 pub record Rests : Type 0 where
@@ -252,6 +257,7 @@ module _ (c : Rests) (by : Setting) (world : World) (q : Question) (first : Part
   refused_by never (concretization.Memory error) h = tt
 
   pub is_refused : KnownIsNeverLeft → (e : ReauthorizationError) → Reauthorizes s table depth told first (Err e) → IsWhyNotTold by q told e
-  is_refused never (reauthorization.PolicySetError error) h = h response.responds.apart
-  is_refused never (reauthorization.ConcretizationError error) h = refused_by never error h
+  is_refused never (reauthorization.PolicySetError (adding.Occupied id)) h = not_apart (keys_of (residuals_with is_any first)) id h response.responds.apart
+  is_refused never (reauthorization.PolicySetError (adding.Memory e)) h = absurd h
+  is_refused never (reauthorization.ConcretizationError error) h = refused_by never error h.1
   is_refused never (reauthorization.Memory error) h = tt

@@ -15,6 +15,7 @@ use Rattle.cedar_operators.specs.Store.{HasFacts}
 use Rattle.cedar_held.specs.PolicyWorlds.{FindsAsWorlds}
 use Rattle.cedar_evaluator.specs.Evaluations.{Kept, Erred}
 use Rattle.cedar_evaluator.specs.Responses.{Holding, errors_of, holding_of}
+use Rattle.cedar_evaluator.proofs.Standings.{judged, is_settled}
 use Rattle.cedar_asking.specs.Erring.{with_failure}
 use Rattle.cedar_asking.specs.Keeping.{AreTold}
 use Rattle.cedar_asking.specs.Laws.{SaysHeld}
@@ -23,7 +24,6 @@ use Rattle.cedar_asking.proofs.Errors.{errors_listed, settled_listed, limit_kept
 use Rattle.cedar_asking.proofs.Facts.{store_has_facts, table_is_served, facts_are_made}
 use Rattle.cedar_asking.proofs.Firsts.{names_none, judges, once}
 use Rattle.cedar_asking.proofs.Sayings.{says_rules}
-use Rattle.cedar_asking.proofs.Standings.{judged, is_settled}
 use Rattle.cedar_asking.proofs.WithoutFalse.{says_with_all}
 
 none_is_told : {A : Type 0} (x : A) → ◌≡◌ {A = Option A} None (Some x) → ⊥

@@ -13,8 +13,8 @@ use Rattle.cedar_world.specs.Standing.{Says, ErrOnce, AnswersAreMade}
 use Rattle.cedar_extensions.specs.Failures.{OfKind, LimitMet, MemoryRanOut}
 use Rattle.cedar_evaluator.specs.Evaluations.{Found, Satisfied, Unsatisfied, Erred, Open, Kept}
 use Rattle.cedar_evaluator.specs.Responses.{if_effect, satisfied_id, open_id, satisfied_of, false_of, open_of, holding_of, stands, judged_held}
+use Rattle.cedar_evaluator.proofs.Standings.{standing_found, judged}
 use Rattle.cedar_asking.proofs.Members.{among_left, among_right, among_either, gathered, ungathered}
-use Rattle.cedar_asking.proofs.Standings.{standing_found, judged}
 
 -- only what is satisfied or open has a part in decision and reasons
 abbrev pub counts : Judged → Bool

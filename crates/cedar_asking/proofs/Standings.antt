@@ -1,5 +1,5 @@
--- How policies stand by what was found of them, and that the code's answers are those to the question.
-use Rattle.std.proofs.Common.{◌≡◌, Bool, true, false, None, refl, sym, ◌∙◌, ap}
+-- The answers that the code gives of policies are those to the question.
+use Rattle.std.proofs.Common.{◌≡◌, true, None, refl, sym, ◌∙◌, ap}
 use Rattle.std.specs.FinMap as finite
 use Rattle.cedar_language.specs.Uid.{Text}
 use Rattle.cedar_language.specs.Tree.{Variable, SlotId, PrincipalSlot, ResourceSlot, Tree, Var, Unknown}
@@ -7,8 +7,6 @@ use Rattle.cedar_language.specs.Facts.{Facts}
 use Rattle.cedar_language.specs.Height.{height, LinkingKeepsHeight}
 use Rattle.cedar_language.specs.Meaning.{Slots, slot_outcome}
 use Rattle.cedar_language.specs.Order.{text_cmp}
-use Rattle.cedar_language.specs.Answering as answering
-use Rattle.cedar_language.specs.Answering.{Standing, Judged}
 use Rattle.cedar_partial_evaluation.specs.Early.{standing_of_answer}
 use Rattle.cedar_partial_evaluation.specs.Leaves.{MentionedIsMeant}
 use Rattle.cedar_partial_evaluation.specs.LinkingEarly.{StandAlike, LinkingIsWritingEarly}
@@ -23,45 +21,16 @@ use Rattle.cedar_world.specs.Setting.{Setting, functions_alone}
 use Rattle.cedar_grammar.specs.Syntax.{condition}
 use Rattle.cedar_asking.proofs.Known.{all_known}
 use Rattle.cedar_policy_parts.specs.Bindings.{Bindings, binding_of, unbound}
-use Rattle.cedar_extensions.specs.Failures.{OfKind, LimitMet, MemoryRanOut}
 use Rattle.cedar_extensions.specs.Table.{Table}
 use Rattle.cedar_requests.specs.Holding.{RequestParts}
 use Rattle.cedar_interpreter.specs.Asking.{untold, request_held}
 use Rattle.cedar_interpreter.specs.Holding.{is_evaluated}
 use Rattle.cedar_interpreter.specs.Operating.{HasFunctions}
 use Rattle.cedar_policy_set.specs.Entries.{Entry, static_policy, template, link}
-use Rattle.cedar_evaluator.specs.Evaluations.{Found, Satisfied, Unsatisfied, Erred, Open, Finds, bindings_in, condition_in, is_given, Kept}
+use Rattle.cedar_evaluator.specs.Evaluations.{bindings_in, condition_in, is_given}
 use Rattle.cedar_asking.specs.Requests.{HoldsQuestion, IsRequestOf}
 use Rattle.cedar_asking.proofs.InForce.{written_entry}
 use Rattle.cedar_asking.proofs.Naming.{no_unknown, is_other, bound_mentions}
-
--- ---- what was found
-
--- how a policy stands by what was found; a bound that was met stands for nothing
-abbrev pub standing_found : Found → Standing
-standing_found Satisfied = answering.Satisfied
-standing_found Unsatisfied = answering.Unsatisfied
-standing_found (Erred (OfKind k)) = answering.Erring k
-standing_found (Erred LimitMet) = answering.Unsatisfied
-standing_found (Erred MemoryRanOut) = answering.Unsatisfied
-standing_found (Open r) = answering.Residual
-
-abbrev pub judged : Kept → Judged
-judged k = record { id = k.id; effect = k.effect; standing = standing_found k.found }
-
--- no bound of the evaluation was met
-abbrev pub is_settled : Found → Bool
-is_settled (Erred LimitMet) = false
-is_settled (Erred MemoryRanOut) = false
-is_settled f = true
-
-pub stands_as_found : (b : Answer) (f : Found) → is_settled f ≡ true → Finds b f → standing_found f ≡ standing_of_answer b
-stands_as_found b Satisfied s h = sym (ap standing_of_answer h)
-stands_as_found b Unsatisfied s h = sym (ap standing_of_answer h)
-stands_as_found b (Erred (OfKind k)) s h = sym h
-stands_as_found b (Erred LimitMet) s h = cc
-stands_as_found b (Erred MemoryRanOut) s h = absurd h
-stands_as_found b (Open r) s h = sym (ap standing_of_answer h)
 
 -- ---- what is held of the request is what is held of the question
 

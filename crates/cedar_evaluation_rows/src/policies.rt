@@ -124,6 +124,19 @@ fn listed(alloc: Global, policies: &[Policy]) -> Answer {
     Ok(text)
 }
 
+/// The annotations of policies, one after another.
+fn annotated(alloc: Global, policies: &[Policy]) -> Answer {
+    let mut text = String::new(alloc);
+    for policy in policies {
+        separate(&mut text)?;
+        text.push_str(policy.id().to_string(alloc)?.as_str())?;
+        for (key, annotation) in policy.annotations().iter() {
+            write!(text, " @{key}({annotation})")?;
+        }
+    }
+    Ok(text)
+}
+
 fn named(alloc: Global, ids: &[&PolicyID]) -> Answer {
     let mut text = String::new(alloc);
     for id in ids {
@@ -150,8 +163,15 @@ pub(crate) fn read_response(alloc: Global, reader: &str, response: &PartialRespo
         "open" => listed(alloc, response.nontrivial_residuals(alloc)?.as_slice()),
         "open-forbids" => listed(alloc, response.nontrivial_forbids(alloc)?.as_slice()),
         "all" => listed(alloc, response.all_residuals(alloc)?.as_slice()),
-        "open-ids" => named(alloc, response.nontrivial_residual_ids(alloc)?.as_slice()),
-        "errored" => named(alloc, response.definitely_errored(alloc)?.as_slice()),
+        "annotations" => annotated(alloc, response.all_residuals(alloc)?.as_slice()),
+        "open-ids" => {
+            let ids: Vec<&PolicyID> = response.nontrivial_residual_ids().collect(alloc)?;
+            named(alloc, ids.as_slice())
+        }
+        "errored" => {
+            let ids: Vec<&PolicyID> = response.definitely_errored().collect(alloc)?;
+            named(alloc, ids.as_slice())
+        }
         _ => got(alloc, response, reader),
     }
 }

@@ -1,8 +1,11 @@
 -- A response made anew, and why there is none.
 use Rattle.std.proofs.Common.{◌≡◌, ℕ, List, subst}
 use Rattle.std.specs.Prelude.{Err}
+use Rattle.std.specs.List.{IsDistinct}
+use Rattle.std.specs.Map.{keys_of}
 use Rattle.std.specs.declared.alloc.Global.{Global}
 use Rattle.std.specs.declared.rc.RcStr.{RcStr}
+use Rattle.cedar_language.specs.Order.{same_text}
 use Rattle.cedar_language.specs.Value.{Value}
 use Rattle.cedar_entities.specs.declared.store.Entities.{Entities as Store}
 use Rattle.cedar_extensions.specs.Table.{Table}
@@ -43,9 +46,9 @@ module _ (store : Store) (table : Table) (depth : ℕ) (entries : List (RcStr Gl
   no_set (adding.Occupied id) h = h
   no_set (adding.Memory e) h = tt
 
-  pub no_request : (e : ConcretizationError) → IsRefused table depth entries (request_asked response) e → Reauthorizes store table depth entries response (Err (by_concretization e))
-  no_request (ValueError id kind given) h = h
-  no_request (VarConfictError id existing given) h = h
-  no_request (EntityTypeConfictError id existing given) h = h
-  no_request (ValueEval e) h = h
-  no_request (Memory e) h = tt
+  pub no_request : IsDistinct same_text (keys_of (residuals_with is_any response)) → (e : ConcretizationError) → IsRefused table depth entries (request_asked response) e → Reauthorizes store table depth entries response (Err (by_concretization e))
+  no_request apart (ValueError id kind given) h = (apart, h)
+  no_request apart (VarConfictError id existing given) h = (apart, h)
+  no_request apart (EntityTypeConfictError id existing given) h = (apart, h)
+  no_request apart (ValueEval e) h = (apart, h)
+  no_request apart (Memory e) h = tt

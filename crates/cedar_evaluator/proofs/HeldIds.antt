@@ -17,7 +17,7 @@ use Rattle.cedar_evaluator.specs.Evaluations.{Found, Satisfied, Unsatisfied, Err
 use Rattle.cedar_evaluator.specs.Grouping.{held_with}
 use Rattle.cedar_evaluator.specs.Holding.{has_erred, holding_in}
 use Rattle.cedar_evaluator.specs.Residuals.{left_satisfied, left_false, left_open, residuals_with, is_any}
-use Rattle.cedar_evaluator.specs.Responses.{Holding, if_effect, satisfied_id, false_id, open_id, error_id, holding_of}
+use Rattle.cedar_evaluator.specs.Responses.{Holding, if_effect, satisfied_id, false_id, open_id, holding_of}
 use Rattle.cedar_evaluator.specs.declared.partial_response.PartialResponse.{PartialResponse}
 use Rattle.cedar_evaluator.proofs.Apart.{ids_of}
 use Rattle.cedar_evaluator.proofs.Residuals.{satisfied_permits_left, false_permits_left, open_permits_left, satisfied_forbids_left, false_forbids_left, open_forbids_left, left_all}
@@ -75,14 +75,13 @@ module _ (x : Text) (a b c d e f : List Text) where
 
 -- one more policy, in front of the group of what was found of it
 abbrev in_front : Text → Effect → Found → Holding → Holding
-in_front id e f h = record {
+in_front id e f h = record h {
   satisfied_permits = cons_option (if_effect Permit e (satisfied_id id f)) h.satisfied_permits;
   false_permits = cons_option (if_effect Permit e (false_id id f)) h.false_permits;
   open_permits = cons_option (if_effect Permit e (open_id id f)) h.open_permits;
   satisfied_forbids = cons_option (if_effect Forbid e (satisfied_id id f)) h.satisfied_forbids;
   false_forbids = cons_option (if_effect Forbid e (false_id id f)) h.false_forbids;
   open_forbids = cons_option (if_effect Forbid e (open_id id f)) h.open_forbids;
-  errors = cons_option (error_id id f) h.errors;
 }
 
 one_more : (id : Text) (e : Effect) (f : Found) (h : Holding) → IsPermutation (id ∷ held_ids h) (held_ids (in_front id e f h))

@@ -15,10 +15,10 @@ use Rattle.cedar_policy_set.specs.Entries.{Entry, Entries, policies_of}
 use Rattle.cedar_requests.specs.Holding.{RequestParts}
 use Rattle.cedar_trees.specs.Bare.{bare}
 use Rattle.cedar_evaluator.specs.Authorizing.{RespondsWith}
-use Rattle.cedar_evaluator.specs.Evaluations.{Satisfied, Unsatisfied, Kept, IsKept, AreKept}
-use Rattle.cedar_evaluator.specs.Grouping.{held_in, and_then, with_kept, held_with, Keeps, AreApart}
+use Rattle.cedar_evaluator.specs.Evaluations.{Satisfied, Unsatisfied, Annotations, Kept, IsKept, AreKept}
+use Rattle.cedar_evaluator.specs.Grouping.{held_in, and_then, with_annotated, with_kept, held_with, Keeps, AreApart}
 use Rattle.cedar_evaluator.specs.Holding.{request_asked, has_erred, holding_in}
-use Rattle.cedar_evaluator.specs.Responses.{Holding, if_effect, satisfied_id, false_id, open_id, error_id, holding_of, without_false}
+use Rattle.cedar_evaluator.specs.Responses.{Holding, if_effect, satisfied_id, false_id, open_id, error_id, annotated, annotated_of, holding_of, without_false}
 use Rattle.cedar_evaluator.specs.declared.groups.Groups.{Groups}
 use Rattle.cedar_evaluator.specs.declared.partial_response.PartialResponse.{PartialResponse}
 use Rattle.cedar_evaluator.proofs.Apart.{ids_of, satisfied_apart, false_apart, open_apart}
@@ -31,6 +31,16 @@ one_pushed xs (Some x) = refl
 pushed : {X : Type 0} (part : Kept → Option X) (ks : List Kept) (k : Kept) → filter_map part (ks ++ k ∷ []) ≡ and_then (filter_map part ks) (part k)
 pushed part ks k = filter_map-append part ks (k ∷ []) ∙ one_pushed (filter_map part ks) (part k)
 
+annotated_more : (ks : List Kept) (k : Kept) → annotated_of (ks ++ k ∷ []) ≡ with_annotated k (annotated_of ks)
+annotated_more ks k = λ i. record {
+  satisfied_permits = pushed (λ (j : Kept). if_effect Permit j.effect (annotated j (satisfied_id j.id j.found))) ks k i;
+  false_permits = pushed (λ (j : Kept). if_effect Permit j.effect (annotated j (false_id j.id j.found))) ks k i;
+  open_permits = pushed (λ (j : Kept). if_effect Permit j.effect (annotated j (open_id j.id j.found))) ks k i;
+  satisfied_forbids = pushed (λ (j : Kept). if_effect Forbid j.effect (annotated j (satisfied_id j.id j.found))) ks k i;
+  false_forbids = pushed (λ (j : Kept). if_effect Forbid j.effect (annotated j (false_id j.id j.found))) ks k i;
+  open_forbids = pushed (λ (j : Kept). if_effect Forbid j.effect (annotated j (open_id j.id j.found))) ks k i;
+}
+
 pub holding_more : (ks : List Kept) (k : Kept) → holding_of (ks ++ k ∷ []) ≡ with_kept k (holding_of ks)
 holding_more ks k = λ i. record {
   satisfied_permits = pushed (λ (j : Kept). if_effect Permit j.effect (satisfied_id j.id j.found)) ks k i;
@@ -40,6 +50,7 @@ holding_more ks k = λ i. record {
   false_forbids = pushed (λ (j : Kept). if_effect Forbid j.effect (false_id j.id j.found)) ks k i;
   open_forbids = pushed (λ (j : Kept). if_effect Forbid j.effect (open_id j.id j.found)) ks k i;
   errors = pushed (λ (j : Kept). error_id j.id j.found) ks k i;
+  annotated = annotated_more ks k i;
 }
 
 -- one more policy is kept, with those that aren't satisfied or without them
@@ -50,21 +61,22 @@ pub adds_any : (with_false : Bool) (k : Kept) (g more : Groups) → with_false �
 adds_any with_false k g more is held = subst (λ b. Adds b k g more) (sym is) (λ h same. held ∙ ap (with_kept k) same)
 
 -- of a satisfied policy nothing is left out
-satisfied_kept : (id : Text) (effect : Effect) (h : Holding) → with_kept (record { id = id; effect = effect; found = Satisfied }) (without_false h) ≡ without_false (with_kept (record { id = id; effect = effect; found = Satisfied }) h)
-satisfied_kept id Permit h = refl
-satisfied_kept id Forbid h = refl
+satisfied_kept : (id : Text) (effect : Effect) (annotations : Annotations) (h : Holding) → let k : Kept = record { id = id; effect = effect; annotations = annotations; found = Satisfied } in with_kept k (without_false h) ≡ without_false (with_kept k h)
+satisfied_kept id Permit annotations h = refl
+satisfied_kept id Forbid annotations h = refl
 
-pub adds_satisfied : (id own_id : Text) (effect own_effect : Effect) (g more : Groups) → id ≡ own_id → effect ≡ own_effect → held_in more ≡ with_kept (record { id = id; effect = effect; found = Satisfied }) (held_in g) →
-    Adds false (record { id = own_id; effect = own_effect; found = Satisfied }) g more
-adds_satisfied id own_id effect own_effect g more same_id same_effect held h same =
+pub adds_satisfied : (id own_id : Text) (effect own_effect : Effect) (annotations own_annotations : Annotations) (g more : Groups) → id ≡ own_id → effect ≡ own_effect → annotations ≡ own_annotations
+    → held_in more ≡ with_kept (record { id = id; effect = effect; annotations = annotations; found = Satisfied }) (held_in g)
+    → Adds false (record { id = own_id; effect = own_effect; annotations = own_annotations; found = Satisfied }) g more
+adds_satisfied id own_id effect own_effect annotations own_annotations g more same_id same_effect same_annotations held h same =
     held
-    ∙ (λ i. with_kept (record { id = same_id i; effect = same_effect i; found = Satisfied }) (same i))
-    ∙ satisfied_kept own_id own_effect h
+    ∙ (λ i. with_kept (record { id = same_id i; effect = same_effect i; annotations = same_annotations i; found = Satisfied }) (same i))
+    ∙ satisfied_kept own_id own_effect own_annotations h
 
 -- and one that isn't satisfied is left out
-pub adds_unsatisfied : (id : Text) (effect : Effect) (g : Groups) → Adds false (record { id = id; effect = effect; found = Unsatisfied }) g g
-adds_unsatisfied id Permit g h same = same
-adds_unsatisfied id Forbid g h same = same
+pub adds_unsatisfied : (id : Text) (effect : Effect) (annotations : Annotations) (g : Groups) → Adds false (record { id = id; effect = effect; annotations = annotations; found = Unsatisfied }) g g
+adds_unsatisfied id Permit annotations g h same = same
+adds_unsatisfied id Forbid annotations g h same = same
 
 none_kept : (with_false : Bool) → held_with with_false (holding_of []) ≡ holding_of []
 none_kept true = refl

@@ -68,6 +68,7 @@ module _
   is_kept = record {
     id = refl;
     effect = ap (λ (s : grammar.Policy). s.effect) (sym syntax_is);
+    annotations = ap (λ (s : grammar.Policy). s.annotations) (sym syntax_is);
     found = λ facts served. subst (λ b. Finds b (found_in answer)) (answer_is facts) (finds _ answer (found facts (subst (IsServed i store table depth facts) condition_is served)) keepable);
     limit = λ met facts served mentions.
         let deep : depth_of ev < height (condition_of p) = limit (limit_met answer met) facts (serves facts served) (known mentions) in

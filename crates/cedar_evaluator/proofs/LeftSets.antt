@@ -1,19 +1,20 @@
 -- What is left of policies is a set of static policies, where no id stands twice.
-use Rattle.std.proofs.Common.{◌≡◌, true, cond, Some, None, List, [], ◌∷◌, ◌++◌, map, inl, inr, refl, sym, ◌∙◌, ap, subst}
+use Rattle.std.proofs.Common.{◌≡◌, Bool, true, false, cond, Some, None, List, [], ◌∷◌, ◌++◌, map, inl, inr, refl, sym, ◌∙◌, ap, subst}
 use Rattle.std.specs.Prelude.{⊤, Result, Ok, Err, IfOk, IfErr}
-use Rattle.std.specs.List.{IsDistinct}
+use Rattle.std.specs.List.{IsDistinct, list_any}
 use Rattle.std.specs.Map.{keys_of}
+use Rattle.std.specs.Cmp.Lexicographic.{nat_list_eq_equiv}
 use Rattle.std.proofs.lemmas.List.{append_assoc, append-nil, map-append}
+use Rattle.std.proofs.lemmas.Map.Keys.{IsDistinct-push}
 use Rattle.std.proofs.lemmas.Map.Made.{is_some-lookup}
 use Rattle.cedar_language.specs.Answering.{Permit, Forbid}
 use Rattle.cedar_language.specs.Order.{same_text}
 use Rattle.cedar_language.specs.Uid.{Text}
-use Rattle.cedar_policy_set.specs.Entries.{Entry, static_policy, template, link, Entries, is_policy, policies_of}
+use Rattle.cedar_policy_set.specs.Entries.{Entry, static_policy, template, link, Entries, is_bound, is_policy, policies_of}
 use Rattle.cedar_policy_set.specs.Refused.{taken, in_the_way, added, AddsAll}
 use Rattle.cedar_policy_set.specs.declared.errors.PolicySetError.{PolicySetError}
 use Rattle.cedar_policy_set.specs.declared.errors.PolicySetError.TheVariants.{Occupied, Memory}
-use Rattle.cedar_policy_set.proofs.Distinct.{distinct_apart}
-use Rattle.cedar_evaluator.specs.Reauthorizing.{IsNoSet}
+use Rattle.cedar_evaluator.specs.Reauthorizing.{IsFirstTwice, IsNoSet}
 use Rattle.cedar_evaluator.specs.Residuals.{left_satisfied, left_false, left_open, residuals_with, is_any}
 use Rattle.cedar_evaluator.specs.declared.partial_response.PartialResponse.{PartialResponse}
 use Rattle.cedar_evaluator.proofs.Residuals.{satisfied_permits_left, false_permits_left, open_permits_left, satisfied_forbids_left, false_forbids_left, open_forbids_left, left_all}
@@ -81,19 +82,52 @@ all_added [] done h set adds = adds ∙ sym (append-nil done)
 all_added (e ∷ more) done h set (inl x) = all_added more (added done e.0 e.1) h.1 set x.1 ∙ one_further e more done h.0
 all_added (e ∷ more) done h set (inr x) = absurd x
 
-none_some : (id : Text) → None ≡ Some id → ⊥
-none_some id e = cc
+-- ---- whose ids are apart
 
--- where no id stands twice none is in the way
-free : (e : Text × Entry) (more done : Entries) → IsDistinct same_text (keys_of (done ++ e ∷ more)) → taken done e.0 ≡ None
-free e more done apart =
-    let other = distinct_apart (keys_of done) e.0 (keys_of more) (subst (IsDistinct same_text) (map-append (λ x. x.0) done (e ∷ more)) apart) in
-    ap (λ b. cond b (Some e.0) None) (is_some-lookup (same_text e.0) done ∙ other)
+-- an entry that isn't bound yet, and one that is
+is_free : (b : Bool) (id : Text) → cond b (Some id) None ≡ None → b ≡ false
+is_free true id is = absurd (cc is)
+is_free false id is = refl
 
-none_refused : (more done : Entries) → AreStatic more → (id : Text) → AddsAll done more (Err (Occupied id)) → IsDistinct same_text (keys_of (done ++ more)) → ⊥
-none_refused [] done h id adds apart = adds
-none_refused (e ∷ more) done h id (inl x) apart = none_refused more (added done e.0 e.1) h.1 id x.1 (subst (λ (es : Entries). IsDistinct same_text (keys_of es)) (sym (one_further e more done h.0)) apart)
-none_refused (e ∷ more) done h id (inr x) apart = none_some id (sym (free e more done apart) ∙ sym (way done e.0 e.1 h.0) ∙ x)
+is_there : (b : Bool) (id other : Text) → cond b (Some id) None ≡ Some other → (b ≡ true) × (other ≡ id)
+is_there true id other is = (refl, cc is)
+is_there false id other is = absurd (cc is)
+
+listed : (done : Entries) (id : Text) → is_bound done id ≡ list_any (same_text id) (keys_of done)
+listed done id = is_some-lookup (same_text id) done
+
+one_more_apart : (e : Text × Entry) (done : Entries) → IsStatic e.1 → in_the_way done e.0 e.1 ≡ None → IsDistinct same_text (keys_of done) → IsDistinct same_text (keys_of (added done e.0 e.1))
+one_more_apart e done h free apart =
+    let other = sym (listed done e.0) ∙ is_free (is_bound done e.0) e.0 (sym (way done e.0 e.1 h) ∙ free) in
+    subst (λ (es : Entries). IsDistinct same_text (keys_of es)) (sym (added_last done e.0 e.1 h))
+    (subst (IsDistinct same_text) (sym (map-append (λ x. x.0) done (e ∷ []))) (IsDistinct-push nat_list_eq_equiv (keys_of done) e.0 apart other))
+
+all_apart : (more done : Entries) → AreStatic more → (set : Entries) → AddsAll done more (Ok set) → IsDistinct same_text (keys_of done) → IsDistinct same_text (keys_of (done ++ more))
+all_apart [] done h set adds apart = subst (λ (es : Entries). IsDistinct same_text (keys_of es)) (sym (append-nil done)) apart
+all_apart (e ∷ more) done h set (inl x) apart =
+    subst (λ (es : Entries). IsDistinct same_text (keys_of es)) (one_further e more done h.0)
+    (all_apart more (added done e.0 e.1) h.1 set x.1 (one_more_apart e done h.0 x.0 apart))
+all_apart (e ∷ more) done h set (inr x) apart = absurd x
+
+-- the id for which they are refused is the first that stands twice
+first_twice : (more done : Entries) → AreStatic more → (id : Text) → AddsAll done more (Err (Occupied id)) → IsDistinct same_text (keys_of done) → IsFirstTwice (keys_of (done ++ more)) id
+first_twice [] done h id adds apart = absurd adds
+first_twice (e ∷ more) done h id (inl x) apart =
+    subst (λ (es : Entries). IsFirstTwice (keys_of es) id) (one_further e more done h.0)
+    (first_twice more (added done e.0 e.1) h.1 id x.1 (one_more_apart e done h.0 x.0 apart))
+first_twice (e ∷ more) done h id (inr x) apart =
+    let (there, is) = is_there (is_bound done e.0) e.0 id (sym (way done e.0 e.1 h.0) ∙ x) in
+    record {
+      before = keys_of done;
+      after = keys_of more;
+      order = map-append (λ x. x.0) done (e ∷ more) ∙ ap (λ t. keys_of done ++ t ∷ keys_of more) (sym is);
+      apart = apart;
+      again = ap (λ t. list_any (same_text t) (keys_of done)) is ∙ sym (listed done e.0) ∙ there;
+    }
+
+none_apart : IsDistinct same_text []
+unfolding IsDistinct
+none_apart = tt
 
 -- ---- what is left of a response
 
@@ -104,7 +138,11 @@ module _ (r : PartialResponse) (seen : Entries) (is : seen ≡ residuals_with is
       ap policies_of (all_added es [] (left_static r) set (subst (λ (l : Entries). AddsAll [] l (Ok set)) is adds)) ∙ policies_are es (left_static r)
   are_bound (Err e) adds = tt
 
+  pub are_apart : (result : Result Entries PolicySetError) → AddsAll [] seen result → IfOk result (λ set. IsDistinct same_text (keys_of (residuals_with is_any r)))
+  are_apart (Ok set) adds = all_apart (residuals_with is_any r) [] (left_static r) set (subst (λ (l : Entries). AddsAll [] l (Ok set)) is adds) none_apart
+  are_apart (Err e) adds = tt
+
   pub are_refused : (result : Result Entries PolicySetError) → AddsAll [] seen result → IfErr result (IsNoSet (residuals_with is_any r))
   are_refused (Ok set) adds = tt
-  are_refused (Err (Occupied id)) adds = none_refused (residuals_with is_any r) [] (left_static r) id (subst (λ (l : Entries). AddsAll [] l (Err (Occupied id))) is adds)
+  are_refused (Err (Occupied id)) adds = first_twice (residuals_with is_any r) [] (left_static r) id (subst (λ (l : Entries). AddsAll [] l (Err (Occupied id))) is adds) none_apart
   are_refused (Err (Memory e)) adds = tt

@@ -9,11 +9,15 @@ mod Responding
 pub mod Deciding
 mod Reading
 mod Concrete
+pub mod Standings
+mod Meant
+mod ByRules
 mod Residuals
 mod Sought
 mod HeldIds
 mod Telling
 mod LeftSets
+pub mod Twice
 mod Again
 mod Scoped
 mod Judged

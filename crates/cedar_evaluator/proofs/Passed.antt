@@ -13,14 +13,25 @@ use Rattle.cedar_policy_set.specs.Entries.{Entry, Entries, policies_of}
 use Rattle.cedar_policy_set.specs.Scopes.{policy_stood}
 use Rattle.cedar_policy_set.specs.Texts.{syntax_in}
 use Rattle.cedar_evaluator.specs.Candidates.{IsOutOfScope, AreCandidates, policies_at}
-use Rattle.cedar_evaluator.specs.Evaluations.{Unsatisfied, bindings_in, Kept, IsKept, AreKept}
+use Rattle.cedar_evaluator.specs.Evaluations.{Unsatisfied, bindings_in, Annotations, Kept, IsKept, AreKept}
 use Rattle.cedar_evaluator.specs.Grouping.{Keeps}
-use Rattle.cedar_evaluator.specs.Responses.{Holding, if_effect, satisfied_id, open_id, error_id, holding_of, without_false}
+use Rattle.cedar_evaluator.specs.Responses.{Annotated, Holding, if_effect, satisfied_id, open_id, error_id, annotated, holding_of, without_false}
 use Rattle.cedar_evaluator.specs.declared.groups.Groups.{Groups}
 use Rattle.cedar_evaluator.proofs.Scoped.{out_of_scope}
 use Rattle.cedar_evaluator.proofs.Thinned.{Thinned, nothing, kept, left_out, thinned}
 
 -- ---- what is kept of one more policy
+
+-- one more policy's annotations before those that are held, but for the false ones
+abbrev annotated_first : Kept → Annotated → Annotated
+annotated_first k a = record {
+  satisfied_permits = cons_option (if_effect Permit k.effect (annotated k (satisfied_id k.id k.found))) a.satisfied_permits;
+  false_permits = [];
+  open_permits = cons_option (if_effect Permit k.effect (annotated k (open_id k.id k.found))) a.open_permits;
+  satisfied_forbids = cons_option (if_effect Forbid k.effect (annotated k (satisfied_id k.id k.found))) a.satisfied_forbids;
+  false_forbids = [];
+  open_forbids = cons_option (if_effect Forbid k.effect (annotated k (open_id k.id k.found))) a.open_forbids;
+}
 
 -- one more policy before those that are held, but for the false ones
 abbrev with_first : Kept → Holding → Holding
@@ -32,25 +43,28 @@ with_first k h = record {
   false_forbids = [];
   open_forbids = cons_option (if_effect Forbid k.effect (open_id k.id k.found)) h.open_forbids;
   errors = cons_option (error_id k.id k.found) h.errors;
+  annotated = annotated_first k h.annotated;
 }
 
 first_same : (k : Kept) (js ks : List Kept) → without_false (holding_of js) ≡ without_false (holding_of ks) → without_false (holding_of (k ∷ js)) ≡ without_false (holding_of (k ∷ ks))
 first_same k js ks h = ap (with_first k) h
 
-none_kept : (id : Text) (effect : Effect) (ks : List Kept) → without_false (holding_of (record { id = id; effect = effect; found = Unsatisfied } ∷ ks)) ≡ without_false (holding_of ks)
-none_kept id Permit ks = refl
-none_kept id Forbid ks = refl
+none_kept : (id : Text) (effect : Effect) (annotations : Annotations) (ks : List Kept)
+    → without_false (holding_of (record { id = id; effect = effect; annotations = annotations; found = Unsatisfied } ∷ ks)) ≡ without_false (holding_of ks)
+none_kept id Permit annotations ks = refl
+none_kept id Forbid annotations ks = refl
 
 -- ---- of the policies of a set
 
 abbrev unsatisfied : Text × Entry → Kept
-unsatisfied e = record { id = e.0; effect = (syntax_in e.1).effect; found = Unsatisfied }
+unsatisfied e = record { id = e.0; effect = (syntax_in e.1).effect; annotations = (syntax_in e.1).annotations; found = Unsatisfied }
 
 module _ (i : Inquiry) (store : Entities) (table : Table) (depth : ℕ) where
   out_kept : (e : Text × Entry) → IsOutOfScope i store e.1 → IsKept i store table depth e (unsatisfied e)
   out_kept e out = record {
     id = refl;
     effect = refl;
+    annotations = refl;
     found = λ facts served. out_of_scope facts (request_held i (bindings_in e.1)) (scope_tree (syntax_in e.1)) (syntax_in e.1).body (out facts served.entities);
     limit = λ met. absurd (cc met);
   }
@@ -70,7 +84,7 @@ module _ (i : Inquiry) (store : Entities) (table : Table) (depth : ℕ) where
       record { all = k ∷ others.all; each = (each.0, others.each); same = first_same k others.all ks others.same }
   kept_of_all (left_out e out rest) ks each =
       let others = kept_of_all rest ks each in
-      record { all = unsatisfied e ∷ others.all; each = (out_kept e out, others.each); same = none_kept e.0 (syntax_in e.1).effect others.all ∙ others.same }
+      record { all = unsatisfied e ∷ others.all; each = (out_kept e out, others.each); same = none_kept e.0 (syntax_in e.1).effect (syntax_in e.1).annotations others.all ∙ others.same }
 
   -- where nothing is asked of policies that aren't satisfied, the candidates are enough
   pub candidates_keep : (es : Entries) (ps : List ℕ) (g : Groups) → AreCandidates i store es ps → Keeps false i store table depth (policies_at es ps) g → Keeps false i store table depth (policies_of es) g

@@ -8,7 +8,7 @@ use Rattle.cedar_requests.specs.declared.requests.Request.{Request}
 use Rattle.cedar_trees.specs.Bare.{bare}
 use Rattle.cedar_evaluator.specs.Given.{AreGiven}
 use Rattle.cedar_evaluator.specs.Grouping.{held_in, AreApart}
-use Rattle.cedar_evaluator.specs.Holding.{has_erred, error_seen, holding_in}
+use Rattle.cedar_evaluator.specs.Holding.{has_erred, error_seen, noted, noted_behind, holding_in}
 use Rattle.cedar_evaluator.specs.declared.groups.Groups.{Groups}
 use Rattle.cedar_evaluator.specs.declared.partial_response.PartialResponse.{PartialResponse}
 use Rattle.cedar_evaluator.proofs.Gathered.{gathered_apart}
@@ -41,4 +41,12 @@ given_holds g request response given apart = λ i. record {
   false_forbids = map (λ e. (e.0, has_erred e.1.0)) ((given.false_forbids_are ∙ gathered_apart g.false_forbids.items apart.false_forbids) i);
   open_forbids = map (λ e. (e.0, bare e.1.0.value)) ((given.residual_forbids_are ∙ gathered_apart g.residual_forbids.items apart.residual_forbids) i);
   errors = map error_seen (given.errors_are i);
+  annotated = record {
+    satisfied_permits = map noted ((given.satisfied_permits_are ∙ gathered_apart g.satisfied_permits.items apart.satisfied_permits) i);
+    false_permits = map noted_behind ((given.false_permits_are ∙ gathered_apart g.false_permits.items apart.false_permits) i);
+    open_permits = map noted_behind ((given.residual_permits_are ∙ gathered_apart g.residual_permits.items apart.residual_permits) i);
+    satisfied_forbids = map noted ((given.satisfied_forbids_are ∙ gathered_apart g.satisfied_forbids.items apart.satisfied_forbids) i);
+    false_forbids = map noted_behind ((given.false_forbids_are ∙ gathered_apart g.false_forbids.items apart.false_forbids) i);
+    open_forbids = map noted_behind ((given.residual_forbids_are ∙ gathered_apart g.residual_forbids.items apart.residual_forbids) i);
+  };
 }

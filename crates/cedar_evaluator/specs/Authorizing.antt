@@ -31,8 +31,8 @@ limit_of authorizer = authorizer.depth
 abbrev pub IsAsked : {F : Type 0} → (F → FunctionAnswers) → Inquiry → Entities → Table → ℕ → Evaluator F × Scopes → Type 0
 IsAsked answers i store table depth asked = IsEvaluatorOf answers i store table depth asked.0 × AreScopesOf i store asked.1
 
--- Of each static policy and link of the set, in its order, what was found of it is kept, and nothing else: of each group its policies, and
--- the errors; no id stands in two groups.
+-- Of each static policy and link of the set, in its order, what was found of it is kept, and nothing else: of each group its policies,
+-- each with its own annotations, and the errors; no id stands in two groups.
 pub record Responds (i : Inquiry) (store : Entities) (table : Table) (depth : ℕ) (es : Entries) (response : PartialResponse) : Type 0 where
   pub kept : List Kept
   pub each : AreKept i store table depth (policies_of es) kept

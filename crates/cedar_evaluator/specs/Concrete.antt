@@ -12,13 +12,13 @@ use Rattle.cedar_extensions.specs.Failures.{Failure, OfKind}
 use Rattle.cedar_extensions.specs.Table.{Table}
 use Rattle.cedar_interpreter.specs.Asking.{Inquiry}
 use Rattle.cedar_policy_parts.specs.Decisions.{decision_of}
-use Rattle.cedar_policy_set.specs.Entries.{Entries, policies_of}
+use Rattle.cedar_policy_set.specs.Entries.{Entries}
 use Rattle.cedar_trees.specs.Bare.{bare}
 use Rattle.cedar_trees.specs.declared.expr.Expr.{Expr}
-use Rattle.cedar_evaluator.specs.Evaluations.{Kept, AreKept}
+use Rattle.cedar_evaluator.specs.Authorizing.{Responds}
 use Rattle.cedar_evaluator.specs.Given.{Noted}
-use Rattle.cedar_evaluator.specs.Holding.{error_seen}
-use Rattle.cedar_evaluator.specs.Responses.{Holding, judged_held, holding_of}
+use Rattle.cedar_evaluator.specs.Holding.{error_seen, holding_in}
+use Rattle.cedar_evaluator.specs.Responses.{Holding, judged_held}
 use Rattle.cedar_evaluator.specs.declared.errors.AuthorizationError.{AuthorizationError}
 use Rattle.cedar_evaluator.specs.declared.errors.AuthorizationError.TheVariants.{PolicyEvaluationError}
 use Rattle.cedar_evaluator.specs.declared.partial_response.PartialResponse.{PartialResponse}
@@ -55,8 +55,13 @@ pub record IsConcrete (h : Holding) (whole : Response) : Type 0 where
   pub reasons : whole.diagnostics.reason.keys ≡ ids_with (in_must (judged_held h)) (judged_held h)
   pub errors : map error_seen whole.diagnostics.errors.items ≡ all_errors h
 
--- of what was found of each static policy and link of the set, in its order
+-- so it is made of a response; each error is that of an open policy, with what is left of its condition, or one that was told
+pub record IsConcreteOf (partial : PartialResponse) (whole : Response) : Type 0 where
+  pub concrete : IsConcrete (holding_in partial) whole
+  pub causes : map cause_seen whole.diagnostics.errors.items ≡ all_causes partial
+
+-- of a response to the inquiry by the static policies and links of the set
 pub record Answers (i : Inquiry) (store : Entities) (table : Table) (depth : ℕ) (es : Entries) (whole : Response) : Type 0 where
-  pub kept : List Kept
-  pub each : AreKept i store table depth (policies_of es) kept
-  pub concrete : IsConcrete (holding_of kept) whole
+  pub partial : PartialResponse
+  pub responds : Responds i store table depth es partial
+  pub concrete : IsConcreteOf partial whole

@@ -6,6 +6,7 @@ use Rattle.cedar_language.specs.Value.{Plain}
 use Rattle.cedar_language.specs.Facts.{Facts}
 use Rattle.cedar_language.specs.Height.{height}
 use Rattle.cedar_language.specs.Answering.{Effect, Erring}
+use Rattle.cedar_grammar.specs.Build.{Keyed}
 use Rattle.cedar_partial_evaluation.specs.Early.{standing_of_answer}
 use Rattle.cedar_partial_evaluation.specs.Mentions.{mentions_only}
 use Rattle.cedar_partial_evaluation.specs.Partial.{Answer, Evaluated, ResidualTree, partial_in}
@@ -47,10 +48,15 @@ bindings_in (link t s b) = b
 abbrev pub is_given : Inquiry → Variable → Bool
 is_given i v = is_evaluated (variable_asked i.request v)
 
--- what is kept of a policy: its id, its effect, and what was found
+-- a policy's own, in their order
+abbrev pub Annotations : Type 0
+Annotations = List (Keyed Text)
+
+-- what is kept of a policy: its id, its effect, its annotations, and what was found
 pub record Kept : Type 0 where
   pub id : Text
   pub effect : Effect
+  pub annotations : Annotations
   pub found : Found
 
 module _ (i : Inquiry) (store : Entities) (table : Table) (depth : ℕ) where
@@ -72,6 +78,7 @@ module _ (i : Inquiry) (store : Entities) (table : Table) (depth : ℕ) where
   pub record IsKept (e : Text × Entry) (k : Kept) : Type 0 where
     pub id : k.id ≡ e.0
     pub effect : k.effect ≡ (syntax_in e.1).effect
+    pub annotations : k.annotations ≡ (syntax_in e.1).annotations
     pub found : (facts : Facts) → IsServed facts (condition_in e.1) → Finds (policy_answer facts e.1) k.found
     pub limit : k.found ≡ Erred LimitMet → IsTooHigh e.1
 

@@ -20,13 +20,24 @@ use Rattle.cedar_trees.specs.Bare.{bare}
 use Rattle.cedar_trees.specs.declared.expr.Expr.{Expr}
 use Rattle.cedar_evaluator.specs.Evaluating.{found_by}
 use Rattle.cedar_evaluator.specs.Evaluations.{Found, Erred, Kept, AreKept}
-use Rattle.cedar_evaluator.specs.Holding.{has_erred, error_seen}
-use Rattle.cedar_evaluator.specs.Responses.{Holding, if_effect, satisfied_id, false_id, open_id, error_id, holding_of, without_false}
+use Rattle.cedar_evaluator.specs.Holding.{has_erred, error_seen, noted, noted_behind}
+use Rattle.cedar_evaluator.specs.Responses.{Annotated, Holding, if_effect, satisfied_id, false_id, open_id, error_id, annotated, holding_of, without_false}
 use Rattle.cedar_evaluator.specs.Scopes.{AreScopesOf}
 use Rattle.cedar_evaluator.specs.declared.groups.Groups.{Groups}
 use Rattle.cedar_evaluator.specs.declared.scopes.Scopes.{Scopes}
 
--- the policies of each group and the errors, in their order
+-- the annotations of the policies of each group, in their order
+abbrev pub annotated_so_far : Groups → Annotated
+annotated_so_far g = record {
+  satisfied_permits = map noted g.satisfied_permits.items;
+  false_permits = map noted_behind g.false_permits.items;
+  open_permits = map noted_behind g.residual_permits.items;
+  satisfied_forbids = map noted g.satisfied_forbids.items;
+  false_forbids = map noted_behind g.false_forbids.items;
+  open_forbids = map noted_behind g.residual_forbids.items;
+}
+
+-- the policies of each group with their annotations, and the errors, in their order
 abbrev pub held_in : Groups → Holding
 held_in g = record {
   satisfied_permits = keys_of g.satisfied_permits.items;
@@ -36,12 +47,24 @@ held_in g = record {
   false_forbids = map (λ e. (e.0, has_erred e.1.0)) g.false_forbids.items;
   open_forbids = map (λ e. (e.0, bare e.1.0.value)) g.residual_forbids.items;
   errors = map error_seen g.errors.items;
+  annotated = annotated_so_far g;
 }
 
 -- one more at the end, where there is one
 abbrev pub and_then : {X : Type 0} → List X → Option X → List X
 and_then xs None = xs
 and_then xs (Some x) = xs ++ x ∷ []
+
+-- its annotations, in the group of what is kept of it
+abbrev pub with_annotated : Kept → Annotated → Annotated
+with_annotated k a = record {
+  satisfied_permits = and_then a.satisfied_permits (if_effect Permit k.effect (annotated k (satisfied_id k.id k.found)));
+  false_permits = and_then a.false_permits (if_effect Permit k.effect (annotated k (false_id k.id k.found)));
+  open_permits = and_then a.open_permits (if_effect Permit k.effect (annotated k (open_id k.id k.found)));
+  satisfied_forbids = and_then a.satisfied_forbids (if_effect Forbid k.effect (annotated k (satisfied_id k.id k.found)));
+  false_forbids = and_then a.false_forbids (if_effect Forbid k.effect (annotated k (false_id k.id k.found)));
+  open_forbids = and_then a.open_forbids (if_effect Forbid k.effect (annotated k (open_id k.id k.found)));
+}
 
 -- one more policy, in the group of what is kept of it
 abbrev pub with_kept : Kept → Holding → Holding
@@ -53,6 +76,7 @@ with_kept k h = record {
   false_forbids = and_then h.false_forbids (if_effect Forbid k.effect (false_id k.id k.found));
   open_forbids = and_then h.open_forbids (if_effect Forbid k.effect (open_id k.id k.found));
   errors = and_then h.errors (error_id k.id k.found);
+  annotated = with_annotated k h.annotated;
 }
 
 -- what an evaluation answered, as what was found
@@ -62,7 +86,7 @@ found_in (Err e) = Erred (failure_of e)
 
 -- what is kept of a policy of which this was answered
 abbrev pub kept_of : Policy → Result (Either Bool (Expr (Unit {0}))) EvaluationError → Kept
-kept_of p answer = record { id = policy_id p; effect = (policy_syntax p).effect; found = found_in answer }
+kept_of p answer = record { id = policy_id p; effect = (policy_syntax p).effect; annotations = (policy_syntax p).annotations; found = found_in answer }
 
 -- want of memory
 abbrev pub is_want : Failure → Bool

@@ -5,7 +5,9 @@ use Rattle.cedar_language.specs.Uid.{Text}
 use Rattle.cedar_extensions.specs.Failures.{Failure, failure_of}
 use Rattle.cedar_requests.specs.Holding.{RequestParts, request_parts}
 use Rattle.cedar_trees.specs.Bare.{bare}
-use Rattle.cedar_evaluator.specs.Responses.{Holding}
+use Rattle.cedar_evaluator.specs.Evaluations.{Annotations}
+use Rattle.cedar_evaluator.specs.Given.{Noted}
+use Rattle.cedar_evaluator.specs.Responses.{Annotated, Holding}
 use Rattle.cedar_evaluator.specs.declared.errors.AuthorizationError.{AuthorizationError}
 use Rattle.cedar_evaluator.specs.declared.errors.AuthorizationError.TheVariants.{PolicyEvaluationError}
 use Rattle.cedar_evaluator.specs.declared.partial_response.ErrorState.{ErrorState}
@@ -25,7 +27,26 @@ has_erred Error = true
 abbrev pub error_seen : AuthorizationError → Text × Failure
 error_seen (PolicyEvaluationError id error) = (id, failure_of error)
 
--- the policies of each group and the errors, in their order
+-- a policy's id and annotations
+abbrev pub noted : Text × Noted → Text × Annotations
+noted e = (e.0, e.1.value)
+
+-- of one that is kept with more
+abbrev pub noted_behind : {X : Type 0} → Text × (X × Noted) → Text × Annotations
+noted_behind e = (e.0, e.1.1.value)
+
+-- the annotations of the policies of each group, in their order
+abbrev pub annotated_in : PartialResponse → Annotated
+annotated_in r = record {
+  satisfied_permits = map noted r.satisfied_permits.entries;
+  false_permits = map noted_behind r.false_permits.entries;
+  open_permits = map noted_behind r.residual_permits.entries;
+  satisfied_forbids = map noted r.satisfied_forbids.entries;
+  false_forbids = map noted_behind r.false_forbids.entries;
+  open_forbids = map noted_behind r.residual_forbids.entries;
+}
+
+-- the policies of each group with their annotations, and the errors, in their order
 abbrev pub holding_in : PartialResponse → Holding
 holding_in r = record {
   satisfied_permits = keys_of r.satisfied_permits.entries;
@@ -35,4 +56,5 @@ holding_in r = record {
   false_forbids = map (λ e. (e.0, has_erred e.1.0)) r.false_forbids.entries;
   open_forbids = map (λ e. (e.0, bare e.1.0.value)) r.residual_forbids.entries;
   errors = map error_seen r.errors.items;
+  annotated = annotated_in r;
 }

@@ -1,12 +1,12 @@
 -- What a response keeps of policies, by their effects and by what was found of them.
-use Rattle.std.specs.Prelude.{Bool, true, false, Option, Some, None, List, [], ◌++◌, map}
+use Rattle.std.specs.Prelude.{Bool, true, false, Option, Some, None, option_map, List, [], ◌++◌, map}
 use Rattle.std.specs.List.{filter_map}
 use Rattle.cedar_language.specs.Uid.{Text}
 use Rattle.cedar_language.specs.Tree.{Tree}
 use Rattle.cedar_language.specs.Answering as answering
 use Rattle.cedar_language.specs.Answering.{Effect, Permit, Forbid, Judged}
 use Rattle.cedar_extensions.specs.Failures.{Failure}
-use Rattle.cedar_evaluator.specs.Evaluations.{Found, Satisfied, Unsatisfied, Erred, Open, Kept}
+use Rattle.cedar_evaluator.specs.Evaluations.{Found, Satisfied, Unsatisfied, Erred, Open, Annotations, Kept}
 
 -- ---- what is found of the policies of one effect
 
@@ -45,7 +45,43 @@ open_of e ks = filter_map (λ (k : Kept). if_effect e k.effect (open_id k.id k.f
 abbrev pub errors_of : List Kept → List (Text × Failure)
 errors_of ks = filter_map (λ (k : Kept). error_id k.id k.found) ks
 
--- what a response holds: of each group its policies in order, and the errors
+-- ---- their annotations
+
+-- the policy's annotations under its id, where it is one of a group
+abbrev pub annotated : {X : Type 0} → Kept → Option X → Option (Text × Annotations)
+annotated k o = option_map (λ x. (k.id, k.annotations)) o
+
+abbrev pub satisfied_annotated : Effect → List Kept → List (Text × Annotations)
+satisfied_annotated e ks = filter_map (λ (k : Kept). if_effect e k.effect (annotated k (satisfied_id k.id k.found))) ks
+
+abbrev pub false_annotated : Effect → List Kept → List (Text × Annotations)
+false_annotated e ks = filter_map (λ (k : Kept). if_effect e k.effect (annotated k (false_id k.id k.found))) ks
+
+abbrev pub open_annotated : Effect → List Kept → List (Text × Annotations)
+open_annotated e ks = filter_map (λ (k : Kept). if_effect e k.effect (annotated k (open_id k.id k.found))) ks
+
+-- of each group the annotations of its policies, under their ids and in their order
+pub record Annotated : Type 0 where
+  pub satisfied_permits : List (Text × Annotations)
+  pub false_permits : List (Text × Annotations)
+  pub open_permits : List (Text × Annotations)
+  pub satisfied_forbids : List (Text × Annotations)
+  pub false_forbids : List (Text × Annotations)
+  pub open_forbids : List (Text × Annotations)
+
+abbrev pub annotated_of : List Kept → Annotated
+annotated_of ks = record {
+  satisfied_permits = satisfied_annotated Permit ks;
+  false_permits = false_annotated Permit ks;
+  open_permits = open_annotated Permit ks;
+  satisfied_forbids = satisfied_annotated Forbid ks;
+  false_forbids = false_annotated Forbid ks;
+  open_forbids = open_annotated Forbid ks;
+}
+
+-- ---- all
+
+-- what a response holds: of each group its policies in order and their annotations, and the errors
 pub record Holding : Type 0 where
   pub satisfied_permits : List Text
   pub false_permits : List (Text × Bool)
@@ -54,6 +90,7 @@ pub record Holding : Type 0 where
   pub false_forbids : List (Text × Bool)
   pub open_forbids : List (Text × Tree)
   pub errors : List (Text × Failure)
+  pub annotated : Annotated
 
 -- what it holds of kept policies
 abbrev pub holding_of : List Kept → Holding
@@ -65,11 +102,12 @@ holding_of ks = record {
   false_forbids = false_of Forbid ks;
   open_forbids = open_of Forbid ks;
   errors = errors_of ks;
+  annotated = annotated_of ks;
 }
 
 -- the same without the policies that aren't satisfied; the errors are kept
 abbrev pub without_false : Holding → Holding
-without_false h = record h { false_permits = []; false_forbids = [] }
+without_false h = record h { false_permits = []; false_forbids = []; annotated = record h.annotated { false_permits = []; false_forbids = [] } }
 
 -- ---- how its policies stand, an error counting as not satisfied
 

@@ -10,7 +10,7 @@ ghost use Rattle.cedar_evaluator.specs.Candidates.{policies_at};
 ghost use Rattle.cedar_evaluator.specs.Evaluations.{Satisfied, Unsatisfied, Erred, Open};
 ghost use Rattle.cedar_evaluator.specs.Grouping.{held_in, with_kept, kept_of, is_want, IsKeepable, KeepsBy, KeepsOneMore, AreApart};
 ghost use Rattle.cedar_evaluator.specs.Holding.{holding_in, request_asked};
-ghost use Rattle.cedar_evaluator.specs.Responses.{Holding, without_false};
+ghost use Rattle.cedar_evaluator.specs.Responses.{Holding, holding_of, without_false};
 
 use crate::candidates::candidates;
 use crate::errors::AuthorizationError;
@@ -90,15 +90,7 @@ fn copied(id: &PolicyID) -> Result<PolicyID, AllocError>
 impl Groups {
     // No policies yet.
     fn new(alloc: Global) -> Groups
-        ensures { held_in result ≡ record {
-          satisfied_permits = [];
-          false_permits = [];
-          open_permits = [];
-          satisfied_forbids = [];
-          false_forbids = [];
-          open_forbids = [];
-          errors = [];
-        } }
+        ensures { held_in result ≡ holding_of [] }
     {
         Groups {
             satisfied_permits: Vec::new(alloc),
@@ -295,7 +287,7 @@ impl Groups {
         id: PolicyID,
         annotations: Rc<Annotations>,
     ) -> Result<(), AllocError>
-        ensures { OnOk result (held_in self.new ≡ with_kept (record { id = id; effect = effect_of effect; found = Satisfied }) (held_in self.old)) }
+        ensures { OnOk result (held_in self.new ≡ with_kept (record { id = id; effect = effect_of effect; annotations = annotations.value; found = Satisfied }) (held_in self.old)) }
     {
         match effect {
             Effect::Permit => Ok(self.satisfied_permits.push((id, annotations))?),
@@ -309,7 +301,7 @@ impl Groups {
         id: PolicyID,
         annotations: Rc<Annotations>,
     ) -> Result<(), AllocError>
-        ensures { OnOk result (held_in self.new ≡ with_kept (record { id = id; effect = effect_of effect; found = Unsatisfied }) (held_in self.old)) }
+        ensures { OnOk result (held_in self.new ≡ with_kept (record { id = id; effect = effect_of effect; annotations = annotations.value; found = Unsatisfied }) (held_in self.old)) }
     {
         let kept = (id, (ErrorState::NoError, annotations));
         match effect {
@@ -325,7 +317,7 @@ impl Groups {
         rest: Rc<Expr>,
         annotations: Rc<Annotations>,
     ) -> Result<(), AllocError>
-        ensures { OnOk result (held_in self.new ≡ with_kept (record { id = id; effect = effect_of effect; found = Open (bare rest.value) }) (held_in self.old)) }
+        ensures { OnOk result (held_in self.new ≡ with_kept (record { id = id; effect = effect_of effect; annotations = annotations.value; found = Open (bare rest.value) }) (held_in self.old)) }
     {
         let kept = (id, (rest, annotations));
         match effect {
@@ -342,7 +334,7 @@ impl Groups {
         error: EvaluationError,
         annotations: Rc<Annotations>,
     ) -> Result<(), AllocError>
-        ensures { OnOk result (held_in self.new ≡ with_kept (record { id = id; effect = effect_of effect; found = Erred (failure_of error) }) (held_in self.old)) }
+        ensures { OnOk result (held_in self.new ≡ with_kept (record { id = id; effect = effect_of effect; annotations = annotations.value; found = Erred (failure_of error) }) (held_in self.old)) }
     {
         let copy = copied(&id)?;
         self.errors.push(AuthorizationError::PolicyEvaluationError { id: copy, error })?;

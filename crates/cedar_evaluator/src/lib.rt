@@ -3,8 +3,9 @@
 //! are read. Once values are told for what was unknown, the response is made anew of what is left.
 //! (Cedar language reference, "Authorization" and "Partial evaluation".)
 //!
-//! `ast` and `evaluator` hand on requests and the evaluator of expressions, each item under the name that it
-//! has in `cedar-policy-core`; `prelude` has the traits. `crates/cedar_examples` shows how a request is
+//! `ast`, `entities`, `evaluator` and `extensions` hand on requests, the evaluator of expressions and all else
+//! that these calls take and give, each item under the name that it has in `cedar-policy-core`; `laws` and
+//! `prelude`, which has the traits, are this library's own. `crates/cedar_examples` shows how a request is
 //! authorized (`asking`).
 #![tactic(auto)]
 
@@ -12,11 +13,15 @@ pub mod ast;
 pub mod authorizer;
 mod candidates;
 mod concretizing;
+pub mod entities;
 pub mod errors;
 pub mod evaluation;
 pub mod evaluator;
+pub mod extensions;
 mod groups;
+pub mod ids;
 mod judging;
+pub mod laws;
 pub mod partial_response;
 pub mod prelude;
 pub mod readers;
@@ -28,5 +33,6 @@ pub use authorizer::Authorizer;
 pub use cedar_extensions::extensions::Extensions;
 pub use cedar_policy_parts::Decision;
 pub use errors::{AuthorizationError, ConcretizationError, ReauthorizationError};
+pub use ids::{ErroredIds, ResidualIds};
 pub use partial_response::{ErrorState, PartialResponse};
 pub use response::{Diagnostics, EvaluationResponse, Response};

@@ -1,17 +1,15 @@
 //! The policies of a `PartialResponse`, by what was found of them, each as what is left of it: `true` where it is
 //! satisfied, and `false` where it isn't or erred. Begin with `all_residuals`, or with `get` for one policy.
 ghost use Rattle.std.specs.Prelude.{◌≡◌, true, false, ◌++◌, map, IfOk, OnOk};
-ghost use Rattle.std.specs.Map.{keys_of, lookup};
-ghost use Rattle.std.specs.Map.Iter.{deref};
+ghost use Rattle.std.specs.Map.{lookup};
 ghost use Rattle.cedar_language.specs.Answering.{in_must, in_may, residual_forbid};
 ghost use Rattle.cedar_language.specs.Order.{same_text};
 ghost use Rattle.cedar_language.specs.Tree.{Lit, Boolean};
 ghost use Rattle.cedar_policy_parts.specs.Effects.{effect_of};
 ghost use Rattle.cedar_policy_set.specs.Bounds.{policy_seen};
 ghost use Rattle.cedar_policies.specs.Bodies.{shared_tree};
-ghost use Rattle.cedar_language.specs.Answering.{ids_with};
-ghost use Rattle.cedar_evaluator.specs.Holding.{has_erred, holding_in};
-ghost use Rattle.cedar_evaluator.specs.Residuals.{residual_policy, left_satisfied, left_false, left_open, residuals_with, is_any, is_satisfied, is_residual, of_effect, residual_at, erring_ids, IsFound};
+ghost use Rattle.cedar_evaluator.specs.Holding.{holding_in};
+ghost use Rattle.cedar_evaluator.specs.Residuals.{residual_policy, left_satisfied, left_false, left_open, residuals_with, is_any, is_satisfied, is_residual, of_effect, residual_at, IsFound};
 ghost use Rattle.cedar_evaluator.specs.Responses.{judged_held};
 
 use crate::partial_response::{ErrorState, PartialResponse};
@@ -94,44 +92,6 @@ fn push_open(
 {
     for (id, kept) in group.iter() {
         policies.push(policy_of(alloc, effect, id, &kept.0, &kept.1)?)?;
-    }
-    Ok(())
-}
-
-// Appends the ids of a group, lent.
-fn push_lent<'a, V>(
-    ids: &mut Vec<&'a PolicyID>,
-    group: &'a IndexMap<PolicyID, V>,
-) -> Result<(), AllocError>
-    ensures { OnOk result (map deref ids.new.items ≡ map deref ids.old.items ++ keys_of group.now.entries) }
-{
-    for id in group.keys() {
-        ids.push(id)?;
-    }
-    Ok(())
-}
-
-// Whether a policy erred.
-fn has_erred(state: ErrorState) -> bool
-    ensures { result ≡ has_erred state }
-{
-    match state {
-        ErrorState::NoError => false,
-        ErrorState::Error => true,
-    }
-}
-
-// Appends the ids of those of a group that erred, lent.
-fn push_erring<'a>(
-    ids: &mut Vec<&'a PolicyID>,
-    group: &'a IndexMap<PolicyID, (ErrorState, Rc<Annotations>)>,
-) -> Result<(), AllocError>
-    ensures { OnOk result (map deref ids.new.items ≡ map deref ids.old.items ++ erring_ids (map (λ e. (e.0, has_erred e.1.0)) group.now.entries)) }
-{
-    for (id, kept) in group.iter() {
-        if has_erred(kept.0) {
-            ids.push(id)?;
-        }
     }
     Ok(())
 }
@@ -229,16 +189,6 @@ impl PartialResponse {
         Ok(policies)
     }
 
-    /// The ids of the policies that erred, lent, permits before forbids; refused for memory alone.
-    pub fn definitely_errored(&self, alloc: Global) -> Result<Vec<&PolicyID>, AllocError>
-        ensures { IfOk result (λ ids. map deref ids.items ≡ erring_ids (holding_in self.now).false_permits ++ erring_ids (holding_in self.now).false_forbids) }
-    {
-        let mut ids = Vec::new(alloc);
-        push_erring(&mut ids, &self.false_permits)?;
-        push_erring(&mut ids, &self.false_forbids)?;
-        Ok(ids)
-    }
-
     /// What is left of the policies that are reasons for some values of the unknown parts, as far as this
     /// response tells; refused for memory alone.
     pub fn may_be_determining(&self, alloc: Global) -> Result<Vec<Policy>, AllocError>
@@ -297,16 +247,6 @@ impl PartialResponse {
         push_open(alloc, &mut policies, Effect::Permit, &self.residual_permits)?;
         push_open(alloc, &mut policies, Effect::Forbid, &self.residual_forbids)?;
         Ok(policies)
-    }
-
-    /// The ids of the open policies, lent, permits before forbids; refused for memory alone.
-    pub fn nontrivial_residual_ids(&self, alloc: Global) -> Result<Vec<&PolicyID>, AllocError>
-        ensures { IfOk result (λ ids. map deref ids.items ≡ ids_with is_residual (judged_held (holding_in self.now))) }
-    {
-        let mut ids = Vec::new(alloc);
-        push_lent(&mut ids, &self.residual_permits)?;
-        push_lent(&mut ids, &self.residual_forbids)?;
-        Ok(ids)
     }
 
     /// What is left of the open forbids; refused for memory alone.

@@ -1,5 +1,8 @@
 // Responses to requests of which more is told.
 ghost use Rattle.std.specs.Prelude.{◌≡◌, IfOk, IfErr};
+ghost use Rattle.std.specs.List.{IsDistinct};
+ghost use Rattle.std.specs.Map.{keys_of};
+ghost use Rattle.cedar_language.specs.Order.{same_text};
 ghost use Rattle.cedar_policy_set.specs.Entries.{policies_of};
 ghost use Rattle.cedar_evaluator.specs.Authorizing.{table_of, limit_of};
 ghost use Rattle.cedar_evaluator.specs.Reauthorizing.{IsNoSet, Reauthorizes};
@@ -23,10 +26,10 @@ impl PartialResponse {
     /// left of each policy, what it comes to for the request with what is told of it. This response stays as
     /// it is.
     ///
-    /// Refused `PolicySetError` where an id stands twice among what is left, which it doesn't in the response
-    /// to a policy set; else `ConcretizationError` where the values aren't taken for the request: for the
-    /// first variable of which a value of another kind is told, that the request gives already, or of which
-    /// it states another type, or since the context errs with them; and for memory.
+    /// Refused `PolicySetError` where an id stands twice among what is left, with the first that does; none does
+    /// in the response to a policy set. Else `ConcretizationError` where the values aren't taken for the request:
+    /// for the first variable of which a value of another kind is told, that the request gives already, or of
+    /// which it states another type, or since the context errs with them; and for memory.
     /// (Cedar language reference, "Partial evaluation".)
     pub fn reauthorize<F: ExtensionFunctionObject>(
         &self,
@@ -51,6 +54,7 @@ impl PartialResponse {
     // What is left of all policies, as a set.
     fn residual_set(&self, alloc: Global) -> Result<PolicySet, PolicySetError>
         ensures bound { IfOk result (λ set. policies_of set ≡ residuals_with is_any self.now) }
+        ensures apart { IfOk result (λ set. IsDistinct same_text (keys_of (residuals_with is_any self.now))) }
         ensures refused { IfErr result (IsNoSet (residuals_with is_any self.now)) }
     {
         let policies = self.all_residuals(alloc)?;

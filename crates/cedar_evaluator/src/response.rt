@@ -12,6 +12,7 @@ ghost use Rattle.cedar_language.specs.Answering.{ids_with};
 ghost use Rattle.cedar_evaluator.specs.Authorizing.{table_of, limit_of};
 ghost use Rattle.cedar_evaluator.specs.Concrete.{cause_seen, without_value, left_of, all_causes, IsConcrete, Answers};
 ghost use Rattle.cedar_evaluator.specs.Holding.{holding_in};
+ghost use Rattle.cedar_evaluator.specs.Known.{AnswersByRules};
 ghost use Rattle.cedar_evaluator.specs.Responses.{judged_held};
 
 use crate::authorizer::Authorizer;
@@ -21,6 +22,7 @@ use cedar_entities::store::Entities;
 use cedar_extensions::evaluation_error::EvaluationError;
 use cedar_extensions::objects::ExtensionFunctionObject;
 use cedar_names::conversions::FromIn;
+use cedar_partial_evaluation::{known_is_meaning, leaves_dont_matter};
 use cedar_policy_parts::annotations::Annotations;
 use cedar_policy_parts::{Decision, PolicyID};
 use cedar_policy_set::sets::PolicySet;
@@ -31,7 +33,7 @@ use std::alloc::{AllocError, Global};
 use std::rc::Rc;
 
 /// What a request comes to, and why. (Cedar language reference, "Authorization".)
-#[derive(PartialEq, Eq)]
+#[derive(Debug, PartialEq, Eq)]
 pub struct Response {
     /// Whether the request is allowed.
     pub decision: Decision,
@@ -50,7 +52,7 @@ impl Drop for Response {
 }
 
 /// Why a request is allowed or denied. (Cedar language reference, "Authorization".)
-#[derive(PartialEq, Eq)]
+#[derive(Debug, PartialEq, Eq)]
 pub struct Diagnostics {
     /// The ids of the policies that decide, in the order of the set; none where no policy applies.
     pub reason: IndexSet<PolicyID>,
@@ -90,10 +92,9 @@ impl FromIn<PartialResponse> for Response {
     type Error = AllocError;
 
     ghost use Rattle.std.specs.Prelude.{IfOk};
-    ghost use Rattle.cedar_evaluator.specs.Concrete.{IsConcrete};
-    ghost use Rattle.cedar_evaluator.specs.Holding.{holding_in};
+    ghost use Rattle.cedar_evaluator.specs.Concrete.{IsConcreteOf};
 
-    ghost from_in_gives = { λ partial result. IfOk result (IsConcrete (holding_in partial)) };
+    ghost from_in_gives = { λ partial result. IfOk result (IsConcreteOf partial) };
 
     /// The response as it stands, by `concretize`; refused for memory alone.
     fn from_in(alloc: Global, partial: PartialResponse) -> Result<Response, AllocError> {
@@ -201,8 +202,12 @@ impl<'e, 'f, F: ExtensionFunctionObject> Authorizer<'e, 'f, F> {
         policies: &PolicySet,
         entities: &Entities,
     ) -> Result<Response, AllocError>
-        ensures { IfOk result (λ whole. Answers (untold (request_parts request)) entities.now (table_of F.answers self.now) (limit_of self.now) policies.now whole) }
+        ensures answers { IfOk result (λ whole. Answers (untold (request_parts request)) entities.now (table_of F.answers self.now) (limit_of self.now) policies.now whole) }
+        ensures means { IfOk result (λ whole. AnswersByRules (untold (request_parts request)) entities.now (table_of F.answers self.now) (limit_of self.now) policies.now whole) }
     {
+        // Laws, which run no code.
+        leaves_dont_matter();
+        known_is_meaning();
         let partial = self.is_authorized_core(alloc, request, policies, entities)?;
         partial.concretize(alloc)
     }
@@ -210,7 +215,7 @@ impl<'e, 'f, F: ExtensionFunctionObject> Authorizer<'e, 'f, F> {
 
 /// What is found of the policies of a set for a request, by their ids, and what is left of the open ones.
 /// (Cedar language reference, "Authorization" and "Partial evaluation".)
-#[derive(PartialEq, Eq)]
+#[derive(Debug, PartialEq, Eq)]
 pub struct EvaluationResponse {
     /// The ids of the permits that are satisfied.
     pub satisfied_permits: IndexSet<PolicyID>,

@@ -7,7 +7,7 @@ use crate::asking::{known, member, read_policies};
 use crate::frames::{print_answer, print_ids};
 use anyhow::Result;
 use cedar_evaluator::ast::{Context, EntityUIDEntry, Request};
-use cedar_evaluator::{Authorizer, Extensions, PartialResponse};
+use cedar_evaluator::{Authorizer, Extensions, PartialResponse, ResidualIds};
 use cedar_expressions::ast::{Literal, Value};
 use cedar_parser::ExtStyles;
 use cedar_parser::prelude::StylesOfExtensions;
@@ -122,16 +122,15 @@ fn print_response(
     println!(rt; "    {asked}: {:?}", response.decision())?;
     print_reasons(rt, "must", response.must_be_determining_ids(alloc)?)?;
     print_reasons(rt, "may", response.may_be_determining_ids(alloc)?)?;
-    print_open(rt, response.nontrivial_residual_ids(alloc)?)?;
-    Ok(())
+    Ok(print_open(rt, response.nontrivial_residual_ids())?)
 }
 
 fn print_reasons(rt: &impl Print, word: &str, ids: Vec<PolicyID>) -> io::Result<()> {
     print_ids(rt, word, ids.as_slice())
 }
 
-fn print_open(rt: &impl Print, ids: Vec<&PolicyID>) -> io::Result<()> {
-    for id in &ids {
+fn print_open(rt: &impl Print, ids: ResidualIds<'_>) -> io::Result<()> {
+    for id in ids {
         println!(rt; "      open {id}")?;
     }
     Ok(())

@@ -18,7 +18,7 @@ pub returns-in_err-request : goal.returns-in_err-request
 returns-in_err-request g c =
     let p = err_from_is_err_and c.from_residual-in_err-request.result c.from_residual-in_err-request.ensures.1 in
     rw (p.1, p.2)
-    (no_request c.args.entities.now (table_of g.F.ExtensionFunctionObject.answers c.args.authorizer.now) (limit_of c.args.authorizer.now) c.args.told.now.entries c.args.self.now c.in_err-request.field-0.0
+    (no_request c.args.entities.now (table_of g.F.ExtensionFunctionObject.answers c.args.authorizer.now) (limit_of c.args.authorizer.now) c.args.told.now.entries c.args.self.now c.in_ok-policies.ensures.apart c.in_err-request.field-0.0
     (subst (λ (r : Request). IsRefused (table_of g.F.ExtensionFunctionObject.answers c.args.authorizer.now) (limit_of c.args.authorizer.now) c.args.told.now.entries (request_parts r) c.in_err-request.field-0.0) c.deref.ensures c.in_err-request.ensures))
 
 pub returns : goal.returns
