@@ -1,7 +1,7 @@
 #!/usr/bin/env python3
 """shapes.py --program PATH [--seconds N] [NAME..]: runs the program over bodies of 1,048,576 bytes of one shape each, by `load`,
 `put` and `ask`, and over 100,000 attributes, 100,000 parents, 10,000 unknowns and 30,000 policies, under a stack of 8 MiB and in
-2 GB of memory, and over the deepest clauses and bodies that the limit lets stand under a stack of 1 MiB; or over those that are
+2 GB of memory, and over the deepest clauses and bodies that the limit lets stand under a stack of 2 MiB; or over those that are
 named. Each must be answered by one of the lines that its shape allows, the `ask {}` behind it as its shape says, and else as in a
 session that never read it, and the last line must be `end`; none may take longer than N seconds (20 where none are given). Prints
 what each took, and fails where one isn't so."""
@@ -17,7 +17,7 @@ sys.dont_write_bytecode = True
 from cases import frame
 
 SIZE = 1048576
-STACK, SMALL_STACK, MEMORY = 8 << 20, 1 << 20, 2 << 30
+STACK, SMALL_STACK, MEMORY = 8 << 20, 2 << 20, 2 << 30
 VERBS = ("load", "put", "ask")
 REFUSED = ("refused Text", "refused Depth")
 CLAUSE = b"permit(principal, action, resource) when {"

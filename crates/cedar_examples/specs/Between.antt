@@ -1,4 +1,4 @@
--- What `between` and `at_most` answer.
+-- What `between` answers.
 use Rattle.std.specs.Prelude.{◌≡◌, ℤ, int_le, Bool, ◌&&◌, Option, Some, None, option_map}
 use Rattle.cedar_language.specs.Tree.{Boolean}
 use Rattle.cedar_language.specs.Value.{Value, Plain, Values, no_values, a_value}
@@ -13,11 +13,6 @@ between_longs low x high = None
 abbrev pub between : Values → Option Bool
 between (a_value low (a_value x (a_value high no_values))) = between_longs (long_in low) (long_in x) (long_in high)
 between vs = None
-
--- whether one long is no more than this limit; of anything else nothing
-abbrev pub at_most : ℤ → Values → Option Bool
-at_most limit (a_value x no_values) = option_map (λ n. int_le n limit) (long_in x)
-at_most limit vs = None
 
 -- ---- functions that give Booleans
 

@@ -1,32 +1,23 @@
 //! A function of the caller's own, which policies call: a table has `between` beside the built-in `unknown`,
-//! and is lent to a session. A table has its caller's functions in one type: a caller with several puts each
-//! in a box, as `between` and `at_most` are.
+//! and is lent to a session. A table has its caller's functions in one type: a caller with several makes an
+//! enum of them.
 ghost use Rattle.std.specs.Prelude.{◌≡◌, IfOk, true};
 ghost use Rattle.cedar_language.specs.Order.{all_of};
 ghost use Rattle.cedar_expressions.specs.Holding.{is_named};
-ghost use Rattle.cedar_examples.specs.Between.{between, at_most};
+ghost use Rattle.cedar_examples.specs.Between.{between};
 
 use crate::DEPTH;
 use crate::frames::print_answer;
 use anyhow::Result;
 use cedar_expressions::ast::{CallStyle, Extension, ExtensionFunction, Literal, Name, Value};
 use cedar_expressions::entities::SchemaType;
-use cedar_expressions::extensions::{BoxedFunction, CallError, ExtensionFunctionObject};
+use cedar_expressions::extensions::{CallError, ExtensionFunctionObject};
 use cedar_session::{Extensions, Session};
 use std::alloc::Global;
 
 /// It stands under `policy0`.
 const POLICY: &str = r#"
 permit(principal, action, resource) when { between(9, context.hour, 17) };
-"#;
-
-/// It stands under `policy1`.
-const IN_THE_MORNING: &str = r#"
-forbid(principal, action, resource) when { context.hour.inTheMorning() };
-"#;
-
-const AT_TEN: &str = r#"
-{principal: User::"alice", action: Action::"enter", resource: Door::"1", context: {hour: 10}}
 "#;
 
 const AT_TWELVE: &str = r#"
@@ -75,63 +66,24 @@ fn is_between(args: &[Value]) -> Option<bool>
     Some(low <= x && x <= high)
 }
 
-/// `x.at_most()`: of a long, whether it is no more than the function's limit.
-#[derive(Drop)]
-struct AtMost {
-    limit: i64,
-}
-
-// Two functions of this type may answer differently: `answers` is given the function.
-impl ExtensionFunctionObject for AtMost {
-    ghost use Rattle.cedar_examples.specs.Between.{at_most, boolean_answers};
-
-    ghost answers = { λ function. boolean_answers (at_most function.limit) };
-
-    fn call(&self, alloc: Global, args: &[Value]) -> Result<Value, CallError> {
-        match is_at_most(self.limit, args) {
-            Some(answer) => Ok(Value::from(Literal::from(answer))),
-            None => Err(CallError::NoAnswer(String::from_str(alloc, "at_most takes a long")?)),
-        }
-    }
-}
-
-/// Whether the long is no more than the limit. There is no answer but for one long.
-#[tactic(auto, using(crate::proofs::Between::not_one))]
-fn is_at_most(limit: i64, args: &[Value]) -> Option<bool>
-    ensures { result ≡ at_most limit (all_of args.now) }
-{
-    let [x] = args else {
-        return None;
-    };
-    Some(x.as_long()? <= limit)
-}
-
 /// Makes the table, and asks a session that knows it.
 pub(crate) fn show(rt: &impl Print, alloc: Global) -> Result<()> {
     println!(rt; "functions")?;
-    let between = Box::new(alloc, Between)?;
-    let in_the_morning = Box::new(alloc, AtMost { limit: 11 })?;
-    let extensions = make_table(alloc, between, in_the_morning)?;
+    let extensions = make_table(alloc)?;
     by_a_session(rt, alloc, &extensions)
 }
 
-/// The table of one extension with three functions. It has to be shown that each is named `unknown` exactly
-/// where it is the built-in one, which the makers ensure. It takes the boxes, since who makes a box hands
-/// out no table of it.
-fn make_table<'a>(
-    alloc: Global,
-    between: BoxedFunction,
-    in_the_morning: BoxedFunction,
-) -> Result<Extensions<'a, BoxedFunction>> {
+/// The table of one extension with two functions. It has to be shown that each is named `unknown` exactly
+/// where it is the built-in one, which both makers ensure.
+fn make_table<'a>(alloc: Global) -> Result<Extensions<'a, Between>> {
     let name = Name::parse_unqualified_name(alloc, "office")?;
-    let mut functions = vec![in alloc; make_unknown(alloc)?, make_between(alloc, between)?]?;
-    functions.push(make_in_the_morning(alloc, in_the_morning)?)?;
+    let functions = vec![in alloc; make_unknown(alloc)?, make_between(alloc)?]?;
     let office = Extension::new(name, functions, Vec::new(alloc));
     Ok(Extensions::specific_extensions(alloc, vec![in alloc; office]?)?)
 }
 
 /// The built-in function, by which bodies name unknowns.
-fn make_unknown(alloc: Global) -> Result<ExtensionFunction<BoxedFunction>>
+fn make_unknown(alloc: Global) -> Result<ExtensionFunction<Between>>
     ensures { IfOk result (λ function. is_named function ≡ true) }
 {
     let name = Name::parse_unqualified_name(alloc, "unknown")?;
@@ -139,47 +91,27 @@ fn make_unknown(alloc: Global) -> Result<ExtensionFunction<BoxedFunction>>
     Ok(ExtensionFunction::partial_eval_unknown(alloc, name, style, SchemaType::String)?)
 }
 
-fn make_between(alloc: Global, between: BoxedFunction) -> Result<ExtensionFunction<BoxedFunction>>
+fn make_between(alloc: Global) -> Result<ExtensionFunction<Between>>
     ensures { IfOk result (λ function. is_named function ≡ true) }
 {
     let name = Name::parse_unqualified_name(alloc, "between")?;
     let style = CallStyle::FunctionStyle;
     let longs = (SchemaType::Long, SchemaType::Long, SchemaType::Long);
-    Ok(ExtensionFunction::ternary(alloc, name, style, between, SchemaType::Bool, longs)?)
-}
-
-fn make_in_the_morning(
-    alloc: Global,
-    at_most: BoxedFunction,
-) -> Result<ExtensionFunction<BoxedFunction>>
-    ensures { IfOk result (λ function. is_named function ≡ true) }
-{
-    let name = Name::parse_unqualified_name(alloc, "inTheMorning")?;
-    let style = CallStyle::MethodStyle;
-    Ok(ExtensionFunction::unary(
-        alloc,
-        name,
-        style,
-        at_most,
-        SchemaType::Bool,
-        SchemaType::Long,
-    )?)
+    Ok(ExtensionFunction::ternary(alloc, name, style, Between, SchemaType::Bool, longs)?)
 }
 
 fn by_a_session(
     rt: &impl Print,
     alloc: Global,
-    extensions: &Extensions<'_, BoxedFunction>,
+    extensions: &Extensions<'_, Between>,
 ) -> Result<()> {
-    println!(rt; "  between(9, context.hour, 17), and not context.hour.inTheMorning()")?;
+    println!(rt; "  between(9, context.hour, 17)")?;
     let mut session = Session::new(alloc, extensions, DEPTH)?;
     ask_each(rt, &mut session)
 }
 
-fn ask_each(rt: &impl Print, session: &mut Session<'_, '_, BoxedFunction>) -> Result<()> {
+fn ask_each(rt: &impl Print, session: &mut Session<'_, '_, Between>) -> Result<()> {
     session.load(POLICY)?;
-    session.load(IN_THE_MORNING)?;
-    print_answer(rt, "at 10", session.ask(AT_TEN)?)?;
     print_answer(rt, "at 12", session.ask(AT_TWELVE)?)?;
     print_answer(rt, "at 20", session.ask(AT_TWENTY)?)?;
     print_answer(rt, "at \"noon\"", session.ask(AT_NOON)?)?;

@@ -9,12 +9,12 @@ use Rattle.cedar_world.specs.RunText.{RunText, Clean as Ended, Faulty}
 use Rattle.cedar_world.specs.Setting.{Setting}
 use Rattle.cedar_world.specs.World.{new_world}
 use Rattle.cedar_session.specs.Programs as programs
-use Rattle.cedar_session.specs.Programs.{IsProgramSetting}
+use Rattle.cedar_session.specs.Programs.{KnowsAllWithin}
 use Rattle.cedar_session.specs.declared.running.End.TheVariants.{Clean, Fault}
-use Rattle.cedar_session.specs.InMemory.{AnswersAll, AnswersToFault}
+use Rattle.cedar_session.specs.InMemory.{AnswersAllWithin, AnswersToFaultWithin}
 
 -- Of a reader that had the input and has the rest, and of a writer that held nothing and holds the text.
-module _ {R W : Type 0} (remaining : R → Option (List ℕ)) (contents : W → Option (List ℕ)) (reader reader' : Watched R) (writer writer' : Watched W) (input rest text : List ℕ)
+module _ (depth : ℕ) {R W : Type 0} (remaining : R → Option (List ℕ)) (contents : W → Option (List ℕ)) (reader reader' : Watched R) (writer writer' : Watched W) (input rest text : List ℕ)
     (given : remaining (watched_inner reader) ≡ Some input) (left : remaining (watched_inner reader') ≡ Some rest)
     (empty : contents (watched_inner writer) ≡ Some []) (held : contents (watched_inner writer') ≡ Some text) where
   read_of_input : (bytes : List ℕ) → Consumes (remaining (watched_inner reader)) (remaining (watched_inner reader')) bytes → input ≡ bytes ++ rest
@@ -26,13 +26,13 @@ module _ {R W : Type 0} (remaining : R → Option (List ℕ)) (contents : W → 
   all_written : (said : List ℕ) → Appends (contents (watched_inner writer)) (contents (watched_inner writer')) said → said ≡ text
   all_written said h = sym (subst (λ before. Appends before (Some text) said) empty (subst (λ after. Appends (contents (watched_inner writer)) after said) held h))
 
-  pub all_answered : (by : Setting) × IsProgramSetting by × programs.Answers remaining contents by reader reader' writer writer' Clean → AnswersAll input text
+  pub all_answered : (by : Setting) × KnowsAllWithin depth by × programs.Answers remaining contents by reader reader' writer writer' Clean → AnswersAllWithin depth input text
   all_answered h =
       let run = h.2.text in
       let whole = sym (read_of_input run.0 run.3 ∙ (ap (λ after. run.0 ++ after) (nothing_left h.2.ends) ∙ append-nil run.0)) in
       (h.0, run.2, h.1, subst (λ bytes. RunText h.0 bytes new_world text Ended run.2) whole (subst (λ said. RunText h.0 run.0 new_world said Ended run.2) (all_written run.1 run.4) run.5))
 
-  pub answered_to_fault : (by : Setting) × (fault : frames.Fault) × IsProgramSetting by × programs.Answers remaining contents by reader reader' writer writer' (Fault fault) → AnswersToFault input text
+  pub answered_to_fault : (by : Setting) × (fault : frames.Fault) × KnowsAllWithin depth by × programs.Answers remaining contents by reader reader' writer writer' (Fault fault) → AnswersToFaultWithin depth input text
   answered_to_fault h =
       let run = h.3.text in
       record {

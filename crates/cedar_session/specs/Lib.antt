@@ -8,4 +8,5 @@ pub mod Programs
 pub mod Reading
 pub mod Running
 pub mod Sessions
+pub mod Owning
 pub mod InMemory

@@ -21,13 +21,16 @@ use Rattle.cedar_session.specs.declared.running.RunError.{RunError}
 abbrev pub program_depth : ℕ
 program_depth = 256
 
--- the functions of a table that has none of a caller's, with the program's limit
-abbrev pub program_setting : Extensions NoFunction → Setting
-program_setting table = setting_with (λ function. no_answers) table program_depth
+-- the functions of a table that has none of a caller's, with a limit of depth
+abbrev pub setting_within : ℕ → Extensions NoFunction → Setting
+setting_within depth table = setting_with (λ function. no_answers) table depth
 
--- every extension there is, that of the built-in `unknown`
+-- every extension there is, that of the built-in `unknown`, with this limit
+abbrev pub KnowsAllWithin : ℕ → Setting → Type 0
+KnowsAllWithin depth by = (table : Extensions NoFunction) × IsUnknownAlone (functions_in table) × (by ≡ setting_within depth table)
+
 abbrev pub IsProgramSetting : Setting → Type 0
-IsProgramSetting by = (table : Extensions NoFunction) × IsUnknownAlone (functions_in table) × (by ≡ program_setting table)
+IsProgramSetting = KnowsAllWithin program_depth
 
 -- how a run that ended so is told
 abbrev pub status_of : Result End RunError → ℕ

@@ -1,5 +1,5 @@
 -- What a session holds, as the world names it.
-use Rattle.std.specs.Prelude.{Result, Ok, Err, Vec}
+use Rattle.std.specs.Prelude.{Option, Result, Ok, Err, Vec}
 use Rattle.std.specs.declared.alloc.Global.{Global}
 use Rattle.cedar_policy_parts.specs.declared.policy_id.PolicyID.{PolicyID}
 use Rattle.std.specs.Option.{option_map}
@@ -26,9 +26,13 @@ setting_of {functions = functions} session = setting_with functions.answers sess
 abbrev pub asked_of : Asked → world.Asked
 asked_of asked = record { question = question_in (restricted_tree asked.body); told = told_in asked.told.entries; last = answer_of asked.answer }
 
+-- of these policies, templates and links, these entities, and this open question
+abbrev pub world_holding : world.Policies → world.Entities → Option Asked → World
+world_holding policies entities asked = record { policies = policies; entities = entities; asked = option_map asked_of asked }
+
 -- the policies, templates and links, the entities held, and the open question
 abbrev pub world_of : {F : Type 0} {functions : Ghosts F} → Session F functions → World
-world_of session = record { policies = session.policies; entities = session.entities; asked = option_map asked_of session.asked }
+world_of session = world_holding session.policies session.entities session.asked
 
 -- what a `load`, an edit, and an `ask` or a `tell` are answered
 abbrev pub load_reply : Result (Vec PolicyID Global) Refusal → commands.Reply

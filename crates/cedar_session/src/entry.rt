@@ -2,7 +2,7 @@
 ghost use Rattle.std.specs.Prelude.{◌≡◌, ◌≢◌, ◌⊎◌, ◌↔◌, ◌<◌, ◌≤◌, false, true};
 ghost use Rattle.cedar_frames.specs.declared.fault.Fault as frames;
 ghost use Rattle.cedar_frames.specs.Watching.{watched_failed, watched_late};
-ghost use Rattle.cedar_session.specs.Programs.{IsProgramSetting, program_setting, status_of, Answers, FailsToRead, FailsToWrite};
+ghost use Rattle.cedar_session.specs.Programs.{IsProgramSetting, setting_within, status_of, Answers, FailsToRead, FailsToWrite};
 ghost use Rattle.cedar_world.specs.Setting.{Setting};
 
 use crate::running::{End, RunError, run};
@@ -13,7 +13,7 @@ use std::alloc::Global;
 use std::io::{Read, Write};
 
 /// How deep texts and evaluations may be.
-const DEPTH: u32 = 256;
+pub(crate) const DEPTH: u32 = 256;
 
 /// The exit status where there is no memory.
 const NO_MEMORY: u8 = 4;
@@ -29,25 +29,26 @@ fn status_of(outcome: Result<End, RunError>) -> u8
     }
 }
 
-/// Answers the input by a new session, and gives the exit status.
-fn answered<R: Read, W: Write>(
+/// Answers the input by a new session with this limit of depth, and gives the exit status.
+pub(crate) fn answered<R: Read, W: Write>(
     alloc: Global,
     extensions: &Extensions<'_>,
+    depth: u32,
     input: &mut Watched<R>,
     output: &mut Watched<W>,
 ) -> u8
     requires input { watched_failed input.old ≡ false }
     requires output { watched_failed output.old ≡ false }
     ensures other { result ≢ 1 }
-    ensures end { result ≡ 0 → Answers R.remaining W.contents (program_setting extensions.now) input.old input.new output.old output.new End.Clean }
-    ensures fault { result ≡ 2 → (fault : frames.Fault) × Answers R.remaining W.contents (program_setting extensions.now) input.old input.new output.old output.new (End.Fault fault) }
-    ensures device { result ≡ 3 → FailsToRead R.remaining W.contents (program_setting extensions.now) input.old input.new output.old output.new
-        ⊎ FailsToWrite R.remaining W.contents (program_setting extensions.now) input.old input.new output.old output.new }
+    ensures end { result ≡ 0 → Answers R.remaining W.contents (setting_within depth extensions.now) input.old input.new output.old output.new End.Clean }
+    ensures fault { result ≡ 2 → (fault : frames.Fault) × Answers R.remaining W.contents (setting_within depth extensions.now) input.old input.new output.old output.new (End.Fault fault) }
+    ensures device { result ≡ 3 → FailsToRead R.remaining W.contents (setting_within depth extensions.now) input.old input.new output.old output.new
+        ⊎ FailsToWrite R.remaining W.contents (setting_within depth extensions.now) input.old input.new output.old output.new }
     ensures unread { result ≡ 4 → (input.new ≡ input.old) × (output.new ≡ output.old) }
     ensures in_time { (watched_late input.new ≡ false) × (watched_late output.new ≡ false) }
     ensures bound { result ≤ 4 }
 {
-    let Ok(mut session) = Session::new(alloc, extensions, DEPTH) else {
+    let Ok(mut session) = Session::new(alloc, extensions, depth) else {
         return NO_MEMORY;
     };
     status_of(run(&mut session, input, output))
@@ -94,7 +95,7 @@ pub fn program<R: Read, W: Write, E: Write>(
         return 1;
     }
     match Extensions::all_available(alloc) {
-        Ok(extensions) => answered(alloc, &extensions, input, output),
+        Ok(extensions) => answered(alloc, &extensions, DEPTH, input, output),
         Err(_) => NO_MEMORY,
     }
 }

@@ -60,7 +60,7 @@ impl<F: ExtensionFunctionObject> Drop for Session<'_, '_, F> {
 impl<'e, 'f, F: ExtensionFunctionObject> Session<'e, 'f, F> {
     ghost use Rattle.cedar_frames.specs.declared.verb.Verb.TheVariants.{Load as LoadVerb, Link as LinkVerb, Unlink as UnlinkVerb, RemoveStatic as RemoveStaticVerb, RemoveTemplate as RemoveTemplateVerb, Add as AddVerb, Put as PutVerb, Remove as RemoveVerb, Ask as AskVerb, Tell as TellVerb};
     ghost use Rattle.cedar_world.specs.Step.{Step};
-    ghost use Rattle.cedar_session.specs.Sessions.{world_of, setting_of, load_reply, edit_reply, ask_reply};
+    ghost use Rattle.cedar_session.specs.Sessions.{world_of, world_holding, setting_of, load_reply, edit_reply, ask_reply};
 
     /// A session without policies and entities, in which no question is open.
     ///
@@ -87,6 +87,44 @@ impl<'e, 'f, F: ExtensionFunctionObject> Session<'e, 'f, F> {
             entities: HeldEntities::new(allocator),
             asked: None,
         })
+    }
+
+    /// The session that holds these, which one with such a table and such a limit held before.
+    pub(crate) fn resumed(
+        allocator: Global,
+        extensions: &'e Extensions<'f, F>,
+        depth: u32,
+        held: (HeldPolicies, HeldEntities, Option<Asked>),
+    ) -> Session<'e, 'f, F>
+        requires steady { ∥ KeepsOpen (setting_with F.answers extensions.now depth) held.0 held.1 held.2 ∥₁ }
+        ensures world { world_of result ≡ world_holding held.0 held.1 held.2 }
+        ensures setting { setting_of result ≡ setting_with F.answers extensions.now depth }
+    {
+        let (policies, entities, asked) = held;
+        Session {
+            allocator,
+            extensions,
+            depth,
+            policies,
+            entities,
+            asked,
+        }
+    }
+
+    /// What the session holds, without its table.
+    pub(crate) fn into_held(self) -> (HeldPolicies, HeldEntities, Option<Asked>)
+        ensures world { world_holding result.0 result.1 result.2 ≡ world_of self.entry }
+        ensures steady { ∥ KeepsOpen (setting_of self.entry) result.0 result.1 result.2 ∥₁ }
+    {
+        let Session {
+            allocator: _,
+            extensions: _,
+            depth: _,
+            policies,
+            entities,
+            asked,
+        } = self;
+        (policies, entities, asked)
     }
 
     /// What the session's parts are made with, as it was handed to [`new`](Session::new).

@@ -5,3 +5,4 @@ mod Regular
 mod Giving
 mod Chaining
 mod Nodes
+mod Written

@@ -1,15 +1,15 @@
 -- Rests on what a session says that knows the extensions which were made.
 use Rattle.std.proofs.Common.{refl}
-use Rattle.cedar_session.specs.Programs.{program_setting}
+use Rattle.cedar_session.specs.Programs.{setting_within, program_depth}
 use Rattle.cedar_session.proofs.entry.program.Goals as goal
 
 pub returns-in-Ok-clause-end : goal.returns-in-Ok-clause-end
-returns-in-Ok-clause-end g c = λ h. (program_setting c.in-Ok.extensions, (c.in-Ok.extensions, c.in-Ok.ensures.alone, refl), c.answered.ensures.end h)
+returns-in-Ok-clause-end g c = λ h. (setting_within program_depth c.in-Ok.extensions, (c.in-Ok.extensions, c.in-Ok.ensures.alone, refl), c.answered.ensures.end h)
 
 pub returns-in-Ok-clause-fault : goal.returns-in-Ok-clause-fault
 returns-in-Ok-clause-fault g c = λ h.
     let faulty = c.answered.ensures.fault h in
-    (program_setting c.in-Ok.extensions, faulty.0, (c.in-Ok.extensions, c.in-Ok.ensures.alone, refl), faulty.1)
+    (setting_within program_depth c.in-Ok.extensions, faulty.0, (c.in-Ok.extensions, c.in-Ok.ensures.alone, refl), faulty.1)
 
 pub returns-in-Ok-clause-device : goal.returns-in-Ok-clause-device
-returns-in-Ok-clause-device g c = λ h. (program_setting c.in-Ok.extensions, (c.in-Ok.extensions, c.in-Ok.ensures.alone, refl), c.answered.ensures.device h)
+returns-in-Ok-clause-device g c = λ h. (setting_within program_depth c.in-Ok.extensions, (c.in-Ok.extensions, c.in-Ok.ensures.alone, refl), c.answered.ensures.device h)

@@ -1,0 +1,88 @@
+// A session with a table of its own.
+ghost use Rattle.std.specs.Prelude.{◌≡◌, ◌≤◌, length};
+ghost use Rattle.cedar_frames.specs.Heads.{body_limit};
+ghost use Rattle.cedar_replies.specs.Replies.{reply_of};
+ghost use Rattle.cedar_world.specs.RunText.{FrameStep};
+ghost use Rattle.cedar_world.specs.World.{new_world};
+ghost use Rattle.cedar_session.specs.Open.{KeepsOpen};
+ghost use Rattle.cedar_session.specs.Settings.{setting_with};
+
+use crate::asked::Asked;
+use crate::command::Command;
+use crate::session::Session;
+use cedar_extensions::extensions::Extensions;
+use cedar_extensions::objects::{ExtensionFunctionObject, NoFunction};
+use cedar_frames::Verb;
+use cedar_held::{HeldEntities, HeldPolicies};
+use cedar_replies::{Refusal, Reply};
+use std::alloc::Global;
+use std::mem;
+
+/// A session that owns the table of its functions, where [`Session`] borrows one: it is kept where nothing
+/// can be borrowed, as behind a pointer that another language holds.
+pub struct OwnedSession<'f, F: ExtensionFunctionObject = NoFunction> {
+    allocator: Global,
+    extensions: Extensions<'f, F>,
+    depth: u32,
+    policies: HeldPolicies,
+    entities: HeldEntities,
+    asked: Option<Asked>,
+    ghost steady: { ∥ KeepsOpen (setting_with F.answers extensions depth) policies entities asked ∥₁ },
+}
+
+impl<F: ExtensionFunctionObject> Drop for OwnedSession<'_, F> {
+    fn drop(self) {
+        let OwnedSession {
+            allocator: _,
+            extensions: _,
+            depth: _,
+            policies: _,
+            entities: _,
+            asked: _,
+        } = self;
+    }
+}
+
+impl<'f, F: ExtensionFunctionObject> OwnedSession<'f, F> {
+    ghost use Rattle.cedar_session.specs.Owning.{owned_world, owned_setting};
+
+    /// A session without policies and entities, in which no question is open, as [`Session::new`] makes it of
+    /// such a table and such a limit. It takes no memory.
+    pub fn new(allocator: Global, extensions: Extensions<'f, F>, depth: u32) -> OwnedSession<'f, F>
+        ensures world { owned_world result ≡ new_world }
+        ensures setting { owned_setting result ≡ setting_with F.answers extensions.entry depth }
+    {
+        OwnedSession {
+            allocator,
+            extensions,
+            depth,
+            policies: HeldPolicies::new(allocator),
+            entities: HeldEntities::new(allocator),
+            asked: None,
+        }
+    }
+
+    /// Answers the command of a verb and a body, as a run answers that of a frame: by what [`Session::apply`]
+    /// answers, and refused `NotUtf8` where the body is no UTF-8. A refused command changes nothing.
+    pub fn answer(&mut self, verb: Verb, body: &[u8]) -> Result<Reply, Refusal>
+        requires { length body.now ≤ body_limit }
+        ensures step { FrameStep (owned_setting self.old) (owned_world self.old) verb body.now (reply_of result) (owned_world self.new) }
+        ensures setting { owned_setting self.new ≡ owned_setting self.old }
+    {
+        let Ok(text) = str::from_utf8(body) else {
+            return Err(Refusal::NotUtf8);
+        };
+        let held = (
+            mem::replace(&mut self.policies, HeldPolicies::new(self.allocator)),
+            mem::replace(&mut self.entities, HeldEntities::new(self.allocator)),
+            self.asked.take(),
+        );
+        let mut session = Session::resumed(self.allocator, &self.extensions, self.depth, held);
+        let outcome = session.apply(&Command::of(verb, text));
+        let (policies, entities, asked) = session.into_held();
+        self.policies = policies;
+        self.entities = entities;
+        self.asked = asked;
+        outcome
+    }
+}

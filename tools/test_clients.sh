@@ -1,0 +1,118 @@
+#!/usr/bin/env bash
+# test_clients.sh [ARCHIVE [PROGRAM]], at the top of the repository: the examples in C, the clients in Python and Rust and what docs/CLIENTS.md
+# shows, on crates/cedar_c/out/libcedar_c.a (tools/archive.py makes it) and the program, or on those that are given.
+#
+# Through a handle all sessions of crates/cedar_main/cases are answered as by the program, also with requests for memory refused, under valgrind
+# without a bad access or a leak. Says what it left out for want of cc, python3, rustc or valgrind, and ends with status 1 where anything fails.
+set -u
+archive=$(realpath "${1:-crates/cedar_c/out/libcedar_c.a}")
+program=$(realpath "${2:-crates/cedar_main/out/cedar_main}")
+kit=${KIT:-$(dirname "$(rt doc)")}
+room=$(mktemp -d)
+trap 'rm -rf "$room"' EXIT
+failed=0 passed=0
+
+has() {
+    command -v "$1" > "$room/found" && return
+    echo "left out, for want of $1: $2"
+    return 1
+}
+
+# Tries a command, and shows what it wrote where it fails.
+try() {
+    local what=$1
+    shift
+    if "$@" > "$room/said" 2>&1; then
+        passed=$((passed + 1))
+        echo "fine: $what"
+    else
+        failed=$((failed + 1))
+        echo "FAILED: $what"
+        tail -n 30 "$room/said"
+    fi
+}
+
+# The text of the Nth block of a page that has no language.
+plain_block() {
+    awk -v nth="$2" '/^```/ { if (inside) { inside = on = 0 } else { inside = 1; on = $0 == "```" && ++n == nth } next } on' "$1"
+}
+
+link() {
+    cc -std=c11 -Wall -Wextra -Wpedantic -Werror -O1 -Icrates/cedar_c/include "crates/cedar_c/examples/$1.c" "$archive" "$kit"/c/lib*_c.a -o "$room/$1"
+}
+
+shared_object() {
+    sed -n 's/^uint8_t \(cedar_[a-z_]*\)(.*/\1/p' crates/cedar_c/include/cedar.h | sort > "$room/declared"
+    { echo '{ global:' && sed 's/$/;/' "$room/declared" && echo 'local: *; };'; } > "$room/map"
+    cc -shared -o "$room/libcedar.so" -Wl,--version-script="$room/map" -Wl,--whole-archive "$archive" -Wl,--no-whole-archive "$kit"/c/lib*_c.a
+    nm -D --defined-only "$room/libcedar.so" | awk '{ print $3 }' | sort | diff "$room/declared" -
+}
+
+exports_of_archive() {
+    nm -g --defined-only "$archive" | awk '$2 == "T" { print $3 }' | grep -v '^rattle_main$' | sort | diff "$room/declared" -
+}
+
+ask() {
+    "$room/ask" > "$room/asked"
+    plain_block docs/C.md 1 | diff - "$room/asked"
+}
+
+serves() {
+    printf '%s\n' 'put [{uid: User::"alice", parents: [Group::"staff"]}]' \
+        'load permit(principal in Group::"staff", action, resource) when { context.hour < 18 };' \
+        'ask {principal: User::"alice", context: {hour: 9}}' 'ask {principal: User::"alice"}' 'tell {context: {hour: 19}}' lode load 'ask 1' > "$room/lines"
+    printf '%s\n' ok 'ok ["policy0"]' 'allow must=["policy0"] may=["policy0"] erring=[]' 'open must=[] may=["policy0"] erring=[]' \
+        'deny must=[] may=[] erring=[]' 'no command' 'ok []' 'refused Shape' > "$room/wanted"
+    "$@" "$room/serve" < "$room/lines" > "$room/served" && diff "$room/wanted" "$room/served"
+}
+
+# All sessions, one behind the other, without the last line of each: ids that a session before bound don't matter here.
+under_valgrind() {
+    local case status
+    for case in crates/cedar_main/cases/*.stdin; do
+        [ "$(wc -c < "$case")" -gt 20000 ] && continue
+        valgrind -q --leak-check=full --show-leak-kinds=all --error-exitcode=99 --main-stacksize=33554432 "$room/frames" < "$case" > "$room/written"
+        status=$?
+        [ $status -eq 99 ] && echo "$case" && return 1
+        diff "${case%.stdin}.stdout" "$room/written" > "$room/differs" || { echo "$case" && return 1; }
+    done
+    serves valgrind -q --leak-check=full --show-leak-kinds=all --error-exitcode=99 --main-stacksize=33554432
+}
+
+python_tests() {
+    (cd clients/python && PATH="$room/bin:$PATH" CEDAR_LIBRARY="$room/libcedar.so" python3 -B -m unittest -q "tests.$1")
+}
+
+rust_tests() {
+    local archives
+    archives=$(for it in "$archive" "$kit"/c/lib*_c.a; do printf ' -C link-arg=%s' "$it"; done)
+    rustc --edition 2024 --crate-type rlib --crate-name cedar -O -D warnings -o "$room/libcedar.rlib" clients/rust/cedar.rs || return 1
+    # shellcheck disable=SC2086
+    rustc --edition 2024 --test -O --extern cedar="$room/libcedar.rlib" $archives -o "$room/tests" clients/rust/tests.rs || return 1
+    RUST_MIN_STACK=8388608 "$room/tests" -q
+}
+
+[ -f "$archive" ] || { echo "$archive isn't there: python3 tools/archive.py makes it" && exit 1; }
+mkdir "$room/bin" && ln -s "$program" "$room/bin/cedar_session"
+
+if has cc 'the examples in C, and all that needs the shared object'; then
+    try 'a shared object exports what the header declares' shared_object
+    try 'the archive exports it too, and nothing else' exports_of_archive
+    for example in ask serve frames; do try "$example.c is compiled" link "$example"; done
+    try 'ask.c writes what docs/C.md shows' ask
+    try 'serve.c answers a line each' serves
+    if has python3 'the sessions by a handle, and the client in Python'; then
+        try 'sessions by a handle' python3 tools/cases.py --program "$room/frames"
+        try 'sessions by a handle, with requests for memory refused' python3 tools/refuse_growths.py --program "$room/frames" --seconds "${SECONDS_OF_REFUSING:-30}"
+        try 'the client in Python' python_tests test_cedar
+        if [ -x "$program" ]; then
+            try 'what docs/CLIENTS.md shows: the program as a child, and a session for each connection' python_tests test_pages
+        else
+            echo "left out, for want of $program: the program as a child, and a session for each connection"
+        fi
+    fi
+    has valgrind 'bad accesses and leaks' && try 'sessions by a handle under valgrind' under_valgrind
+    has rustc 'the client in Rust' && try 'the client in Rust' rust_tests
+fi
+echo "$passed passed, $failed failed"
+[ $failed -eq 0 ]
