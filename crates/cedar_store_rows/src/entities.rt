@@ -1,13 +1,13 @@
 // Entities on a stack: how they are made, and what is asked of the topmost one.
+use crate::expressions::Stack;
+use crate::words::{
+    Answer, Case, done, listed, no_case, number, push, said, show, sorted, text, told, uid, uids,
+};
 use cedar_extensions::extensions::Extensions;
 use cedar_extensions::validation_errors::ExprValidationError;
 use cedar_literals::literals::Literal;
 use cedar_literals::types::StaticallyTyped;
 use cedar_literals::uids::EntityUID;
-use cedar_policy_rows::expressions::Stack;
-use cedar_policy_rows::words::{
-    Answer, Case, done, listed, no_case, number, push, said, show, sorted, text, told, uid, uids,
-};
 use cedar_restricted::errors::RestrictedExpressionError;
 use cedar_restricted::partial_values::PartialValue;
 use cedar_restricted::restricted::RestrictedExpr;

@@ -1,5 +1,5 @@
 // Graphs over numbers, their closures and what is refused of them.
-use cedar_policy_rows::words::{Answer, Case, done, no_case, sorted, text, told};
+use crate::words::{Answer, Case, done, no_case, sorted, text, told};
 use cedar_store::transitive_closure::{
     TCNode, TcError, compute_tc, enforce_tc_and_dag, rebuild_tc, repair_tc,
 };

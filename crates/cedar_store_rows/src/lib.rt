@@ -3,19 +3,25 @@
 #![tactic(auto)]
 
 mod entities;
+mod expressions;
 mod graphs;
+mod indexes;
 mod nesting;
+mod scopes;
+mod sets;
 mod stores;
+mod templates;
+mod words;
 
 use crate::entities::Made;
+use crate::expressions::Stack;
 use crate::graphs::Graph;
+use crate::scopes::Scope;
+use crate::sets::Sets;
 use crate::stores::Stores;
+use crate::templates::Policies;
+use crate::words::{Answer, Case, no_case};
 use cedar_extensions::extensions::Extensions;
-use cedar_policy_rows::expressions::{self, Stack};
-use cedar_policy_rows::scopes::{self, Scope};
-use cedar_policy_rows::sets::{self, Sets};
-use cedar_policy_rows::templates::{self, Policies};
-use cedar_policy_rows::words::{self, Answer, Case, no_case};
 use cedar_store::ast::SlotEnv;
 use std::alloc::{AllocError, Global};
 use std::collections::HashMap;

@@ -1,7 +1,7 @@
 // Users in groups that nest, each user and each group with three parents.
+use crate::words::{Answer, no_case, told};
 use cedar_literals::uids::EntityUID;
 use cedar_names::errors::ParseNameError;
-use cedar_policy_rows::words::{Answer, no_case, told};
 use cedar_store::ast::Entity;
 use std::alloc::Global;
 

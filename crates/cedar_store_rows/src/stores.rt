@@ -1,8 +1,6 @@
 // Stores of entities, their edits and what these are refused for.
+use crate::words::{Answer, Case, done, no_case, put, said, sorted, text, told, uid, uids};
 use cedar_extensions::extensions::Extensions;
-use cedar_policy_rows::words::{
-    Answer, Case, done, no_case, put, said, sorted, text, told, uid, uids,
-};
 use cedar_store::ast::Entity;
 use cedar_store::entities::{
     Dereference, Entities, EntitiesError, EntitiesValidation, TCComputation,
