@@ -2,9 +2,8 @@
 """archive.py [SHARED], at the top of the repository: builds crates/cedar_c/out/libcedar_c.a over the libraries that 'rt ci' left.
 
 The gate proves cedar_c, and leaves no archive of it. This proves that crate once more, some two minutes, and none below it: those
-libraries are the gate's. Where one is missing it says so, and nothing is built. The archive exports what
-crates/cedar_c/include/cedar.h declares and nothing else, by $OBJCOPY or objcopy. With a path, it also links a shared object there,
-which exports the same, by a version script; that takes a C compiler, $CC or cc.
+libraries are the gate's. Where one is missing it says so, and nothing is built. With a path, it also links a shared object there,
+which exports what crates/cedar_c/include/cedar.h declares and nothing else; that takes a C compiler, $CC or cc.
 
 Prints the words that a C compiler needs behind its own, the archives, and ends with status 1 where nothing was built."""
 
@@ -41,24 +40,10 @@ def built(crate):
     if missing:
         return f"rt ci hasn't left the libraries of {' '.join(missing)}"
     os.makedirs(f"{crate.folder}/out", exist_ok=True)
-    words = crate.words(["--jobs", "1"], keeps=False)
+    words = crate.words(["--jobs", str(min(os.cpu_count() or 1, 4))], keeps=False)
     words = [lib.RATTLE, "build", *words, "--backend", "llvm", "--toolchain", f"{lib.KIT}/toolchain", "-o", os.path.abspath(ARCHIVE)]
     ran = subprocess.run(words, cwd=crate.folder, stdin=subprocess.DEVNULL, stdout=subprocess.PIPE, stderr=subprocess.STDOUT, text=True)
-    return ran.stdout[-3000:] if ran.returncode else said_by([os.environ.get("OBJCOPY", "objcopy"), *keeps(), ARCHIVE])
-
-
-def keeps():
-    """What has objcopy leave global what the header declares, and no other name."""
-    return [f"--keep-global-symbol={name}" for name in declared()]
-
-
-def said_by(words):
-    """What a command says that fails, or nothing."""
-    try:
-        ran = subprocess.run(words, stdout=subprocess.PIPE, stderr=subprocess.STDOUT, text=True)
-    except OSError as why:
-        return f"{words[0]}: {why.strerror}"
-    return ran.stdout[-3000:] if ran.returncode else None
+    return None if ran.returncode == 0 else ran.stdout[-3000:]
 
 
 def linked(path, archives):
@@ -68,7 +53,11 @@ def linked(path, archives):
         it.flush()
         words = [os.environ.get("CC", "cc"), "-shared", "-o", path, f"-Wl,--version-script={it.name}"]
         words += ["-Wl,--whole-archive", archives[0], "-Wl,--no-whole-archive", *archives[1:]]
-        return said_by(words)
+        try:
+            ran = subprocess.run(words, stdout=subprocess.PIPE, stderr=subprocess.STDOUT, text=True)
+        except OSError as why:
+            return f"{words[0]}: {why.strerror}"
+    return None if ran.returncode == 0 else ran.stdout[-3000:]
 
 
 def main():

@@ -322,7 +322,7 @@ class Log:
             raise cedar.NoCommand(verb)
         return self._number(self.redis.call("XADD", self.name, "0-*", "frame", frame_of(verb, body)))
 
-    def after(self, position: int, seconds: float = 0, count: int = 256) -> List[Tuple[int, str, str]]:
+    def after(self, position: int, seconds: float = 0, count: int = 64) -> List[Tuple[int, str, str]]:
         """The edits behind a position, so many at most, each with its own; waits so long for the first."""
         block = ("BLOCK", max(1, int(seconds * 1000))) if seconds else ()
         found = self.redis.call("XREAD", "COUNT", count, *block, "STREAMS", self.name, f"0-{position}", wait=seconds)
@@ -363,10 +363,14 @@ class Copy(cedar.Commands):
     @classmethod
     def begin(cls, log: Log, opened: Callable[[], cedar.Commands]) -> "Copy":
         """A copy by a new session, which begins from the log's last snapshot. All copies of a log have one limit of depth."""
-        copy = cls(log, opened())
         snapshot = log.snapshot()
-        if snapshot:
-            copy._restore(snapshot)
+        copy = cls(log, opened())
+        try:
+            if snapshot:
+                copy._restore(snapshot)
+        except BaseException:
+            copy.close()
+            raise
         return copy
 
     def line(self, verb: str, body: str) -> str:
@@ -427,7 +431,6 @@ class Copy(cedar.Commands):
             self._given(verb, body)
         self.position = snapshot.position
         if self.snapshot() != snapshot:
-            self.close()
             raise ValueError("the snapshot leads elsewhere")
 
 
