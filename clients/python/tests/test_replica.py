@@ -108,21 +108,19 @@ class Copies(unittest.TestCase):
     def setUpClass(cls):
         with socket.create_server(("127.0.0.1", 0)) as it:
             cls.port = it.getsockname()[1]
-        cls.room = tempfile.mkdtemp()
-        words = ["redis-server", "--bind", "127.0.0.1", "--port", str(cls.port), "--save", "", "--dir", cls.room]
-        cls.server = subprocess.Popen(words, stdout=subprocess.DEVNULL)
+        room = tempfile.mkdtemp()
+        cls.addClassCleanup(shutil.rmtree, room)
+        words = ["redis-server", "--bind", "127.0.0.1", "--port", str(cls.port), "--save", "", "--dir", room]
+        server = subprocess.Popen(words, stdout=subprocess.DEVNULL)
+        cls.addClassCleanup(server.wait)
+        cls.addClassCleanup(server.terminate)
         for _ in range(100):
             try:
                 replica.Redis("127.0.0.1", cls.port).close()
                 return
             except OSError:
                 time.sleep(0.1)
-
-    @classmethod
-    def tearDownClass(cls):
-        cls.server.terminate()
-        cls.server.wait()
-        shutil.rmtree(cls.room)
+        raise TimeoutError("redis-server doesn't answer")
 
     def setUp(self):
         self.log = self.opened_log()
