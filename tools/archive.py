@@ -40,7 +40,7 @@ def built(crate):
     if missing:
         return f"rt ci hasn't left the libraries of {' '.join(missing)}"
     os.makedirs(f"{crate.folder}/out", exist_ok=True)
-    words = crate.words(["--jobs", "1"], keeps=False)
+    words = crate.words(["--jobs", str(min(os.cpu_count() or 1, 4))], keeps=False)
     words = [lib.RATTLE, "build", *words, "--backend", "llvm", "--toolchain", f"{lib.KIT}/toolchain", "-o", os.path.abspath(ARCHIVE)]
     ran = subprocess.run(words, cwd=crate.folder, stdin=subprocess.DEVNULL, stdout=subprocess.PIPE, stderr=subprocess.STDOUT, text=True)
     return None if ran.returncode == 0 else ran.stdout[-3000:]

@@ -3,7 +3,8 @@
 # shows, on crates/cedar_c/out/libcedar_c.a (tools/archive.py makes it) and the program, or on those that are given.
 #
 # Through a handle all sessions of crates/cedar_main/cases are answered as by the program, also with requests for memory refused, under valgrind
-# without a bad access or a leak. Says what it left out for want of cc, python3, rustc or valgrind, and ends with status 1 where anything fails.
+# without a bad access or a leak. Threads with the stacks of docs/C.md hold the deepest texts; copies by the log of a Redis server answer alike.
+# Says what it left out for want of cc, python3, rustc, valgrind or redis-server, and ends with status 1 where anything fails.
 set -u
 archive=$(realpath "${1:-crates/cedar_c/out/libcedar_c.a}")
 program=$(realpath "${2:-crates/cedar_main/out/cedar_main}")
@@ -38,7 +39,8 @@ plain_block() {
 }
 
 link() {
-    cc -std=c11 -Wall -Wextra -Wpedantic -Werror -O1 -Icrates/cedar_c/include "crates/cedar_c/examples/$1.c" "$archive" "$kit"/c/lib*_c.a -o "$room/$1"
+    cc -std=c11 -Wall -Wextra -Wpedantic -Werror -O1 -pthread -Icrates/cedar_c/include "crates/cedar_c/examples/$1.c" "$archive" "$kit"/c/lib*_c.a \
+        -o "$room/$1"
 }
 
 shared_object() {
@@ -49,7 +51,7 @@ shared_object() {
 }
 
 exports_of_archive() {
-    nm -g --defined-only "$archive" | awk '$2 == "T" { print $3 }' | grep -v '^rattle_main$' | sort | diff "$room/declared" -
+    nm -g --defined-only "$archive" | awk '$2 == "T" { print $3 }' | sort | diff "$room/declared" -
 }
 
 ask() {
@@ -66,16 +68,35 @@ serves() {
     "$@" "$room/serve" < "$room/lines" > "$room/served" && diff "$room/wanted" "$room/served"
 }
 
-# All sessions, one behind the other, without the last line of each: ids that a session before bound don't matter here.
+costs() {
+    "$room/cost" handle 100 && "$room/cost" run 100
+}
+
+# Each row of the table in docs/C.md: the limit, and the most that its columns have.
+stacks() {
+    awk -F'[|]' '$3 ~ /KiB/ { most = 0; for (at = 3; at <= 5; at++) if ($at + 0 > most) most = $at + 0; print $2 + 0, most }' docs/C.md > "$room/rows"
+    [ -s "$room/rows" ] || return 1
+    local limit most
+    while read -r limit most; do
+        "$room/stack" "$limit" "$most" || return 1
+    done < "$room/rows"
+}
+
+# One session without a bad access or a leak, and with the lines that the program writes.
+clean_session() {
+    local written
+    written=$(mktemp -p "$room")
+    valgrind -q --leak-check=full --show-leak-kinds=all --error-exitcode=99 --main-stacksize=33554432 "$room/frames" < "$1" > "$written"
+    [ $? -ne 99 ] && diff "${1%.stdin}.stdout" "$written" && return
+    echo "$1"
+    return 1
+}
+
 under_valgrind() {
-    local case status
-    for case in crates/cedar_main/cases/*.stdin; do
-        [ "$(wc -c < "$case")" -gt 20000 ] && continue
-        valgrind -q --leak-check=full --show-leak-kinds=all --error-exitcode=99 --main-stacksize=33554432 "$room/frames" < "$case" > "$room/written"
-        status=$?
-        [ $status -eq 99 ] && echo "$case" && return 1
-        diff "${case%.stdin}.stdout" "$room/written" > "$room/differs" || { echo "$case" && return 1; }
-    done
+    export -f clean_session
+    export room
+    # shellcheck disable=SC2016
+    find crates/cedar_main/cases -name '*.stdin' -size -20001c -print0 | xargs -0 -P "$(nproc)" -n 1 bash -c 'clean_session "$1"' '' || return 1
     serves valgrind -q --leak-check=full --show-leak-kinds=all --error-exitcode=99 --main-stacksize=33554432
 }
 
@@ -98,17 +119,22 @@ mkdir "$room/bin" && ln -s "$program" "$room/bin/cedar_session"
 if has cc 'the examples in C, and all that needs the shared object'; then
     try 'a shared object exports what the header declares' shared_object
     try 'the archive exports it too, and nothing else' exports_of_archive
-    for example in ask serve frames; do try "$example.c is compiled" link "$example"; done
+    for example in ask serve frames stack cost; do try "$example.c is compiled" link "$example"; done
     try 'ask.c writes what docs/C.md shows' ask
     try 'serve.c answers a line each' serves
+    try 'cost.c is answered' costs
+    try 'threads with the stacks of docs/C.md hold the deepest texts' stacks
     if has python3 'the sessions by a handle, and the client in Python'; then
         try 'sessions by a handle' python3 tools/cases.py --program "$room/frames"
         try 'sessions by a handle, with requests for memory refused' python3 tools/refuse_growths.py --program "$room/frames" --seconds "${SECONDS_OF_REFUSING:-30}"
         try 'the client in Python' python_tests test_cedar
+        try 'snapshots of copies' python_tests test_replica.Snapshots
         if [ -x "$program" ]; then
             try 'what docs/CLIENTS.md shows: the program as a child, and a session for each connection' python_tests test_pages
+            has redis-server 'copies by one log' && try 'copies by one log' python_tests test_replica.Copies
+            has socat 'a session for each connection, by socat' && try 'a session for each connection, by socat' python_tests test_pages.Socat
         else
-            echo "left out, for want of $program: the program as a child, and a session for each connection"
+            echo "left out, for want of $program: the program as a child, a session for each connection, copies by one log"
         fi
     fi
     has valgrind 'bad accesses and leaks' && try 'sessions by a handle under valgrind' under_valgrind

@@ -12,15 +12,17 @@ import ctypes
 import enum
 import os
 import re
-import threading
 from dataclasses import dataclass
+from threading import get_ident
 from typing import Dict, List, Optional, Tuple
 
 DEPTH = 256
 _DONE, _NO_COMMAND, _NO_MEMORY, _NO_ROOM, _NOT_OPEN = 0, 2, 4, 5, 6
-_ID = r'"(?:[^"\\]|\\.)*"'
-_IDS = rf"\[(?:{_ID},?)*\]"
-_ANSWER = re.compile(rf"(allow|deny|open) must=({_IDS}) may=({_IDS}) erring=(\[(?:{_ID}:\w+,?)*\])", re.DOTALL)
+_QUOTED = r'"[^"\\]*(?:\\.[^"\\]*)*"'
+_ID = re.compile(_QUOTED, re.DOTALL)
+_ERROR = re.compile(rf"({_QUOTED}):(\w+)", re.DOTALL)
+_IDS = rf"\[(?:{_QUOTED},?)*\]"
+_ANSWER = re.compile(rf"(allow|deny|open) must=({_IDS}) may=({_IDS}) erring=(\[(?:{_QUOTED}:\w+,?)*\])", re.DOTALL)
 _ESCAPED = {"n": "\n", "r": "\r", "t": "\t", "0": "\0"}
 _ESCAPES = {'"': '\\"', "\\": "\\\\", **{of: f"\\{name}" for name, of in _ESCAPED.items()}}
 
@@ -55,7 +57,10 @@ class Decision(enum.Enum):
     OPEN = "open"
 
 
-@dataclass(frozen=True)
+_DECISIONS = {it.value: it for it in Decision}
+
+
+@dataclass
 class Answer:
     """What a question is answered: the decision, the ids of the policies that are reasons whatever is unknown, of those that may
     be, and of those that err, each with the kind of its error."""
@@ -72,11 +77,14 @@ def quoted(text: str) -> str:
 
 
 def _unquoted(literal: str) -> str:
+    if "\\" not in literal:
+        return literal[1:-1]
     return re.sub(r"\\(.)", lambda it: _ESCAPED.get(it[1], it[1]), literal[1:-1], flags=re.DOTALL)
 
 
-def _ids(listed: str) -> Tuple[str, ...]:
-    return tuple(_unquoted(it) for it in re.findall(_ID, listed, re.DOTALL))
+def ids_of(listed: str) -> Tuple[str, ...]:
+    """The ids that a list in a line names."""
+    return tuple(map(_unquoted, _ID.findall(listed)))
 
 
 def answer_of(line: str) -> Answer:
@@ -84,8 +92,10 @@ def answer_of(line: str) -> Answer:
     parts = _ANSWER.fullmatch(line)
     if parts is None:
         raise ValueError(f"no answer: {line}")
-    erring = {_unquoted(name): kind for name, kind in re.findall(rf"({_ID}):(\w+)", parts[4], re.DOTALL)}
-    return Answer(Decision(parts[1]), _ids(parts[2]), _ids(parts[3]), erring)
+    decision, must, may, errors = parts.groups()
+    reasons = ids_of(must)
+    erring = {_unquoted(name): kind for name, kind in _ERROR.findall(errors)} if errors != "[]" else {}
+    return Answer(_DECISIONS[decision], reasons, reasons if may == must else ids_of(may), erring)
 
 
 class Commands:
@@ -113,7 +123,7 @@ class Commands:
 
     def load(self, policies: str) -> List[str]:
         """Loads policies and templates, and answers their ids."""
-        return list(_ids(self.command("load", policies)))
+        return list(ids_of(self.command("load", policies)))
 
     def link(self, template: str, link: str, principal: Optional[str] = None, resource: Optional[str] = None) -> None:
         """Links a template under an id, with the entities of its slots."""
@@ -155,7 +165,7 @@ def _library(path: Optional[str]) -> ctypes.CDLL:
     handle, count = ctypes.POINTER(_Handle), ctypes.c_size_t
     cedar.cedar_open.argtypes = [handle, ctypes.c_uint32]
     cedar.cedar_command.argtypes = [handle, ctypes.c_char_p, count, ctypes.c_char_p, count]
-    cedar.cedar_answer.argtypes = [handle, ctypes.c_char_p, count, ctypes.POINTER(count)]
+    cedar.cedar_answer.argtypes = [handle, ctypes.c_void_p, count, ctypes.POINTER(count)]
     cedar.cedar_close.argtypes = [handle]
     for call in (cedar.cedar_open, cedar.cedar_command, cedar.cedar_answer, cedar.cedar_close):
         call.restype = ctypes.c_uint8
@@ -167,34 +177,41 @@ class Session(Commands):
     stack a thread needs for it."""
 
     def __init__(self, depth: int = DEPTH, library: Optional[str] = None):
-        self._cedar, self._handle, self._thread = _library(library), _Handle(), threading.get_ident()
-        self._output = ctypes.create_string_buffer(256)
+        self._cedar, self._handle, self._thread = _library(library), _Handle(), get_ident()
+        self._at, self._written = ctypes.byref(self._handle), ctypes.c_size_t()
+        self._written_at = ctypes.byref(self._written)
+        self._make_room(256)
         if self._cedar.cedar_open(self._handle, depth) == _NO_MEMORY:
             raise MemoryError
 
     def line(self, verb: str, body: str) -> str:
-        self._stay()
+        if get_ident() != self._thread:
+            raise OtherThread
         named, given = verb.encode(), body.encode()
-        status = self._cedar.cedar_command(self._handle, named, len(named), given, len(given))
-        if status == _NOT_OPEN:
-            raise NotOpen
-        if status == _NO_COMMAND:
-            raise NoCommand(verb)
-        return self.last_line()
+        status = self._cedar.cedar_command(self._at, named, len(named), given, len(given))
+        if status == _DONE:
+            return self._line()
+        raise NotOpen if status == _NOT_OPEN else NoCommand(verb)
 
     def last_line(self) -> str:
         """The line that answers the last command, again where there was no memory for it. It changes nothing."""
         self._stay()
-        written = ctypes.c_size_t()
+        return self._line()
+
+    def _line(self) -> str:
         while True:
-            status = self._cedar.cedar_answer(self._handle, self._output, len(self._output), written)
+            status = self._cedar.cedar_answer(self._at, self._output_at, self._room, self._written_at)
             if status == _DONE:
-                return ctypes.string_at(self._output, written.value).decode()[:-1]
+                return self._output[: self._written.value].decode()[:-1]
             if status == _NOT_OPEN:
                 raise NotOpen
             if status == _NO_MEMORY:
                 raise MemoryError
-            self._output = ctypes.create_string_buffer(written.value)
+            self._make_room(self._written.value)
+
+    def _make_room(self, room: int) -> None:
+        self._output, self._room = ctypes.create_string_buffer(room), room
+        self._output_at = ctypes.addressof(self._output)
 
     def close(self) -> None:
         """Closes the session; a closed one stays closed."""
@@ -202,10 +219,10 @@ class Session(Commands):
         self._cedar.cedar_close(self._handle)
 
     def _stay(self) -> None:
-        if threading.get_ident() != self._thread:
+        if get_ident() != self._thread:
             raise OtherThread
 
     def __del__(self):
         # On another thread nothing may be given back.
-        if getattr(self, "_handle", None) is not None and threading.get_ident() == self._thread:
+        if getattr(self, "_handle", None) is not None and get_ident() == self._thread:
             self._cedar.cedar_close(self._handle)

@@ -1,8 +1,10 @@
-"""Tests of what docs/CLIENTS.md shows in Python: cedar_session is the program that the path finds, CEDAR_LIBRARY the shared object."""
+"""Tests of what docs/CLIENTS.md shows: cedar_session is the program that the path finds, CEDAR_LIBRARY the shared object."""
 
 import os
 import re
+import shutil
 import socket
+import subprocess
 import threading
 import time
 import unittest
@@ -25,7 +27,7 @@ def shown():
         yield names
 
 
-FIRST, CHILD, ACCEPTOR = shown()
+FIRST, CHILD, ACCEPTOR, COPY = shown()
 
 
 class First(unittest.TestCase):
@@ -44,7 +46,7 @@ class Child(Answers, unittest.TestCase):
         began = time.perf_counter()
         for _ in range(ASKS):
             self.session.ask("{context: {hour: 9}}")
-        print(f"by a child {(time.perf_counter() - began) / ASKS * 1e6:.1f} µs an ask")
+        print(f"{type(self).__name__}: {(time.perf_counter() - began) / ASKS * 1e6:.1f} µs an ask")
 
 
 class Connection(cedar.Commands):
@@ -80,6 +82,30 @@ class Connections(Answers, unittest.TestCase):
         self.assertEqual(self.session.ask("{}").decision, cedar.Decision.ALLOW)
 
     test_time = Child.test_time
+
+
+@unittest.skipUnless(shutil.which("socat"), "no socat is found")
+class Socat(Connections):
+    """The same by the line that the page has for socat."""
+
+    @classmethod
+    def setUpClass(cls):
+        with open(PAGE, encoding="utf-8") as it:
+            words = re.search(r"`(socat .*?)`", it.read())[1].split()
+        with socket.create_server(("127.0.0.1", 0)) as it:
+            cls.address = it.getsockname()
+        words = [it.replace("8180", str(cls.address[1])) for it in words]
+        server = subprocess.Popen(words)
+        cls.addClassCleanup(server.wait)
+        cls.addClassCleanup(server.terminate)
+
+    def opened(self):
+        for _ in range(100):
+            try:
+                return Connection(self.address)
+            except ConnectionRefusedError:
+                time.sleep(0.05)
+        return Connection(self.address)
 
 
 if __name__ == "__main__":

@@ -1,5 +1,7 @@
-/* Tells how much of its stack a thread uses, at several limits of depth, where texts nest as deep as they may: a session is
-   opened on a thread whose stack is painted, and what lost its paint is counted. */
+/* What a limit of depth takes of a thread's stack, where texts nest as deep as they may.
+
+   `stack` prints a table, by painted stacks: of each limit the most that a policy, a body and a chain of `if` lose of the paint.
+   `stack LIMIT KIB` does all of them on threads with stacks of so many KiB; one that doesn't fit ends the program by a signal. */
 #define _GNU_SOURCE
 #include "cedar.h"
 
@@ -9,96 +11,170 @@
 #include <string.h>
 #include <sys/mman.h>
 
-enum { PAINT = 0xa5, STACK = 64 << 20, TEXT = 1 << 16 };
+enum { PAINT = 0xa5, KIB = 1024, STACK = 64 << 20, TEXT = 1 << 16 };
 
 /* What stands round one place, and on which side. */
 struct nest {
-    const char *name, *before, *inside, *behind;
+    const char *before, *behind;
 };
 
-static const struct nest nests[] = {
-    {"`(`", "(", "true", ")"}, {"`[`", "[", "true", "]"}, {"a record", "{a: ", "true", "}"}, {"`if`", "if true then ", "true", " else true"}};
+/* A column of the table: in a policy or in bodies, several ways to nest. */
+struct column {
+    const char *name;
+    int is_body;
+    struct nest nests[12];
+};
 
-static uint32_t depth;
-static const struct nest *nest;
+static const struct column columns[] = {
+    {"policy",
+     0,
+     {{"(", ")"},
+      {"[", "]"},
+      {"{a: ", "}"},
+      {"a[", "]"},
+      {"[1].contains(", ")"},
+      {"!(", ")"},
+      {"1 == (", ")"},
+      {"1 + ", ""},
+      {"true && ", ""},
+      {"", ".a"},
+      {NULL, NULL}}},
+    {"body", 1, {{"(", ")"}, {"[", "]"}, {"{a: ", "}"}, {NULL, NULL}}},
+    {"`if`", 0, {{"if true then ", " else true"}, {"if true then true else ", ""}, {"if ", " then true else true"}, {NULL, NULL}}},
+};
+
+/* One way to nest, at one limit. */
+struct task {
+    uint32_t depth;
+    int is_body;
+    const struct nest *nest;
+};
+
+static _Noreturn void fail(const char *what) {
+    fprintf(stderr, "%s\n", what);
+    exit(EXIT_FAILURE);
+}
 
 static void do_or_end(cedar_session *session, const char *verb, const char *body) {
-    uint8_t status = cedar_command(session, (const uint8_t *)verb, strlen(verb), (const uint8_t *)body, strlen(body));
-    if (status != CEDAR_DONE) {
-        fprintf(stderr, "%s: %d\n", verb, status);
-        exit(EXIT_FAILURE);
+    if (cedar_command(session, (const uint8_t *)verb, strlen(verb), (const uint8_t *)body, strlen(body)) != CEDAR_DONE) {
+        fail(verb);
     }
 }
 
 /* Writes what nests so deep, between two texts. */
-static void write_nested(char *text, const char *front, uint32_t levels, const char *back) {
+static void write_nested(char *text, const char *front, const struct nest *nest, uint32_t levels, const char *back) {
     text = stpcpy(text, front);
     for (uint32_t at = 0; at < levels; at++) {
         text = stpcpy(text, nest->before);
     }
-    text = stpcpy(text, nest->inside);
+    text = stpcpy(text, "true");
     for (uint32_t at = 0; at < levels; at++) {
         text = stpcpy(text, nest->behind);
     }
     strcpy(text, back);
 }
 
-/* Loads a policy, and asks and tells bodies, one level below the limit, at it and above it. */
-static void *nested(void *unused) {
+/* Loads a policy, or asks and tells a body, which nests so deep, and asks twice. */
+static void nested(cedar_session *session, const struct task *task, uint32_t levels) {
     static char text[TEXT];
-    cedar_session session = CEDAR_CLOSED;
-    if (cedar_open(&session, depth) != CEDAR_DONE) {
-        exit(EXIT_FAILURE);
+    if (task->is_body) {
+        do_or_end(session, "load", "permit(principal, action, resource) when { context.a == context.b };");
+        write_nested(text, "{context: {a: ", task->nest, levels > 2 ? levels - 2 : 0, ", b: unknown(\"b\")}}");
+        do_or_end(session, "ask", text);
+        write_nested(text, "{b: ", task->nest, levels > 1 ? levels - 1 : 0, "}");
+        do_or_end(session, "tell", text);
+    } else {
+        write_nested(text, "permit(principal, action, resource) when { ", task->nest, levels, " == context.a };");
+        do_or_end(session, "load", text);
     }
-    for (uint32_t levels = depth - 2; levels <= depth; levels++) {
-        write_nested(text, "permit(principal, action, resource) when { ", levels, " == context.a };");
-        do_or_end(&session, "load", text);
-        write_nested(text, "{context: {a: ", levels > 2 ? levels - 2 : 0, "}}");
-        do_or_end(&session, "ask", text);
-        do_or_end(&session, "ask", "{}");
-        write_nested(text, "{context: {a: ", levels > 2 ? levels - 2 : 0, "}}");
-        do_or_end(&session, "tell", text);
-    }
-    cedar_close(&session);
-    return unused;
+    do_or_end(session, "ask", "{principal: U::\"a\", action: A::\"a\", resource: U::\"b\", context: {a: 1}}");
+    do_or_end(session, "ask", "{}");
 }
 
-/* How many bytes of a painted stack a thread used. */
-static size_t used(uint8_t *stack) {
-    pthread_attr_t attributes;
+/* Two levels below the limit, up to one above it. */
+static void *do_task(void *given) {
+    const struct task *task = given;
+    cedar_session session = CEDAR_CLOSED;
+    if (cedar_open(&session, task->depth) != CEDAR_DONE) {
+        fail("no memory");
+    }
+    for (uint32_t levels = task->depth - 2; levels <= task->depth + 1; levels++) {
+        nested(&session, task, levels);
+    }
+    cedar_close(&session);
+    return NULL;
+}
+
+static void on_a_thread(struct task *task, pthread_attr_t *attributes) {
     pthread_t thread;
+    if (pthread_create(&thread, attributes, do_task, task) || pthread_join(thread, NULL)) {
+        fail("no thread");
+    }
+    pthread_attr_destroy(attributes);
+}
+
+/* How many bytes of a painted stack a task uses. */
+static size_t used(struct task *task, uint8_t *stack) {
+    pthread_attr_t attributes;
     size_t at = 0;
     memset(stack, PAINT, STACK);
-    if (pthread_attr_init(&attributes) || pthread_attr_setstack(&attributes, stack, STACK) || pthread_create(&thread, &attributes, nested, NULL) ||
-        pthread_join(thread, NULL)) {
-        exit(EXIT_FAILURE);
+    if (pthread_attr_init(&attributes) || pthread_attr_setstack(&attributes, stack, STACK)) {
+        fail("no stack");
     }
-    pthread_attr_destroy(&attributes);
+    on_a_thread(task, &attributes);
     while (at < STACK && stack[at] == PAINT) {
         at++;
     }
     return STACK - at;
 }
 
-int main(void) {
+static size_t most_used(uint32_t depth, const struct column *column, uint8_t *stack) {
+    size_t most = 0;
+    for (const struct nest *nest = column->nests; nest->before != NULL; nest++) {
+        struct task task = {depth, column->is_body, nest};
+        size_t bytes = used(&task, stack);
+        most = bytes > most ? bytes : most;
+    }
+    return most;
+}
+
+static void print_table(void) {
     static const uint32_t depths[] = {8, 16, 32, 64, 128, 256};
     uint8_t *stack = mmap(NULL, STACK, PROT_READ | PROT_WRITE, MAP_PRIVATE | MAP_ANONYMOUS | MAP_STACK, -1, 0);
     if (stack == MAP_FAILED) {
-        return EXIT_FAILURE;
+        fail("no stack");
     }
-    printf("| depth |");
-    for (size_t of = 0; of < sizeof nests / sizeof *nests; of++) {
-        printf(" %s |", nests[of].name);
-    }
-    printf("\n|---|---|---|---|---|\n");
+    printf("| limit | policy | body | `if` |\n|---|---|---|---|\n");
     for (size_t at = 0; at < sizeof depths / sizeof *depths; at++) {
-        depth = depths[at];
-        printf("| %u |", (unsigned)depth);
-        for (size_t of = 0; of < sizeof nests / sizeof *nests; of++) {
-            nest = &nests[of];
-            printf(" %zu KiB |", (used(stack) + 1023) / 1024);
+        printf("| %u |", (unsigned)depths[at]);
+        for (size_t of = 0; of < sizeof columns / sizeof *columns; of++) {
+            printf(" %zu KiB |", (most_used(depths[at], &columns[of], stack) + KIB - 1) / KIB);
         }
         printf("\n");
+    }
+}
+
+/* Does all of a limit on threads with stacks of this size. */
+static void fit(uint32_t depth, size_t room) {
+    for (size_t of = 0; of < sizeof columns / sizeof *columns; of++) {
+        for (const struct nest *nest = columns[of].nests; nest->before != NULL; nest++) {
+            struct task task = {depth, columns[of].is_body, nest};
+            pthread_attr_t attributes;
+            if (pthread_attr_init(&attributes) || pthread_attr_setstacksize(&attributes, room)) {
+                fail("no such stack");
+            }
+            on_a_thread(&task, &attributes);
+        }
+    }
+}
+
+int main(int count, char **words) {
+    if (count == 3) {
+        fit((uint32_t)strtoul(words[1], NULL, 10), strtoul(words[2], NULL, 10) * KIB);
+    } else if (count == 1) {
+        print_table();
+    } else {
+        fail("usage: stack [LIMIT KIB]");
     }
     return EXIT_SUCCESS;
 }

@@ -1,0 +1,81 @@
+#!/usr/bin/env python3
+"""measure_clients.py [--archive PATH] [--repeat N], at the top of the repository: what one ask costs by a handle in C and by the client
+in Python, and within one run over frames in memory.
+
+Over the archive that tools/archive.py leaves it builds crates/cedar_c/examples/cost.c and a shared object, with $CC or cc. Instructions are
+those of 1,000 asks (valgrind --tool=callgrind): what 2,000 take less what 1,000 take. Times are processor times of 100,000 asks, the
+fastest of N repeats (5), of one policy, an answer as an object in Python."""
+
+import argparse
+import glob
+import os
+import re
+import resource
+import subprocess
+import sys
+import tempfile
+
+HERE = os.path.dirname(os.path.realpath(__file__))
+ARCHIVE = "crates/cedar_c/out/libcedar_c.a"
+COUNTED, TIMED = 1_000, 100_000
+PYTHON = """
+import sys, time
+import cedar
+with cedar.Session() as session:
+    session.put('[{uid: User::"alice", parents: [Group::"staff"]}]')
+    session.load('permit(principal in Group::"staff", action, resource) when { context.hour < 18 };')
+    question = '{principal: User::"alice", action: Action::"view", resource: Photo::"1", context: {hour: 9}}'
+    for _ in range(int(sys.argv[1])):
+        answer = session.ask(question)
+assert answer.must == ("policy0",)
+"""
+
+
+def build(archive, room):
+    """The program in C, and the shared object."""
+    kit = os.path.dirname(subprocess.run(["rt", "doc"], check=True, capture_output=True, text=True).stdout.strip())
+    compiler, archives = os.environ.get("CC", "cc"), [archive, *glob.glob(f"{kit}/c/lib*_c.a")]
+    include = ["-std=c11", "-O2", "-Icrates/cedar_c/include", "crates/cedar_c/examples/cost.c"]
+    subprocess.run([compiler, *include, *archives, "-o", f"{room}/cost"], check=True)
+    whole = ["-Wl,--whole-archive", archive, "-Wl,--no-whole-archive"]
+    subprocess.run([compiler, "-shared", *whole, *archives[1:], "-o", f"{room}/libcedar.so"], check=True)
+    return f"{room}/cost", {**os.environ, "CEDAR_LIBRARY": f"{room}/libcedar.so", "PYTHONPATH": f"{HERE}/../clients/python"}
+
+
+def instructions(words, env):
+    """What valgrind counts of a run."""
+    counted = ["valgrind", "--tool=callgrind", "--callgrind-out-file=/dev/null", *words]
+    ran = subprocess.run(counted, env=env, check=True, capture_output=True, text=True)
+    return int(re.search(r"Collected : (\d+)", ran.stderr)[1])
+
+
+def seconds(words, env, repeat):
+    """The processor time of the fastest run."""
+    times = []
+    for _ in range(repeat):
+        before = resource.getrusage(resource.RUSAGE_CHILDREN)
+        subprocess.run(words, env=env, check=True)
+        after = resource.getrusage(resource.RUSAGE_CHILDREN)
+        times.append(after.ru_utime + after.ru_stime - before.ru_utime - before.ru_stime)
+    return min(times)
+
+
+def main():
+    asked = argparse.ArgumentParser(usage=__doc__)
+    asked.add_argument("--archive", default=ARCHIVE)
+    asked.add_argument("--repeat", type=int, default=5)
+    asked = asked.parse_args()
+    with tempfile.TemporaryDirectory() as room:
+        cost, env = build(asked.archive, room)
+        ways = {"run": [cost, "run"], "handle": [cost, "handle"], "Python": [os.path.realpath(sys.executable), "-B", "-c", PYTHON]}
+        of_run = None
+        for way, words in ways.items():
+            counts = [instructions([*words, str(count)], env) for count in (COUNTED, 2 * COUNTED)]
+            times = [seconds([*words, str(count)], env, asked.repeat) for count in (1, TIMED)]
+            found = (counts[1] - counts[0]) / COUNTED, (times[1] - times[0]) / TIMED * 1e6
+            of_run = of_run or found
+            print(f"{way}: {found[0]:,.0f} instructions, {found[0] / of_run[0]:.2f} of a run's; {found[1]:.1f} µs, {found[1] / of_run[1]:.2f} of a run's")
+
+
+if __name__ == "__main__":
+    main()
