@@ -28,7 +28,6 @@ pub mod Plainness
 pub mod Taken
 pub mod MetAgain
 pub mod Exactness
-pub mod Waiting
 pub mod Accepting
 pub mod ContextsTold
 pub mod Requested
