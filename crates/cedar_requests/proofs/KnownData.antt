@@ -1,8 +1,11 @@
 -- Data that has a value, with nothing told, has no unknown.
 use Rattle.std.proofs.Common.{◌≡◌, ◌∙◌, refl, sym, Bool, true, false, ◌&&◌, Option, Some, None, List}
 use Rattle.std.specs.FinMap as finite
+use Rattle.std.specs.FinMap.{get-empty}
 use Rattle.cedar_language.specs.Facts.{Facts}
-use Rattle.cedar_language.specs.Tree.{MakeRecord, Apply, ValueType}
+use Rattle.cedar_language.specs.Order.{text_cmp}
+use Rattle.cedar_language.specs.Restricted.{is_restricted, are_restricted}
+use Rattle.cedar_language.specs.Tree.{MakeSet, MakeRecord, Call, Tree, Lit, Unknown, Apply, Trees, no_trees, a_tree, ValueType}
 use Rattle.cedar_language.specs.Uid.{Text, Name}
 use Rattle.cedar_language.specs.Value.{Value}
 use Rattle.cedar_partial_evaluation.specs.Leaves.{LeavesDontMatter}
