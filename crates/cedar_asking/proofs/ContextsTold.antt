@@ -41,9 +41,9 @@ use Rattle.cedar_evaluator.specs.Concretizing.{ContextTold}
 use Rattle.cedar_asking.specs.Keeping.{IsNamed}
 use Rattle.cedar_asking.specs.Tells.{told_in}
 use Rattle.cedar_requests.specs.ToldContexts.{HoldTold, ToldContextsAreEvaluated}
-use Rattle.cedar_asking.proofs.Accepting.{data_stays}
+use Rattle.cedar_requests.proofs.KnownData.{data_stays}
 use Rattle.cedar_asking.proofs.Exactness.{names_plain, none_told, record_calls_none}
-use Rattle.cedar_asking.proofs.Waiting.{IsDataTree, IsDataAnswer, left_data}
+use Rattle.cedar_requests.proofs.Waiting.{IsDataTree, IsDataAnswer, left_data}
 
 -- ---- the values that entries tell
 

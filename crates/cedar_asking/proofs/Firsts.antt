@@ -31,15 +31,16 @@ use Rattle.cedar_entities.specs.declared.store.Entities.{Entities}
 use Rattle.cedar_extensions.specs.Table.{Table}
 use Rattle.cedar_operators.specs.Store.{HasFacts}
 use Rattle.cedar_requests.specs.Holding.{RequestParts}
-use Rattle.cedar_interpreter.specs.Asking.{Inquiry, untold}
+use Rattle.cedar_interpreter.specs.Asking.{untold}
 use Rattle.cedar_interpreter.specs.Operating.{HasFunctions, NamesNothing}
 use Rattle.cedar_policy_set.specs.Entries.{Entry, static_policy, template, link, Entries, bound_at, IsWhole, policies_of}
 use Rattle.cedar_policy_set.specs.Texts.{AreToldBySlots, syntax_in}
 use Rattle.cedar_held.specs.PolicyWorlds.{policies_in, FindsAsWorlds}
 use Rattle.cedar_replies.specs.Erring.{have_kinds, with_kinds}
 use Rattle.cedar_replies.specs.declared.error_kind.ErrorKind.{ErrorKind}
-use Rattle.cedar_evaluator.specs.Evaluations.{Kept, IsKept, AreKept, IsServed, condition_in}
+use Rattle.cedar_evaluator.specs.Evaluations.{Kept, AreKept, IsServed, condition_in}
 use Rattle.cedar_evaluator.specs.Responses.{errors_of, holding_of, judged_held}
+use Rattle.cedar_evaluator.proofs.KeptOf.{kept_of, of_kept}
 use Rattle.cedar_evaluator.proofs.Standings.{judged, is_settled, stands_as_found}
 use Rattle.cedar_asking.specs.Answers.{IsSettingOf, SomeTooHigh}
 use Rattle.cedar_asking.specs.Erring.{with_failure, SomeAtLimit}
@@ -49,7 +50,7 @@ use Rattle.cedar_asking.specs.Laws.{SaysHeld}
 use Rattle.cedar_asking.specs.Requests.{IsRequestOf}
 use Rattle.cedar_asking.proofs.Errors.{errors_listed, settled_listed, limit_kept}
 use Rattle.cedar_asking.proofs.InForce.{written_entry, is_bound, is_there, is_in_force, some_in_force, written_by}
-use Rattle.cedar_asking.proofs.Lists.{IsAmong, contained, contains, mapped, unmapped}
+use Rattle.cedar_evaluator.proofs.Lists.{IsAmong, contained, contains, mapped, unmapped}
 use Rattle.cedar_asking.proofs.Naming.{is_other, no_unknown, no_call}
 use Rattle.cedar_asking.proofs.Sayings.{says_rules}
 use Rattle.cedar_asking.proofs.Standings.{stands_as_written, all_given, height_as_written, names_as_written}
@@ -77,22 +78,6 @@ effect_as_written (link t s b) = refl
 -- no condition of the set names an unknown
 abbrev NamesNone : Entries → Type 0
 NamesNone es = (id : Text) (e : Entry) → bound_at es id ≡ Some e → calls_only is_other (condition_in e) ≡ true
-
--- what is kept of a set's policies, whose store and table have the facts
-module _ (i : Inquiry) (store : Entities) (table : Table) (depth : ℕ) where
-  pub kept_of : (es : Entries) (ks : List Kept) → AreKept i store table depth es ks → (k : Kept) → IsAmong k ks → (e : Text × Entry) × IsAmong e es × IsKept i store table depth e k
-  kept_of [] [] h k a = absurd a
-  kept_of [] (l ∷ ks) h k a = absurd h
-  kept_of (e ∷ es) [] h k a = absurd h
-  kept_of (e ∷ es) (l ∷ ks) (first, rest) k (inl is) = (e, inl refl, subst (IsKept i store table depth e) is first)
-  kept_of (e ∷ es) (l ∷ ks) (first, rest) k (inr a) = let (f, among, kept) = kept_of es ks rest k a in (f, inr among, kept)
-
-  pub of_kept : (es : Entries) (ks : List Kept) → AreKept i store table depth es ks → (e : Text × Entry) → IsAmong e es → (k : Kept) × IsAmong k ks × (k.id ≡ e.0)
-  of_kept [] [] h e a = absurd a
-  of_kept [] (l ∷ ks) h e a = absurd h
-  of_kept (f ∷ es) [] h e a = absurd h
-  of_kept (f ∷ es) (l ∷ ks) (first, rest) e (inl is) = (l, inl refl, first.id ∙ ap (λ (x : Text × Entry). x.0) is)
-  of_kept (f ∷ es) (l ∷ ks) (first, rest) e (inr a) = let (k, among, is) = of_kept es ks rest e a in (k, inr among, is)
 
 module _ (r : RequestParts) (store : Entities) (table : Table) (depth : ℕ) where
   module _ (early : LinkingIsWritingEarly) (conditions : LinkConditions) (es : Entries) (whole : IsWhole es) (slots : AreToldBySlots es) (names : NamesNone es) (finds : FindsAsWorlds)
@@ -130,8 +115,8 @@ module _ (r : RequestParts) (store : Entities) (table : Table) (depth : ℕ) whe
       every_judged id some =
           let (s, force) = some_value (in_force_at world.policies id) some in
           let (e, at, is, policy) = written_by es whole slots finds world held id s force in
-          let (k, among, named) = of_kept (untold r) store table depth (policies_of es) ks kept (id, e) (is_there es whole id e at policy) in
-          (judged k, contains (map judged ks) (judged k) (mapped judged ks k among), named)
+          let (k, among, of) = of_kept (untold r) store table depth (policies_of es) ks kept (id, e) (is_there es whole id e at policy) in
+          (judged k, contains (map judged ks) (judged k) (mapped judged ks k among), of.id)
 
       pub judges : Judges world (StandsEarly facts q finite.empty) (map judged ks)
       judges = record { each = all_among _ (map judged ks) each_judged; every = every_judged }

@@ -73,13 +73,13 @@ use Rattle.cedar_asking.specs.Requests.{IsRequestOf}
 use Rattle.cedar_asking.specs.TellLaws.{IsAnsweredLater, IsContextFailure, IsWhyNotTold}
 use Rattle.cedar_asking.specs.Tells.{told_in}
 use Rattle.cedar_requests.specs.ToldContexts.{ToldContextsAreEvaluated}
-use Rattle.cedar_asking.proofs.Accepting.{accepts_told}
+use Rattle.cedar_evaluator.proofs.Accepting.{accepts_told}
 use Rattle.cedar_asking.proofs.AgainJudged.{all_out, says_of_all, judges_again, once_again}
 use Rattle.cedar_asking.proofs.ContextsTold.{holds_told, context_fails, no_unknown_asked, nothing_held}
 use Rattle.cedar_asking.proofs.Errors.{errors_listed, settled_listed}
 use Rattle.cedar_asking.proofs.Facts.{store_has_facts, table_is_served, built_is_made}
 use Rattle.cedar_asking.proofs.Known.{all_named_nothing}
-use Rattle.cedar_asking.proofs.Lists.{IsAmong}
+use Rattle.cedar_evaluator.proofs.Lists.{IsAmong}
 use Rattle.cedar_asking.proofs.Plainness.{functions_are_made, or_right}
 use Rattle.cedar_asking.proofs.Rejudged.{first_served, first_made, first_names}
 use Rattle.cedar_asking.proofs.Requested.{all_absent}

@@ -1,5 +1,3 @@
-pub mod Lists
-pub mod Members
 pub mod Naming
 pub mod Known
 pub mod InForce
@@ -25,11 +23,8 @@ pub mod TellParts
 pub mod TellBodies
 pub mod MoreTold
 pub mod Plainness
-pub mod Taken
 pub mod MetAgain
 pub mod Exactness
-pub mod Waiting
-pub mod Accepting
 pub mod ContextsTold
 pub mod Requested
 pub mod RequestTold

@@ -4,7 +4,7 @@ use Rattle.std.specs.Borrow.{Bor}
 use Rattle.std.specs.HashMap.{HashMap}
 use Rattle.std.specs.declared.alloc.Global.{Global}
 use Rattle.std.specs.declared.rc.RcStr.{RcStr}
-use Rattle.cedar_language.specs.Uid.{Text}
+use Rattle.cedar_language.specs.Uid.{Text, Uid}
 use Rattle.cedar_language.specs.Tree.{Variable, Principal, Action, Resource, Context, Tree}
 use Rattle.cedar_language.specs.Value.{Value}
 use Rattle.cedar_language.specs.Facts.{Facts}
@@ -23,6 +23,7 @@ use Rattle.cedar_extensions.specs.Table.{as_table}
 use Rattle.cedar_restricted_evaluation.specs.Evaluations.{part_answer}
 use Rattle.cedar_substitution.specs.Told.{told_for}
 use Rattle.cedar_interpreter.specs.Operating.{HasFunctions, NamesNothing}
+use Rattle.cedar_interpreter.specs.Seen.{uid_standing}
 use Rattle.cedar_interpreter.specs.declared.evaluator.Variables.{Variables}
 use Rattle.cedar_interpreter.specs.declared.evaluator.Evaluator.{Evaluator}
 
@@ -34,6 +35,13 @@ variable_in vs Context = vs.context
 
 abbrev pub variable_held : {F : Type 0} → Evaluator F → Variable → Answer
 variable_held ev v = part_answer (partial_of (variable_in ev.variables v))
+
+-- the entity that stands for a variable; for the context none does
+abbrev pub entity_held : {F : Type 0} → Evaluator F → Variable → Option Uid
+entity_held ev Principal = uid_standing (partial_of ev.variables.principal)
+entity_held ev Action = uid_standing (partial_of ev.variables.action)
+entity_held ev Resource = uid_standing (partial_of ev.variables.resource)
+entity_held ev Context = None
 
 -- no evaluation nests deeper
 abbrev pub depth_of : {F : Type 0} → Evaluator F → ℕ
