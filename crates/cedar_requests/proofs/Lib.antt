@@ -1,7 +1,7 @@
 mod EqualEntries
 mod Making
 mod Mistyping
-mod PutIn
+pub mod PutIn
 mod RecordsStay
 mod Refusing
 mod ToldAnswers
