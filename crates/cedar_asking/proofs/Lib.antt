@@ -4,6 +4,7 @@ pub mod InForce
 pub mod Standings
 pub mod Sayings
 pub mod Errors
+pub mod Depths
 pub mod Firsts
 pub mod Facts
 pub mod Data

@@ -2,7 +2,7 @@ mod EqualEntries
 pub mod KnownData
 mod Making
 mod Mistyping
-mod PutIn
+pub mod PutIn
 mod RecordsStay
 mod Refusing
 mod StayingContexts
