@@ -134,7 +134,7 @@ module _ (law : PlainAnswers) (apart : LeavesDontMatter) (stay : ContextsStay) (
     record_deep t error e tells is = (
       (left_is_data t e).0,
       subst (λ f. FailsBy (OfSubstituted told t (λ u. depth < height u)) (λ k. partial_in facts (held_names (told_in told)) t ≡ Failed k) f) is
-      (tell table depth told (told_in told) (holds_told told) t (left_is_data t e).0 (left_is_data t e).1 (λ h. left_calls_none t e) (Err error) tells facts served made_told),
+          (tell table depth told (told_in told) (holds_told told) t (left_is_data t e).0 (left_is_data t e).1 (λ h. left_calls_none t e) (Err error) tells facts served made_told),
     )
 
   -- the context of the request with what is told is what is held of the question's then

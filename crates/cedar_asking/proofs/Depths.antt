@@ -147,6 +147,7 @@ module _ (h : Heights) (some_named : (n : Text) → 1 ≤ h.named n) (told : Lis
           first_true : (a b : Bool) → (a && b) ≡ true → a ≡ true
           first_true true b e = refl
           first_true false b e = e
+
           second_true : (a b : Bool) → (a && b) ≡ true → b ≡ true
           second_true true b e = e
           second_true false b e = cc

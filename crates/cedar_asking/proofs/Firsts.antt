@@ -170,15 +170,14 @@ module _ (r : RequestParts) (store : Entities) (table : Table) (depth : ℕ) whe
         let (bs, deep) = of.limit found facts (serves e.1 calls) in
         let holds = request_held (untold r) bs in
         let force = is_in_force es whole slots finds world held e.0 e.1 at policy in
-        let written = height_as_written conditions keeps e.1 in
-        (
+        let written = height_as_written conditions keeps e.1 in (
           λ h heights.
-          let within = subst (AreWithin h facts) (sym (held_so table q r asked.holds facts served bs)) (held_is_within by world facts q finite.empty finite.empty (binding_of bs) h are heights (λ n v is. is)) in
-          let low = depth_grows h facts holds within (condition_in e.1) in
-          let by_held = grows_by_held by world q finite.empty h heights (condition_in e.1) in
-          (e.0, written_entry e.1, force, omega (arith, deep, low, by_held, written, setting.depth_is)),
+              let within = subst (AreWithin h facts) (sym (held_so table q r asked.holds facts served bs)) (held_is_within by world facts q finite.empty finite.empty (binding_of bs) h are heights (λ n v is. is)) in
+              let low = depth_grows h facts holds within (condition_in e.1) in
+              let by_held = grows_by_held by world q finite.empty h heights (condition_in e.1) in
+              (e.0, written_entry e.1, force, omega (arith, deep, low, by_held, written, setting.depth_is)),
           λ known.
-          let given = all_given meant by table q r asked setting.functions known (condition_in e.1) (no_unknown is_other (condition_in e.1) calls) in
-          let low = known_depth never facts (is_given (untold r)) true holds (record { variable = λ v. held_known (holds.variable v); slot = λ s i. slot_known (binding_of bs s) }) (condition_in e.1) given in
-          (e.0, written_entry e.1, force, omega (arith, deep, low, written, setting.depth_is)),
+              let given = all_given meant by table q r asked setting.functions known (condition_in e.1) (no_unknown is_other (condition_in e.1) calls) in
+              let low = known_depth never facts (is_given (untold r)) true holds (record { variable = λ v. held_known (holds.variable v); slot = λ s i. slot_known (binding_of bs s) }) (condition_in e.1) given in
+              (e.0, written_entry e.1, force, omega (arith, deep, low, written, setting.depth_is)),
         )

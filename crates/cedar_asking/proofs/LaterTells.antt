@@ -238,8 +238,7 @@ module _ (c : Rests) (by : Setting) (world : World) (q : Question) (first : Part
           (grows h facts (request_held (untold response.request) (bindings_in e.1)) before (condition_in e.1))
           (some_grown h facts (request_held (untold response.request) (bindings_in e.1)) before (condition_in e.1)) in
           let by_held = grows_by_held by world q (told_in told) h heights (condition_in e.1) in
-          let written = height_as_written conditions keeps e.1 in
-          (
+          let written = height_as_written conditions keeps e.1 in (
             e.0,
             written_entry e.1,
             is_in_force response.policies response.whole response.of.slots c.finds world response.of.policies e.0 e.1 at policy,
@@ -329,8 +328,7 @@ module _ (c : Rests) (by : Setting) (world : World) (q : Question) (first : Part
   context_failure : KnownIsNeverLeft → WrittenValuesAreGround → GroundTreesAreRestricted → (p : Either Value Tree) (error : EvaluationError) → (request_asked first).context ≡ Some p → TellsContext table depth told p (Err error) → (f : Failure) → failure_of error ≡ f → IsContextFailure by world q told f
   context_failure never written ground p error is tells (OfKind k) of = written_errs q.context first.request.value.context p error k asked.is_data response.named (asked.holds alone response.of.setting.functions Context) is tells of
   context_failure never written ground p error is tells LimitMet of =
-      let named = context_open never q.context first.request.value.context p error asked.is_data (asked.holds alone response.of.setting.functions Context) is tells in
-      (
+      let named = context_open never q.context first.request.value.context p error asked.is_data (asked.holds alone response.of.setting.functions Context) is tells in (
         named,
         λ h heights. (
           named,

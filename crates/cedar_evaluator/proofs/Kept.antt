@@ -64,12 +64,11 @@ module _
     annotations = ap (λ (s : grammar.Policy). s.annotations) (sym syntax_is);
     found = λ facts served. subst (λ b. Finds b (found_in answer)) (answer_is facts) (finds _ answer (found facts (subst (IsServed i store table depth facts) condition_is served)) keepable);
     limit = λ met facts served.
-        let (slots, deep) = limit (limit_met answer met) facts (serves facts served) in
-        (
+        let (slots, deep) = limit (limit_met answer met) facts (serves facts served) in (
           slots,
           subst (λ (t : Tree). depth < evaluation_depth facts (request_held i slots) t) (sym condition_is)
-          (subst (λ (d : ℕ). d < evaluation_depth facts (request_held i slots) (condition_of p)) is.limit
-          (subst (λ (holds : LeafAnswers). depth_of ev < evaluation_depth facts holds (condition_of p)) (is.holds slots) deep)),
+              (subst (λ (d : ℕ). d < evaluation_depth facts (request_held i slots) (condition_of p)) is.limit
+              (subst (λ (holds : LeafAnswers). depth_of ev < evaluation_depth facts holds (condition_of p)) (is.holds slots) deep)),
         );
   }
 

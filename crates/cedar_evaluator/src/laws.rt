@@ -4,10 +4,9 @@
 //! and what a context is once values are told for its unknowns.
 ghost use Rattle.cedar_evaluator.specs.Questions.{ResponsesAnswerRequests, KnownRequestsAreAnswered, LaterResponsesAnswerRequests};
 
-use cedar_requests::laws::told_contexts_stay;
-
 pub use cedar_operators::stores_have_facts;
 pub use cedar_requests::laws as contexts;
+use cedar_requests::laws::told_contexts_stay;
 
 /// What a response says of a question that its request asks holds under each filling of it, and is as sharp as
 /// what is settled of the conditions; what settles to an error is told, with a kind to which it settles.

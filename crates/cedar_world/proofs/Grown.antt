@@ -236,6 +236,7 @@ module _ (h : Heights) (facts : Facts) (holds : LeafAnswers) (within : AreWithin
     where
       some_same : {A : Type 0} (x y : A) → Some x ≡ Some y → x ≡ y
       some_same x y i = cc
+
       constructor_is : (g : Function) → facts.function f ≡ Some g → constructor_function ≡ g
       constructor_is g e = some_same constructor_function g (sym (within.constructor f is) ∙ e)
 

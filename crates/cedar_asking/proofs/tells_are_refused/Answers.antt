@@ -21,14 +21,14 @@ pub returns-clause-limit : goal.returns-clause-limit
 returns-clause-limit c by world q first again old told es s table depth last gives keeps now are taken some = (
   met_again c.policy_sets_are_worlds.ensures.finds by world q first keeps.response told s table depth again taken some,
   limits_high
-  (record {
-    exist = c.worlds_have_facts.ensures;
-    finds = c.policy_sets_are_worlds.ensures.finds;
-    apart = c.leaves_dont_matter.ensures;
-    stay = c.contexts_stay.ensures;
-    plain = c.plain_answers.ensures;
-    parts = c.contexts_err_in_parts.ensures;
-    tell = c.told_contexts_are_evaluated.ensures;
-  })
-  by world q first keeps.response told are es s table gives depth now again taken c.linking_binds_the_condition.ensures c.linking_keeps_height.ensures some,
+      (record {
+        exist = c.worlds_have_facts.ensures;
+        finds = c.policy_sets_are_worlds.ensures.finds;
+        apart = c.leaves_dont_matter.ensures;
+        stay = c.contexts_stay.ensures;
+        plain = c.plain_answers.ensures;
+        parts = c.contexts_err_in_parts.ensures;
+        tell = c.told_contexts_are_evaluated.ensures;
+      })
+      by world q first keeps.response told are es s table gives depth now again taken c.linking_binds_the_condition.ensures c.linking_keeps_height.ensures some,
 )
