@@ -12,6 +12,7 @@ use Rattle.cedar_partial_evaluation.specs.MadeAgain.{HoldsMade}
 use Rattle.cedar_partial_evaluation.specs.Prompt.{IsPrompt}
 use Rattle.cedar_partial_evaluation.specs.Question.{Question}
 use Rattle.cedar_entities.specs.declared.store.Entities.{Entities}
+use Rattle.cedar_extensions.specs.Failures.{Failure, OfKind}
 use Rattle.cedar_extensions.specs.Table.{Table}
 use Rattle.cedar_interpreter.specs.Asking.{Inquiry, untold}
 use Rattle.cedar_policy_set.specs.Entries.{Entries, policies_of}
@@ -76,10 +77,10 @@ module _ (facts : Facts) (good : HoldsMade facts) (q : Question) (r : RequestPar
   alike_early = subst (CountAlike (judged_held h)) early_is of.alike
 
   seen : (id : Text) (k : Kind) → TellsError h id k → HasErred (map (judged_early facts q finite.empty) ps) id k
-  seen id k c = subst (λ js. HasErred js id k) early_is (errors_seen of.kept id k (subst (λ es. Contains es _) of.errors c))
+  seen id k c = subst (λ js. HasErred js id k) early_is (errors_seen of.kept id k (subst (λ (es : List (Text × Failure)). Contains es (id, OfKind k)) of.errors c))
 
   pub told : (id : Text) (k : Kind) → HasErred (map (judged_early facts q finite.empty) ps) id k → TellsError h id k
-  told id k e = subst (λ es. Contains es _) (sym of.errors) (errors_told of.kept id k (subst (λ js. HasErred js id k) (sym early_is) e))
+  told id k e = subst (λ (es : List (Text × Failure)). Contains es (id, OfKind k)) (sym of.errors) (errors_told of.kept id k (subst (λ js. HasErred js id k) (sym early_is) e))
 
   pub erred_at : (p : Policy) → Contains ps p → (k : Kind) → (judged_early facts q finite.empty p).standing ≡ answering.Erring k → TellsError h p.id k
   erred_at p c k e = told p.id k (judged_early facts q finite.empty p, contains _ _ (mapped (judged_early facts q finite.empty) ps p (contained ps p c)), refl, e)

@@ -18,6 +18,7 @@ use Rattle.cedar_partial_evaluation.specs.Partial.{partial_in}
 use Rattle.cedar_policy_parts.specs.Bindings.{binding_of}
 use Rattle.cedar_partial_evaluation.specs.Reauthorizing.{IsErring, condition_again, judged_again, ReauthorizingIsFair, ReauthorizingIsSharp, ErrorsAreNamed, ReauthorizingIsExact}
 use Rattle.cedar_entities.specs.declared.store.Entities.{Entities}
+use Rattle.cedar_extensions.specs.Failures.{Failure, OfKind}
 use Rattle.cedar_extensions.specs.Table.{Table}
 use Rattle.cedar_interpreter.specs.Asking.{Inquiry, untold}
 use Rattle.cedar_interpreter.specs.Operating.{NamesNothing}
@@ -154,14 +155,14 @@ module _ (stay : ToldContextsStay) (facts : Facts) (good : HoldsMade facts) (q :
 
   seen : (id : Text) (k : Kind) → TellsError held id k → HasErred (map as_again ps) id k
   seen id k c =
-      let (j, in_ls, is, errs) = errors_seen ls id k (subst (λ es. Contains es _) errors_are c) in
+      let (j, in_ls, is, errs) = errors_seen ls id k (subst (λ (es : List (Text × Failure)). Contains es (id, OfKind k)) errors_are c) in
       (j, contains (map as_again ps) j (back j (contained (map judged ls) j in_ls)), is, errs)
 
   again_at : (p : Policy) → Contains ps p → (k : Kind) → (as_again p).standing ≡ answering.Erring k → TellsError held p.id k
   again_at p c k errs =
       elim (either p (contained ps p c)) [
         | inl u ↦ absurd (unsatisfied (sym u ∙ errs))
-        | inr a ↦ subst (λ es. Contains es _) (sym errors_are) (errors_told ls p.id k (as_again p, contains (map judged ls) (as_again p) a, refl, errs))
+        | inr a ↦ subst (λ (es : List (Text × Failure)). Contains es (p.id, OfKind k)) (sym errors_are) (errors_told ls p.id k (as_again p, contains (map judged ls) (as_again p) a, refl, errs))
       ]
     where
       unsatisfied : answering.Unsatisfied ≡ answering.Erring k → ⊥

@@ -81,9 +81,9 @@ module _ (stay : ToldContextsStay) (facts : Facts) (good : HoldsMade facts) (q :
   context_so c o None neither_given p none = ap (λ (o : Option Value). name_held o (codes "context") None) (sym (same (codes "context") ∙ none))
   context_so c o (Some new) neither_given p (v, is, by) = ap part_answer by ∙ ap (λ (o : Option Value). name_held o (codes "context") None) (sym (same (codes "context") ∙ is))
   context_so c o None (both_given given is) p h = absurd h
-  context_so c o (Some new) (both_given {ks} {ts} {part} given is) p (context, by, tells) =
+  context_so c o (Some new) (both_given {ks} {ts} {p} given is) simple (context, by, tells) =
       ap part_answer (sym by)
-      ∙ (stay table depth entries told same facts served good made (Apply (MakeRecord ks) ts) given p.untyped part is (λ u e. p.plain u (ap Some e)) (Ok context) tells).answers
+      ∙ (stay table depth entries told same facts served good made (Apply (MakeRecord ks) ts) given simple.untyped p is (λ u e. simple.plain u (ap Some e)) (Ok context) tells).answers
 
   abbrev of_context : Option (Variable × Conflict)
   of_context = or_first Context (conflict_of (told_for entries) r Context) None

@@ -1,5 +1,5 @@
 -- What is left of the policies of a response, by what was found of each.
-use Rattle.std.proofs.Common.{◌≡◌, Bool, true, false, inl, inr, List, ◌++◌, map, refl, sym, ◌∙◌, ap, subst}
+use Rattle.std.proofs.Common.{◌≡◌, Bool, true, false, inl, inr, Some, List, ◌++◌, map, refl, sym, ◌∙◌, ap, subst}
 use Rattle.std.specs.Map.{keys_of}
 use Rattle.std.specs.declared.alloc.Global.{Global}
 use Rattle.std.specs.declared.rc.Rc.{Rc}
