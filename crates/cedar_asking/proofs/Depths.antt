@@ -1,12 +1,12 @@
 -- How deep evaluations nest, by how high a tree may grow; and how high data is with what is told in the places of its unknowns.
-use Rattle.std.proofs.Common.{◌≡◌, ◌≤◌, ◌<◌, ◌+◌, ℕ, suc, max, Bool, true, false, ◌&&◌, Option, Some, None, List, [], ◌∷◌, refl, sym, ap, subst, arith}
+use Rattle.std.proofs.Common.{◌≡◌, ◌≤◌, ℕ, suc, max, Bool, true, false, ◌&&◌, Option, Some, None, List, [], ◌∷◌, refl, sym, subst, arith}
 use Rattle.std.proofs.Math.Nat.{le-max_left, le-max_right, max-le}
 use Rattle.std.specs.declared.alloc.Global.{Global}
 use Rattle.std.specs.declared.rc.RcStr.{RcStr}
 use Rattle.cedar_grammar.specs.Build.{Keyed}
 use Rattle.cedar_grammar.specs.Policy.{condition}
 use Rattle.cedar_language.specs.Answering.{Effect}
-use Rattle.cedar_language.specs.Constructing.{construction, longs_of}
+use Rattle.cedar_language.specs.Constructing.{longs_of}
 use Rattle.cedar_language.specs.Facts.{Facts}
 use Rattle.cedar_language.specs.Height.{height, heights}
 use Rattle.cedar_language.specs.Restricted.{is_restricted, are_restricted}
@@ -24,7 +24,6 @@ use Rattle.cedar_substitution.specs.Typed.{StandsFor, Tells, SubstitutesValues}
 use Rattle.cedar_requests.proofs.PutIn.{put_in, all_put_in, substituted_is}
 use Rattle.cedar_evaluator.specs.Evaluations.{Found, Satisfied, Unsatisfied, Erred, Open, Finds}
 use Rattle.cedar_evaluator.specs.Residuals.{clause_policy}
-use Rattle.cedar_extensions.specs.Failures.{OfKind, LimitMet, MemoryRanOut}
 use Rattle.cedar_asking.proofs.Taken.{clause_of}
 
 -- ---- evaluations

@@ -1,5 +1,5 @@
 -- Whether what is evaluated once more is told is too deep is read off the policies in force and the question.
-use Rattle.std.proofs.Common.{◌≡◌, ◌⊎◌, inl, inr, ◌<◌, ◌+◌, ℕ, suc, Bool, true, false, true≢false, Some, List, [], ◌∷◌, All, length, arith, refl, sym, ◌∙◌, subst}
+use Rattle.std.proofs.Common.{◌≡◌, ◌⊎◌, inl, inr, ◌<◌, ◌+◌, ℕ, suc, Bool, true, false, true≢false, Some, List, [], ◌∷◌, All, arith, refl, sym, ◌∙◌, subst}
 use Rattle.std.proofs.lemmas.Bool.{cases_order}
 use Rattle.cedar_language.specs.Height.{height}
 use Rattle.cedar_language.specs.Uid.{Text}

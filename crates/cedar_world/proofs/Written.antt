@@ -1,16 +1,16 @@
 -- What is held of a question, once no more than this is told, is no higher than what may be written into a condition.
-use Rattle.std.proofs.Common.{◌≡◌, ◌≤◌, ◌<◌, ◌+◌, ℕ, suc, max, Bool, true, false, cond, Option, Some, None, refl, sym, ◌∙◌, ap, subst, arith, codes}
-use Rattle.std.proofs.Math.Nat.{le-max_left, le-max_right}
+use Rattle.std.proofs.Common.{◌≡◌, ◌≤◌, ◌<◌, ◌+◌, ℕ, suc, Bool, true, false, cond, Option, Some, None, refl, sym, ◌∙◌, subst, arith, codes}
+use Rattle.std.proofs.Math.Nat.{le-max_right}
 use Rattle.std.specs.FinMap as finite
-use Rattle.cedar_language.specs.Uid.{Text, Name, Uid}
+use Rattle.cedar_language.specs.Uid.{Text, Uid}
 use Rattle.cedar_language.specs.Tree.{Variable, Principal, Action, Resource, Context, ValueType, SlotId, Operator, GetTag, GetAttr, MakeRecord, Call, Tree, Lit, Var, Slot, Unknown, If, And, Or, Apply, Trees, no_trees, a_tree}
 use Rattle.cedar_language.specs.Value.{Value}
 use Rattle.cedar_language.specs.Facts as language
-use Rattle.cedar_language.specs.Facts.{Function, Facts}
+use Rattle.cedar_language.specs.Facts.{Facts}
 use Rattle.cedar_language.specs.Constructing.{is_the_constructor, constructor_function}
 use Rattle.cedar_language.specs.Height.{height, heights}
 use Rattle.cedar_language.specs.Meaning.{Slots, slot_outcome}
-use Rattle.cedar_grammar.specs.Functions.{evaluated_function, function_of}
+use Rattle.cedar_grammar.specs.Functions.{function_of}
 use Rattle.cedar_partial_evaluation.specs.Partial.{LeafAnswers, answer_of}
 use Rattle.cedar_partial_evaluation.specs.Question.{Part, Given, Missing, entity_type, value_held, name_held, part_held, held_names, context_held, variable_held, held_of}
 use Rattle.cedar_partial_evaluation.specs.Unknowns.{fits}

@@ -78,11 +78,13 @@ pub record AreWithin (h : Heights) (facts : Facts) (holds : LeafAnswers) : Type 
   pub attribute : (u : Uid) (e : Held) (a : Text) (v : Value) → facts.entity u ≡ Some e → e.attribute a ≡ Some v → value_height v ≤ h.held
   pub tag : (u : Uid) (e : Held) (a : Text) (v : Value) → facts.entity u ≡ Some e → e.tag a ≡ Some v → value_height v ≤ h.held
   pub constructor : (n : Name) → is_the_constructor n ≡ true → facts.function n ≡ Some constructor_function
-  pub function : (n : Name) (f : Function) (vs : Values) (v : Value) → is_the_constructor n ≡ false → facts.function n ≡ Some f → f.answer vs ≡ Some v → value_height v ≤ h.answered
+  pub function : (n : Name) (f : Function) (vs : Values) (v : Value) → is_the_constructor n ≡ false → facts.function n ≡ Some f
+      → f.answer vs ≡ Some v → value_height v ≤ h.answered
 
 -- what an evaluation answers, or leaves of a tree, is no higher than the tree may grow
 abbrev pub AnswersStayWithin : Type 0
-AnswersStayWithin = (h : Heights) (facts : Facts) (holds : LeafAnswers) → AreWithin h facts holds → (t : Tree) → grown_answer h (partial_in facts holds t) ≤ grown h t
+AnswersStayWithin =
+    (h : Heights) (facts : Facts) (holds : LeafAnswers) → AreWithin h facts holds → (t : Tree) → grown_answer h (partial_in facts holds t) ≤ grown h t
 
 -- ---- a question
 
@@ -97,7 +99,7 @@ context_height h NoContext = h.named (codes "context")
 context_height h (WithEntries ks ts) = grown h (Apply (MakeRecord ks) ts)
 
 -- These are heights of what may be written into a condition once these values are told: no attribute or tag that is held is higher,
--- no answer of a caller's function, no value told, and not the question's context with what is told in it.
+-- no answer of a function, no value told, and not the question's context with what is told in it.
 pub record AreHeights (by : Setting) (world : World) (q : Question) (told : Told) (h : Heights) : Type 0 where
   pub attribute : (u : Uid) (e : EntityData) (a : Text) (v : Value) → map.get world.entities u ≡ Some e → map.get e.attributes a ≡ Some v
       → value_height v ≤ h.held
@@ -118,7 +120,8 @@ HeldIsWithin =
 
 -- and a tree grows by no more than the highest of it
 abbrev pub GrowsByHeld : Type 0
-GrowsByHeld = (by : Setting) (world : World) (q : Question) (told : Told) (h : Heights) → AreHeights by world q told h → (t : Tree) → grown h t < height t + h.held
+GrowsByHeld =
+    (by : Setting) (world : World) (q : Question) (told : Told) (h : Heights) → AreHeights by world q told h → (t : Tree) → grown h t < height t + h.held
 
 -- a condition in force is higher than the limit
 abbrev pub SomeTooHigh : Setting → World → Type 0
