@@ -33,20 +33,23 @@ use Rattle.cedar_held.specs.PolicyWorlds.{FindsAsWorlds}
 use Rattle.cedar_requests.specs.Holding.{RequestParts}
 use Rattle.cedar_substitution.specs.Told.{told_for}
 use Rattle.cedar_evaluator.specs.Evaluations.{Unsatisfied, bindings_in, condition_in, Kept, IsKept, AreKept}
+use Rattle.cedar_evaluator.specs.Holding.{holding_in}
 use Rattle.cedar_evaluator.specs.Residuals.{residuals_with, is_any}
 use Rattle.cedar_evaluator.specs.declared.partial_response.PartialResponse.{PartialResponse}
 use Rattle.cedar_evaluator.proofs.Standings.{standing_found, judged, is_settled, stands_as_found}
 use Rattle.cedar_asking.specs.Keeping.{IsFirstResponse}
 use Rattle.cedar_asking.specs.Tells.{told_in}
-use Rattle.cedar_asking.proofs.Exactness.{clause_stands, clause_calls}
-use Rattle.cedar_asking.proofs.Firsts.{kept_of, of_kept, some_value, same_value, same_kind, effect_as_written, all_among}
+use Rattle.cedar_evaluator.proofs.LeftStands.{clause_stands}
+use Rattle.cedar_asking.proofs.Exactness.{clause_calls}
+use Rattle.cedar_evaluator.proofs.KeptOf.{kept_of, of_kept}
+use Rattle.cedar_asking.proofs.Firsts.{some_value, same_value, same_kind, effect_as_written, all_among}
 use Rattle.cedar_asking.proofs.InForce.{written_entry, is_bound, is_there, is_in_force, is_held, written_by}
-use Rattle.cedar_asking.proofs.Lists.{IsAmong, contained, contains, mapped, unmapped}
-use Rattle.cedar_asking.proofs.Members.{among_left, among_right, among_either, filtered, unfiltered}
+use Rattle.cedar_evaluator.proofs.Lists.{IsAmong, contained, contains, mapped, unmapped}
+use Rattle.cedar_evaluator.proofs.Members.{among_left, among_right, among_either, filtered, unfiltered}
 use Rattle.cedar_asking.proofs.Naming.{is_other, no_unknown}
 use Rattle.cedar_asking.proofs.Rejudged.{binds_written, names_nothing, is_named, taken_up, clause_calls_nothing}
 use Rattle.cedar_asking.proofs.Standings.{no_slots}
-use Rattle.cedar_asking.proofs.Taken.{clause_of, is_out, out_clause, IsLeftOf, is_left, left_of}
+use Rattle.cedar_evaluator.proofs.Taken.{clause_of, is_out, out_clause, IsLeftOf, true_kept, is_left, left_of}
 
 along : (w x y z : Text) → w ≡ x → x ≡ y → y ≡ z → w ≡ z
 along w x y z e f g = e ∙ f ∙ g
@@ -126,7 +129,7 @@ module _ (law : PlainAnswers) (finds : FindsAsWorlds) (by : Setting) (world : Wo
   again_of : (l : Kept) → IsAmong l later → IsAgain l
   again_of l in_later =
       let (d, in_left, of_later) = kept_of inquiry store table depth (residuals_with is_any first) later each l in_later in
-      let (k, in_ks, left) = is_left response.responds.kept first response.responds.holds d in_left in
+      let (k, in_ks, left) = is_left response.responds.kept first (true_kept response.responds.kept (holding_in first) response.responds.holds) d in_left in
       let (e, in_set, of) = kept_of (untold response.request) response.store response.table response.depth (policies_of response.policies) response.responds.kept response.responds.each k in_ks in
       kept_again l in_later d of_later k in_ks left e in_set of
 
@@ -187,16 +190,16 @@ module _ (law : PlainAnswers) (finds : FindsAsWorlds) (by : Setting) (world : Wo
       let there = among_left (again_out k) (all_out ks) later (mapped again_out (filter (λ (k : Kept). is_out k.found) ks) k (filtered (λ (k : Kept). is_out k.found) k ks in_ks out)) in
       (judged (again_out k), contains (map judged all_later) (judged (again_out k)) (mapped judged all_later (again_out k) there), named)
   has_judged id k in_ks named false out =
-      let (d, in_left, same) = left_of ks first response.responds.holds k out in_ks in
+      let (d, in_left, left) = left_of ks first (true_kept ks (holding_in first) response.responds.holds) k out in_ks in
       let (l, in_later, again) = of_kept inquiry store table depth (residuals_with is_any first) later each d in_left in
-      (judged l, contains (map judged all_later) (judged l) (mapped judged all_later l (among_right l (all_out ks) later in_later)), along l.id d.0 k.id id again same named)
+      (judged l, contains (map judged all_later) (judged l) (mapped judged all_later l (among_right l (all_out ks) later in_later)), along l.id d.0 k.id id again.id left.id named)
 
   every_judged : (id : Text) → IsSome (in_force_at world.policies id) → HasJudged id
   every_judged id some =
       let (s, force) = some_value (in_force_at world.policies id) some in
       let (e, at, is, policy) = written_by response.policies response.whole response.of.slots finds world response.of.policies id s force in
-      let (k, in_ks, named) = of_kept (untold response.request) response.store response.table response.depth (policies_of response.policies) ks response.responds.each (id, e) (is_there response.policies response.whole id e at policy) in
-      has_judged id k in_ks named (is_out k.found) refl
+      let (k, in_ks, kept) = of_kept (untold response.request) response.store response.table response.depth (policies_of response.policies) ks response.responds.each (id, e) (is_there response.policies response.whole id e at policy) in
+      has_judged id k in_ks kept.id (is_out k.found) refl
 
   pub judges_again : Judges world (StandsAgain world.policies facts q (told_in told)) (map judged all_later)
   judges_again = record { each = all_among _ (map judged all_later) each_judged; every = every_judged }

@@ -81,6 +81,6 @@ module _ (exist : WorldsHaveFacts) (stores : StoresHaveWorldFacts) (tables : Tab
   pub not_answered : (refused : Refusal) → SaysResponse response (Err refused) → AnswersAsked by world q (Err refused)
   not_answered refusal.Depth some =
       let met : SomeAtLimit (holding_of responds.kept).errors = subst SomeAtLimit (ap (λ (h : Holding). h.errors) responds.holds) some in
-      (answered.in_force met, λ known. answered.limit are.setting met known)
+      (answered.in_force met, answered.limit are.setting met)
   not_answered refusal.Memory h = tt
   not_answered refused h = absurd h

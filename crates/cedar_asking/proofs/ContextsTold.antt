@@ -1,5 +1,5 @@
 -- What telling makes of the context of a question's request is what is held of the question's context once these values are told.
-use Rattle.std.proofs.Common.{◌≡◌, ◌<◌, ◌∙◌, refl, ap, sym, subst, false, cond, Option, Some, None, option_map, List, [], ◌∷◌, map, codes, ℕ, Ok, Err}
+use Rattle.std.proofs.Common.{◌≡◌, ◌<◌, ◌∙◌, refl, ap, sym, subst, true, false, cond, Option, Some, None, option_map, List, [], ◌∷◌, map, codes, ℕ, Ok, Err}
 use Rattle.std.specs.FinMap as finite
 use Rattle.std.specs.FinMap.{find, get-empty, get-from_entries}
 use Rattle.std.specs.Rc.{rc_str_bytes}
@@ -12,6 +12,7 @@ use Rattle.cedar_language.specs.Height.{height}
 use Rattle.cedar_language.specs.Operators.{applied}
 use Rattle.cedar_language.specs.Order.{text_cmp}
 use Rattle.cedar_language.specs.OrderLaws.{text_cmp_total}
+use Rattle.cedar_language.specs.Restricted.{is_restricted}
 use Rattle.cedar_language.specs.Tree.{MakeRecord, Tree, Trees, Unknown, Apply}
 use Rattle.cedar_language.specs.Uid.{Text}
 use Rattle.cedar_language.specs.Value.{Value, Kind, Outcome, Gives, Fails}
@@ -24,7 +25,7 @@ use Rattle.cedar_partial_evaluation.specs.Telling.{ContextsStay}
 use Rattle.cedar_world.specs.PlainAnswers.{IsPlainAnswer, PlainAnswers}
 use Rattle.cedar_world.specs.Asking.{Entries, NoContext, WithEntries, Told}
 use Rattle.cedar_world.specs.First.{IsData}
-use Rattle.cedar_extensions.specs.Failures.{OfKind, failure_of}
+use Rattle.cedar_extensions.specs.Failures.{OfKind, LimitMet, failure_of}
 use Rattle.cedar_extensions.specs.Giving.{FailsBy}
 use Rattle.cedar_extensions.specs.declared.evaluation_error.EvaluationError.{EvaluationError}
 use Rattle.cedar_extensions.specs.Table.{Table}
@@ -41,9 +42,9 @@ use Rattle.cedar_evaluator.specs.Concretizing.{ContextTold}
 use Rattle.cedar_asking.specs.Keeping.{IsNamed}
 use Rattle.cedar_asking.specs.Tells.{told_in}
 use Rattle.cedar_requests.specs.ToldContexts.{HoldTold, ToldContextsAreEvaluated}
-use Rattle.cedar_asking.proofs.Accepting.{data_stays}
+use Rattle.cedar_requests.proofs.KnownData.{data_stays}
 use Rattle.cedar_asking.proofs.Exactness.{names_plain, none_told, record_calls_none}
-use Rattle.cedar_asking.proofs.Waiting.{IsDataTree, IsDataAnswer, left_data}
+use Rattle.cedar_requests.proofs.Waiting.{IsDataTree, IsDataAnswer, left_data}
 
 -- ---- the values that entries tell
 
@@ -126,6 +127,15 @@ module _ (law : PlainAnswers) (apart : LeavesDontMatter) (stay : ContextsStay) (
         sym (left_again t e)
         ∙ subst (λ f. FailsBy (OfSubstituted told t (λ u. depth < height u)) (λ k. partial_in facts (held_names (told_in told)) t ≡ Failed k) f) is
         (tell table depth told (told_in told) (holds_told told) t (left_is_data t e).0 (left_is_data t e).1 (λ h. left_calls_none t e) (Err error) tells facts served made_told)
+
+    -- where the limit is met, it is met with what is told written into what is left
+    pub record_deep : (t : Tree) (error : EvaluationError) → ResidualTree t ≡ first → TellsContext table depth told (Right t) (Err error) → failure_of error ≡ LimitMet
+        → (is_restricted t ≡ true) × OfSubstituted told t (λ u. depth < height u)
+    record_deep t error e tells is = (
+      (left_is_data t e).0,
+      subst (λ f. FailsBy (OfSubstituted told t (λ u. depth < height u)) (λ k. partial_in facts (held_names (told_in told)) t ≡ Failed k) f) is
+          (tell table depth told (told_in told) (holds_told told) t (left_is_data t e).0 (left_is_data t e).1 (λ h. left_calls_none t e) (Err error) tells facts served made_told),
+    )
 
   -- the context of the request with what is told is what is held of the question's then
   pub context_again : (c : Entries) → IsData c → IsNamed c → (o : Option Context) (new : Option (Either Value Tree)) → context_asked (option_map context_part o) ≡ context_held facts finite.empty c →

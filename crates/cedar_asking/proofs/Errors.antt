@@ -14,8 +14,8 @@ use Rattle.cedar_evaluator.specs.Evaluations.{Found, Satisfied, Unsatisfied, Err
 use Rattle.cedar_evaluator.specs.Responses.{error_id, errors_of}
 use Rattle.cedar_evaluator.proofs.Standings.{standing_found, judged, is_settled}
 use Rattle.cedar_asking.specs.Erring.{failure_named, with_failure}
-use Rattle.cedar_asking.proofs.Lists.{IsAmong, contained}
-use Rattle.cedar_asking.proofs.Members.{ungathered}
+use Rattle.cedar_evaluator.proofs.Lists.{IsAmong, contained}
+use Rattle.cedar_evaluator.proofs.Members.{ungathered}
 
 kind_named : (k : ErrorKind) → kind_of k ≡ kind_in (failure_named k)
 kind_named EntityDoesNotExist = refl

@@ -1,5 +1,5 @@
 -- A response says a first answer to the question, and meets the limit at a known one only where a condition is higher.
-use Rattle.std.proofs.Common.{◌≡◌, ◌<◌, ℕ, Bool, true, false, ◌&&◌, inl, inr, Option, Some, None, is_some, IsSome, List, [], ◌∷◌, map, All, Contains, refl, sym, ◌∙◌, ap, subst}
+use Rattle.std.proofs.Common.{◌≡◌, ◌<◌, ℕ, Bool, true, false, ◌&&◌, inl, inr, Option, Some, None, is_some, IsSome, List, [], ◌∷◌, map, All, Contains, refl, sym, ◌∙◌, ap, subst, arith}
 use Rattle.std.specs.FinMap as finite
 use Rattle.std.proofs.lemmas.List.Elements.{All-nil, All-cons}
 use Rattle.cedar_language.specs.Uid.{Text}
@@ -9,7 +9,7 @@ use Rattle.cedar_language.specs.Height.{height, LinkingKeepsHeight}
 use Rattle.cedar_language.specs.Answering as answering
 use Rattle.cedar_language.specs.Answering.{Judged, decision, in_must, in_may, ids_with}
 use Rattle.cedar_partial_evaluation.specs.Early.{standing_of_answer}
-use Rattle.cedar_partial_evaluation.specs.Leaves.{MentionedIsMeant}
+use Rattle.cedar_partial_evaluation.specs.Leaves.{KnownIsNeverLeft, MentionedIsMeant}
 use Rattle.cedar_partial_evaluation.specs.LinkingEarly.{LinkingIsWritingEarly}
 use Rattle.cedar_partial_evaluation.specs.MadeAgain.{HoldsMade}
 use Rattle.cedar_partial_evaluation.specs.Mentions.{mentions_only}
@@ -20,7 +20,7 @@ use Rattle.cedar_grammar.specs.Laws.{LinkConditions}
 use Rattle.cedar_world.specs.Answer.{Answer, ids_of}
 use Rattle.cedar_world.specs.Asking.{Question}
 use Rattle.cedar_world.specs.First.{NamesNoUnknown, EarlyAnswersStand}
-use Rattle.cedar_world.specs.Question.{IsKnown}
+use Rattle.cedar_world.specs.Heights.{AreWithin, AsksTooDeep}
 use Rattle.cedar_world.specs.Setting.{Setting}
 use Rattle.cedar_world.specs.Standing.{StandsEarly, IsJudged, Judges, ErrOnce, AnswersAreMade}
 use Rattle.cedar_world.specs.Step.{IsFirstAnswer, SomeInForce}
@@ -31,17 +31,20 @@ use Rattle.cedar_entities.specs.declared.store.Entities.{Entities}
 use Rattle.cedar_extensions.specs.Table.{Table}
 use Rattle.cedar_operators.specs.Store.{HasFacts}
 use Rattle.cedar_requests.specs.Holding.{RequestParts}
-use Rattle.cedar_interpreter.specs.Asking.{Inquiry, untold}
+use Rattle.cedar_interpreter.specs.Asking.{Inquiry, untold, request_held}
+use Rattle.cedar_interpreter.proofs.Depths.{held_known, slot_known, known_depth}
+use Rattle.cedar_policy_parts.specs.Bindings.{binding_of}
 use Rattle.cedar_interpreter.specs.Operating.{HasFunctions, NamesNothing}
 use Rattle.cedar_policy_set.specs.Entries.{Entry, static_policy, template, link, Entries, bound_at, IsWhole, policies_of}
 use Rattle.cedar_policy_set.specs.Texts.{AreToldBySlots, syntax_in}
 use Rattle.cedar_held.specs.PolicyWorlds.{policies_in, FindsAsWorlds}
 use Rattle.cedar_replies.specs.Erring.{have_kinds, with_kinds}
 use Rattle.cedar_replies.specs.declared.error_kind.ErrorKind.{ErrorKind}
-use Rattle.cedar_evaluator.specs.Evaluations.{Kept, IsKept, AreKept, IsServed, condition_in}
+use Rattle.cedar_evaluator.specs.Evaluations.{Kept, IsKept, AreKept, IsServed, is_given, condition_in}
 use Rattle.cedar_evaluator.specs.Responses.{errors_of, holding_of, judged_held}
+use Rattle.cedar_evaluator.proofs.KeptOf.{kept_of, of_kept}
 use Rattle.cedar_evaluator.proofs.Standings.{judged, is_settled, stands_as_found}
-use Rattle.cedar_asking.specs.Answers.{IsSettingOf, SomeTooHigh}
+use Rattle.cedar_asking.specs.Answers.{IsSettingOf}
 use Rattle.cedar_asking.specs.Erring.{with_failure, SomeAtLimit}
 use Rattle.cedar_world.specs.Lookups.{ListsStanding}
 use Rattle.cedar_world.proofs.OrdinaryAnswers.{rules_list}
@@ -49,10 +52,12 @@ use Rattle.cedar_asking.specs.Laws.{SaysHeld}
 use Rattle.cedar_asking.specs.Requests.{IsRequestOf}
 use Rattle.cedar_asking.proofs.Errors.{errors_listed, settled_listed, limit_kept}
 use Rattle.cedar_asking.proofs.InForce.{written_entry, is_bound, is_there, is_in_force, some_in_force, written_by}
-use Rattle.cedar_asking.proofs.Lists.{IsAmong, contained, contains, mapped, unmapped}
+use Rattle.cedar_evaluator.proofs.Lists.{IsAmong, contained, contains, mapped, unmapped}
 use Rattle.cedar_asking.proofs.Naming.{is_other, no_unknown, no_call}
 use Rattle.cedar_asking.proofs.Sayings.{says_rules}
-use Rattle.cedar_asking.proofs.Standings.{stands_as_written, all_given, height_as_written, names_as_written}
+use Rattle.cedar_asking.proofs.Depths.{depth_grows}
+use Rattle.cedar_world.proofs.Written.{held_is_within, grows_by_held}
+use Rattle.cedar_asking.proofs.Standings.{held_so, stands_as_written, all_given, height_as_written, names_as_written}
 
 -- each of the list, by its members
 pub all_among : {X : Type 0} (P : X → Type 0) (xs : List X) → ((x : X) → IsAmong x xs → P x) → All P xs
@@ -77,22 +82,6 @@ effect_as_written (link t s b) = refl
 -- no condition of the set names an unknown
 abbrev NamesNone : Entries → Type 0
 NamesNone es = (id : Text) (e : Entry) → bound_at es id ≡ Some e → calls_only is_other (condition_in e) ≡ true
-
--- what is kept of a set's policies, whose store and table have the facts
-module _ (i : Inquiry) (store : Entities) (table : Table) (depth : ℕ) where
-  pub kept_of : (es : Entries) (ks : List Kept) → AreKept i store table depth es ks → (k : Kept) → IsAmong k ks → (e : Text × Entry) × IsAmong e es × IsKept i store table depth e k
-  kept_of [] [] h k a = absurd a
-  kept_of [] (l ∷ ks) h k a = absurd h
-  kept_of (e ∷ es) [] h k a = absurd h
-  kept_of (e ∷ es) (l ∷ ks) (first, rest) k (inl is) = (e, inl refl, subst (IsKept i store table depth e) is first)
-  kept_of (e ∷ es) (l ∷ ks) (first, rest) k (inr a) = let (f, among, kept) = kept_of es ks rest k a in (f, inr among, kept)
-
-  pub of_kept : (es : Entries) (ks : List Kept) → AreKept i store table depth es ks → (e : Text × Entry) → IsAmong e es → (k : Kept) × IsAmong k ks × (k.id ≡ e.0)
-  of_kept [] [] h e a = absurd a
-  of_kept [] (l ∷ ks) h e a = absurd h
-  of_kept (f ∷ es) [] h e a = absurd h
-  of_kept (f ∷ es) (l ∷ ks) (first, rest) e (inl is) = (l, inl refl, first.id ∙ ap (λ (x : Text × Entry). x.0) is)
-  of_kept (f ∷ es) (l ∷ ks) (first, rest) e (inr a) = let (k, among, is) = of_kept es ks rest e a in (k, inr among, is)
 
 module _ (r : RequestParts) (store : Entities) (table : Table) (depth : ℕ) where
   module _ (early : LinkingIsWritingEarly) (conditions : LinkConditions) (es : Entries) (whole : IsWhole es) (slots : AreToldBySlots es) (names : NamesNone es) (finds : FindsAsWorlds)
@@ -130,8 +119,8 @@ module _ (r : RequestParts) (store : Entities) (table : Table) (depth : ℕ) whe
       every_judged id some =
           let (s, force) = some_value (in_force_at world.policies id) some in
           let (e, at, is, policy) = written_by es whole slots finds world held id s force in
-          let (k, among, named) = of_kept (untold r) store table depth (policies_of es) ks kept (id, e) (is_there es whole id e at policy) in
-          (judged k, contains (map judged ks) (judged k) (mapped judged ks k among), named)
+          let (k, among, of) = of_kept (untold r) store table depth (policies_of es) ks kept (id, e) (is_there es whole id e at policy) in
+          (judged k, contains (map judged ks) (judged k) (mapped judged ks k among), of.id)
 
       pub judges : Judges world (StandsEarly facts q finite.empty) (map judged ks)
       judges = record { each = all_among _ (map judged ks) each_judged; every = every_judged }
@@ -171,16 +160,24 @@ module _ (r : RequestParts) (store : Entities) (table : Table) (depth : ℕ) whe
         let (e, in_set, of) = kept_of (untold r) store table depth (policies_of es) ks kept k among in
         some_in_force es whole slots finds world held e in_set
 
-    -- a known question meets the limit only where a condition is higher
-    pub meets_limit : MentionedIsMeant → LinkingKeepsHeight → IsSettingOf table depth by → SomeAtLimit (errors_of ks) → IsKnown q → SomeTooHigh by world
-    meets_limit meant keeps setting (id, c) known =
+    -- and each evaluation that answers is too deep
+    pub meets_limit : KnownIsNeverLeft → MentionedIsMeant → LinkingKeepsHeight → IsSettingOf table depth by → AreFactsOf by world facts → SomeAtLimit (errors_of ks) → AsksTooDeep by world q
+    meets_limit never meant keeps setting are (id, c) =
         let (k, among, found) = limit_kept ks id c in
         let (e, in_set, of) = kept_of (untold r) store table depth (policies_of es) ks kept k among in
         let (at, policy) = is_bound es whole e in_set in
         let calls = names e.0 e.1 at in
-        let high = of.limit found facts (serves e.1 calls) (all_given meant by table q r asked setting.functions known (condition_in e.1) (no_unknown is_other (condition_in e.1) calls)) in (
-          e.0,
-          written_entry e.1,
-          is_in_force es whole slots finds world held e.0 e.1 at policy,
-          subst (λ n. n < height (condition (written_entry e.1))) (sym setting.depth_is) (subst (λ n. depth < n) (sym (height_as_written conditions keeps e.1)) high),
+        let (bs, deep) = of.limit found facts (serves e.1 calls) in
+        let holds = request_held (untold r) bs in
+        let force = is_in_force es whole slots finds world held e.0 e.1 at policy in
+        let written = height_as_written conditions keeps e.1 in (
+          λ h heights.
+              let within = subst (AreWithin h facts) (sym (held_so table q r asked.holds facts served bs)) (held_is_within by world facts q finite.empty finite.empty (binding_of bs) h are heights (λ n v is. is)) in
+              let low = depth_grows h facts holds within (condition_in e.1) in
+              let by_held = grows_by_held by world q finite.empty h heights (condition_in e.1) in
+              (e.0, written_entry e.1, force, omega (arith, deep, low, by_held, written, setting.depth_is)),
+          λ known.
+              let given = all_given meant by table q r asked setting.functions known (condition_in e.1) (no_unknown is_other (condition_in e.1) calls) in
+              let low = known_depth never facts (is_given (untold r)) true holds (record { variable = λ v. held_known (holds.variable v); slot = λ s i. slot_known (binding_of bs s) }) (condition_in e.1) given in
+              (e.0, written_entry e.1, force, omega (arith, deep, low, written, setting.depth_is)),
         )

@@ -10,11 +10,11 @@ use Rattle.cedar_grammar.specs.Bindings.{linked}
 use Rattle.cedar_grammar.specs.Syntax.{PolicySyntax}
 use Rattle.cedar_world.specs.World.{World, Policy, template_of, template_at, standing_for, in_force_as, in_force_at}
 use Rattle.cedar_world.specs.Step.{SomeInForce}
-use Rattle.cedar_asking.proofs.Lists.{IsAmong, contained, contains}
+use Rattle.cedar_evaluator.proofs.Lists.{IsAmong, contained, contains}
 use Rattle.cedar_policy_set.specs.Entries.{Entry, static_policy, template, link, Entries, bound_at, HasItsTemplate, IsFull, IsWhole, is_policy, policies_of}
 use Rattle.cedar_policy_set.specs.Texts.{AreToldBySlots, syntax_in}
 use Rattle.cedar_held.specs.PolicyWorlds.{world_bound, policies_in, FindsAsWorlds}
-use Rattle.cedar_asking.proofs.Members.{filtered, unfiltered}
+use Rattle.cedar_evaluator.proofs.Members.{filtered, unfiltered}
 
 -- a policy or template as it is written, and a link as if it had been written with its entities
 abbrev pub written_entry : Entry → PolicySyntax

@@ -10,7 +10,7 @@ use Rattle.cedar_world.specs.Asking.{Part, Given, Missing, Entries, NoContext, W
 use Rattle.cedar_world.specs.Question.{is_missing, has_name, IsKnown}
 use Rattle.cedar_world.specs.Bodies.{is_restricted, are_restricted, some_name, some_name_of}
 use Rattle.cedar_world.specs.First.{IsData}
-use Rattle.cedar_asking.proofs.Lists.{and_left, and_right, and_both}
+use Rattle.cedar_evaluator.proofs.Lists.{and_left, and_right, and_both}
 
 text_itself : (id : Text) → text_eq id id ≡ true
 text_itself id = ap is_eq (tied_itself text_cmp_total id)

@@ -1,11 +1,10 @@
-pub mod Lists
-pub mod Members
 pub mod Naming
 pub mod Known
 pub mod InForce
 pub mod Standings
 pub mod Sayings
 pub mod Errors
+pub mod Depths
 pub mod Firsts
 pub mod Facts
 pub mod Data
@@ -25,11 +24,8 @@ pub mod TellParts
 pub mod TellBodies
 pub mod MoreTold
 pub mod Plainness
-pub mod Taken
 pub mod MetAgain
 pub mod Exactness
-pub mod Waiting
-pub mod Accepting
 pub mod ContextsTold
 pub mod Requested
 pub mod RequestTold

@@ -9,7 +9,7 @@ use Rattle.cedar_replies.specs.declared.refusal.Refusal.TheVariants as refusal
 use Rattle.cedar_asking.specs.Erring.{ListsError, ListsErrors}
 use Rattle.cedar_evaluator.specs.Holding.{error_seen}
 use Rattle.cedar_evaluator.specs.declared.errors.AuthorizationError.{AuthorizationError}
-use Rattle.cedar_asking.proofs.Lists.{contained, contains, mapped}
+use Rattle.cedar_evaluator.proofs.Lists.{contained, contains, mapped}
 
 at_limit : (e : Text × Failure) (es : List (Text × Failure)) → Contains es e → (r : Refusal) → ListsError e (Err r) → ListsErrors es (Err r)
 at_limit e es here refusal.Depth h = (e.0, subst (λ (f : Failure). Contains es (e.0, f)) h here)

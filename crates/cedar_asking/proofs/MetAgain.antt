@@ -22,9 +22,9 @@ use Rattle.cedar_evaluator.specs.declared.partial_response.PartialResponse.{Part
 use Rattle.cedar_asking.specs.Erring.{SomeAtLimit}
 use Rattle.cedar_asking.specs.Keeping.{IsFirstResponse}
 use Rattle.cedar_asking.proofs.Errors.{limit_kept}
-use Rattle.cedar_asking.proofs.Firsts.{kept_of}
+use Rattle.cedar_evaluator.proofs.KeptOf.{kept_of}
 use Rattle.cedar_asking.proofs.InForce.{some_in_force}
-use Rattle.cedar_asking.proofs.Taken.{is_left}
+use Rattle.cedar_evaluator.proofs.Taken.{true_kept, is_left}
 
 module _ (finds : FindsAsWorlds) (by : Setting) (world : World) (q : Question) (first : PartialResponse) (response : IsFirstResponse by world q first) where
   pub met_again : (told : List (RcStr Global × Value)) (s : Entities) (table : Table) (depth : ℕ) (again : PartialResponse)
@@ -32,7 +32,7 @@ module _ (finds : FindsAsWorlds) (by : Setting) (world : World) (q : Question) (
   met_again told s table depth again r (id, c) =
       let (l, in_later, found) = limit_kept r.kept id (subst (λ errors. Contains errors (id, LimitMet)) (ap (λ (h : Holding). h.errors) r.holds) c) in
       let (d, in_left, of_later) = kept_of (record { request = r.request; told = told_for told }) s table depth (residuals_with is_any first) r.kept r.each l in_later in
-      let (k, in_ks, left) = is_left response.responds.kept first response.responds.holds d in_left in
+      let (k, in_ks, left) = is_left response.responds.kept first (true_kept response.responds.kept (holding_in first) response.responds.holds) d in_left in
       let (e, in_set, of) =
       kept_of (untold response.request) response.store response.table response.depth (policies_of response.policies) response.responds.kept
       response.responds.each k in_ks in

@@ -7,7 +7,7 @@ use Rattle.cedar_partial_evaluation.specs.Mentions.{mentions_only, all_mention_o
 use Rattle.cedar_partial_evaluation.specs.ReadUnknowns.{is_unknown_call, calls_unknown, some_calls_unknown}
 use Rattle.cedar_grammar.specs.Calls.{calls_none_but, calls_only, all_call_only}
 use Rattle.cedar_grammar.specs.Functions.{is_the_unknown}
-use Rattle.cedar_asking.proofs.Lists.{and_left, and_right, and_both}
+use Rattle.cedar_evaluator.proofs.Lists.{and_left, and_right, and_both}
 
 -- ---- no unknown stands in them
 

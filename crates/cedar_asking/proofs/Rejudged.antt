@@ -35,14 +35,15 @@ use Rattle.cedar_evaluator.specs.Responses.{Holding, error_id, errors_of}
 use Rattle.cedar_evaluator.specs.declared.partial_response.PartialResponse.{PartialResponse}
 use Rattle.cedar_evaluator.proofs.Standings.{is_settled}
 use Rattle.cedar_asking.specs.Keeping.{IsFirstResponse}
-use Rattle.cedar_asking.proofs.Exactness.{leaves_plain, clause_calls_none, again_is_clause}
+use Rattle.cedar_evaluator.proofs.LeftStands.{again_is_clause}
+use Rattle.cedar_asking.proofs.Exactness.{leaves_plain, clause_calls_none}
 use Rattle.cedar_asking.proofs.Facts.{store_has_facts, table_is_served, facts_are_made}
 use Rattle.cedar_asking.proofs.InForce.{written_entry, is_bound, written_by}
-use Rattle.cedar_asking.proofs.Lists.{IsAmong, contains}
-use Rattle.cedar_asking.proofs.Members.{gathered}
+use Rattle.cedar_evaluator.proofs.Lists.{IsAmong, contains}
+use Rattle.cedar_evaluator.proofs.Members.{gathered}
 use Rattle.cedar_asking.proofs.Naming.{is_other, no_call}
 use Rattle.cedar_asking.proofs.Standings.{nothing_bound, held_so, names_as_written}
-use Rattle.cedar_asking.proofs.Taken.{clause_of}
+use Rattle.cedar_evaluator.proofs.Taken.{clause_of}
 
 -- ---- trees of which no slot is bound
 

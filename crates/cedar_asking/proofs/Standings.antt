@@ -1,18 +1,17 @@
 -- The answers that the code gives of policies are those to the question.
 use Rattle.std.proofs.Common.{◌≡◌, true, None, refl, sym, ◌∙◌, ap}
 use Rattle.std.specs.FinMap as finite
-use Rattle.cedar_language.specs.Uid.{Text}
-use Rattle.cedar_language.specs.Tree.{Variable, SlotId, PrincipalSlot, ResourceSlot, Tree, Var, Unknown}
+use Rattle.cedar_language.specs.Tree.{Variable, SlotId, PrincipalSlot, ResourceSlot, Tree, Var}
 use Rattle.cedar_language.specs.Facts.{Facts}
 use Rattle.cedar_language.specs.Height.{height, LinkingKeepsHeight}
-use Rattle.cedar_language.specs.Meaning.{Slots, slot_outcome}
+use Rattle.cedar_language.specs.Meaning.{Slots}
 use Rattle.cedar_language.specs.Order.{text_cmp}
 use Rattle.cedar_partial_evaluation.specs.Early.{standing_of_answer}
 use Rattle.cedar_partial_evaluation.specs.Leaves.{MentionedIsMeant}
 use Rattle.cedar_partial_evaluation.specs.LinkingEarly.{StandAlike, LinkingIsWritingEarly}
 use Rattle.cedar_partial_evaluation.specs.Mentions.{mentions_only}
-use Rattle.cedar_partial_evaluation.specs.Partial.{Answer, Evaluated, ResidualTree, Failed, answer_of, partial_in}
-use Rattle.cedar_partial_evaluation.specs.Question.{name_held, held_of}
+use Rattle.cedar_partial_evaluation.specs.Partial.{Answer, Evaluated, ResidualTree, Failed, partial_in}
+use Rattle.cedar_partial_evaluation.specs.Question.{held_of}
 use Rattle.cedar_grammar.specs.Laws.{LinkConditions}
 use Rattle.cedar_grammar.specs.Calls.{calls_only}
 use Rattle.cedar_world.specs.Asking.{Question}
@@ -28,6 +27,7 @@ use Rattle.cedar_interpreter.specs.Holding.{is_evaluated}
 use Rattle.cedar_interpreter.specs.Operating.{HasFunctions}
 use Rattle.cedar_policy_set.specs.Entries.{Entry, static_policy, template, link}
 use Rattle.cedar_evaluator.specs.Evaluations.{bindings_in, condition_in, is_given}
+use Rattle.cedar_evaluator.proofs.AskedSo as inquiries
 use Rattle.cedar_asking.specs.Requests.{HoldsQuestion, IsRequestOf}
 use Rattle.cedar_asking.proofs.InForce.{written_entry}
 use Rattle.cedar_asking.proofs.Naming.{no_unknown, is_other, bound_mentions}
@@ -47,15 +47,8 @@ abbrev pub no_slots : Slots
 no_slots s = None
 
 module _ (table : Table) (q : Question) (r : RequestParts) (holds : HoldsQuestion table q r) (facts : Facts) (served : HasFunctions table facts) where
-  nothing_told : (n : Text) (ty : _) → ResidualTree (Unknown n ty) ≡ name_held (finite.get {R = text_cmp} finite.empty n) n ty
-  nothing_told n ty = ap (λ o. name_held o n ty) (sym (finite.get-empty text_cmp n))
-
   pub held_so : (slots : Bindings) → request_held (untold r) slots ≡ held_of facts q (binding_of slots) finite.empty
-  held_so slots = λ i. record {
-    variable = λ v. holds facts served v i;
-    unknown = λ n ty. nothing_told n ty i;
-    slot = λ s. answer_of (slot_outcome (binding_of slots s));
-  }
+  held_so = inquiries.held_so facts q (untold r) finite.empty (holds facts served) (λ n. sym (finite.get-empty text_cmp n))
 
   unbound_held : request_held (untold r) unbound ≡ held_of facts q no_slots finite.empty
   unbound_held = held_so unbound ∙ (λ i. held_of facts q (λ s. nothing_bound s i) finite.empty)

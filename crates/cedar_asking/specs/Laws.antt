@@ -7,7 +7,7 @@ use Rattle.cedar_language.specs.Answering.{decision, in_must, in_may, ids_with}
 use Rattle.cedar_partial_evaluation.specs.MadeAgain.{HoldsMade}
 use Rattle.cedar_world.specs.Answer.{Answer, ids_of}
 use Rattle.cedar_world.specs.Asking.{Question}
-use Rattle.cedar_world.specs.Question.{IsKnown}
+use Rattle.cedar_world.specs.Heights.{AsksTooDeep}
 use Rattle.cedar_world.specs.Setting.{Setting, functions_alone}
 use Rattle.cedar_world.specs.Standing.{StandsEarly}
 use Rattle.cedar_world.specs.Step.{IsFirstAnswer, SomeInForce}
@@ -27,7 +27,7 @@ use Rattle.cedar_held.specs.PolicyWorlds.{policies_in}
 use Rattle.cedar_replies.specs.Erring.{have_kinds, with_kinds}
 use Rattle.cedar_replies.specs.declared.error_kind.ErrorKind.{ErrorKind}
 use Rattle.cedar_requests.specs.Holding.{RequestParts}
-use Rattle.cedar_asking.specs.Answers.{IsSettingOf, SomeTooHigh}
+use Rattle.cedar_asking.specs.Answers.{IsSettingOf}
 use Rattle.cedar_held.specs.Built.{HoldBuilt, GivesBuilt}
 use Rattle.cedar_asking.specs.Erring.{with_failure, SomeAtLimit}
 use Rattle.cedar_evaluator.specs.Evaluations.{Kept, AreKept}
@@ -77,8 +77,8 @@ module _ (by : Setting) (world : World) (facts : Facts) (es : Entries) (s : Enti
     pub errors : (listed : List (Text × ErrorKind)) (answer : Answer) → SaysHeld (holding_of ks) listed answer → ListsStanding world (StandsEarly facts q finite.empty) answer
     -- the limit is met only where a policy is in force
     pub in_force : SomeAtLimit (holding_of ks).errors → SomeInForce world
-    -- and at a known question only where the condition of one is higher
-    pub limit : IsSettingOf table depth by → SomeAtLimit (holding_of ks).errors → IsKnown q → SomeTooHigh by world
+    -- and each evaluation that answers is too deep
+    pub limit : IsSettingOf table depth by → SomeAtLimit (holding_of ks).errors → AsksTooDeep by world q
 
 -- what is kept of the policies held, evaluated for the request of a question, answers it
 abbrev pub ResponsesAnswerQuestions : Type 0

@@ -7,7 +7,8 @@ use Rattle.cedar_language.specs.Uid.{Text}
 use Rattle.cedar_language.specs.Value.{Value}
 use Rattle.cedar_world.specs.Answer as answers
 use Rattle.cedar_world.specs.Asking.{Question}
-use Rattle.cedar_world.specs.Question.{IsKnown, HasOpenContext}
+use Rattle.cedar_world.specs.Heights.{AsksTooDeep, TellsTooDeep}
+use Rattle.cedar_world.specs.Question.{HasOpenContext}
 use Rattle.cedar_world.specs.Setting.{Setting}
 use Rattle.cedar_world.specs.Standing.{StandsEarly}
 use Rattle.cedar_world.specs.Step.{IsFirstAnswer, SomeInForce}
@@ -27,7 +28,6 @@ use Rattle.cedar_replies.specs.declared.answer.Answer.{Answer}
 use Rattle.cedar_replies.specs.declared.error_kind.ErrorKind.{ErrorKind}
 use Rattle.cedar_replies.specs.declared.refusal.Refusal.{Refusal}
 use Rattle.cedar_replies.specs.declared.refusal.Refusal.TheVariants.{Evaluation, Depth, Memory}
-use Rattle.cedar_asking.specs.Answers.{SomeTooHigh}
 use Rattle.cedar_asking.specs.Erring.{SomeAtLimit}
 use Rattle.cedar_asking.specs.Keeping.{KeepsQuestion}
 use Rattle.cedar_asking.specs.Laws.{SaysHeld}
@@ -48,11 +48,10 @@ pub record IsAnswered (by : Setting) (world : World) (q : Question) (first : Par
   pub errors : ListsStanding world (StandsEarly (facts_of by world) q finite.empty) answer
   pub keeps : KeepsQuestion by world q first [] answer
 
--- The limit is met only where some policy is in force, and at a known question only where the condition of one is higher. Want of
--- memory says nothing.
+-- The limit is met only where some policy is in force, and each evaluation that answers is too deep. Want of memory says nothing.
 abbrev pub AnswersAsked : Setting → World → Question → Result (PartialResponse × Answer) Refusal → Type 0
 AnswersAsked by world q (Ok found) = IsAnswered by world q found.0 (answer_of found.1)
-AnswersAsked by world q (Err Depth) = SomeInForce world × (IsKnown q → SomeTooHigh by world)
+AnswersAsked by world q (Err Depth) = SomeInForce world × AsksTooDeep by world q
 AnswersAsked by world q (Err Memory) = ⊤
 AnswersAsked by world q (Err r) = ⊥
 
@@ -64,10 +63,10 @@ IsToldAs (reauthorization.Memory e) r = r ≡ Memory
 IsToldAs e r = ⊤
 
 -- The answer once these values are told besides the old ones, or why there is none. The limit is met only where some policy is in
--- force, or the question's context names an unknown, and is evaluated again.
+-- force, or the question's context names an unknown, and what is evaluated again is too deep.
 abbrev pub AnswersTold : Setting → World → Question → PartialResponse → List (RcStr Global × Value) → List (RcStr Global × Value) → answers.Answer → Result Answer Refusal → Type 0
 AnswersTold by world q first old told last (Ok answer) = IsAnsweredLater by world q first old told last (answer_of answer)
 AnswersTold by world q first old told last (Err Evaluation) = context_errs by q.context (told_in told) ≡ true
-AnswersTold by world q first old told last (Err Depth) = SomeInForce world ⊎ HasOpenContext q
+AnswersTold by world q first old told last (Err Depth) = (SomeInForce world ⊎ HasOpenContext q) × TellsTooDeep by world q (told_in told)
 AnswersTold by world q first old told last (Err Memory) = ⊤
 AnswersTold by world q first old told last (Err r) = ⊥

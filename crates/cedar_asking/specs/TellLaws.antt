@@ -9,6 +9,7 @@ use Rattle.cedar_world.specs.Answer.{Answer}
 use Rattle.cedar_world.specs.Asking.{Question}
 use Rattle.cedar_world.specs.Bodies.{Fields}
 use Rattle.cedar_world.specs.Setting.{Setting}
+use Rattle.cedar_world.specs.Heights.{Heights, AreHeights, SomeGrowsTooHigh, ContextIsTooHigh}
 use Rattle.cedar_world.specs.Question.{HasOpenContext}
 use Rattle.cedar_world.specs.Step.{IsLaterAnswer, SomeInForce}
 use Rattle.cedar_world.specs.Values.{context_errs}
@@ -72,18 +73,18 @@ TellsAreAnswered =
     → IsAnsweredLater by world q first old told last answer
 
 -- the context's evaluation failed, by an error that it meets wherever it is evaluated; or the limit was met, which is so only of a context
--- that names an unknown; or memory ran out
-abbrev pub IsContextFailure : Setting → Question → List (RcStr Global × Value) → Failure → Type 0
-IsContextFailure by q told (OfKind k) = context_errs by q.context (told_in told) ≡ true
-IsContextFailure by q told LimitMet = HasOpenContext q
-IsContextFailure by q told f = Unit {0}
+-- that names an unknown, and is too high with what is told; or memory ran out
+abbrev pub IsContextFailure : Setting → World → Question → List (RcStr Global × Value) → Failure → Type 0
+IsContextFailure by world q told (OfKind k) = context_errs by q.context (told_in told) ≡ true
+IsContextFailure by world q told LimitMet = HasOpenContext q × ((h : Heights) → AreHeights by world q (told_in told) h → ContextIsTooHigh by q h)
+IsContextFailure by world q told f = Unit {0}
 
 -- nothing but the context is refused
-abbrev pub IsWhyNotTold : Setting → Question → List (RcStr Global × Value) → ReauthorizationError → Type 0
-IsWhyNotTold by q told (reauthorization.ConcretizationError (concretization.ValueEval e)) = IsContextFailure by q told (failure_of e)
-IsWhyNotTold by q told (reauthorization.ConcretizationError (concretization.Memory e)) = Unit {0}
-IsWhyNotTold by q told (reauthorization.Memory e) = Unit {0}
-IsWhyNotTold by q told e = ⊥
+abbrev pub IsWhyNotTold : Setting → World → Question → List (RcStr Global × Value) → ReauthorizationError → Type 0
+IsWhyNotTold by world q told (reauthorization.ConcretizationError (concretization.ValueEval e)) = IsContextFailure by world q told (failure_of e)
+IsWhyNotTold by world q told (reauthorization.ConcretizationError (concretization.Memory e)) = Unit {0}
+IsWhyNotTold by world q told (reauthorization.Memory e) = Unit {0}
+IsWhyNotTold by world q told e = ⊥
 
 -- values that are of their unknowns' kinds are refused for the context alone
 abbrev pub TellsAreRefused : Type 0
@@ -91,12 +92,12 @@ TellsAreRefused =
     (by : Setting) (world : World) (q : Question) (first : PartialResponse) (old told : List (RcStr Global × Value)) (es : Entries) (s : Entities) (table : Table) (depth : ℕ) (last : Answer) (e : ReauthorizationError)
     → GivesBuilt table → KeepsQuestion by world q first old last → AreOf by world es s table depth → AreTold q told
     → Reauthorizes s table depth told first (Err e)
-    → IsWhyNotTold by q told e
+    → IsWhyNotTold by world q told e
 
--- a first response that is taken up again meets the limit only where some policy is in force
+-- a first response that is taken up again meets the limit only where a policy is in force, and each evaluation of what is left is too deep
 abbrev pub LimitsAreOfPolicies : Type 0
 LimitsAreOfPolicies =
-    (by : Setting) (world : World) (q : Question) (first again : PartialResponse) (old told : List (RcStr Global × Value))
-    (s : Entities) (table : Table) (depth : ℕ) (last : Answer)
-    → KeepsQuestion by world q first old last → Reauthorizes s table depth told first (Ok again) → SomeAtLimit (holding_in again).errors
-    → SomeInForce world
+    (by : Setting) (world : World) (q : Question) (first again : PartialResponse) (old told : List (RcStr Global × Value)) (es : Entries) (s : Entities) (table : Table) (depth : ℕ) (last : Answer)
+    → GivesBuilt table → KeepsQuestion by world q first old last → AreOf by world es s table depth → AreTold q told
+    → Reauthorizes s table depth told first (Ok again) → SomeAtLimit (holding_in again).errors
+    → SomeInForce world × ((h : Heights) → AreHeights by world q (told_in told) h → SomeGrowsTooHigh by world h)

@@ -34,13 +34,14 @@ pub fn questions_are_asked()
 {}
 
 /// What is kept of the policies held, each evaluated for the request of a question, gives a first answer to
-/// the question, and meets the limit only where some policy is in force, at a known one only where a condition
-/// in force is higher.
+/// the question, and meets the limit only where some policy is in force and each evaluation that answers is
+/// too deep.
 pub fn responses_answer_questions()
     ensures { ResponsesAnswerQuestions }
 {
     cedar_language::linking_keeps_height();
     cedar_grammar::linking_binds_the_condition();
+    cedar_partial_evaluation::known_is_never_left();
     cedar_partial_evaluation::mentioned_is_meant();
     cedar_partial_evaluation::linking_is_writing_early();
     cedar_world::early_answers_stand();
@@ -87,18 +88,21 @@ pub fn tells_are_answered()
 }
 
 /// Values that are of their unknowns' kinds are refused only where the question's context errs with them, or
-/// names an unknown and meets the limit; and a response that is taken up again meets the limit only where some
-/// policy is in force.
+/// names an unknown and is too high with them; and a response that is taken up again meets the limit only where
+/// some policy is in force and each evaluation of what is left is too deep.
 pub fn tells_are_refused()
     ensures context { TellsAreRefused }
     ensures limit { LimitsAreOfPolicies }
 {
+    cedar_language::linking_keeps_height();
+    cedar_grammar::linking_binds_the_condition();
     cedar_partial_evaluation::known_is_never_left();
     cedar_partial_evaluation::leaves_dont_matter();
     cedar_partial_evaluation::contexts_stay();
     cedar_world::worlds_have_facts();
     cedar_held::worlds::policy_sets_are_worlds();
     cedar_requests::laws::told_contexts_are_evaluated();
+    cedar_restricted::partial_value_laws::written_values_are_restricted();
     cedar_world::telling::plain_answers();
     cedar_world::telling::contexts_err_in_parts();
 }

@@ -104,7 +104,7 @@ one_error id (Erred LimitMet) more others c h = absurd (cc c.0)
 one_error id (Erred MemoryRanOut) more others c h = absurd (cc c.0)
 one_error id (Open t) more others c h = h
 
-errors_are : (ks : List Kept) → AreClosed ks → errors_of ks ≡ filter_map (λ (j : Judged). error_of j.id j.standing) (map judged ks)
+pub errors_are : (ks : List Kept) → AreClosed ks → errors_of ks ≡ filter_map (λ (j : Judged). error_of j.id j.standing) (map judged ks)
 errors_are [] c = refl
 errors_are (k ∷ ks) c = one_error k.id k.found (errors_of ks) _ c.0 (errors_are ks c.1)
 

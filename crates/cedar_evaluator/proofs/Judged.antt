@@ -4,7 +4,6 @@ use Rattle.std.specs.Prelude.{Result, IfSome}
 use Rattle.either.specs.declared.Either.{Either}
 use Rattle.either.specs.declared.Either.TheVariants.{Left}
 use Rattle.cedar_language.specs.Facts.{Facts}
-use Rattle.cedar_language.specs.Height.{height}
 use Rattle.cedar_language.specs.Tree.{Boolean, Tree, Lit, And}
 use Rattle.cedar_language.specs.Value.{Plain}
 use Rattle.cedar_grammar.specs.Build.{conjunction}
@@ -14,6 +13,7 @@ use Rattle.cedar_partial_evaluation.specs.Partial.{Answer, Evaluated, LeafAnswer
 use Rattle.cedar_policy_parts.specs.Bindings.{Bindings}
 use Rattle.cedar_extensions.specs.Answering.{FunctionAnswers}
 use Rattle.cedar_extensions.specs.declared.evaluation_error.EvaluationError.{EvaluationError}
+use Rattle.cedar_interpreter.specs.Depths.{evaluation_depth}
 use Rattle.cedar_interpreter.specs.Holding.{held_by, Serves, Deep}
 use Rattle.cedar_interpreter.specs.declared.evaluator.Evaluator.{Evaluator}
 use Rattle.cedar_interpreter.proofs.Serving.{serves_and_right, deep_and_right}
@@ -52,8 +52,13 @@ module _ {F : Type 0} (answers : F → FunctionAnswers) (ev : Evaluator F) where
   serves_right facts l r s = serves_and_right answers ev facts l r s
 
   pub deep_right : (depth : ℕ) (l r : Tree) → Deep answers ev depth r → Deep answers ev depth (conjunction l r)
-  deep_right depth (Lit (Boolean a)) (Lit (Boolean b)) d = λ facts s known. d facts (record { entities = s.entities; functions = s.functions; names_nothing = s.names_nothing }) refl
-  deep_right depth l r d = λ facts s known. let h : suc depth < height (And l r) = deep_and_right answers ev depth l r d facts s known in omega (arith, h)
+  deep_right depth (Lit (Boolean a)) (Lit (Boolean b)) d = λ facts s.
+      let (slots, h) = d facts (record { entities = s.entities; functions = s.functions; names_nothing = s.names_nothing }) in
+      (slots, h)
+  deep_right depth l r d = λ facts s.
+      let (slots, h) = deep_and_right answers ev depth l r d facts s in
+      let k : depth < evaluation_depth facts (held_by ev slots) (And l r) = omega (arith, h) in
+      (slots, k)
 
   module _ (s : grammar.Policy) (t : Tree) (body : s.body ≡ Some t) where
     pub clauses_served : (facts : Facts) → Serves answers ev facts (condition s) → Serves answers ev facts t

@@ -4,18 +4,17 @@ use Rattle.std.specs.Prelude.{Result, Ok}
 use Rattle.either.specs.declared.Either.{Either}
 use Rattle.either.specs.declared.Either.TheVariants.{Left}
 use Rattle.cedar_language.specs.Facts.{Facts}
-use Rattle.cedar_language.specs.Height.{height}
-use Rattle.cedar_language.specs.Tree.{Boolean, Variable, Tree}
+use Rattle.cedar_language.specs.Tree.{Boolean, Tree}
 use Rattle.cedar_language.specs.Value.{Plain}
 use Rattle.cedar_grammar.specs.Policy as grammar
-use Rattle.cedar_partial_evaluation.specs.Mentions.{mentions_only}
 use Rattle.cedar_partial_evaluation.specs.Partial.{Evaluated, LeafAnswers, partial_in}
 use Rattle.cedar_entities.specs.declared.store.Entities.{Entities}
 use Rattle.cedar_extensions.specs.Answering.{FunctionAnswers}
 use Rattle.cedar_extensions.specs.declared.evaluation_error.EvaluationError.{EvaluationError}
 use Rattle.cedar_extensions.specs.Table.{Table}
 use Rattle.cedar_interpreter.specs.Asking.{Inquiry, request_held, IsEvaluatorOf}
-use Rattle.cedar_interpreter.specs.Holding.{is_evaluated, is_held, Serves, Deep, depth_of}
+use Rattle.cedar_interpreter.specs.Depths.{evaluation_depth}
+use Rattle.cedar_interpreter.specs.Holding.{Serves, Deep, depth_of}
 use Rattle.cedar_interpreter.specs.Meeting.{IsLimit}
 use Rattle.cedar_interpreter.specs.Operating.{NamesNothing}
 use Rattle.cedar_interpreter.specs.declared.evaluator.Evaluator.{Evaluator}
@@ -27,7 +26,7 @@ use Rattle.cedar_policy_set.specs.Texts.{syntax_in}
 use Rattle.cedar_policies.specs.Templates.{template_id}
 use Rattle.cedar_trees.specs.declared.expr.Expr.{Expr}
 use Rattle.cedar_evaluator.specs.Evaluating.{condition_of, JudgesAt}
-use Rattle.cedar_evaluator.specs.Evaluations.{Finds, bindings_in, condition_in, is_given, IsServed, policy_answer, IsKept}
+use Rattle.cedar_evaluator.specs.Evaluations.{Finds, bindings_in, condition_in, IsServed, policy_answer, IsKept}
 use Rattle.cedar_evaluator.specs.Grouping.{found_in, kept_of, IsKeepable}
 use Rattle.cedar_evaluator.proofs.Answered.{finds, limit_met}
 use Rattle.cedar_evaluator.proofs.Entered.{syntax_entered, bindings_entered}
@@ -58,21 +57,19 @@ module _
   answer_is : (facts : Facts) → partial_in facts (request_held i (bindings_of p)) (condition_of p) ≡ policy_answer i store table depth facts (policy_entry p)
   answer_is facts = ap (λ (holds : LeafAnswers). partial_in facts holds (condition_of p)) held ∙ ap (λ (t : Tree). partial_in facts (request_held i (bindings_in (policy_entry p))) t) (sym condition_is)
 
-  given_is : is_held ev ≡ is_given i
-  given_is = λ j v. is_evaluated ((is.holds (bindings_of p) j).variable v)
-
-  known : mentions_only (is_given i) true (condition_in (policy_entry p)) ≡ true → mentions_only (is_held ev) true (condition_of p) ≡ true
-  known h = ap (λ (f : Variable → Bool). mentions_only f true (condition_of p)) given_is ∙ ap (λ (t : Tree). mentions_only (is_given i) true t) (sym condition_is) ∙ h
-
   pub is_kept : IsKept i store table depth (policy_seen p) (kept_of p answer)
   is_kept = record {
     id = refl;
     effect = ap (λ (s : grammar.Policy). s.effect) (sym syntax_is);
     annotations = ap (λ (s : grammar.Policy). s.annotations) (sym syntax_is);
     found = λ facts served. subst (λ b. Finds b (found_in answer)) (answer_is facts) (finds _ answer (found facts (subst (IsServed i store table depth facts) condition_is served)) keepable);
-    limit = λ met facts served mentions.
-        let deep : depth_of ev < height (condition_of p) = limit (limit_met answer met) facts (serves facts served) (known mentions) in
-        subst (λ (t : Tree). depth < height t) (sym condition_is) (subst (λ (d : ℕ). d < height (condition_of p)) is.limit deep);
+    limit = λ met facts served.
+        let (slots, deep) = limit (limit_met answer met) facts (serves facts served) in (
+          slots,
+          subst (λ (t : Tree). depth < evaluation_depth facts (request_held i slots) t) (sym condition_is)
+              (subst (λ (d : ℕ). d < evaluation_depth facts (request_held i slots) (condition_of p)) is.limit
+              (subst (λ (holds : LeafAnswers). depth_of ev < evaluation_depth facts holds (condition_of p)) (is.holds slots) deep)),
+        );
   }
 
 -- ---- of a policy of which it is told whether it is satisfied

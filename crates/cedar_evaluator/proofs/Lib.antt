@@ -26,3 +26,18 @@ mod OutOfScope
 mod Thinned
 mod Listed
 mod Passed
+pub mod Lists
+pub mod Members
+pub mod Counted
+pub mod Grouped
+pub mod Taken
+pub mod KeptOf
+pub mod LeftStands
+pub mod Accepting
+mod Paired
+mod Erring
+pub mod AskedSo
+mod AskedAgain
+mod Answering
+mod AnsweringKnown
+mod AnsweringAgain

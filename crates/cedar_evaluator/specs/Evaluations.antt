@@ -4,11 +4,9 @@ use Rattle.cedar_language.specs.Uid.{Text}
 use Rattle.cedar_language.specs.Tree.{Boolean, Variable, Tree}
 use Rattle.cedar_language.specs.Value.{Plain}
 use Rattle.cedar_language.specs.Facts.{Facts}
-use Rattle.cedar_language.specs.Height.{height}
 use Rattle.cedar_language.specs.Answering.{Effect, Erring}
 use Rattle.cedar_grammar.specs.Build.{Keyed}
 use Rattle.cedar_partial_evaluation.specs.Early.{standing_of_answer}
-use Rattle.cedar_partial_evaluation.specs.Mentions.{mentions_only}
 use Rattle.cedar_partial_evaluation.specs.Partial.{Answer, Evaluated, ResidualTree, partial_in}
 use Rattle.cedar_policy_parts.specs.Bindings.{Bindings, unbound}
 use Rattle.cedar_extensions.specs.Failures.{Failure, OfKind, LimitMet, MemoryRanOut}
@@ -16,6 +14,7 @@ use Rattle.cedar_extensions.specs.Table.{Table}
 use Rattle.cedar_entities.specs.declared.store.Entities.{Entities}
 use Rattle.cedar_operators.specs.Store.{HasFacts}
 use Rattle.cedar_interpreter.specs.Asking.{Inquiry, variable_asked, request_held}
+use Rattle.cedar_interpreter.specs.Depths.{evaluation_depth}
 use Rattle.cedar_interpreter.specs.Holding.{is_evaluated}
 use Rattle.cedar_interpreter.specs.Operating.{HasFunctions, NamesNothing}
 use Rattle.cedar_policy_set.specs.Entries.{Entry, static_policy, template, link, Entries}
@@ -70,9 +69,9 @@ module _ (i : Inquiry) (store : Entities) (table : Table) (depth : ℕ) where
   abbrev pub policy_answer : Facts → Entry → Answer
   policy_answer facts e = partial_in facts (request_held i (bindings_in e)) (condition_in e)
 
-  -- a condition that mentions nothing unknown is higher than the limit
-  abbrev pub IsTooHigh : Entry → Type 0
-  IsTooHigh e = (facts : Facts) → IsServed facts (condition_in e) → mentions_only (is_given i) true (condition_in e) ≡ true → depth < height (condition_in e)
+  -- with its slots bound in some way, the evaluation of the policy's condition nests deeper than the limit
+  abbrev pub IsTooDeep : Entry → Type 0
+  IsTooDeep e = (facts : Facts) → IsServed facts (condition_in e) → (slots : Bindings) × (depth < evaluation_depth facts (request_held i slots) (condition_in e))
 
   -- what is kept of the policy of this id
   pub record IsKept (e : Text × Entry) (k : Kept) : Type 0 where
@@ -80,7 +79,7 @@ module _ (i : Inquiry) (store : Entities) (table : Table) (depth : ℕ) where
     pub effect : k.effect ≡ (syntax_in e.1).effect
     pub annotations : k.annotations ≡ (syntax_in e.1).annotations
     pub found : (facts : Facts) → IsServed facts (condition_in e.1) → Finds (policy_answer facts e.1) k.found
-    pub limit : k.found ≡ Erred LimitMet → IsTooHigh e.1
+    pub limit : k.found ≡ Erred LimitMet → IsTooDeep e.1
 
   -- what is kept of each policy, one after another
   abbrev pub AreKept : Entries → List Kept → Type 0

@@ -15,6 +15,7 @@ pub mod Reauthorizing
 pub mod Scopes
 pub mod Candidates
 pub mod IdsLeft
+pub mod Questions
 pub use Rattle.cedar_operators.specs.Operands
 pub use Rattle.cedar_operators.specs.Comparing
 pub use Rattle.cedar_operators.specs.Sets

@@ -9,6 +9,7 @@ pub mod Applied
 pub mod Called
 pub mod Told
 pub mod Serving
+pub mod Depths
 pub mod Pairs
 pub mod Known
 pub mod Meant

@@ -1,23 +1,24 @@
 -- A tree that mentions only what is known is answered by what it means.
-use Rattle.std.proofs.Common.{◌≡◌, ◌∙◌, ◌<◌, ℕ, refl, ap, sym, true, false, true≢false, inl, inr}
+use Rattle.std.proofs.Common.{◌≡◌, ◌∙◌, ◌<◌, ℕ, refl, ap, sym, arith, true, false, true≢false, inl, inr}
 use Rattle.std.specs.Prelude.{⊤, ◌⊎◌, Result, Ok, Err}
 use Rattle.cedar_language.specs.Tree.{Tree}
 use Rattle.cedar_language.specs.Value.{Value, Kind, NonValue, Outcome, Gives, Fails}
 use Rattle.cedar_language.specs.Facts.{Facts}
 use Rattle.cedar_language.specs.Height.{height}
 use Rattle.cedar_language.specs.Meaning.{Request, slot_outcome, meaning}
-use Rattle.cedar_partial_evaluation.specs.Leaves.{is_left, AreKnown, AnswerAlike, LeavesDontMatter}
+use Rattle.cedar_partial_evaluation.specs.Leaves.{is_left, AreKnown, AnswerAlike, KnownIsNeverLeft, LeavesDontMatter}
 use Rattle.cedar_partial_evaluation.specs.Mentions.{mentions_only}
 use Rattle.cedar_partial_evaluation.specs.Partial.{Answer, Evaluated, ResidualTree, Failed, answer_of, LeafAnswers, leaf_answers_of, partial_in, KnownIsMeaning}
-use Rattle.cedar_policy_parts.specs.Bindings.{Bindings}
+use Rattle.cedar_policy_parts.specs.Bindings.{Bindings, binding_of}
 use Rattle.cedar_extensions.specs.Answering.{FunctionAnswers}
 use Rattle.cedar_extensions.specs.Failures.{Failure, OfKind, LimitMet, MemoryRanOut, failure_of}
 use Rattle.cedar_extensions.specs.Giving.{FailsBy}
 use Rattle.cedar_extensions.specs.declared.evaluation_error.EvaluationError.{EvaluationError}
 use Rattle.cedar_interpreter.specs.Asking.{is_known_in, IsHeldOf, MeansTree}
-use Rattle.cedar_interpreter.specs.Holding.{held_by, is_evaluated, Serves, Deep}
+use Rattle.cedar_interpreter.specs.Holding.{held_by, variable_held, is_held, is_evaluated, Serves, Deep}
 use Rattle.cedar_interpreter.specs.Meeting.{ValueAt, IsLimit}
 use Rattle.cedar_interpreter.specs.declared.evaluator.Evaluator.{Evaluator}
+use Rattle.cedar_interpreter.proofs.Depths.{held_known, slot_known, known_depth}
 
 valued : (a : Answer) (w : Value) → is_evaluated a ≡ true → ((v : Value) → a ≡ Evaluated v → w ≡ v) → a ≡ Evaluated w
 valued (Evaluated v) w h same = ap Evaluated (sym (same v refl))
@@ -74,8 +75,15 @@ module _ (law : LeavesDontMatter) (known : KnownIsMeaning) (facts : Facts) (hold
   means depth (Err e) found deep only request held = failing only request held depth (failure_of e) (λ l. deep l only) found
 
 -- an evaluator's value
-pub means_tree : {F : Type 0} (answers : F → FunctionAnswers) → LeavesDontMatter → KnownIsMeaning → (ev : Evaluator F) (slots : Bindings) (depth : ℕ) (t : Tree) (result : Result Value EvaluationError)
-    → ((facts : Facts) → Serves answers ev facts t → ValueAt ⊤ (partial_in facts (held_by ev slots) t) result) → (IsLimit result → Deep answers ev depth t)
-    → (facts : Facts) → Serves answers ev facts t → MeansTree facts (held_by ev slots) depth t result
-means_tree answers law known ev slots depth t result found limit facts serves =
-    means law known facts (held_by ev slots) t depth result (found facts serves) (λ l only. limit l facts serves only)
+module _ {F : Type 0} (answers : F → FunctionAnswers) (law : LeavesDontMatter) (known : KnownIsMeaning) (never : KnownIsNeverLeft) (ev : Evaluator F) (slots : Bindings) (depth : ℕ) (t : Tree) (result : Result Value EvaluationError)
+    (found : (facts : Facts) → Serves answers ev facts t → ValueAt ⊤ (partial_in facts (held_by ev slots) t) result) (limit : IsLimit result → Deep answers ev depth t)
+    (facts : Facts) (serves : Serves answers ev facts t) where
+  -- what is met is met however slots are bound, and nothing of these is left
+  high : IsLimit result → mentions_only (is_known_in (held_by ev slots)) true t ≡ true → depth < height t
+  high l only =
+      let (bs, deep) = limit l facts serves in
+      let low = known_depth never facts (is_held ev) true (held_by ev bs) (record { variable = λ v k. held_known (variable_held ev v) k; slot = λ i k. slot_known (binding_of bs i) }) t only in
+      omega (arith, deep, low)
+
+  pub means_tree : MeansTree facts (held_by ev slots) depth t result
+  means_tree = means law known facts (held_by ev slots) t depth result (found facts serves) high

@@ -1,5 +1,6 @@
 -- Records that are left, and the entries that are projected of them.
-use Rattle.std.proofs.Common.{◌≡◌, ◌∙◌, refl, ap, subst, List, [], ◌∷◌, map, Bool, true, false, Global}
+use Rattle.std.proofs.Common.{◌≡◌, ◌≤◌, ◌∙◌, refl, ap, subst, arith, List, [], ◌∷◌, map, Bool, true, false, Global}
+use Rattle.std.proofs.Math.Nat.{le-max_left, le-max_right}
 use Rattle.std.specs.Prelude.{Option, Some, None, cond, ◌&&◌, option_map, is_some}
 use Rattle.std.specs.BTreeMap.{is_at}
 use Rattle.std.specs.Cmp.Lexicographic.{nat_list_eq_equiv, texts_ties}
@@ -9,6 +10,7 @@ use Rattle.std.specs.declared.rc.RcStr.{RcStr}
 use Rattle.cedar_language.specs.Uid.{Text}
 use Rattle.cedar_language.specs.Tree.{Boolean, GetAttr, HasAttr, MakeSet, MakeRecord, Tree, Lit, Var, Unknown, Apply, Trees, no_trees, a_tree}
 use Rattle.cedar_language.specs.Facts.{Facts}
+use Rattle.cedar_language.specs.Height.{height, heights}
 use Rattle.cedar_language.specs.Order.{same_text, text_cmp}
 use Rattle.cedar_language.specs.Restricted.{is_projectable, are_projectable}
 use Rattle.cedar_language.specs.Value.{Plain, RecordAttrDoesNotExist}
@@ -52,6 +54,16 @@ found_projectable (k ∷ ks) no_trees a u is h = cc
 found_projectable (k ∷ ks) (a_tree t ts) a u is h =
     let both = and_true (is_projectable t) (are_projectable ts) h in
     first_of (same_text k a) t u (found_tree ks ts a) is both.0 (λ later. found_projectable ks ts a u later both.1)
+
+-- an entry is lower than its record
+entry_first : (b : Bool) (t u : Tree) (ts : Trees) (o : Option Tree) → cond b (Some t) o ≡ Some u → (o ≡ Some u → height u ≤ heights ts) → height u ≤ heights (a_tree t ts)
+entry_first true t u ts o is later = let same : t ≡ u = cc in subst (λ x. height x ≤ heights (a_tree t ts)) same (le-max_left (height t) (heights ts))
+entry_first false t u ts o is later = omega (arith, later is, le-max_right (height t) (heights ts))
+
+pub found_low : (ks : List Text) (ts : Trees) (a : Text) (u : Tree) → found_tree ks ts a ≡ Some u → height u ≤ heights ts
+found_low [] ts a u is = cc
+found_low (k ∷ ks) no_trees a u is = cc
+found_low (k ∷ ks) (a_tree t ts) a u is = entry_first (same_text k a) t u ts (found_tree ks ts a) is (found_low ks ts a u)
 
 abbrev pub Entries : Type 0
 Entries = List (RcStr Global × Expr (Unit {0}))

@@ -1,11 +1,12 @@
 -- What is looked up of an entity that is given is what the facts have of it.
-use Rattle.std.proofs.Common.{◌≡◌, ◌∙◌, ℕ, IfSome, sym, ap, subst, Bor}
+use Rattle.std.proofs.Common.{◌≡◌, ◌∙◌, ℕ, IfSome, refl, sym, ap, subst, codes, Bor}
 use Rattle.std.specs.Prelude.{Option, Some, None}
 use Rattle.std.specs.Option.{option_map, option_copied}
-use Rattle.cedar_language.specs.Uid.{Uid}
-use Rattle.cedar_language.specs.Tree.{Entity, Variable}
-use Rattle.cedar_language.specs.Value.{Plain}
+use Rattle.cedar_language.specs.Uid.{Text, Uid}
+use Rattle.cedar_language.specs.Tree.{Entity, Variable, Principal, Action, Resource, Context, Tree}
+use Rattle.cedar_language.specs.Value.{Value, Plain}
 use Rattle.cedar_partial_evaluation.specs.Partial.{Evaluated, LeafAnswers}
+use Rattle.cedar_partial_evaluation.specs.Question.{Part, Given, Missing, part_held}
 use Rattle.cedar_policy_parts.specs.Bindings.{unbound}
 use Rattle.cedar_entities.specs.Data.{EntityData}
 use Rattle.cedar_entities.specs.Held.{held_of}
@@ -15,10 +16,14 @@ use Rattle.cedar_extensions.specs.Answering.{FunctionAnswers}
 use Rattle.cedar_extensions.specs.Table.{Table}
 use Rattle.cedar_operators.specs.Store.{IsFound}
 use Rattle.cedar_operators.proofs.ByStore.{within_is}
+use Rattle.either.specs.declared.Either.{Either}
+use Rattle.either.specs.declared.Either.TheVariants.{Left, Right}
 use Rattle.cedar_restricted.specs.PartialValues.{partial_of}
 use Rattle.cedar_restricted.specs.declared.partial_values.PartialValue.{PartialValue}
-use Rattle.cedar_interpreter.specs.Asking.{Inquiry, variable_asked, IsEvaluatorOf}
-use Rattle.cedar_interpreter.specs.Holding.{variable_held}
+use Rattle.cedar_restricted_evaluation.specs.Evaluations.{part_answer}
+use Rattle.cedar_values.specs.Readers.{uid_in}
+use Rattle.cedar_interpreter.specs.Asking.{Inquiry, variable_asked, uid_given, entity_asked, IsEvaluatorOf}
+use Rattle.cedar_interpreter.specs.Holding.{variable_held, entity_held}
 use Rattle.cedar_interpreter.specs.Seen.{IsSeen, IsSeenFor, uid_standing}
 use Rattle.cedar_interpreter.specs.declared.evaluator.Evaluator.{Evaluator}
 
@@ -44,6 +49,19 @@ if_some (Some x) f h = f x h
 module _ {F : Type 0} (answers : F → FunctionAnswers) (ev : Evaluator F) (i : Inquiry) (store : Entities) (table : Table) (depth : ℕ) (is : IsEvaluatorOf answers i store table depth ev) where
   asked_as : (v : Variable) → variable_asked i.request v ≡ variable_held ev v
   asked_as v = sym (ap (λ (holds : LeafAnswers). holds.variable v) (is.holds unbound))
+
+  -- an entity is one that the request gives
+  part_given : (e : Either Value Tree) (p : Part) (n : Text) → part_held p None n ≡ part_answer e → uid_standing e ≡ uid_given p
+  part_given (Left v) (Given u) n same = let is : Plain (Entity u) ≡ v = cc in sym (ap uid_in is)
+  part_given (Left v) (Missing ty) n same = cc
+  part_given (Right t) (Given u) n same = cc
+  part_given (Right t) (Missing ty) n same = refl
+
+  pub entity_given : (v : Variable) → entity_held ev v ≡ entity_asked i.request v
+  entity_given Principal = part_given (partial_of ev.variables.principal) i.request.principal (codes "principal") (asked_as Principal)
+  entity_given Action = part_given (partial_of ev.variables.action) i.request.action (codes "action") (asked_as Action)
+  entity_given Resource = part_given (partial_of ev.variables.resource) i.request.resource (codes "resource") (asked_as Resource)
+  entity_given Context = refl
 
   seen_asked : (v : Variable) (uid : Uid) (seen : Option EntityData) → (variable_held ev v ≡ Evaluated (Plain (Entity uid))) × IsSeen ev.entities.now uid seen → (variable_asked i.request v ≡ Evaluated (Plain (Entity uid))) × IsSeen store uid seen
   seen_asked v uid seen held = (asked_as v ∙ held.0, subst (λ s. IsSeen s uid seen) is.store held.1)

@@ -1,27 +1,19 @@
 -- What is served and how deep it is, from a construct to its parts.
-use Rattle.std.proofs.Common.{◌≡◌, ◌∙◌, ℕ, ◌<◌, ◌+◌, refl, ap, sym, subst, List, [], ◌∷◌, ◌++◌, append_assoc, length-append, length, suc, map, arith, Bool, true, false, true≢false}
+use Rattle.std.proofs.Common.{◌≡◌, ◌∙◌, ℕ, ◌<◌, ◌+◌, refl, ap, sym, subst, List, [], ◌∷◌, ◌++◌, append_assoc, length-append, length, suc, map, arith, Bool, true, false}
 use Rattle.std.proofs.Common.{inl, inr}
 use Rattle.std.proofs.lemmas.List.{append-nil, map-append}
 use Rattle.std.specs.Prelude.{⊤, ◌⊎◌, ◌&&◌, ◌||◌, Result}
 use Rattle.either.specs.declared.Either.{Either}
-use Rattle.either.specs.declared.Either.TheVariants.{Left, Right}
 use Rattle.cedar_language.specs.Tree.{Operator, Tree, Lit, Var, Slot, Unknown, If, And, Or, Apply, Trees, no_trees, a_tree}
 use Rattle.cedar_language.specs.Value.{Value, Kind}
 use Rattle.cedar_language.specs.Facts.{Facts}
-use Rattle.cedar_language.specs.Height.{height, heights}
 use Rattle.cedar_language.specs.Restricted.{is_projectable}
 use Rattle.cedar_partial_evaluation.specs.Alike.{gathered}
-use Rattle.cedar_partial_evaluation.specs.Leaves.{is_left, KnownIsNeverLeft}
-use Rattle.cedar_partial_evaluation.specs.Mentions.{mentions_only, all_mention_only}
-use Rattle.cedar_partial_evaluation.specs.Partial.{Answer, Evaluated, ResidualTree, Failed, SomeFailed, and_next, answer_of, LeafAnswers, apply_answer, partial_in, all_partial_in}
-use Rattle.cedar_language.specs.Meaning.{slot_outcome}
-use Rattle.std.specs.Prelude.{Option, Some, None}
-use Rattle.cedar_language.specs.Uid.{Uid}
+use Rattle.cedar_partial_evaluation.specs.Partial.{Failed, SomeFailed, and_next, LeafAnswers, apply_answer, partial_in, all_partial_in}
 use Rattle.cedar_partial_evaluation.specs.ReadUnknowns.{calls_unknown, some_calls_unknown, is_unknown_call}
-use Rattle.cedar_policy_parts.specs.Bindings.{Bindings, binding_of}
+use Rattle.cedar_policy_parts.specs.Bindings.{Bindings}
 use Rattle.cedar_grammar.specs.Build.{trees}
 use Rattle.cedar_shapes.specs.Parts.{listed, parts}
-use Rattle.cedar_restricted.specs.Splitting.{is_residual}
 use Rattle.cedar_restricted.specs.declared.partial_values.PartialValue.{PartialValue}
 use Rattle.cedar_extensions.specs.Answering.{FunctionAnswers}
 use Rattle.cedar_extensions.specs.Failures.{Failure}
@@ -29,21 +21,14 @@ use Rattle.cedar_extensions.specs.Giving.{FailsBy, fails_on}
 use Rattle.cedar_extensions.specs.Table.{as_table}
 use Rattle.cedar_extensions.specs.declared.evaluation_error.EvaluationError.{EvaluationError}
 use Rattle.cedar_interpreter.specs.Forms.{is_of_list}
-use Rattle.cedar_interpreter.specs.Holding.{held_by, variable_held, Serves, ServesEach, is_evaluated, is_held, Deep, DeepEach}
+use Rattle.cedar_interpreter.specs.Depths.{evaluation_depth, evaluation_depths}
+use Rattle.cedar_interpreter.specs.Holding.{held_by, Serves, ServesEach, Deep, DeepEach}
 use Rattle.cedar_interpreter.specs.Meeting.{part_answer, MeetsAt}
 use Rattle.cedar_interpreter.specs.Operating.{NamesNothing, operated}
 use Rattle.cedar_interpreter.specs.declared.evaluator.Evaluator.{Evaluator}
 use Rattle.cedar_interpreter.proofs.Gathering.{fails_behind, gathered_all}
 use Rattle.cedar_interpreter.proofs.Steps.{meets_anyhow}
 use Rattle.cedar_interpreter.proofs.Projecting.{projectable_calls}
-
-and_left : (a b : Bool) → (a && b) ≡ true → a ≡ true
-and_left true b h = refl
-and_left false b h = h
-
-and_right : (a b : Bool) → (a && b) ≡ true → b ≡ true
-and_right true b h = h
-and_right false b h = cc
 
 nothing_left : (b x y : Bool) → (b && (x || y)) ≡ false → (b && x) ≡ false
 nothing_left false x y h = refl
@@ -58,9 +43,6 @@ nothing_right true true y h = cc
 nothing_at : (b x : Bool) → x ≡ false → (b && x) ≡ false
 nothing_at true x h = h
 nothing_at false x h = refl
-
-pub known_first : (a b : Bool) → (a && b) ≡ true → a ≡ true
-known_first a b h = and_left a b h
 
 pub either_deep : {A B C : Type 0} → A ⊎ B → (A → C) → (B → C) → C
 either_deep (inl a) f g = f a
@@ -124,78 +106,58 @@ module _ {F : Type 0} (answers : F → FunctionAnswers) (ev : Evaluator F) (fact
 module _ {F : Type 0} (answers : F → FunctionAnswers) (ev : Evaluator F) (depth : ℕ) where
   module _ (l r : Tree) where
     pub deep_and_left : Deep answers ev depth l → Deep answers ev (suc depth) (And l r)
-    deep_and_left d facts has m = let h : depth < height l = d facts (serves_and_left answers ev facts l r has) (and_left _ _ m) in omega (arith, h)
+    deep_and_left d facts has = let (slots, h) = d facts (serves_and_left answers ev facts l r has) in (slots, omega (arith, h))
 
     pub deep_and_right : Deep answers ev depth r → Deep answers ev (suc depth) (And l r)
-    deep_and_right d facts has m = let h : depth < height r = d facts (serves_and_right answers ev facts l r has) (and_right _ _ m) in omega (arith, h)
+    deep_and_right d facts has = let (slots, h) = d facts (serves_and_right answers ev facts l r has) in (slots, omega (arith, h))
 
     pub deep_or_left : Deep answers ev depth l → Deep answers ev (suc depth) (Or l r)
-    deep_or_left d facts has m = let h : depth < height l = d facts (serves_or_left answers ev facts l r has) (and_left _ _ m) in omega (arith, h)
+    deep_or_left d facts has = let (slots, h) = d facts (serves_or_left answers ev facts l r has) in (slots, omega (arith, h))
 
     pub deep_or_right : Deep answers ev depth r → Deep answers ev (suc depth) (Or l r)
-    deep_or_right d facts has m = let h : depth < height r = d facts (serves_or_right answers ev facts l r has) (and_right _ _ m) in omega (arith, h)
+    deep_or_right d facts has = let (slots, h) = d facts (serves_or_right answers ev facts l r has) in (slots, omega (arith, h))
 
   module _ (t y n : Tree) where
     pub deep_if_test : Deep answers ev depth t → Deep answers ev (suc depth) (If t y n)
-    deep_if_test d facts has m = let h : depth < height t = d facts (serves_test answers ev facts t y n has) (and_left _ _ m) in omega (arith, h)
+    deep_if_test d facts has = let (slots, h) = d facts (serves_test answers ev facts t y n has) in (slots, omega (arith, h))
 
     pub deep_if_yes : Deep answers ev depth y → Deep answers ev (suc depth) (If t y n)
-    deep_if_yes d facts has m = let h : depth < height y = d facts (serves_yes answers ev facts t y n has) (and_left _ _ (and_right _ _ m)) in omega (arith, h)
+    deep_if_yes d facts has = let (slots, h) = d facts (serves_yes answers ev facts t y n has) in (slots, omega (arith, h))
 
     pub deep_if_no : Deep answers ev depth n → Deep answers ev (suc depth) (If t y n)
-    deep_if_no d facts has m = let h : depth < height n = d facts (serves_no answers ev facts t y n has) (and_right _ _ (and_right _ _ m)) in omega (arith, h)
+    deep_if_no d facts has = let (slots, h) = d facts (serves_no answers ev facts t y n has) in (slots, omega (arith, h))
 
   pub deep_operand : (op : Operator) (t : Tree) → Deep answers ev depth t → Deep answers ev (suc depth) (Apply op (a_tree t no_trees))
-  deep_operand op t d facts has m = let h : depth < height t = d facts (serves_operands answers ev facts op (a_tree t no_trees) has).0 (and_left _ _ m) in omega (arith, h)
+  deep_operand op t d facts has = let (slots, h) = d facts (serves_operands answers ev facts op (a_tree t no_trees) has).0 in (slots, omega (arith, h))
 
   module _ (op : Operator) (l r : Tree) where
     pub deep_left : Deep answers ev depth l → Deep answers ev (suc depth) (Apply op (a_tree l (a_tree r no_trees)))
-    deep_left d facts has m = let h : depth < height l = d facts (serves_operands answers ev facts op (a_tree l (a_tree r no_trees)) has).0 (and_left _ _ m) in omega (arith, h)
+    deep_left d facts has = let (slots, h) = d facts (serves_operands answers ev facts op (a_tree l (a_tree r no_trees)) has).0 in (slots, omega (arith, h))
 
     pub deep_right : Deep answers ev depth r → Deep answers ev (suc depth) (Apply op (a_tree l (a_tree r no_trees)))
-    deep_right d facts has m = let h : depth < height r = d facts (serves_operands answers ev facts op (a_tree l (a_tree r no_trees)) has).1.0 (and_left _ _ (and_right _ _ m)) in omega (arith, h)
+    deep_right d facts has = let (slots, h) = d facts (serves_operands answers ev facts op (a_tree l (a_tree r no_trees)) has).1.0 in (slots, omega (arith, h))
 
   later_deep : (t : Tree) (ts : List Tree) → DeepEach answers ev depth ts → DeepEach answers ev depth (t ∷ ts)
-  later_deep t ts d facts has m = let h : depth < heights (trees ts) = d facts has.1 (and_right _ _ m) in omega (arith, h)
+  later_deep t ts d facts has = let (slots, h) = d facts has.1 in (slots, omega (arith, h))
 
   pub first_deep : (t : Tree) (ts : List Tree) → Deep answers ev depth t → DeepEach answers ev depth (t ∷ ts)
-  first_deep t ts d facts has m = let h : depth < height t = d facts has.0 (and_left _ _ m) in omega (arith, h)
+  first_deep t ts d facts has = let (slots, h) = d facts has.0 in (slots, omega (arith, h))
 
-pub positive : (t : Tree) → 0 < height t
-positive (Lit l) = omega arith
-positive (Var v) = omega arith
-positive (Slot s) = omega arith
-positive (Unknown n ty) = omega arith
-positive (If t y n) = omega arith
-positive (And l r) = omega arith
-positive (Or l r) = omega arith
-positive (Apply op ts) = omega arith
+pub positive : (facts : Facts) (holds : LeafAnswers) (t : Tree) → 0 < evaluation_depth facts holds t
+positive facts holds (Lit l) = omega arith
+positive facts holds (Var v) = omega arith
+positive facts holds (Slot s) = omega arith
+positive facts holds (Unknown n ty) = omega arith
+positive facts holds (If t y n) = omega arith
+positive facts holds (And l r) = omega arith
+positive facts holds (Or l r) = omega arith
+positive facts holds (Apply op ts) = omega arith
 
 -- what is deep below one level is deep at it
 pub lowered : {F : Type 0} (answers : F → FunctionAnswers) (ev : Evaluator F) (depth below : ℕ) (t u : Tree) → t ≡ u → depth ≡ below + 1 → Deep answers ev (suc below) u → Deep answers ev depth t
-lowered answers ev depth below t u is step h facts has m =
-    let k : suc below < height u = h facts (subst (Serves answers ev facts) is has) (subst (λ x. mentions_only (is_held ev) true x ≡ true) is m) in
-    subst (λ x. depth < height x) (sym is) (omega (arith, k, step))
-
--- ---- what is known is never left
-
-held_known : (b : Answer) → is_evaluated b ≡ true → is_left b ≡ false
-held_known (Evaluated v) h = refl
-held_known (ResidualTree r) h = cc
-held_known (Failed k) h = cc
-
-slot_known : (o : Option Uid) → is_left (answer_of (slot_outcome o)) ≡ false
-slot_known (Some u) = refl
-slot_known None = refl
-
-residual_left : (p : Either Value Tree) → is_residual p ≡ true → is_left (part_answer p) ≡ true
-residual_left (Left v) h = cc
-residual_left (Right r) h = refl
-
-pub never_left : {F : Type 0} → KnownIsNeverLeft → (ev : Evaluator F) (slots : Bindings) (facts : Facts) (t : Tree) (p : Either Value Tree) → mentions_only (is_held ev) true t ≡ true → is_residual p ≡ true → partial_in facts (held_by ev slots) t ≡ part_answer p → ⊥
-never_left known ev slots facts t p m h s =
-    true≢false (sym (ap is_left s ∙ residual_left p h)
-    ∙ known facts (is_held ev) true (held_by ev slots) (record { variable = λ v k. held_known (variable_held ev v) k; slot = λ i k. slot_known (binding_of slots i) }) t m)
+lowered answers ev depth below t u is step h facts has =
+    let (slots, k) = h facts (subst (Serves answers ev facts) is has) in
+    (slots, subst (λ x. depth < evaluation_depth facts (held_by ev slots) x) (sym is) (omega (arith, k, step)))
 
 -- ---- calls, sets and records
 
@@ -230,10 +192,10 @@ module _ (facts : Facts) (holds : LeafAnswers) where
   list_fails (Or l r) k s h = cc
 
 pub list_deep : {F : Type 0} (answers : F → FunctionAnswers) (ev : Evaluator F) (depth : ℕ) (t : Tree) → is_of_list t ≡ true → DeepEach answers ev depth (parts t) → Deep answers ev (suc depth) t
-list_deep answers ev depth (Apply op ts) s d = λ facts has m.
-    let h : depth < heights (trees (listed ts)) = d facts (serves_operands answers ev facts op ts has) (subst (λ us. all_mention_only (is_held ev) true us ≡ true) (sym (listed_again ts)) m) in
-    let k : depth < heights ts = subst (λ us. depth < heights us) (listed_again ts) h in
-    omega (arith, k)
+list_deep answers ev depth (Apply op ts) s d = λ facts has.
+    let (slots, h) = d facts (serves_operands answers ev facts op ts has) in
+    let k : depth < evaluation_depths facts (held_by ev slots) ts = subst (λ us. depth < evaluation_depths facts (held_by ev slots) us) (listed_again ts) h in
+    (slots, omega (arith, k))
 list_deep answers ev depth (Lit l) s d = cc
 list_deep answers ev depth (Var v) s d = cc
 list_deep answers ev depth (Slot j) s d = cc

@@ -3,14 +3,14 @@
 use Rattle.std.specs.Prelude.{◌≡◌, ◌<◌, ℕ, Bool, true, Option, Some, None, codes, Result}
 use Rattle.either.specs.declared.Either.{Either}
 use Rattle.cedar_language.specs.Tree.{Variable, Principal, Action, Resource, Context, SlotId, Tree, Unknown}
-use Rattle.cedar_language.specs.Uid.{Text}
+use Rattle.cedar_language.specs.Uid.{Text, Uid}
 use Rattle.cedar_language.specs.Value.{Value}
 use Rattle.cedar_language.specs.Facts.{Facts}
 use Rattle.cedar_language.specs.Height.{height}
 use Rattle.cedar_language.specs.Meaning.{Request, slot_outcome, meaning}
 use Rattle.cedar_partial_evaluation.specs.Mentions.{mentions_only}
 use Rattle.cedar_partial_evaluation.specs.Partial.{Answer, Evaluated, ResidualTree, answer_of, LeafAnswers}
-use Rattle.cedar_partial_evaluation.specs.Question.{part_held, name_held}
+use Rattle.cedar_partial_evaluation.specs.Question.{Part, Given, Missing, part_held, name_held}
 use Rattle.cedar_policy_parts.specs.Bindings.{Bindings, binding_of}
 use Rattle.cedar_entities.specs.declared.store.Entities.{Entities}
 use Rattle.cedar_extensions.specs.Answering.{FunctionAnswers}
@@ -48,6 +48,17 @@ variable_asked r Principal = part_held r.principal None (codes "principal")
 variable_asked r Action = part_held r.action None (codes "action")
 variable_asked r Resource = part_held r.resource None (codes "resource")
 variable_asked r Context = context_asked r.context
+
+abbrev pub uid_given : Part → Option Uid
+uid_given (Given u) = Some u
+uid_given (Missing ty) = None
+
+-- the entity that a request gives for a variable; the context is none
+abbrev pub entity_asked : RequestParts → Variable → Option Uid
+entity_asked r Principal = uid_given r.principal
+entity_asked r Action = uid_given r.action
+entity_asked r Resource = uid_given r.resource
+entity_asked r Context = None
 
 -- what is held of a request's variables, of unknowns and of slots; a told value of another type than the one that an unknown
 -- states is a TypeError

@@ -4,13 +4,11 @@ use Rattle.std.specs.Borrow.{Bor}
 use Rattle.std.specs.HashMap.{HashMap}
 use Rattle.std.specs.declared.alloc.Global.{Global}
 use Rattle.std.specs.declared.rc.RcStr.{RcStr}
-use Rattle.cedar_language.specs.Uid.{Text}
+use Rattle.cedar_language.specs.Uid.{Text, Uid}
 use Rattle.cedar_language.specs.Tree.{Variable, Principal, Action, Resource, Context, Tree}
 use Rattle.cedar_language.specs.Value.{Value}
 use Rattle.cedar_language.specs.Facts.{Facts}
-use Rattle.cedar_language.specs.Height.{height, heights}
 use Rattle.cedar_language.specs.Meaning.{slot_outcome}
-use Rattle.cedar_partial_evaluation.specs.Mentions.{mentions_only, all_mention_only}
 use Rattle.cedar_partial_evaluation.specs.Partial.{Answer, Evaluated, answer_of, LeafAnswers}
 use Rattle.cedar_partial_evaluation.specs.Question.{name_held}
 use Rattle.cedar_grammar.specs.Build.{trees}
@@ -22,7 +20,9 @@ use Rattle.cedar_extensions.specs.Answering.{FunctionAnswers}
 use Rattle.cedar_extensions.specs.Table.{as_table}
 use Rattle.cedar_restricted_evaluation.specs.Evaluations.{part_answer}
 use Rattle.cedar_substitution.specs.Told.{told_for}
+use Rattle.cedar_interpreter.specs.Depths.{evaluation_depth, evaluation_depths}
 use Rattle.cedar_interpreter.specs.Operating.{HasFunctions, NamesNothing}
+use Rattle.cedar_interpreter.specs.Seen.{uid_standing}
 use Rattle.cedar_interpreter.specs.declared.evaluator.Variables.{Variables}
 use Rattle.cedar_interpreter.specs.declared.evaluator.Evaluator.{Evaluator}
 
@@ -34,6 +34,13 @@ variable_in vs Context = vs.context
 
 abbrev pub variable_held : {F : Type 0} → Evaluator F → Variable → Answer
 variable_held ev v = part_answer (partial_of (variable_in ev.variables v))
+
+-- the entity that stands for a variable; for the context none does
+abbrev pub entity_held : {F : Type 0} → Evaluator F → Variable → Option Uid
+entity_held ev Principal = uid_standing (partial_of ev.variables.principal)
+entity_held ev Action = uid_standing (partial_of ev.variables.action)
+entity_held ev Resource = uid_standing (partial_of ev.variables.resource)
+entity_held ev Context = None
 
 -- no evaluation nests deeper
 abbrev pub depth_of : {F : Type 0} → Evaluator F → ℕ
@@ -66,9 +73,9 @@ is_evaluated _ = false
 abbrev pub is_held : {F : Type 0} → Evaluator F → Variable → Bool
 is_held ev v = is_evaluated (variable_held ev v)
 
--- a tree that mentions nothing unknown is higher than the limit
+-- with its slots bound in some way, the evaluation of a tree nests deeper than the limit
 abbrev pub Deep : {F : Type 0} → (F → FunctionAnswers) → Evaluator F → ℕ → Tree → Type 0
-Deep answers ev depth t = (facts : Facts) → Serves answers ev facts t → mentions_only (is_held ev) true t ≡ true → depth < height t
+Deep answers ev depth t = (facts : Facts) → Serves answers ev facts t → (slots : Bindings) × (depth < evaluation_depth facts (held_by ev slots) t)
 
 -- ---- trees one after another
 
@@ -77,4 +84,4 @@ ServesEach answers ev facts [] = ⊤
 ServesEach answers ev facts (t ∷ ts) = Serves answers ev facts t × ServesEach answers ev facts ts
 
 abbrev pub DeepEach : {F : Type 0} → (F → FunctionAnswers) → Evaluator F → ℕ → List Tree → Type 0
-DeepEach answers ev depth ts = (facts : Facts) → ServesEach answers ev facts ts → all_mention_only (is_held ev) true (trees ts) ≡ true → depth < heights (trees ts)
+DeepEach answers ev depth ts = (facts : Facts) → ServesEach answers ev facts ts → (slots : Bindings) × (depth < evaluation_depths facts (held_by ev slots) (trees ts))

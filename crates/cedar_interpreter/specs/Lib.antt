@@ -2,6 +2,7 @@ pub mod Forms
 pub mod Meeting
 pub mod Operating
 pub mod Projecting
+pub mod Depths
 pub mod Holding
 pub mod Seen
 pub mod Glancing

@@ -21,7 +21,7 @@ use cedar_extensions::extensions::Extensions;
 use cedar_extensions::objects::ExtensionFunctionObject;
 use cedar_literals::variables::Var;
 use cedar_names::shared::Shared;
-use cedar_partial_evaluation::{known_is_meaning, leaves_dont_matter};
+use cedar_partial_evaluation::{known_is_meaning, known_is_never_left, leaves_dont_matter};
 use cedar_policy_parts::bindings::SlotEnv;
 use cedar_requests::{Context, Request};
 use cedar_restricted::partial_values::PartialValue;
@@ -104,6 +104,7 @@ impl<'s, 'e, 'f, F: ExtensionFunctionObject> Evaluator<'s, 'e, 'f, F> {
         ensures limit { IsLimit result → Deep F.answers self.now (depth_of self.now) (bare expr.now) }
     {
         known_is_meaning();
+        known_is_never_left();
         leaves_dont_matter();
         value_of(alloc, self.partial_interpret(alloc, expr, slots))
     }

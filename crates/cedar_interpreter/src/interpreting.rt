@@ -22,7 +22,6 @@ use crate::places::at_place;
 use cedar_extensions::evaluation_error::EvaluationError;
 use cedar_extensions::objects::ExtensionFunctionObject;
 use cedar_names::places::Loc;
-use cedar_partial_evaluation::known_is_never_left;
 use cedar_policy_parts::bindings::SlotEnv;
 use cedar_restricted::partial_values::PartialValue;
 use cedar_trees::expr::Expr;
@@ -163,7 +162,6 @@ impl<'s, 'e, 'f, F: ExtensionFunctionObject> Evaluator<'s, 'e, 'f, F> {
         ensures found { (facts : Facts) → Serves F.answers self.now facts (unary (tree.GetAttr (rc_str_bytes attr.now)) (bare of.now)) → MeetsAt ⊤ (partial_in facts (held_by self.now slots.now) (unary (tree.GetAttr (rc_str_bytes attr.now)) (bare of.now))) result }
         ensures limit { IsLimit result → Deep F.answers self.now (suc depth) (unary (tree.GetAttr (rc_str_bytes attr.now)) (bare of.now)) }
     {
-        known_is_never_left();
         let part = self.interpret_within(alloc, of, slots, depth)?;
         match attribute(alloc, part, attr, loc, self.entities)? {
             Projected::Done(answer) => Ok(answer),

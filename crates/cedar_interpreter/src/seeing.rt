@@ -9,8 +9,8 @@ ghost use Rattle.cedar_literals.specs.Variables.{variable_of};
 ghost use Rattle.cedar_partial_evaluation.specs.Partial.{Evaluated};
 ghost use Rattle.cedar_restricted.specs.PartialValues.{partial_of};
 ghost use Rattle.cedar_restricted_evaluation.specs.Evaluations.{part_answer};
-ghost use Rattle.cedar_interpreter.specs.Asking.{Inquiry, variable_asked, IsEvaluatorOf};
-ghost use Rattle.cedar_interpreter.specs.Holding.{variable_held};
+ghost use Rattle.cedar_interpreter.specs.Asking.{Inquiry, variable_asked, entity_asked, IsEvaluatorOf};
+ghost use Rattle.cedar_interpreter.specs.Holding.{variable_held, entity_held};
 ghost use Rattle.cedar_interpreter.specs.Seen.{IsSeen, IsSeenFor, AreSeen, uid_standing};
 
 use crate::evaluator::{Evaluator, Seen, Variables};
@@ -48,7 +48,8 @@ fn given_as<'p, 's>(
     part: &'p PartialValue,
     seen: Option<&'s Entity>,
 ) -> Option<(&'p Rc<EntityUID>, Option<&'s Entity>)>
-    ensures { (store : Store) → IsSeenFor store part.now seen.entry → IfSome result (λ given. (part_answer (partial_of part.now) ≡ Evaluated (Plain (tree.Entity given.0.now.value))) × IsSeen store given.0.now.value (option_copied given.1)) }
+    ensures stands { option_map (λ given. given.0.now.value) result ≡ uid_standing (partial_of part.now) }
+    ensures seen { (store : Store) → IsSeenFor store part.now seen.entry → IfSome result (λ given. (part_answer (partial_of part.now) ≡ Evaluated (Plain (tree.Entity given.0.now.value))) × IsSeen store given.0.now.value (option_copied given.1)) }
 {
     match standing(part) {
         Some(uid) => Some((uid, seen)),
@@ -70,10 +71,11 @@ impl<'s> Seen<'s> {
 }
 
 impl<'s, 'e, 'f, F: ExtensionFunctionObject> Evaluator<'s, 'e, 'f, F> {
-    /// The entity that stands for the principal, the action or the resource, with what the store holds of it;
-    /// `None` where none is known to stand there. Nothing is looked up, and no memory taken.
+    /// The entity that the request gives as the principal, the action or the resource, with what the store holds
+    /// of it; `None` exactly where it gives none, and for the context. Nothing is looked up, and no memory taken.
     pub fn given_entity(&self, var: Var) -> Option<(&Rc<EntityUID>, Option<&'s Entity>)>
-        ensures { (i : Inquiry) (store : Store) (table : Table) (depth : ℕ) → IsEvaluatorOf F.answers i store table depth self.now → IfSome result (λ given. (variable_asked i.request (variable_of var) ≡ Evaluated (Plain (tree.Entity given.0.now.value))) × IsSeen store given.0.now.value (option_copied given.1)) }
+        ensures given { (i : Inquiry) (store : Store) (table : Table) (depth : ℕ) → IsEvaluatorOf F.answers i store table depth self.now → option_map (λ given. given.0.now.value) result ≡ entity_asked i.request (variable_of var) }
+        ensures seen { (i : Inquiry) (store : Store) (table : Table) (depth : ℕ) → IsEvaluatorOf F.answers i store table depth self.now → IfSome result (λ given. (variable_asked i.request (variable_of var) ≡ Evaluated (Plain (tree.Entity given.0.now.value))) × IsSeen store given.0.now.value (option_copied given.1)) }
     {
         self.given(var)
     }
@@ -81,9 +83,10 @@ impl<'s, 'e, 'f, F: ExtensionFunctionObject> Evaluator<'s, 'e, 'f, F> {
 
 impl<'s, 'e, 'f, F> Evaluator<'s, 'e, 'f, F> {
     /// The entity that stands for a variable, with what the store holds of it; none where what stands there
-    /// isn't known. Nothing is looked up.
+    /// isn't known, and for the context. Nothing is looked up.
     pub(crate) fn given(&self, var: Var) -> Option<(&Rc<EntityUID>, Option<&'s Entity>)>
-        ensures { IfSome result (λ given. (variable_held self.now (variable_of var) ≡ Evaluated (Plain (tree.Entity given.0.now.value))) × IsSeen self.now.entities.now given.0.now.value (option_copied given.1)) }
+        ensures stands { option_map (λ given. given.0.now.value) result ≡ entity_held self.now (variable_of var) }
+        ensures seen { IfSome result (λ given. (variable_held self.now (variable_of var) ≡ Evaluated (Plain (tree.Entity given.0.now.value))) × IsSeen self.now.entities.now given.0.now.value (option_copied given.1)) }
     {
         let (variables, seen) = (self.variables.get(), self.seen.get());
         match var {

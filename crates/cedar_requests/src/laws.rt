@@ -1,6 +1,6 @@
 // Laws of contexts, as contracts of functions that do nothing.
 ghost use Rattle.cedar_requests.specs.Sameness.{ContextsAreTheirParts};
-ghost use Rattle.cedar_requests.specs.ToldContexts.{ToldContextsAreEvaluated};
+ghost use Rattle.cedar_requests.specs.ToldContexts.{ToldContextsAreEvaluated, ToldContextsStay};
 
 use cedar_restricted::partial_value_laws::written_values_are_restricted;
 
@@ -17,4 +17,16 @@ pub fn told_contexts_are_evaluated()
 {
     cedar_language::sets_are_finite();
     written_values_are_restricted();
+}
+
+/// A context that a record of data was evaluated to is, once values are told, what the record is evaluated to
+/// where these are held; memory and depth aside, it errs exactly where some part of the record does, all of
+/// whose names are told.
+pub fn told_contexts_stay()
+    ensures { ToldContextsStay }
+{
+    cedar_partial_evaluation::contexts_stay();
+    cedar_partial_evaluation::leaves_dont_matter();
+    cedar_partial_evaluation::data_errs_in_parts();
+    told_contexts_are_evaluated();
 }

@@ -9,7 +9,7 @@ use Rattle.cedar_language.specs.Height.{height}
 use Rattle.cedar_language.specs.Value.{Value}
 use Rattle.cedar_world.specs.World.{World}
 use Rattle.cedar_world.specs.Asking.{Question}
-use Rattle.cedar_world.specs.Question.{IsKnown}
+use Rattle.cedar_world.specs.Heights.{AsksTooDeep}
 use Rattle.cedar_world.specs.Bodies.{is_restricted, ask_body}
 use Rattle.cedar_world.specs.Setting.{Setting, IsBodyWithin, IsBody, BodiesAreOne}
 use Rattle.cedar_world.specs.Values.{context_errs, holds_bad_unknown}
@@ -87,7 +87,7 @@ module _ (by : Setting) (old : World) (text : uid.Text) (once : BodiesAreOne by)
       same_question t p is states = same_some p q (sym states ∙ ap ask_body (once text t tree is (by.depth, reads)) ∙ asks)
 
       pub unanswered : (r : Refusal) → AnswersAsked by old q (Err r) → Step by old Ask text (Refused (refusal_of r)) old
-      unanswered Depth h = (inr (stands, h.0, λ t p is states known. h.1 (subst IsKnown (same_question t p is states) known)), refl)
+      unanswered Depth h = (inr (stands, (h.0, λ t p is states. subst (AsksTooDeep by old) (sym (same_question t p is states)) h.1)), refl)
       unanswered Memory h = ask_lacks_memory by old text
       unanswered r h = absurd h
 

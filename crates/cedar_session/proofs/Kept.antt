@@ -20,6 +20,7 @@ use Rattle.cedar_world.specs.InForce.{AreInForce, AnswersReadWhatIsInForce}
 use Rattle.cedar_world.specs.KnownKinds.{IsOrdinary, IsFound}
 use Rattle.cedar_world.specs.Session.{Command, IsReached}
 use Rattle.cedar_world.specs.Setting.{Setting, IsBodyWithin, IsBody, BodiesAreOne}
+use Rattle.cedar_world.specs.Heights.{Heights, AreHeights}
 use Rattle.cedar_world.specs.Question.{names_some, HasOpenContext}
 use Rattle.cedar_world.specs.Step.{Step, IsLaterAnswer, SomeInForce, opens}
 use Rattle.cedar_world.specs.World.{World, Policies, Entities, in_force, in_force_at}
@@ -49,6 +50,7 @@ use Rattle.cedar_world.specs.OrdinaryReplies.{AnswersOrdinarily, AnswersToldOrdi
 use Rattle.cedar_session.specs.Sessions.{asked_of}
 use Rattle.cedar_session.specs.declared.asked.Asked.{Asked}
 use Rattle.cedar_session.proofs.LaterProp.{later_prop}
+use Rattle.cedar_session.proofs.Depths.{grows_too_high}
 use Rattle.cedar_session.proofs.Telling.{context_fails, too_deep, no_memory, told}
 
 is_stated : (o : Option Question) → (o ≡ None → ⊥) → o ≡ Some (unwrap_or o nothing_given)
@@ -229,12 +231,26 @@ module _ (by : Setting) (policies : Policies) (entities : Entities) where
               subst (λ n. Step by (world_with o) Tell text (Answered (answer_of answer)) (world_with n)) (sym (goes_on answer copy same says new new_is))
               (subst (λ (a : Answer). Step by (world_with o) Tell text (Answered (answer_of answer)) (opens (world_with o) question (told_in all.entries) (answer_of a))) (sym same) accepts)
 
+        -- what may be written into a condition is the same whether a question is open or not
+        heights_here : (h : Heights) → AreHeights by (world_with o) question (told_in all.entries) h → AreHeights by held question (told_in all.entries) h
+        heights_here h are = record {
+          attribute = are.attribute;
+          tag = are.tag;
+          function = are.function;
+          answered = are.answered;
+          value_told = are.value_told;
+          named = are.named;
+          context = are.context;
+        }
+
         pub refused : (r : Refusal) → Says table all s (Err r) → Step by (world_with o) Tell text (Refused (refusal_of r)) (world_with o)
         refused refusal.Evaluation says =
             context_fails by (world_with o) text once (asked_of asked) was_open tree is_read low restricted fs body (told_in all.entries) more (∥∥₁_elim kept (Bool-set _ _) (answered (Err refusal.Evaluation) says))
         refused refusal.Depth says =
             too_deep by (world_with o) text once (asked_of asked) was_open tree is_read low restricted fs body (told_in all.entries) more
             (evaluates held question (in_force policies) (reads.listed held) (names_some question.context) refl
-            (λ none. ∥∥₁_elim kept no_two (λ k. none (answered (Err refusal.Depth) says k))))
+            (λ none. ∥∥₁_elim kept no_two (λ k. none (answered (Err refusal.Depth) says k).0)))
+            (λ h heights. grows_too_high by held question h (in_force policies) (reads.listed held)
+            (λ none. ∥∥₁_elim kept no_two (λ k. none ((answered (Err refusal.Depth) says k).1 h (heights_here h heights)))))
         refused refusal.Memory says = no_memory by (world_with o) text once (asked_of asked) was_open tree is_read low restricted fs body (told_in all.entries) more
         refused r says = absurd (∥∥₁_elim kept no_two (answered (Err r) says))

@@ -6,6 +6,7 @@ pub mod Asking
 pub mod Telling
 pub mod Untyped
 pub mod LaterProp
+pub mod Depths
 pub mod Kept
 pub mod Runs
 pub mod Statuses

@@ -8,6 +8,7 @@ use Rattle.cedar_world.specs.Answer as world
 use Rattle.cedar_world.specs.World.{World, Asked}
 use Rattle.cedar_world.specs.Asking.{Told}
 use Rattle.cedar_world.specs.Bodies.{Fields, is_restricted, tell_body}
+use Rattle.cedar_world.specs.Heights.{TellsTooDeep}
 use Rattle.cedar_world.specs.Question.{Portion, HasOpenContext, told_with}
 use Rattle.cedar_world.specs.Refusals.{Refuses, Stands, IsFirst, BodyStands, TellCases, ContextErrs}
 use Rattle.cedar_world.specs.Setting.{Setting, IsBodyWithin, IsBody, BodiesAreOne}
@@ -153,9 +154,16 @@ module _ (by : Setting) (old : World) (text : uid.Text) (once : BodiesAreOne by)
         refl,
       )
 
-      -- an evaluation met the limit, where something is evaluated
-      pub too_deep : SomeInForce old ⊎ HasOpenContext asked.question → Step by old Tell text (Refused commands.Depth) old
-      too_deep evaluates = (inr (asked, was_open, stands, evaluates), refl)
+      same_fields : (t : Tree) (f : Fields) → IsBody by text t → tell_body t ≡ Some f → f ≡ fs
+      same_fields t f is states = same_some f fs (sym states ∙ ap tell_body (once text t tree is (by.depth, reads)) ∙ says)
+
+      all_same : (t : Tree) (f : Fields) (vs : Portion) → IsBody by text t → tell_body t ≡ Some f → values by f ≡ Some vs → all ≡ told_with asked.told vs
+      all_same t f vs is states are = more.all_is ∙ ap (told_with asked.told) (sym (same_values vs (ap (values by) (sym (same_fields t f is states)) ∙ are)))
+
+      -- an evaluation met the limit, where something is evaluated that is too deep
+      pub too_deep : SomeInForce old ⊎ HasOpenContext asked.question → TellsTooDeep by old asked.question all → Step by old Tell text (Refused commands.Depth) old
+      too_deep evaluates deep =
+          (inr (stands, (asked, was_open, evaluates, λ t f vs is states are. subst (TellsTooDeep by old asked.question) (all_same t f vs is states are) deep)), refl)
 
       pub no_memory : Step by old Tell text (Refused commands.Memory) old
       no_memory = lacks_memory
@@ -163,9 +171,6 @@ module _ (by : Setting) (old : World) (text : uid.Text) (once : BodiesAreOne by)
       -- ---- the answer
 
       module _ (fine : context_errs by asked.question.context all ≡ false) where
-        same_fields : (t : Tree) (f : Fields) → IsBody by text t → tell_body t ≡ Some f → f ≡ fs
-        same_fields t f is states = same_some f fs (sym states ∙ ap tell_body (once text t tree is (by.depth, reads)) ∙ says)
-
         errs_not : (a : Asked) (t : Tree) (f : Fields) → old.asked ≡ Some a → IsBody by text t → tell_body t ≡ Some f → ContextErrs by old a f → ⊥
         errs_not a t f is read states h =
             let here : ContextErrs by old asked fs =

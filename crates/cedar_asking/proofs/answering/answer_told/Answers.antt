@@ -31,7 +31,7 @@ returns-in_err-new g c = λ by world q old es keeps are told extends.
     c.in-Ok.ensures in
     let p = err_from_is_err_and c.from_residual.result c.from_residual.ensures.1 in
     rw (p.1, p.2) (says_nothing by world q first old entries last c.in-Ok.again
-    (λ some. c.tells_are_refused.ensures.limit by world q first c.in-Ok.again old entries c.args.entities.now table c.args.depth last keeps taken some)
+    (λ some. c.tells_are_refused.ensures.limit by world q first c.in-Ok.again old entries es c.args.entities.now table c.args.depth last (gives_built g.F.ExtensionFunctionObject.answers c.args.extensions.now) keeps are told taken some)
     c.in_err-new.field-0.0 c.in_err-new.ensures)
 
 pub returns : goal.returns

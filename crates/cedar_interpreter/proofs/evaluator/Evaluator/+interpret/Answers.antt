@@ -22,7 +22,8 @@ use Rattle.cedar_interpreter.specs.Forms.{unary_operator, is_of_list, IsOperands
 use Rattle.cedar_interpreter.specs.Holding.{held_by, Serves, ServesEach, Deep, DeepEach}
 use Rattle.cedar_interpreter.specs.Meeting.{part_answer, tested_answer, IsTested}
 use Rattle.cedar_interpreter.specs.Projecting.{IsProjected}
-use Rattle.cedar_interpreter.proofs.Serving.{serves_and_left, serves_and_right, serves_or_left, serves_or_right, serves_test, serves_yes, serves_no, serves_operands, serves_entry, serves_parts, deep_and_left, deep_and_right, deep_or_left, deep_or_right, deep_if_test, deep_if_yes, deep_if_no, deep_operand, either_deep, known_first, positive, lowered, never_left, list_meets, list_fails, list_deep, Goes, goes_first, goes_on, cut_fails, cut_deep, ends, ends_count}
+use Rattle.cedar_interpreter.proofs.Serving.{serves_and_left, serves_and_right, serves_or_left, serves_or_right, serves_test, serves_yes, serves_no, serves_operands, serves_entry, serves_parts, deep_and_left, deep_and_right, deep_or_left, deep_or_right, deep_if_test, deep_if_yes, deep_if_no, deep_operand, either_deep, positive, lowered, list_meets, list_fails, list_deep, Goes, goes_first, goes_on, cut_fails, cut_deep, ends, ends_count}
+use Rattle.cedar_interpreter.proofs.Depths.{entry_deep}
 use Rattle.cedar_interpreter.proofs.Pairs.{one_serves, one_fails, one_meets, one_deep, left_serves, right_serves, left_fails, right_fails, two_meet, left_deep, right_deep}
 use Rattle.cedar_interpreter.proofs.Steps.{passed, limit_passed, meets_as, meets_anyhow, never_limit, and_as, or_as, if_as}
 use Rattle.cedar_interpreter.proofs.evaluator.Evaluator.+interpret.Goals as goal
@@ -166,13 +167,14 @@ interpret_form-returns-in-Leaf-clause-found g t c =
 
 pub interpret_form-returns-in-Leaf-clause-limit : goal.interpret_form-returns-in-Leaf-clause-limit
 interpret_form-returns-in-Leaf-clause-limit g t c =
-    λ l facts has m. absurd (never_limit _ c.leaf.result (c.leaf.ensures facts) l)
+    λ l facts has. absurd (never_limit _ c.leaf.result (c.leaf.ensures facts) l)
 
 pub interpret_form-returns-in_default-clause-limit : goal.interpret_form-returns-in_default-clause-limit
 interpret_form-returns-in_default-clause-limit g t c =
-    let above = positive (bare c.args.expr.now) in
     let low : c.args.depth < 1 = search rules in
-    λ l facts has m. omega (arith, above, low)
+    λ l facts has.
+    let above = positive facts (held_by c.args.self.now c.args.slots.now) (bare c.args.expr.now) in
+    (c.args.slots.now, omega (arith, above, low))
 
 pub interpret_form-returns-in_default-clause-found : goal.interpret_form-returns-in_default-clause-found
 interpret_form-returns-in_default-clause-found g t c =
@@ -323,7 +325,7 @@ interpret_attribute-returns-in_err-answer-clause-found g t c =
 
 pub interpret_attribute-returns-in_err-answer-clause-limit : goal.interpret_attribute-returns-in_err-answer-clause-limit
 interpret_attribute-returns-in_err-answer-clause-limit g t c =
-    λ l facts has m. absurd (subst (λ f. FailsBy ⊥ (λ k. apply_answer facts (held_by c.args.self.now c.args.slots.now) (tree.GetAttr (rc_str_bytes c.args.attr.now)) (and_next facts (part_answer (partial_of c.in_ok-part.part)) (AllEvaluated no_values)) ≡ Failed k) f) (limit_passed c.in_err-answer.field-0.0 c.from_residual-in_err-answer.result c.from_residual-in_err-answer.ensures l) (c.in_err-answer.ensures facts has.entities (held_by c.args.self.now c.args.slots.now)))
+    λ l facts has. absurd (subst (λ f. FailsBy ⊥ (λ k. apply_answer facts (held_by c.args.self.now c.args.slots.now) (tree.GetAttr (rc_str_bytes c.args.attr.now)) (and_next facts (part_answer (partial_of c.in_ok-part.part)) (AllEvaluated no_values)) ≡ Failed k) f) (limit_passed c.in_err-answer.field-0.0 c.from_residual-in_err-answer.result c.from_residual-in_err-answer.ensures l) (c.in_err-answer.ensures facts has.entities (held_by c.args.self.now c.args.slots.now)))
 
 pub interpret_attribute-returns-in-Done-clause-found : goal.interpret_attribute-returns-in-Done-clause-found
 interpret_attribute-returns-in-Done-clause-found g t c =
@@ -344,9 +346,11 @@ interpret_attribute-returns-in-Entry-clause-found g t c =
 
 pub interpret_attribute-returns-in-Entry-clause-limit : goal.interpret_attribute-returns-in-Entry-clause-limit
 interpret_attribute-returns-in-Entry-clause-limit g t c =
-    λ l facts has m.
+    λ l facts has.
     let found = subst (IsProjected facts (held_by c.args.self.now c.args.slots.now) (partial_of c.in_ok-part.part) (apply_answer facts (held_by c.args.self.now c.args.slots.now) (tree.GetAttr (rc_str_bytes c.args.attr.now)) (and_next facts (part_answer (partial_of c.in_ok-part.part)) (AllEvaluated no_values)))) c.in-Entry.is (c.in_ok-answer.ensures facts has.entities (held_by c.args.self.now c.args.slots.now)) in
-    absurd (never_left c.known_is_never_left.ensures c.args.self.now c.args.slots.now facts (bare c.args.of.now) (partial_of c.in_ok-part.part) (known_first _ _ m) found.1 (c.in_ok-part.ensures.found facts (serves_operands g.F.ExtensionFunctionObject.answers c.args.self.now facts (tree.GetAttr (rc_str_bytes c.args.attr.now)) (a_tree (bare c.args.of.now) no_trees) has).0))
+    entry_deep g.F.ExtensionFunctionObject.answers c.args.self.now c.args.slots.now c.args.depth (rc_str_bytes c.args.attr.now) (bare c.args.of.now) (bare c.in-Entry.entry) (partial_of c.in_ok-part.part) facts has
+    (c.in_ok-part.ensures.found facts (serves_operands g.F.ExtensionFunctionObject.answers c.args.self.now facts (tree.GetAttr (rc_str_bytes c.args.attr.now)) (a_tree (bare c.args.of.now) no_trees) has).0) found.1 found.2
+    (c.interpret_within-in-Entry.ensures.limit l)
 
 -- ---- operands
 
@@ -384,7 +388,7 @@ interpret_strict-returns-in_ok-part-in-One-clause-found g t c =
 
 pub interpret_strict-returns-in_ok-part-in-One-clause-limit : goal.interpret_strict-returns-in_ok-part-in-One-clause-limit
 interpret_strict-returns-in_ok-part-in-One-clause-limit g t c =
-    λ l facts has m. absurd (never_limit _ c.operate_on_one.result (c.operate_on_one.ensures facts has.entities (held_by c.args.self.now c.args.slots.now)) l)
+    λ l facts has. absurd (never_limit _ c.operate_on_one.result (c.operate_on_one.ensures facts has.entities (held_by c.args.self.now c.args.slots.now)) l)
 
 pub interpret_strict-returns-in_err-left-in-Two-clause-found : goal.interpret_strict-returns-in_err-left-in-Two-clause-found
 interpret_strict-returns-in_err-left-in-Two-clause-found g t c =
@@ -422,7 +426,7 @@ interpret_strict-returns-in_ok-right-in-Two-clause-found g t c =
 
 pub interpret_strict-returns-in_ok-right-in-Two-clause-limit : goal.interpret_strict-returns-in_ok-right-in-Two-clause-limit
 interpret_strict-returns-in_ok-right-in-Two-clause-limit g t c =
-    λ l facts has m. absurd (never_limit _ c.operate_on_two.result (c.operate_on_two.ensures facts has.entities (held_by c.args.self.now c.args.slots.now)) l)
+    λ l facts has. absurd (never_limit _ c.operate_on_two.result (c.operate_on_two.ensures facts has.entities (held_by c.args.self.now c.args.slots.now)) l)
 
 pub interpret_strict-interpret_parts-requires : goal.interpret_strict-interpret_parts-requires
 interpret_strict-interpret_parts-requires g t c κs outlives =
@@ -458,7 +462,7 @@ interpret_strict-returns-in_ok-parts-in-List-clause-found g t c =
 
 pub interpret_strict-returns-in_ok-parts-in-List-clause-limit : goal.interpret_strict-returns-in_ok-parts-in-List-clause-limit
 interpret_strict-returns-in_ok-parts-in-List-clause-limit g t c =
-    λ l facts has m. absurd (never_limit _ c.operate_on_list.result (c.operate_on_list.ensures facts has.functions has.names_nothing (held_by c.args.self.now c.args.slots.now)) l)
+    λ l facts has. absurd (never_limit _ c.operate_on_list.result (c.operate_on_list.ensures facts has.functions has.names_nothing (held_by c.args.self.now c.args.slots.now)) l)
 
 -- ---- parts one by one
 

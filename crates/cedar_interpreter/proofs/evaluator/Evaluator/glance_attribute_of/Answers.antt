@@ -12,8 +12,8 @@ returns-in_ok-seen-in-Some g c =
     let ev = c.args.self.now in
     let store = ev.entities.now in
     let u = c.in-Some.field-0-0.now.value in
-    attribute_of_given ev c.args.attr.now (variable_of c.args.var) c.attribute_of_held.result u c.in_ok-seen-in-Some.field-0.now c.in-Some.ensures.0
-    (subst (λ o. IsSeen store u (option_copied o)) c.in_ok-seen-in-Some.was c.in-Some.ensures.1)
+    attribute_of_given ev c.args.attr.now (variable_of c.args.var) c.attribute_of_held.result u c.in_ok-seen-in-Some.field-0.now c.in-Some.ensures.seen.0
+    (subst (λ o. IsSeen store u (option_copied o)) c.in_ok-seen-in-Some.was c.in-Some.ensures.seen.1)
     (λ facts has held. c.attribute_of_held.ensures store facts u has held)
 
 pub returns-in_ok-lent-in-None : goal.returns-in_ok-lent-in-None

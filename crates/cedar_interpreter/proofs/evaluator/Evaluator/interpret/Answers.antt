@@ -6,9 +6,10 @@ use Rattle.cedar_interpreter.proofs.evaluator.Evaluator.interpret.Goals as goal
 
 pub returns-clause-means : goal.returns-clause-means
 returns-clause-means g c =
-    means_tree g.F.ExtensionFunctionObject.answers c.leaves_dont_matter.ensures c.known_is_meaning.ensures c.args.self.now c.args.slots.now (depth_of c.args.self.now) (bare c.args.expr.now) c.value_of.result
+    λ facts serves.
+    means_tree g.F.ExtensionFunctionObject.answers c.leaves_dont_matter.ensures c.known_is_meaning.ensures c.known_is_never_left.ensures c.args.self.now c.args.slots.now (depth_of c.args.self.now) (bare c.args.expr.now) c.value_of.result
     (λ facts serves. c.value_of.ensures.found _ (c.partial_interpret.ensures.found facts serves))
-    (λ l. c.partial_interpret.ensures.limit (c.value_of.ensures.limit l))
+    (λ l. c.partial_interpret.ensures.limit (c.value_of.ensures.limit l)) facts serves
 
 pub returns-clause-found : goal.returns-clause-found
 returns-clause-found g c = λ facts serves. c.value_of.ensures.found _ (c.partial_interpret.ensures.found facts serves)

@@ -11,7 +11,7 @@ use Rattle.cedar_language.specs.Value.{Value, Plain, SetOf, RecordOf, ExtensionO
 use Rattle.cedar_partial_evaluation.specs.MadeAgain.{tree_of, trees_of}
 use Rattle.cedar_partial_evaluation.specs.Partial.{Answer, Evaluated, ResidualTree, Failed, Answers, AllEvaluated, SomeResiduals, SomeFailed, answer_of, LeafAnswers, and_next, apply_answer, partial_in, all_partial_in}
 use Rattle.cedar_partial_evaluation.specs.Unknowns.{EachUnknown, EachUnknownOf}
-use Rattle.cedar_asking.proofs.Plainness.{and_left, and_right}
+use Rattle.cedar_requests.proofs.ToldAnswers.{and_left, and_right}
 
 abbrev pub Untyped : Tree → Type 0
 Untyped t = EachUnknown (λ n ty. ty ≡ None) t

@@ -1,7 +1,7 @@
 -- Members of lists that are joined, filtered or gathered.
 use Rattle.std.proofs.Common.{◌≡◌, Bool, true, false, cond, ◌⊎◌, inl, inr, Option, Some, None, List, [], ◌∷◌, ◌++◌, filter, filter_map, refl, sym, ◌∙◌, ap}
 use Rattle.std.specs.List.{cons_option}
-use Rattle.cedar_asking.proofs.Lists.{IsAmong}
+use Rattle.cedar_evaluator.proofs.Lists.{IsAmong}
 
 -- ---- lists that are joined
 
