@@ -1,16 +1,20 @@
 -- Sessions that are given one more command, or further ones, and scripts of one more test.
-use Rattle.std.proofs.Common.{◌≡◌, ℕ, suc, ◌+◌, ◌<◌, Bool, true, false, not, cond, ◌&&◌, List, [], ◌∷◌, ◌++◌, map, length, take, get_or, string_bytes, count_by, refl, sym, ap, subst, ◌∙◌, append_assoc, arith}
+use Rattle.std.proofs.Common.{◌≡◌, ◌↔◌, ℕ, suc, ◌+◌, ◌<◌, codes, Bool, true, false, not, cond, ◌&&◌, List, [], ◌∷◌, ◌++◌, map, length, take, get_or, string_bytes, count_by, refl, sym, ap, subst, ◌∙◌, append_assoc, arith}
 use Rattle.std.proofs.lemmas.List.{append-nil, take_more, map-append, length-map}
 use Rattle.std.proofs.lemmas.List.Sums.{sum_by-append}
+use Rattle.std.specs.Fmt.{decimal}
+use Rattle.std.specs.Int.{from_bool}
 use Rattle.cedar_language.specs.Uid.{Text}
 use Rattle.cedar_world.specs.Commands.{Verb, Reply}
 use Rattle.cedar_world.specs.Session.{Command, Answers, no_command, a_command}
 use Rattle.cedar_world.specs.Setting.{Setting}
 use Rattle.cedar_world.specs.Step as world
 use Rattle.cedar_world.specs.World.{World}
+use Rattle.cedar_session.specs.Programs.{IsProgramSetting}
+use Rattle.cedar_authoring.specs.declared.script.Script.{Script}
 use Rattle.cedar_authoring.specs.declared.script.Step.{Step}
 use Rattle.cedar_authoring.specs.declared.script.Test.{Test}
-use Rattle.cedar_authoring.specs.Scripts.{AreAnswered, IsAnswered, Passes, TellsTest, TellsTests, answers_step, as_expected, command_of, failed_of, passed_of}
+use Rattle.cedar_authoring.specs.Scripts.{AreAnswered, IsAnswered, Passes, TellsScript, TellsTest, TellsTests, answers_step, as_expected, command_of, failed_of, passed_of}
 use Rattle.cedar_authoring.specs.Telling.{Adds}
 
 -- ---- replies
@@ -30,6 +34,20 @@ expected-append (s ∷ ss) ts [] qs same = absurd (omega arith)
 expected-append (s ∷ ss) ts (r ∷ rs) qs same =
     let fewer : length ss ≡ length rs = omega arith in
     ap (λ b. answers_step s r && b) (expected-append ss ts rs qs fewer) ∙ sym (and_assoc (answers_step s r) (as_expected ss rs) (as_expected ts qs))
+
+-- ---- one test
+
+pub passed_one : (b : Bool) → from_bool b ≡ passed_of (b ∷ [])
+passed_one true = refl
+passed_one false = refl
+
+pub failed_one : (b : Bool) → from_bool (not b) ≡ failed_of (b ∷ [])
+failed_one true = refl
+failed_one false = refl
+
+pub one_each : (b : Bool) → from_bool b + from_bool (not b) ≡ 1
+one_each true = refl
+one_each false = refl
 
 -- ---- sessions
 
@@ -86,8 +104,8 @@ module _ (by : Setting) where
   pub record Counted (set_up : List Step) (ts : List Test) (told : Text) (passed failed : ℕ) : Type 0 where
     pub results : List Bool
     pub tests : TellsTests by set_up ts results told
-    pub passed : passed ≡ passed_of results
-    pub failed : failed ≡ failed_of results
+    pub passes : passed ≡ passed_of results
+    pub fails : failed ≡ failed_of results
 
   count-push : (p : Bool → Bool) (ps : List Bool) (q : Bool) → count_by p (ps ++ q ∷ []) ≡ count_by p ps + count_by p (q ∷ [])
   count-push p ps q = sum_by-append (λ x. cond (p x) 1 0) ps (q ∷ [])
@@ -103,6 +121,22 @@ module _ (by : Setting) where
       record {
         results = so_far.results ++ p ∷ [];
         tests = subst P taken (subst Q (sym adds.2) (TellsTests-push set_up (take i ts) so_far.results t p old adds.0 so_far.tests passes adds.1));
-        passed = ap (λ n. n + passed_of (p ∷ [])) so_far.passed ∙ sym (count-push (λ q. q) so_far.results p);
-        failed = ap (λ n. n + failed_of (p ∷ [])) so_far.failed ∙ sym (count-push not so_far.results p);
+        passes = ap (λ n. n + passed_of (p ∷ [])) so_far.passes ∙ sym (count-push (λ q. q) so_far.results p);
+        fails = ap (λ n. n + failed_of (p ∷ [])) so_far.fails ∙ sym (count-push not so_far.results p);
+      }
+
+  -- what is told of all tests, and how many passed
+  pub Counted-told : (script : Script) (told whole : Text) (passed failed status : ℕ) → IsProgramSetting by → Counted script.set_up.items script.tests.items told passed failed
+      → whole ≡ told ++ (((decimal passed ++ codes " passed, ") ++ decimal failed) ++ codes " failed\n") → (status ≡ 0) ↔ ((0 < passed) × (failed ≡ 0)) → TellsScript script status whole
+  Counted-told script told whole passed failed status program counted is fine =
+      let P : ℕ → ℕ → Type 0 = λ p f. whole ≡ told ++ (((decimal p ++ codes " passed, ") ++ decimal f) ++ codes " failed\n") in
+      let Q : ℕ → ℕ → Type 0 = λ p f. (status ≡ 0) ↔ ((0 < p) × (f ≡ 0)) in
+      record {
+        by = by;
+        program = program;
+        results = counted.results;
+        lines = told;
+        tests = counted.tests;
+        whole = subst (λ (p : ℕ). P p (failed_of counted.results)) counted.passes (subst (λ (f : ℕ). P passed f) counted.fails is);
+        fine = subst (λ (p : ℕ). Q p (failed_of counted.results)) counted.passes (subst (λ (f : ℕ). Q passed f) counted.fails fine);
       }

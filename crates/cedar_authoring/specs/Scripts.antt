@@ -97,5 +97,5 @@ pub record TellsScript (script : Script) (status : ℕ) (told : Text) : Type 0 w
   pub results : List Bool
   pub lines : Text
   pub tests : TellsTests by script.set_up.items script.tests.items results lines
-  pub told : told ≡ lines ++ summary results
-  pub status : (status ≡ 0) ↔ ((0 < passed_of results) × (failed_of results ≡ 0))
+  pub whole : told ≡ lines ++ summary results
+  pub fine : (status ≡ 0) ↔ ((0 < passed_of results) × (failed_of results ≡ 0))
