@@ -1,6 +1,7 @@
 -- One test more is told of (Ran).
-use Rattle.std.proofs.Common.{◌≡◌, ◌↔◌, ℕ, ◌+◌, ◌<◌, ◌≤◌, ◌++◌, ◌∷◌, [], Bool, not, List, length, take, get_or, string_bytes, refl, sym, ap, subst, ◌∙◌, arith}
+use Rattle.std.proofs.Common.{◌≡◌, ◌↔◌, ℕ, ◌+◌, ◌<◌, ◌≤◌, ◌++◌, ◌∷◌, [], Bool, not, List, length, take, get_or, string_bytes, codes, append_assoc, refl, sym, ap, subst, ◌∙◌, arith}
 use Rattle.std.proofs.lemmas.List.{take_all}
+use Rattle.std.specs.Fmt.{decimal}
 use Rattle.std.specs.Int.{from_bool}
 use Rattle.cedar_language.specs.Uid.{Text}
 use Rattle.cedar_world.specs.Setting.{Setting}
@@ -52,6 +53,13 @@ returns-clause-ran c =
             else-passed-gt0-via-then-passed-gt0+else-failed-eq0 v ↦ ((λ e. absurd (omega arith)), (λ h. absurd (omega (arith, h.1))))
           | else-passed-gt0-via-else-passed-gt0 v ↦ ((λ e. absurd (omega arith)), (λ h. absurd (omega (arith, h.0)))) ]
       ] in
-    let whole = c.in_ok-push_str.ensures.bytes ∙ ap (λ (t : Text). told ++ t) (c.as_str.ensures.value ∙ c.in_ok-summary.ensures.ok) in
+    let p : Text = decimal c.loop-test.passed in
+    let f : Text = decimal c.loop-test.failed in
+    let apart : ((p ++ codes " passed, ") ++ f) ++ codes " failed\n" ≡ p ++ (codes " passed, " ++ (f ++ codes " failed\n")) =
+        append_assoc (p ++ codes " passed, ") f (codes " failed\n") ∙ append_assoc p (codes " passed, ") (f ++ codes " failed\n")
+    in
+    let whole : string_bytes c.push_str.new.self ≡ told ++ (((p ++ codes " passed, ") ++ f) ++ codes " failed\n") =
+        c.in_ok-push_str.ensures.bytes ∙ ap (λ (t : Text). told ++ t) (c.as_str.ensures.value ∙ c.in_ok-summary.ensures.ok ∙ sym apart)
+    in
     Counted-told by c.args.script.now told (string_bytes c.push_str.new.self) c.loop-test.passed c.loop-test.failed c.if-passed-gt0.status
         (c.args.extensions.now, c.requires.program, refl) counted whole fine
