@@ -1,5 +1,5 @@
 -- One error more is told of (Told).
-use Rattle.std.proofs.Common.{◌≤◌, List, length, take, string_bytes, subst, arith}
+use Rattle.std.proofs.Common.{◌≤◌, List, length, string_bytes, subst, arith}
 use Rattle.std.proofs.lemmas.List.{take_all}
 use Rattle.cedar_parser.specs.declared.errors.ParseError.{ParseError}
 use Rattle.cedar_authoring.specs.Faults.{TellsFault}

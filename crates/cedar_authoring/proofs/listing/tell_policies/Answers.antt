@@ -1,5 +1,5 @@
 -- One policy more is told of (Told).
-use Rattle.std.proofs.Common.{[], ◌≤◌, List, length, take, string_bytes, subst, arith}
+use Rattle.std.proofs.Common.{[], ◌≤◌, List, length, string_bytes, subst, arith}
 use Rattle.std.proofs.lemmas.List.{take_all}
 use Rattle.cedar_language.specs.Uid.{Text}
 use Rattle.cedar_authoring.specs.Checks.{TellsPolicy}

@@ -1,4 +1,4 @@
-use Rattle.std.proofs.Common.{◌≡◌, ◌+◌, ◌≤◌, take, length}
+use Rattle.std.proofs.Common.{◌≡◌, ◌+◌, take}
 use Rattle.cedar_authoring.specs.Places.{line_feeds, last_line, characters}
 use Rattle.cedar_authoring.proofs.places.counted.Given as goal
 
