@@ -5,10 +5,9 @@ use Rattle.std.proofs.lemmas.List.Sums.{sum_by-append}
 use Rattle.std.specs.Fmt.{decimal}
 use Rattle.std.specs.Int.{from_bool}
 use Rattle.cedar_language.specs.Uid.{Text}
-use Rattle.cedar_world.specs.Commands.{Verb, Reply}
+use Rattle.cedar_world.specs.Commands.{Reply}
 use Rattle.cedar_world.specs.Session.{Command, Answers, no_command, a_command}
 use Rattle.cedar_world.specs.Setting.{Setting}
-use Rattle.cedar_world.specs.Step as world
 use Rattle.cedar_world.specs.World.{World}
 use Rattle.cedar_session.specs.Programs.{IsProgramSetting}
 use Rattle.cedar_authoring.specs.declared.script.Script.{Script}

@@ -25,7 +25,10 @@ pub fn run_script(alloc: Global, name: &str, script: &Script) -> Result<Report, 
     ensures status { IfOk result (λ report. (report.status ≡ 0) ⊎ (report.status ≡ 1) ⊎ (report.status ≡ 2)) }
 {
     if let Some(step) = first_long(script) {
-        let text = format!(in alloc; "{name}:{}: the text is longer than 1,048,576 bytes\n", step.line)?;
+        let text = format!(in alloc;
+            "{name}:{}: the text is longer than 1,048,576 bytes\n",
+            step.line
+        )?;
         return Ok(Report { status: 2, text });
     }
     let extensions = Extensions::all_available(alloc)?;
@@ -47,7 +50,14 @@ fn run_tests(
     let mut passed = 0usize;
     let mut failed = 0usize;
     for test in &script.tests {
-        let is_ok = run_test(alloc, extensions, &mut told, name, script.set_up.as_slice(), test)?;
+        let is_ok = run_test(
+            alloc,
+            extensions,
+            &mut told,
+            name,
+            script.set_up.as_slice(),
+            test,
+        )?;
         passed += usize::from(is_ok);
         failed += usize::from(!is_ok);
     }
@@ -76,7 +86,14 @@ fn run_test(
     };
     let mut wrong = String::new(alloc);
     let before = run_steps(alloc, extensions, &mut session, &mut wrong, name, set_up)?;
-    let after = run_steps(alloc, extensions, &mut session, &mut wrong, name, test.steps.as_slice())?;
+    let after = run_steps(
+        alloc,
+        extensions,
+        &mut session,
+        &mut wrong,
+        name,
+        test.steps.as_slice(),
+    )?;
     let passed = both(before, after);
     tell_test(told, test.name.as_str(), passed, wrong.as_str())?;
     Ok(passed)

@@ -2,8 +2,8 @@
 
 use crate::{DEVICE, NO_MEMORY};
 use cedar_authoring::{Script, Step};
-use std::io::{self, ErrorKind, Read};
-use std::{fs, io::Error};
+use std::fs;
+use std::io::{self, Error, ErrorKind, Read};
 
 pub(crate) fn read_input(rt: &HostRuntime) -> io::Result<Vec<u8>> {
     let mut bytes = Vec::new(rt.alloc());
@@ -22,7 +22,11 @@ pub(crate) fn unread(rt: &HostRuntime, name: &str, error: &Error) -> u8 {
 }
 
 /// Reads the files that a script names, each beside the script; or gives the status where one couldn't be read.
-pub(crate) fn read_script_files(rt: &HostRuntime, name: &str, script: &mut Script) -> Result<(), u8> {
+pub(crate) fn read_script_files(
+    rt: &HostRuntime,
+    name: &str,
+    script: &mut Script,
+) -> Result<(), u8> {
     read_files(rt, name, &mut script.set_up)?;
     for test in &mut script.tests {
         read_files(rt, name, &mut test.steps)?;
@@ -57,7 +61,9 @@ fn read_file(rt: &HostRuntime, name: &str, step: &mut Step) -> Result<(), u8> {
 /// The path of a file that a script names: in the script's folder, unless it begins at the root.
 fn beside(rt: &HostRuntime, name: &str, file: &str) -> io::Result<String> {
     match name.rsplit_once('/') {
-        Some((folder, _)) if !file.starts_with('/') => Ok(format!(in rt.alloc(); "{folder}/{file}")?),
+        Some((folder, _)) if !file.starts_with('/') => {
+            Ok(format!(in rt.alloc(); "{folder}/{file}")?)
+        }
         _ => Ok(String::from_str(rt.alloc(), file)?),
     }
 }

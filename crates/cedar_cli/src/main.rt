@@ -32,8 +32,11 @@ const VERSION: &str = "cedar_cli 0.1.0";
 
 /// How a run went. Of several things the one with the greatest number is told.
 const FINE: u8 = 0;
+
 const USAGE_FAULT: u8 = 2;
+
 const DEVICE: u8 = 3;
+
 const NO_MEMORY: u8 = 4;
 
 fn main(rt: HostRuntime) -> ExitCode {

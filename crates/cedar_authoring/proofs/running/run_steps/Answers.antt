@@ -1,5 +1,5 @@
 -- One command more is answered (Ran).
-use Rattle.std.proofs.Common.{◌≡◌, ◌+◌, ◌≤◌, Bool, List, length, take, refl, sym, subst, ◌∙◌, arith}
+use Rattle.std.proofs.Common.{◌+◌, ◌≤◌, Bool, List, length, take, refl, sym, subst, ◌∙◌, arith}
 use Rattle.std.proofs.lemmas.List.{take_all}
 use Rattle.cedar_world.specs.Setting.{Setting}
 use Rattle.cedar_session.specs.Sessions.{setting_of, world_of}
@@ -22,7 +22,7 @@ loop-step-preserved c =
     let Q : Bool → Type 0 = λ fine. AreAnswered by old (take (c.loop-step.step-index + 1) c.args.steps.now) new fine in
     record {
       answered = subst Q (sym c.both-fine.ensures) (AreAnswered-more by old mid new c.args.steps.now c.loop-step.step-index step c.loop-step.fine c.in_ok-expected.expected (omega arith) c.step-item.is
-        c.loop-step.invariant.answered (subst P c.loop-step.invariant.setting c.in_ok-expected.ensures.answered));
+          c.loop-step.invariant.answered (subst P c.loop-step.invariant.setting c.in_ok-expected.ensures.answered));
       setting = c.in_ok-expected.ensures.setting ∙ c.loop-step.invariant.setting;
     }
 

@@ -30,7 +30,7 @@ loop-test-preserved c =
     let one : from_bool p + from_bool (not p) ≡ 1 = one_each p in
     let N : ℕ → ℕ → Type 0 = λ a b. Counted by set_up (take (i + 1) tests) new (c.loop-test.passed + a) (c.loop-test.failed + b) in
     let counted : N (passed_of (p ∷ [])) (failed_of (p ∷ [])) =
-        Counted-more by set_up tests i t p (string_bytes c.loop-test.told) new c.loop-test.passed c.loop-test.failed within is c.loop-test.invariant.counted passes c.in_ok-is_ok.ensures.told
+    Counted-more by set_up tests i t p (string_bytes c.loop-test.told) new c.loop-test.passed c.loop-test.failed within is c.loop-test.invariant.counted passes c.in_ok-is_ok.ensures.told
     in
     record {
       counted = subst (λ (a : ℕ). N a c.from-in-loop-test.result) (sym (c.from.ensures ∙ passed_one p)) (subst (λ (b : ℕ). N (passed_of (p ∷ [])) b) (sym (c.from-in-loop-test.ensures ∙ failed_one p)) counted);
@@ -48,18 +48,19 @@ returns-clause-ran c =
     let P : List Test → Type 0 = λ ts. Counted by set_up ts told c.loop-test.passed c.loop-test.failed in
     let counted : P tests = subst P (take_all c.loop-test.test-index tests past) c.loop-test.invariant.counted in
     let fine : (c.if-passed-gt0.status ≡ 0) ↔ ((0 < c.loop-test.passed) × (c.loop-test.failed ≡ 0)) = elim c.if-passed-gt0.branch [
-        then-passed-gt0+then-failed-eq0 w ↦ ((λ e. (omega arith, omega arith)), (λ h. omega arith))
+      | then-passed-gt0+then-failed-eq0 w ↦ ((λ e. (omega arith, omega arith)), (λ h. omega arith))
       | else-passed-gt0 w ↦ elim w.else-passed-gt0.branch [
-            else-passed-gt0-via-then-passed-gt0+else-failed-eq0 v ↦ ((λ e. absurd (omega arith)), (λ h. absurd (omega (arith, h.1))))
-          | else-passed-gt0-via-else-passed-gt0 v ↦ ((λ e. absurd (omega arith)), (λ h. absurd (omega (arith, h.0)))) ]
-      ] in
+        | else-passed-gt0-via-then-passed-gt0+else-failed-eq0 v ↦ ((λ e. absurd (omega arith)), (λ h. absurd (omega (arith, h.1))))
+        | else-passed-gt0-via-else-passed-gt0 v ↦ ((λ e. absurd (omega arith)), (λ h. absurd (omega (arith, h.0))))
+      ]
+    ] in
     let p : Text = decimal c.loop-test.passed in
     let f : Text = decimal c.loop-test.failed in
     let apart : ((p ++ codes " passed, ") ++ f) ++ codes " failed\n" ≡ p ++ (codes " passed, " ++ (f ++ codes " failed\n")) =
-        append_assoc (p ++ codes " passed, ") f (codes " failed\n") ∙ append_assoc p (codes " passed, ") (f ++ codes " failed\n")
+    append_assoc (p ++ codes " passed, ") f (codes " failed\n") ∙ append_assoc p (codes " passed, ") (f ++ codes " failed\n")
     in
     let whole : string_bytes c.push_str.new.self ≡ told ++ (((p ++ codes " passed, ") ++ f) ++ codes " failed\n") =
-        c.in_ok-push_str.ensures.bytes ∙ ap (λ (t : Text). told ++ t) (c.as_str.ensures.value ∙ c.in_ok-summary.ensures.ok ∙ sym apart)
+    c.in_ok-push_str.ensures.bytes ∙ ap (λ (t : Text). told ++ t) (c.as_str.ensures.value ∙ c.in_ok-summary.ensures.ok ∙ sym apart)
     in
     Counted-told by c.args.script.now told (string_bytes c.push_str.new.self) c.loop-test.passed c.loop-test.failed c.if-passed-gt0.status
-        (c.args.extensions.now, c.requires.program, refl) counted whole fine
+    (c.args.extensions.now, c.requires.program, refl) counted whole fine
