@@ -1,0 +1,3 @@
+mod Checked
+mod Ran
+mod Told

@@ -1,0 +1,20 @@
+-- What is told of the errors of a text.
+use Rattle.std.specs.Prelude.{Option, Some, None, option_map}
+use Rattle.cedar_language.specs.Uid.{Text}
+use Rattle.cedar_loose.specs.Errors.{span_of}
+use Rattle.cedar_parser.specs.declared.errors.ParseError.{ParseError}
+use Rattle.cedar_parser.specs.declared.errors.ParseError.TheVariants as error
+use Rattle.cedar_authoring.specs.declared.places.Position.{Position}
+use Rattle.cedar_authoring.specs.Places.{position_at}
+use Rattle.cedar_authoring.specs.Telling.{TellsOf}
+
+-- where an error stands in its text, if that is known
+abbrev pub place_of : Text → ParseError → Option Position
+place_of text (error.ToCST e) = Some (position_at text (span_of e).start)
+place_of text (error.ToAST e) = option_map (λ loc. position_at text loc.span.start) e.loc
+place_of text error.Depth = None
+place_of text error.Memory = None
+
+-- what is told of one error
+abbrev pub TellsFault : Text → Text → ParseError → Text → Type 0
+TellsFault name text e told = TellsOf name (place_of text e) told

@@ -1,0 +1,5 @@
+pub mod Checks
+pub mod Faults
+pub mod Places
+pub mod Scripts
+pub mod Telling

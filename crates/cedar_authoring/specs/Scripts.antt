@@ -1,0 +1,101 @@
+-- Scripts of commands: what their tests pass by, and what is told of them.
+use Rattle.std.specs.Prelude.{◌≡◌, ◌↔◌, ◌<◌, ◌≤◌, ℕ, List, [], ◌∷◌, ◌++◌, map, length, slice_index, codes, Bool, true, false, not, ◌&&◌, ◌||◌, ◌==◌, nat_eq, count_by, All, Option, Some, None, option_map, string_bytes}
+use Rattle.std.specs.List.{starts_with}
+use Rattle.std.specs.Fmt.{decimal}
+use Rattle.cedar_language.specs.Uid.{Text}
+use Rattle.cedar_frames.specs.Heads.{body_limit}
+use Rattle.cedar_world.specs.Commands.{Reply, Refused}
+use Rattle.cedar_world.specs.Lines.{line_of}
+use Rattle.cedar_world.specs.Session.{Command, Answers}
+use Rattle.cedar_world.specs.Setting.{Setting}
+use Rattle.cedar_world.specs.Step.{Step as Steps}
+use Rattle.cedar_world.specs.World.{World, new_world}
+use Rattle.cedar_session.specs.Programs.{IsProgramSetting}
+use Rattle.cedar_authoring.specs.declared.script.Step.{Step}
+use Rattle.cedar_authoring.specs.declared.script.Test.{Test}
+use Rattle.cedar_authoring.specs.declared.script.Script.{Script}
+
+-- ---- steps
+
+abbrev pub command_of : Step → Command
+command_of s = (s.verb, string_bytes s.body)
+
+-- the text is one that a command may have
+abbrev pub FitsCommand : Step → Type 0
+FitsCommand s = length (string_bytes s.body) ≤ body_limit
+
+-- the line begins with these words, and a space or its line feed stands behind them
+abbrev pub says : Text → Text → Bool
+says words line = starts_with nat_eq line words && (slice_index line (length words) == 10 || slice_index line (length words) == 32)
+
+-- What must be answered: a line that says these words; where none are given, no refusal.
+abbrev pub is_expected : Option Text → Reply → Bool
+is_expected None (Refused r) = false
+is_expected None reply = true
+is_expected (Some words) reply = says words (line_of reply)
+
+abbrev pub answers_step : Step → Reply → Bool
+answers_step s reply = is_expected (option_map string_bytes s.expected) reply
+
+-- each command is answered as is expected of it
+abbrev pub as_expected : List Step → List Reply → Bool
+as_expected [] [] = true
+as_expected (s ∷ ss) (r ∷ rs) = answers_step s r && as_expected ss rs
+as_expected _ _ = false
+
+-- ---- sessions
+
+-- A session is given the command of a step, and this says whether it is answered as is expected.
+abbrev pub IsAnswered : Setting → World → Step → World → Bool → Type 0
+IsAnswered by old s new fine = (reply : Reply) × Steps by old s.verb (string_bytes s.body) reply new × (fine ≡ answers_step s reply)
+
+-- It is given these commands, and this says whether each is answered so.
+pub record AreAnswered (by : Setting) (old : World) (steps : List Step) (new : World) (fine : Bool) : Type 0 where
+  pub replies : List Reply
+  pub answered : Answers by old (map command_of steps) replies new
+  pub expected : fine ≡ as_expected steps replies
+
+-- ---- tests
+
+-- A session that was just made is given these commands, and this says whether each is answered as is expected.
+abbrev pub Passes : Setting → List Step → Bool → Type 0
+Passes by steps passed = (new : World) × AreAnswered by new_world steps new passed
+
+-- the line of a test that passed, and that of one that failed, with what was answered otherwise below it
+abbrev pub TellsTest : Text → Bool → Text → Type 0
+TellsTest name true told = told ≡ (codes "ok   " ++ name) ++ codes "\n"
+TellsTest name false told = (more : Text) × (told ≡ ((codes "FAIL " ++ name) ++ codes "\n") ++ more)
+
+-- Each test ran in a session of its own, which was given the set-up first, and is told of.
+abbrev pub TellsTests : Setting → List Step → List Test → List Bool → Text → Type 0
+TellsTests by set_up [] [] told = told ≡ []
+TellsTests by set_up (t ∷ ts) (p ∷ ps) told =
+    (first others : Text) × Passes by (set_up ++ t.steps.items) p × TellsTest (string_bytes t.name) p first
+    × TellsTests by set_up ts ps others × (told ≡ first ++ others)
+TellsTests by set_up _ _ told = ⊥
+
+-- ---- scripts
+
+-- each text is one that a command may have
+abbrev pub Fits : Script → Type 0
+Fits script = All FitsCommand script.set_up.items × All (λ t. All FitsCommand t.steps.items) script.tests.items
+
+abbrev pub passed_of : List Bool → ℕ
+passed_of results = count_by (λ p. p) results
+
+abbrev pub failed_of : List Bool → ℕ
+failed_of results = count_by not results
+
+-- how many tests passed and failed
+abbrev pub summary : List Bool → Text
+summary results = ((decimal (passed_of results) ++ codes " passed, ") ++ decimal (failed_of results)) ++ codes " failed\n"
+
+-- The tests of a script ran, each is told of, then how many passed; the status is 0 where some did and none failed.
+pub record TellsScript (script : Script) (status : ℕ) (told : Text) : Type 0 where
+  pub by : Setting
+  pub program : IsProgramSetting by
+  pub results : List Bool
+  pub lines : Text
+  pub tests : TellsTests by script.set_up.items script.tests.items results lines
+  pub whole : told ≡ lines ++ summary results
+  pub fine : (status ≡ 0) ↔ ((0 < passed_of results) × (failed_of results ≡ 0))

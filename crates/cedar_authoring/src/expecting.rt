@@ -1,0 +1,86 @@
+// What commands must be answered, and whether they are.
+ghost use Rattle.std.specs.Prelude.{◌≡◌, All, string_bytes, IfOk, IfNone, OnOk};
+ghost use Rattle.cedar_replies.specs.Replies.{reply_of};
+ghost use Rattle.cedar_authoring.specs.Scripts.{Fits, FitsCommand, TellsTest, answers_step, says};
+ghost use Rattle.cedar_authoring.specs.Telling.{Adds};
+
+use crate::script::{Script, Step};
+use cedar_session::{BODY_LIMIT, Refusal, Reply, line_in_memory};
+use std::alloc::{AllocError, Global};
+
+/// Whether a command is answered as is expected.
+pub(crate) fn is_expected(
+    alloc: Global,
+    step: &Step,
+    outcome: &Result<Reply, Refusal>,
+) -> Result<bool, AllocError>
+    ensures { IfOk result (λ fine. fine ≡ answers_step step.now (reply_of outcome.now)) }
+{
+    if let Err(Refusal::Memory) = outcome {
+        return Err(AllocError);
+    }
+    let Some(words) = &step.expected else {
+        return Ok(outcome.is_ok());
+    };
+    let line = line_in_memory(alloc, outcome)?;
+    Ok(says(words.as_bytes(), line.as_slice()))
+}
+
+/// Whether the line begins with these words, and a space or its line feed stands behind them.
+fn says(words: &[u8], line: &[u8]) -> bool
+    ensures { result ≡ says words.now line.now }
+{
+    line.starts_with(words)
+        && match line.get(words.len()) {
+            Some(b) => *b == b'\n' || *b == b' ',
+            None => false,
+        }
+}
+
+/// The first command whose text is longer than one may be.
+pub(crate) fn first_long(script: &Script) -> Option<&Step>
+    ensures { IfNone result (Fits script.now) }
+{
+    if let Some(step) = long_among(script.set_up.as_slice()) {
+        return Some(step);
+    }
+    for test in &script.tests {
+        if let Some(step) = long_among(test.steps.as_slice()) {
+            return Some(step);
+        }
+    }
+    None
+}
+
+fn long_among(steps: &[Step]) -> Option<&Step>
+    ensures { IfNone result (All FitsCommand steps.now) }
+{
+    for step in steps {
+        if step.body.len() > BODY_LIMIT {
+            return Some(step);
+        }
+    }
+    None
+}
+
+/// Tells whether a test passed, and what went wrong where it didn't.
+pub(crate) fn tell_test(
+    told: &mut String,
+    name: &str,
+    passed: bool,
+    wrong: &str,
+) -> Result<(), AllocError>
+    ensures { OnOk result (Adds (TellsTest name.now passed) (string_bytes told.old) (string_bytes told.new)) }
+{
+    if passed {
+        told.push_str("ok   ")?;
+        told.push_str(name)?;
+        told.push_str("\n")?;
+        return Ok(());
+    }
+    told.push_str("FAIL ")?;
+    told.push_str(name)?;
+    told.push_str("\n")?;
+    told.push_str(wrong)?;
+    Ok(())
+}

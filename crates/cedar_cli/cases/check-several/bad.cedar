@@ -1,0 +1,2 @@
+permit(principal, action, resource);
+permit(principal, action, resource) when { context.a = 1 };

@@ -1,0 +1,2 @@
+// wrong
+permit(principal, action, resource) when { context.a = 1 };

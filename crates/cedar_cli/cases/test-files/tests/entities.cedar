@@ -1,0 +1,1 @@
+[{uid: User::"alice", parents: [Group::"staff"]}]

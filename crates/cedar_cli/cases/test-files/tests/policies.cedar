@@ -1,0 +1,1 @@
+permit(principal in Group::"staff", action, resource);

@@ -1,0 +1,139 @@
+//! The program `cedar_cli`, for those who write policies: `check` says why a text is refused, and where; `test` runs
+//! tests of policies. The work is done by `cedar_authoring`; files and arguments are read here.
+#![tactic(auto)]
+
+mod files;
+
+use crate::files::{read_input, read_script_files, unread};
+use cedar_authoring::{Report, Script, ScriptError, check_text, read_script, run_script};
+use std::process::ExitCode;
+use std::{env, fs, io};
+
+const USAGE: &str =
+    "usage: cedar_cli check [FILE..] | cedar_cli test FILE.. | cedar_cli --help | cedar_cli --version";
+
+const HELP: &str = r#"cedar_cli check [FILE..]   checks texts of policies: files, or standard input
+cedar_cli test FILE..      runs the tests of scripts
+
+check  Of a text that is fine a line tells of each policy where it stands, and its id. Of any other
+       lines tell each fault with its place.
+test   A script has a command on a line: a verb and a body, or `<` and a file. Lines that begin with
+       a space go on with the body. `=> WORDS` says what must answer the command before it, and
+       `test NAME` begins a test. Each is told to be ok or to FAIL.
+
+exit status
+  0  each text is fine; each test passed, and there is one
+  1  some text is refused; some test failed
+  2  a script has a fault, or the words behind the name are none of these
+  3  a file couldn't be read, or what is told couldn't be written
+  4  there wasn't enough memory"#;
+
+const VERSION: &str = "cedar_cli 0.1.0";
+
+/// How a run went. Of several things the one with the greatest number is told.
+const FINE: u8 = 0;
+
+const USAGE_FAULT: u8 = 2;
+
+const DEVICE: u8 = 3;
+
+const NO_MEMORY: u8 = 4;
+
+fn main(rt: HostRuntime) -> ExitCode {
+    let Ok(words) = env::args(&rt) else {
+        return ExitCode::from(usage(&rt));
+    };
+    let Ok(words) = words.skip(1).collect::<Vec<String>>(rt.alloc()) else {
+        return ExitCode::from(NO_MEMORY);
+    };
+    ExitCode::from(run(&rt, words.as_slice()))
+}
+
+/// Does what the words say.
+fn run(rt: &HostRuntime, words: &[String]) -> u8 {
+    let Some((word, others)) = words.split_first() else {
+        return usage(rt);
+    };
+    match word.as_str() {
+        "check" if others.is_empty() => check_one(rt, "-", read_input(rt)),
+        "check" => check(rt, others),
+        "test" if !others.is_empty() => test(rt, others),
+        "--help" if others.is_empty() => say(rt, HELP),
+        "--version" if others.is_empty() => say(rt, VERSION),
+        _ => usage(rt),
+    }
+}
+
+fn usage(rt: &HostRuntime) -> u8 {
+    let _ = eprintln!(rt; "{USAGE}");
+    USAGE_FAULT
+}
+
+fn say(rt: &HostRuntime, line: &str) -> u8 {
+    match println!(rt; "{line}") {
+        Ok(()) => FINE,
+        Err(_) => DEVICE,
+    }
+}
+
+/// Writes what a report tells.
+fn tell(rt: &HostRuntime, report: &Report) -> u8 {
+    match print!(rt; "{}", report.text) {
+        Ok(()) => report.status,
+        Err(_) => DEVICE,
+    }
+}
+
+fn check(rt: &HostRuntime, files: &[String]) -> u8 {
+    let mut status = FINE;
+    for file in files {
+        status = status.max(check_one(rt, file.as_str(), fs::read(rt, file.as_str())));
+    }
+    status
+}
+
+fn check_one(rt: &HostRuntime, name: &str, read: io::Result<Vec<u8>>) -> u8 {
+    match read {
+        Ok(bytes) => match check_text(rt.alloc(), name, bytes.as_slice()) {
+            Ok(report) => tell(rt, &report),
+            Err(_) => NO_MEMORY,
+        },
+        Err(error) => unread(rt, name, &error),
+    }
+}
+
+fn test(rt: &HostRuntime, files: &[String]) -> u8 {
+    let mut status = FINE;
+    for file in files {
+        status = status.max(test_one(rt, file.as_str()));
+    }
+    status
+}
+
+fn test_one(rt: &HostRuntime, name: &str) -> u8 {
+    match fs::read_to_string(rt, name) {
+        Ok(text) => test_text(rt, name, text.as_str()),
+        Err(error) => unread(rt, name, &error),
+    }
+}
+
+fn test_text(rt: &HostRuntime, name: &str, text: &str) -> u8 {
+    match read_script(rt.alloc(), text) {
+        Ok(script) => test_script(rt, name, script),
+        Err(ScriptError::Fault(line, fault)) => match println!(rt; "{name}:{line}: {fault}") {
+            Ok(()) => USAGE_FAULT,
+            Err(_) => DEVICE,
+        },
+        Err(ScriptError::Memory) => NO_MEMORY,
+    }
+}
+
+fn test_script(rt: &HostRuntime, name: &str, mut script: Script) -> u8 {
+    if let Err(status) = read_script_files(rt, name, &mut script) {
+        return status;
+    }
+    match run_script(rt.alloc(), name, &script) {
+        Ok(report) => tell(rt, &report),
+        Err(_) => NO_MEMORY,
+    }
+}
