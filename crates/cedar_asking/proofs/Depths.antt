@@ -24,7 +24,7 @@ use Rattle.cedar_substitution.specs.Typed.{StandsFor, Tells, SubstitutesValues}
 use Rattle.cedar_requests.proofs.PutIn.{put_in, all_put_in, substituted_is}
 use Rattle.cedar_evaluator.specs.Evaluations.{Found, Satisfied, Unsatisfied, Erred, Open, Finds}
 use Rattle.cedar_evaluator.specs.Residuals.{clause_policy}
-use Rattle.cedar_asking.proofs.Taken.{clause_of}
+use Rattle.cedar_evaluator.proofs.Taken.{clause_of}
 
 -- ---- evaluations
 
@@ -130,14 +130,10 @@ module _ (h : Heights) (some_named : (n : Text) → 1 ≤ h.named n) (told : Lis
       put_low : (t : Tree) → is_restricted t ≡ true → height (put_in f t) ≤ grown h t
       put_low (Lit l) d = omega arith
       put_low (Unknown n ty) d = stands_low (told_for told n) n ty (f n ty) (named n) (tells n ty)
-      put_low (Apply op ts) d = omega (arith, all_put_low op ts d, le-max_right (read_height h op) (suc (all_grown h ts)))
+      put_low (Apply MakeSet ts) d = omega (arith, each_put_low ts d, le-max_right (read_height h MakeSet) (suc (all_grown h ts)))
+      put_low (Apply (MakeRecord ks) ts) d = omega (arith, each_put_low ts d, le-max_right (read_height h (MakeRecord ks)) (suc (all_grown h ts)))
+      put_low (Apply (Call g) ts) d = omega (arith, each_put_low ts d, le-max_right (read_height h (Call g)) (suc (all_grown h ts)))
       put_low t d = cc
-
-      all_put_low : (op : Operator) (ts : Trees) → is_restricted (Apply op ts) ≡ true → heights (all_put_in f ts) ≤ all_grown h ts
-      all_put_low MakeSet ts d = each_put_low ts d
-      all_put_low (MakeRecord ks) ts d = each_put_low ts d
-      all_put_low (Call g) ts d = each_put_low ts d
-      all_put_low op ts d = cc
 
       each_put_low : (ts : Trees) → are_restricted ts ≡ true → heights (all_put_in f ts) ≤ all_grown h ts
       each_put_low no_trees d = omega arith

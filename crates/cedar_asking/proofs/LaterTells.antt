@@ -85,9 +85,9 @@ use Rattle.cedar_asking.proofs.Depths.{other_slots, depth_grows, clause_grows, f
 use Rattle.cedar_asking.proofs.ContextsTold.{extends_empty, record_deep, holds_told, context_fails, no_unknown_asked, nothing_held}
 use Rattle.cedar_asking.proofs.Errors.{errors_listed, settled_listed, limit_kept}
 use Rattle.cedar_asking.proofs.Exactness.{clause_calls}
-use Rattle.cedar_asking.proofs.Firsts.{kept_of}
 use Rattle.cedar_asking.proofs.InForce.{written_entry, is_bound, is_in_force}
-use Rattle.cedar_asking.proofs.Taken.{clause_of, is_left as is_taken_up}
+use Rattle.cedar_evaluator.proofs.KeptOf.{kept_of}
+use Rattle.cedar_evaluator.proofs.Taken.{clause_of, true_kept, is_left as is_taken_up}
 use Rattle.cedar_asking.proofs.Facts.{store_has_facts, table_is_served, built_is_made}
 use Rattle.cedar_asking.proofs.Known.{all_named_nothing}
 use Rattle.cedar_evaluator.proofs.Lists.{IsAmong}
@@ -221,7 +221,7 @@ module _ (c : Rests) (by : Setting) (world : World) (q : Question) (first : Part
       pub too_deep : SomeGrowsTooHigh by world h
       too_deep =
           let (d, in_left, of_later) = kept_of inquiry s table depth (residuals_with is_any first) r.kept r.each l in_later in
-          let (k, in_ks, left) = is_taken_up response.responds.kept first response.responds.holds d in_left in
+          let (k, in_ks, left) = is_taken_up response.responds.kept first (true_kept response.responds.kept (holding_in first) response.responds.holds) d in_left in
           let (e, in_set, of) = kept_of (untold response.request) response.store response.table response.depth (policies_of response.policies) response.responds.kept response.responds.each k in_ks in
           let (at, policy) = is_bound response.policies response.whole e in_set in
           let calls : calls_unknown (condition_in d.1) ≡ false =

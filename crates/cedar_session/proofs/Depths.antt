@@ -10,7 +10,7 @@ use Rattle.cedar_world.specs.InForce.{AreInForce}
 use Rattle.cedar_world.specs.Question.{names_some}
 use Rattle.cedar_world.specs.Setting.{Setting}
 use Rattle.cedar_world.specs.World.{World, in_force_at}
-use Rattle.cedar_asking.proofs.Lists.{IsAmong, contained}
+use Rattle.cedar_evaluator.proofs.Lists.{IsAmong, contained}
 
 is_below : (a b : ℕ) → (a < b) ⊎ ((a < b) → ⊥)
 is_below a b = pick (cases_order a b)
