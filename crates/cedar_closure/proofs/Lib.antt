@@ -5,3 +5,7 @@ pub mod Finding
 pub mod Refusal
 pub mod Resetting
 pub mod Written
+pub mod NumberSets
+pub mod Numbered
+pub mod KeysFound
+pub mod WholeRows

@@ -9,7 +9,8 @@ ghost use Rattle.cedar_closure.specs.Refused.{IsTcRefusal};
 
 use crate::errors::{HasCycle, TcError};
 use crate::nodes::TCNode;
-use crate::reaching::reached_from;
+use crate::numbering::{each_once, keys_at, number_reached};
+use crate::reaching::reached_by_each;
 use std::alloc::{AllocError, Global};
 use std::collections::HashMap;
 use std::hash::Hash;
@@ -33,10 +34,14 @@ fn reached_from_each<K: Eq + Hash + Clone + Drop, V: TCNode<K>>(
     ensures whole { IfOk result (λ all. (a q : K) → IsTrue (is_member K.eq listed.now a) →
         Reaches (HasEdge K.eq V.edges nodes.now) a q → IsTrue (finds K.eq all.items a q)) }
 {
+    let first = each_once(alloc, listed)?;
+    let count = first.len();
+    let numbering = number_reached(alloc, nodes, first)?;
+    let rows = reached_by_each(alloc, &numbering.edges, count)?;
     let mut all = Vec::new(alloc);
-    for from in listed {
-        let keys = reached_from(alloc, nodes, from)?;
-        let from = from.clone()?;
+    for number in 0..count {
+        let keys = keys_at(alloc, &numbering.keys, &rows[number])?;
+        let from = numbering.keys[number].clone()?;
         all.push(Reached { from, keys })?;
     }
     Ok(all)
@@ -114,7 +119,8 @@ pub(crate) fn keys_of<K: Eq + Hash + Clone + Drop, V>(
 /// Gives each node an edge to each key that one or more edges lead to from it, cycles included.
 /// Where `enforce_dag`, a graph with a cycle is refused.
 ///
-/// For each node it looks once at the edges of each key that the node reaches. The map may have any keys.
+/// What a node's edges lead to is closed before it where no cycle is in the way, and taken over whole. The map may have
+/// any keys.
 /// `HasCycle` names a node of a cycle; refused otherwise only where memory runs out.
 /// A refused call leaves the nodes with all their edges, and perhaps some of those that were to be added.
 pub fn compute_tc<K: Eq + Hash + Clone + Drop, V: TCNode<K>>(

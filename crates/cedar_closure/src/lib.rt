@@ -4,7 +4,11 @@
 mod closing;
 mod enforcing;
 mod errors;
+mod keys;
 mod nodes;
+mod numbering;
+mod numbers;
+mod ordering;
 mod reaching;
 mod rebuilding;
 

@@ -1,15 +1,14 @@
-use Rattle.std.proofs.Common.{IsTrue, ◌||◌, drop}
-use Rattle.std.specs.Set.{is_member}
-use Rattle.cedar_closure.specs.Graph.{HasEdge}
-use Rattle.cedar_language.specs.Facts.{Reaches}
-use Rattle.cedar_closure.specs.Found.{finds}
+use Rattle.std.proofs.Common.{drop, take}
+use Rattle.cedar_closure.specs.Graph.{edges_at}
+use Rattle.cedar_closure.proofs.Finding.{FindsNoMore, FindsBut}
 use Rattle.cedar_closure.proofs.closing.reached_from_each.Given as goal
 
-abbrev pub invariant-loop-from : goal.invariant-loop-from
-invariant-loop-from g l =
+abbrev pub invariant-loop-number : goal.invariant-loop-number
+invariant-loop-number g l =
     let eq = g.K.PartialEq.eq in
-    let E = HasEdge eq g.V.TCNode.edges l.nodes in
+    let next = edges_at eq g.V.TCNode.edges l.nodes in
+    let first = take l.count l.numbering.keys.items in
     record {
-      sound : (a q : g.row.K.Denot) → IsTrue (finds eq l.all.items a q) → IsTrue (is_member eq l.listed a) × Reaches E a q;
-      whole : (a q : g.row.K.Denot) → IsTrue (is_member eq l.listed a) → Reaches E a q → IsTrue (finds eq l.all.items a q || is_member eq (drop l.from-index l.listed) a);
+      sound : FindsNoMore eq next first l.all.items;
+      whole : FindsBut eq next first l.all.items (drop l.number first);
     }
