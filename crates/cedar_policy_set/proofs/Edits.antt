@@ -94,6 +94,9 @@ module _ (es new : List (Text × Bound)) (seen : Entries) (view : entries_of es 
     pub counts_gone : (old n : Numbers) → ((k : ℕ) → Counts n k → (id ≢ numbered k) × Counts old k) → AreBound (entries_of es) old → AreBound (entries_of new) n
     counts_gone old n others h = subst (λ xs. AreBound xs n) (sym (ap entries_of is ∙ entries_without id es)) (counts_without (entries_of es) id old n sound.whole others h)
 
+    pub covers_gone : (x : ScopeIndex) → Covers (without id (entries_of es)) x → Covers (entries_of new) x
+    covers_gone x h = subst (λ xs. Covers xs x) (sym (ap entries_of is ∙ entries_without id es)) h
+
     pub sound_without : IsDistinct same_text (keys_of new) → ((s : Policy) → bound_at seen id ≡ Some (template s) → has_links seen id ≡ false) → IsSound new
     sound_without distinct unlinked =
         record {

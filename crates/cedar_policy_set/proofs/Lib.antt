@@ -7,5 +7,6 @@ pub mod Edits
 pub mod Finding
 pub mod SameBound
 pub mod Sameness
+pub mod Uncovering
 pub mod Views
 pub mod Wholes

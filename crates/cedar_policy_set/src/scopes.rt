@@ -3,6 +3,7 @@ ghost use Rattle.std.specs.Prelude.{◌≡◌, ◌+◌, ◌<◌, ◌^◌, OnOk, 
 ghost use Rattle.std.specs.Option.{option_copied};
 ghost use Rattle.cedar_scope_index.specs.Finding.{covered, KeepsFound};
 ghost use Rattle.cedar_policy_set.specs.Bounds.{entry_of, entries_of, policy_seen};
+ghost use Rattle.cedar_policy_set.specs.Entries.{without};
 ghost use Rattle.cedar_policy_set.specs.Scopes.{IsEntryFound, Covers, policy_stood};
 
 use crate::bounds::Bound;
@@ -23,7 +24,7 @@ impl PolicySet {
     }
 
     /// The index of scopes, which covers a beginning of the set: policies that are added are behind what it
-    /// covers, and a removal begins it anew.
+    /// covers.
     pub fn scopes(&self) -> &ScopeIndex
         ensures { Covers self.now result.now }
     {
@@ -54,6 +55,18 @@ fn cover(
         cover_next(alloc, scopes, next)?;
     }
     Ok(())
+}
+
+// What is known of the positions is what will be, once the entry of this id is taken out.
+pub(crate) fn uncover(scopes: &mut ScopeIndex, bound: &IndexMap<PolicyID, Bound>, id: &PolicyID)
+    requires { Covers (entries_of bound.now.entries) scopes.old }
+    ensures { Covers (without id.now (entries_of bound.now.entries)) scopes.new }
+{
+    // The length is what says that a position fits.
+    let _len = bound.len();
+    if let Some(position) = bound.get_index_of(id) {
+        scopes.take_out(*bound.allocator(), position);
+    }
 }
 
 // Covers the next position, at which this stands.

@@ -7,6 +7,7 @@ ghost use Rattle.cedar_grammar.specs.Policy.{Policy as PolicySyntax};
 
 use crate::bounds::Bound;
 use crate::numbers::Numbers;
+use crate::scopes::uncover;
 use cedar_policy_parts::PolicyID;
 use cedar_scope_index::index::ScopeIndex;
 use indexmap::IndexMap;
@@ -226,9 +227,7 @@ impl PolicySet {
         ensures id { IfSome result (λ bound. bound_id bound ≡ id.now) }
     {
         self.numbers.take_away(id);
-        // The positions behind it move up, so what is known of them is let go of.
-        let scopes = ScopeIndex::new(*self.bound.allocator());
-        self.scopes = scopes;
+        uncover(&mut self.scopes, &self.bound, id);
         self.bound.shift_remove(id)
     }
 }

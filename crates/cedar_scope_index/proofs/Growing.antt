@@ -1,13 +1,16 @@
 -- What is found in an index is found there still when more is listed.
 use Rattle.std.proofs.Common.{◌≡◌, ℕ, nat_eq, Bool, true, false, ◌||◌, cond, List, [], ◌∷◌, ◌++◌, refl, sym, ap, ◌∙◌, true≢false, Result, Ok, Err, OnOk, OnErr}
 use Rattle.std.specs.Cmp.{nat_eq_equiv}
+use Rattle.std.specs.Cmp.Lexicographic.{nat_list_eq_equiv}
 use Rattle.std.proofs.lemmas.List.Folds.{list_any-append}
 use Rattle.cedar_language.specs.Uid.{Uid}
-use Rattle.cedar_language.specs.Order.{same_uid}
-use Rattle.cedar_literals.specs.Laws.{same_uid_equiv}
+use Rattle.cedar_language.specs.Order.{same_text}
+use Rattle.cedar_grammar.specs.Policy.{Policy}
+use Rattle.cedar_grammar.specs.Bindings.{Bindings}
 use Rattle.cedar_scope_index.specs.declared.positions.Positions.{Positions}
 use Rattle.cedar_scope_index.specs.declared.index.ScopeIndex.{ScopeIndex}
-use Rattle.cedar_scope_index.specs.Finding.{positions_at, others_of, is_listed, by_nothing, by_principal, by_action, by_resource, KeepsFound}
+use Rattle.cedar_scope_index.specs.Finding.{positions_at, others_of, is_listed, IsListedFor, by_nothing, by_principal, by_action, by_resource, IsFound, KeepsFound}
+use Rattle.cedar_scope_index.specs.Places.{position_of, closed_up}
 
 -- what the one lists, the other lists under the same entity
 abbrev pub Holds : Positions → Positions → Type 0
@@ -19,15 +22,42 @@ pub record Grows (x y : ScopeIndex) : Type 0 where
   pub actions : Holds x.actions y.actions
   pub resources : Holds x.resources y.resources
 
-pub keeps : (x y : ScopeIndex) → Grows x y → KeepsFound x y
-keeps x y g p b s (by_nothing l) = by_nothing (g.others p l)
-keeps x y g p b s (by_principal u n l) = by_principal u n (g.principals u p l)
-keeps x y g p b s (by_action u settled n l) = by_action u settled n (g.actions u p l)
-keeps x y g p b s (by_resource u settled n l) = by_resource u settled n (g.resources u p l)
+pub grown : (x y : ScopeIndex) → Grows x y → (t : ℕ) (b : Bindings) (s : Policy) → IsListedFor x t b s → IsListedFor y t b s
+grown x y g t b s (by_nothing l) = by_nothing (g.others t l)
+grown x y g t b s (by_principal u n l) = by_principal u n (g.principals u t l)
+grown x y g t b s (by_action u settled n l) = by_action u settled n (g.actions u t l)
+grown x y g t b s (by_resource u settled n l) = by_resource u settled n (g.resources u t l)
+
+-- where no place is taken out, what is found stays so
+pub keeps : (x y : ScopeIndex) → y.gaps ≡ x.gaps → Grows x y → KeepsFound x y
+keeps x y same g p b s found = record {
+  place = found.place;
+  stands = ap (λ gaps. position_of gaps.taken.items found.place) same ∙ found.stands;
+  listed = grown x y g found.place b s found.listed;
+}
 
 -- how far an index goes is no matter
 pub counted : (x : ScopeIndex) (n : ℕ) → KeepsFound x (record x { len = n })
-counted x n = keeps x (record x { len = n }) (record { others = λ p h. h; principals = λ u p h. h; actions = λ u p h. h; resources = λ u p h. h })
+counted x n = keeps x (record x { len = n }) refl (record { others = λ p h. h; principals = λ u p h. h; actions = λ u p h. h; resources = λ u p h. h })
+
+-- what is listed at a place is found where that place stands
+pub found_there : (x : ScopeIndex) (n t p : ℕ) (b : Bindings) (s : Policy) → position_of x.gaps.taken.items t ≡ p → IsListedFor x t b s → IsFound (record x { len = n }) p b s
+found_there x n t p b s stands listed = record {
+  place = t;
+  stands = stands;
+  listed = grown x (record x { len = n }) (record { others = λ q h. h; principals = λ u q h. h; actions = λ u q h. h; resources = λ u q h. h }) t b s listed;
+}
+
+-- ---- a position is taken out
+
+-- each place stands where it says
+pub taken_within : (x y : ScopeIndex) (out p : ℕ) (b : Bindings) (s : Policy) → Grows x y
+    → ((t : ℕ) → position_of y.gaps.taken.items t ≡ closed_up out (position_of x.gaps.taken.items t)) → IsFound x p b s → IsFound y (closed_up out p) b s
+taken_within x y out p b s g closes found = record {
+  place = found.place;
+  stands = closes found.place ∙ ap (closed_up out) found.stands;
+  listed = grown x y g found.place b s found.listed;
+}
 
 -- ---- one more at the end of a list
 
@@ -53,17 +83,17 @@ still (Err e) ps qs q more same p h = ap (λ xs. is_listed xs p) same ∙ h
 -- ---- one more under an entity
 
 abbrev pub Lists : Positions → Positions → Uid → ℕ → Type 0
-Lists old new uid q = (u : Uid) → positions_at new u ≡ cond (same_uid uid u) (positions_at old u ++ q ∷ []) (positions_at old u)
+Lists old new uid q = (u : Uid) → positions_at new u ≡ cond (same_text uid.id u.id) (positions_at old u ++ q ∷ []) (positions_at old u)
 
 abbrev pub Stays : Positions → Positions → Type 0
 Stays old new = (u : Uid) → positions_at new u ≡ positions_at old u
 
 pub listed_there : (old new : Positions) (uid : Uid) (q : ℕ) → Lists old new uid q → is_listed (positions_at new uid) q ≡ true
 listed_there old new uid q more =
-    ap (λ ps. is_listed ps q) (more uid ∙ ap (λ c. cond c (positions_at old uid ++ q ∷ []) (positions_at old uid)) (same_uid_equiv.refl uid)) ∙ last_listed (positions_at old uid) q
+    ap (λ ps. is_listed ps q) (more uid ∙ ap (λ c. cond c (positions_at old uid ++ q ∷ []) (positions_at old uid)) (nat_list_eq_equiv.refl uid.id)) ∙ last_listed (positions_at old uid) q
 
 holds_more : (old new : Positions) (uid : Uid) (q : ℕ) → Lists old new uid q → Holds old new
-holds_more old new uid q more u p h = ap (λ ps. is_listed ps p) (more u) ∙ by (same_uid uid u)
+holds_more old new uid q more u p h = ap (λ ps. is_listed ps p) (more u) ∙ by (same_text uid.id u.id)
   where
     by : (c : Bool) → is_listed (cond c (positions_at old u ++ q ∷ []) (positions_at old u)) p ≡ true
     by true = still_listed (positions_at old u) q p h

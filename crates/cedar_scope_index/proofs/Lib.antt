@@ -1,2 +1,4 @@
 mod Growing
 mod Listing
+mod Closing
+mod Moving

@@ -1,21 +1,22 @@
 -- Where the policies of a set are found by what their scopes name.
 use Rattle.std.specs.Prelude.{◌≡◌, ℕ, nat_eq, Bool, true, List, [], Some}
-use Rattle.std.specs.HashMap.{get}
+use Rattle.std.specs.BTreeMap.{get}
 use Rattle.std.specs.List.{list_any}
 use Rattle.std.specs.Option.{option_map_or}
 use Rattle.cedar_language.specs.Uid.{Uid}
-use Rattle.cedar_language.specs.Order.{same_uid}
+use Rattle.cedar_language.specs.Order.{text_cmp}
 use Rattle.cedar_grammar.specs.Policy.{Policy}
 use Rattle.cedar_grammar.specs.Bindings.{Bindings}
 use Rattle.cedar_scope_index.specs.Naming.{named, is_settled, named_action}
+use Rattle.cedar_scope_index.specs.Places.{position_of}
 use Rattle.cedar_scope_index.specs.declared.positions.Positions.{Positions}
 use Rattle.cedar_scope_index.specs.declared.index.ScopeIndex.{ScopeIndex}
 
--- the positions that are listed under an entity
+-- the places that are listed under an entity, by its id
 abbrev pub positions_at : Positions → Uid → List ℕ
-positions_at ps u = option_map_or (λ v. v.items) (get same_uid ps.by_uid u) []
+positions_at ps u = option_map_or (λ v. v.items) (get text_cmp ps.by_id u.id) []
 
--- the positions of those policies that are found by no entity
+-- the places of those policies that are found by no entity
 abbrev pub others_of : ScopeIndex → List ℕ
 others_of x = x.others.items
 
@@ -23,18 +24,28 @@ others_of x = x.others.items
 abbrev pub covered : ScopeIndex → ℕ
 covered x = x.len
 
--- whether a position is one of these
+-- the position at which now stands what was listed at a place
+abbrev pub stands_at : ScopeIndex → ℕ → ℕ
+stands_at x t = position_of x.gaps.taken.items t
+
+-- whether a number is one of these
 abbrev pub is_listed : List ℕ → ℕ → Bool
 is_listed ps p = list_any (nat_eq p) ps
 
--- A position is listed for a policy with these entities in the places of its slots: among the others, or under an entity
+-- A place is listed for a policy with these entities in the places of its slots: among the others, or under an entity
 -- that its scope names. By the action or the resource it is found only where no slot of the principal is open, since that
 -- one is asked first.
-pub data IsFound (x : ScopeIndex) (p : ℕ) (b : Bindings) (s : Policy) : Type 0 where
-  by_nothing : is_listed (others_of x) p ≡ true → IsFound x p b s
-  by_principal : (u : Uid) → named b.principal s.principal ≡ Some u → is_listed (positions_at x.principals u) p ≡ true → IsFound x p b s
-  by_action : (u : Uid) → is_settled b.principal s.principal ≡ true → named_action s.action ≡ Some u → is_listed (positions_at x.actions u) p ≡ true → IsFound x p b s
-  by_resource : (u : Uid) → is_settled b.principal s.principal ≡ true → named b.resource s.resource ≡ Some u → is_listed (positions_at x.resources u) p ≡ true → IsFound x p b s
+pub data IsListedFor (x : ScopeIndex) (t : ℕ) (b : Bindings) (s : Policy) : Type 0 where
+  by_nothing : is_listed (others_of x) t ≡ true → IsListedFor x t b s
+  by_principal : (u : Uid) → named b.principal s.principal ≡ Some u → is_listed (positions_at x.principals u) t ≡ true → IsListedFor x t b s
+  by_action : (u : Uid) → is_settled b.principal s.principal ≡ true → named_action s.action ≡ Some u → is_listed (positions_at x.actions u) t ≡ true → IsListedFor x t b s
+  by_resource : (u : Uid) → is_settled b.principal s.principal ≡ true → named b.resource s.resource ≡ Some u → is_listed (positions_at x.resources u) t ≡ true → IsListedFor x t b s
+
+-- what stands at a position is found: its place is listed
+pub record IsFound (x : ScopeIndex) (p : ℕ) (b : Bindings) (s : Policy) : Type 0 where
+  pub place : ℕ
+  pub stands : stands_at x place ≡ p
+  pub listed : IsListedFor x place b s
 
 -- what is found in the one index is found in the other
 abbrev pub KeepsFound : ScopeIndex → ScopeIndex → Type 0

@@ -1,23 +1,27 @@
 // The index of scopes.
-ghost use Rattle.std.specs.Prelude.{◌≡◌, ◌+◌, ◌<◌, ◌^◌, [], ◌∷◌, ◌++◌, OnOk, OnErr};
+ghost use Rattle.std.specs.Prelude.{◌≡◌, ◌+◌, ◌<◌, ◌≤◌, ◌^◌, ℕ, [], ◌∷◌, ◌++◌, true, OnOk, OnErr};
 ghost use Rattle.cedar_grammar.specs.Policy.{Policy as PolicySyntax};
 ghost use Rattle.cedar_grammar.specs.Bindings.{Bindings};
 ghost use Rattle.cedar_policies.specs.Policies.{bindings_of, policy_syntax};
-ghost use Rattle.cedar_scope_index.specs.Finding.{IsFound, KeepsFound, covered, others_of};
+ghost use Rattle.cedar_scope_index.specs.Finding.{IsFound, IsListedFor, KeepsFound, covered, stands_at, is_listed, others_of};
 ghost use Rattle.cedar_scope_index.specs.Keys.{IsKey};
+ghost use Rattle.cedar_scope_index.specs.Places.{closed_up};
 
+use crate::gaps::Gaps;
 use crate::keys::{Key, key_of};
 use crate::positions::Positions;
 use cedar_policies::policies::Policy;
 use std::alloc::{AllocError, Global};
 
-/// Positions of policies by what their scopes name: each is found by one entity, or by none. It covers the
-/// positions below its length. Contracts see by `IsFound` where a policy is listed.
+/// Policies of a set by what their scopes name: each is found by one entity, or by none. It covers the
+/// positions below its length. What is listed is a place, which a policy keeps while those before it are taken
+/// out; `positions` tells where it stands. Contracts see by `IsFound` where a policy is listed.
 pub struct ScopeIndex {
     principals: Positions,
     actions: Positions,
     resources: Positions,
     others: Vec<usize>,
+    gaps: Gaps,
     len: usize,
 }
 
@@ -29,6 +33,7 @@ impl Drop for ScopeIndex {
             actions: _actions,
             resources: _resources,
             others: _others,
+            gaps: _gaps,
             len: _len,
         } = self;
     }
@@ -44,6 +49,7 @@ impl ScopeIndex {
             actions: Positions::new(alloc),
             resources: Positions::new(alloc),
             others: Vec::new(alloc),
+            gaps: Gaps::new(alloc),
             len: 0,
         }
     }
@@ -76,7 +82,7 @@ impl ScopeIndex {
         &self.resources
     }
 
-    /// Those of policies that are found by no entity, in rising order.
+    /// Those of policies that are found by no entity.
     pub fn others(&self) -> &[usize]
         ensures { result.now ≡ others_of self.now }
     {
@@ -91,7 +97,8 @@ impl ScopeIndex {
         ensures kept { KeepsFound self.old self.new }
         ensures err { OnErr result (covered self.new ≡ covered self.old) }
     {
-        self.list(alloc, key_of(policy))?;
+        let place = self.gaps.place(self.len);
+        self.list(alloc, key_of(policy), place)?;
         self.len += 1;
         Ok(())
     }
@@ -105,18 +112,47 @@ impl ScopeIndex {
         self.len += 1;
     }
 
-    // Lists the next position where a policy of this key is found.
-    fn list(&mut self, alloc: Global, key: Key<'_>) -> Result<(), AllocError>
-        ensures found { OnOk result ((b : Bindings) (s : PolicySyntax) → IsKey b s key.entry → IsFound self.new (covered self.old) b s) }
+    /// A position of the set is taken out, and those behind it move up. Nothing is covered any more where
+    /// more than half of the places were taken out already, or where memory lacks.
+    pub fn take_out(&mut self, alloc: Global, position: usize)
+        requires { covered self.old < 2 ^ 63 }
+        ensures within { covered self.new ≤ covered self.old }
+        ensures fewer { position < covered self.old → covered self.new < covered self.old }
+        ensures kept { (p : ℕ) (b : Bindings) (s : PolicySyntax) → closed_up position p < covered self.new → IsFound self.old p b s → IsFound self.new (closed_up position p) b s }
+    {
+        if position >= self.len {
+            return;
+        }
+        if self.gaps.len() > self.len / 2 {
+            *self = ScopeIndex::new(alloc);
+            return;
+        }
+        match self.gaps.take_out(position) {
+            Ok(()) => self.len -= 1,
+            Err(_) => *self = ScopeIndex::new(alloc),
+        }
+    }
+
+    /// The positions at which now stands what is listed at these places. What was taken out stands where the
+    /// next one does.
+    pub fn positions(&self, places: Vec<usize>) -> Vec<usize>
+        ensures { (t : ℕ) → is_listed places.items t ≡ true → is_listed result.items (stands_at self.now t) ≡ true }
+    {
+        self.gaps.positions(places)
+    }
+
+    // Lists a place where a policy of this key is found.
+    fn list(&mut self, alloc: Global, key: Key<'_>, place: usize) -> Result<(), AllocError>
+        ensures found { OnOk result ((b : Bindings) (s : PolicySyntax) → IsKey b s key.entry → IsListedFor self.new place b s) }
         ensures kept { KeepsFound self.old self.new }
+        ensures gaps { self.new.gaps ≡ self.old.gaps }
         ensures covered { covered self.new ≡ covered self.old }
     {
-        let position = self.len;
         match key {
-            Key::Principal(uid) => self.principals.list(alloc, uid, position),
-            Key::Action(uid) => self.actions.list(alloc, uid, position),
-            Key::Resource(uid) => self.resources.list(alloc, uid, position),
-            Key::Nothing => list_last(&mut self.others, position),
+            Key::Principal(uid) => self.principals.list(alloc, uid, place),
+            Key::Action(uid) => self.actions.list(alloc, uid, place),
+            Key::Resource(uid) => self.resources.list(alloc, uid, place),
+            Key::Nothing => list_last(&mut self.others, place),
         }
     }
 }

@@ -1,24 +1,26 @@
-// Positions by entities.
-ghost use Rattle.std.specs.HashMap.{get};
+// Places by entities.
+ghost use Rattle.std.specs.BTreeMap.{get};
 ghost use Rattle.std.specs.Prelude.{◌≡◌, ◌↔◌, [], ◌∷◌, ◌++◌, IsTrue, OnOk, OnErr, cond};
 ghost use Rattle.cedar_language.specs.Uid.{Uid};
-ghost use Rattle.cedar_language.specs.Order.{same_uid};
+ghost use Rattle.cedar_language.specs.Order.{same_text, text_cmp};
 ghost use Rattle.cedar_scope_index.specs.Lists.{ListsSome};
 
-use cedar_literals::uids::EntityUID;
+use cedar_literals::uids::{Eid, EntityUID};
 use std::alloc::{AllocError, Global};
-use std::collections::HashMap;
+use std::collections::BTreeMap;
 
-/// Positions in a policy set, listed under entities. Contracts see those of an entity through `positions_at`.
+/// Places of policies, listed under entities. They are kept by the id alone, so that what is listed under an
+/// entity stands under those of other types that have its id, too. Contracts see those of an entity through
+/// `positions_at`.
 pub struct Positions {
-    by_uid: HashMap<EntityUID, Vec<usize>>,
-    ghost listing: { ListsSome (get same_uid by_uid) },
+    by_id: BTreeMap<Eid, Vec<usize>>,
+    ghost listing: { ListsSome (get text_cmp by_id) },
 }
 
 // Written by hand, so that a function which may return early lets go of them by a call.
 impl Drop for Positions {
     fn drop(self) {
-        let Positions { by_uid: _by_uid } = self;
+        let Positions { by_id: _by_id } = self;
     }
 }
 
@@ -30,7 +32,7 @@ impl Positions {
         ensures { (uid : Uid) → positions_at result uid ≡ [] }
     {
         Positions {
-            by_uid: HashMap::new(alloc),
+            by_id: BTreeMap::new(alloc),
         }
     }
 
@@ -38,8 +40,8 @@ impl Positions {
     pub fn at(&self, uid: &EntityUID) -> &[usize]
         ensures { result.now ≡ positions_at self.now uid.now }
     {
-        match self.by_uid.get(uid) {
-            Some(positions) => positions,
+        match self.by_id.get(uid.eid()) {
+            Some(places) => places,
             None => &[],
         }
     }
@@ -48,7 +50,7 @@ impl Positions {
     pub fn is_empty(&self) -> bool
         ensures { IsTrue result ↔ ((uid : Uid) → positions_at self.now uid ≡ []) }
     {
-        self.by_uid.is_empty()
+        self.by_id.is_empty()
     }
 
     // Lists one more under an entity; refused for memory alone, and nothing is then listed.
@@ -56,32 +58,27 @@ impl Positions {
         &mut self,
         alloc: Global,
         uid: &EntityUID,
-        position: usize,
+        place: usize,
     ) -> Result<(), AllocError>
-        ensures listed { OnOk result ((u : Uid) → positions_at self.new u ≡ cond (same_uid uid.now u) (positions_at self.old u ++ position ∷ []) (positions_at self.old u)) }
+        ensures listed { OnOk result ((u : Uid) → positions_at self.new u ≡ cond (same_text uid.now.id u.id) (positions_at self.old u ++ place ∷ []) (positions_at self.old u)) }
         ensures err { OnErr result ((u : Uid) → positions_at self.new u ≡ positions_at self.old u) }
     {
-        match self.by_uid.get_mut(uid) {
-            Some(positions) => Ok(positions.push(position)?),
-            None => self.list_first(alloc, uid, position),
+        match self.by_id.get_mut(uid.eid()) {
+            Some(places) => Ok(places.push(place)?),
+            None => self.list_first(alloc, uid, place),
         }
     }
 
     // The same where none is listed under the entity yet.
-    fn list_first(
-        &mut self,
-        alloc: Global,
-        uid: &EntityUID,
-        position: usize,
-    ) -> Result<(), AllocError>
+    fn list_first(&mut self, alloc: Global, uid: &EntityUID, place: usize) -> Result<(), AllocError>
         requires { positions_at self.old uid.now ≡ [] }
-        ensures listed { OnOk result ((u : Uid) → positions_at self.new u ≡ cond (same_uid uid.now u) (positions_at self.old u ++ position ∷ []) (positions_at self.old u)) }
+        ensures listed { OnOk result ((u : Uid) → positions_at self.new u ≡ cond (same_text uid.now.id u.id) (positions_at self.old u ++ place ∷ []) (positions_at self.old u)) }
         ensures err { OnErr result ((u : Uid) → positions_at self.new u ≡ positions_at self.old u) }
     {
-        let uid = uid.clone(alloc)?;
-        let mut positions = Vec::new(alloc);
-        positions.push(position)?;
-        self.by_uid.insert(uid, positions)?;
+        let id = uid.eid().clone(alloc)?;
+        let mut places = Vec::new(alloc);
+        places.push(place)?;
+        self.by_id.insert(id, places)?;
         Ok(())
     }
 }

@@ -1,10 +1,9 @@
--- Without an id that no link names the set stays whole.
+-- Without an id that no link names the set stays whole, and is covered as far as it was.
 use Rattle.std.proofs.Common.{ap, sym, ◌∙◌}
 use Rattle.std.specs.Option.{option_map}
 use Rattle.cedar_policy_set.specs.Bounds.{entry_of}
 use Rattle.cedar_policy_set.specs.Entries.{bound_at}
-use Rattle.cedar_policy_set.proofs.Covering.{covers_nothing}
-use Rattle.cedar_policy_set.proofs.Edits.{without_is, sound_without, counts_gone}
+use Rattle.cedar_policy_set.proofs.Edits.{without_is, sound_without, counts_gone, covers_gone}
 use Rattle.cedar_policy_set.proofs.Views.{found_entry, taken_named}
 use Rattle.cedar_policy_set.proofs.sets.PolicySet.take_away.Goals as goal
 
@@ -13,7 +12,7 @@ invariant_of-self c =
     record {
       sound = sound_without _ _ _ c.self.view_is c.self.invariant.sound _ c.shift_remove.ensures.entries c.shift_remove.ensures.unique c.requires;
       counts = counts_gone _ _ _ c.self.view_is c.self.invariant.sound _ c.shift_remove.ensures.entries _ _ c.take_away.ensures c.self.invariant.counts;
-      covers = covers_nothing _ _ c.new-scopes.ensures;
+      covers = covers_gone _ _ _ c.self.view_is c.self.invariant.sound _ c.shift_remove.ensures.entries _ c.uncover.ensures;
     }
 
 pub returns-clause-removed : goal.returns-clause-removed

@@ -1,5 +1,5 @@
 -- One more position is listed under the entity of the key, or among the others (Growing).
-use Rattle.std.proofs.Common.{ap, subst, ◌∙◌}
+use Rattle.std.proofs.Common.{refl, ap, subst, ◌∙◌}
 use Rattle.std.proofs.lemmas.Result.{on_ok_weaker}
 use Rattle.cedar_scope_index.specs.Finding.{is_listed, by_nothing, by_principal, by_action, by_resource}
 use Rattle.cedar_scope_index.specs.Keys.{IsKey}
@@ -9,14 +9,14 @@ use Rattle.cedar_scope_index.proofs.index.ScopeIndex.list.Goals as goal
 pub returns-in-Principal-clause-found : goal.returns-in-Principal-clause-found
 returns-in-Principal-clause-found c =
     on_ok_weaker c.list.result
-    (λ listed b s key. by_principal c.in-Principal.uid.now (subst (IsKey b s) c.in-Principal.is key) (listed_there c.args.self.now.principals c.list.new.self c.in-Principal.uid.now c.args.self.now.len listed))
+    (λ listed b s key. by_principal c.in-Principal.uid.now (subst (IsKey b s) c.in-Principal.is key) (listed_there c.args.self.now.principals c.list.new.self c.in-Principal.uid.now c.args.place listed))
     c.list.ensures.listed
 
 pub returns-in-Principal-clause-kept : goal.returns-in-Principal-clause-kept
 returns-in-Principal-clause-kept c =
-    keeps c.args.self.now _ (record {
+    keeps c.args.self.now _ refl (record {
       others = λ p h. h;
-      principals = holds c.list.result c.args.self.now.principals c.list.new.self c.in-Principal.uid.now c.args.self.now.len c.list.ensures.listed c.list.ensures.err;
+      principals = holds c.list.result c.args.self.now.principals c.list.new.self c.in-Principal.uid.now c.args.place c.list.ensures.listed c.list.ensures.err;
       actions = λ u p h. h;
       resources = λ u p h. h;
     })
@@ -26,15 +26,15 @@ returns-in-Action-clause-found c =
     on_ok_weaker c.list-in-Action.result
     (λ listed b s key.
     let named = subst (IsKey b s) c.in-Action.is key in
-    by_action c.in-Action.uid.now named.0 named.1 (listed_there c.args.self.now.actions c.list-in-Action.new.self c.in-Action.uid.now c.args.self.now.len listed))
+    by_action c.in-Action.uid.now named.0 named.1 (listed_there c.args.self.now.actions c.list-in-Action.new.self c.in-Action.uid.now c.args.place listed))
     c.list-in-Action.ensures.listed
 
 pub returns-in-Action-clause-kept : goal.returns-in-Action-clause-kept
 returns-in-Action-clause-kept c =
-    keeps c.args.self.now _ (record {
+    keeps c.args.self.now _ refl (record {
       others = λ p h. h;
       principals = λ u p h. h;
-      actions = holds c.list-in-Action.result c.args.self.now.actions c.list-in-Action.new.self c.in-Action.uid.now c.args.self.now.len c.list-in-Action.ensures.listed c.list-in-Action.ensures.err;
+      actions = holds c.list-in-Action.result c.args.self.now.actions c.list-in-Action.new.self c.in-Action.uid.now c.args.place c.list-in-Action.ensures.listed c.list-in-Action.ensures.err;
       resources = λ u p h. h;
     })
 
@@ -43,28 +43,28 @@ returns-in-Resource-clause-found c =
     on_ok_weaker c.list-in-Resource.result
     (λ listed b s key.
     let named = subst (IsKey b s) c.in-Resource.is key in
-    by_resource c.in-Resource.uid.now named.0 named.1 (listed_there c.args.self.now.resources c.list-in-Resource.new.self c.in-Resource.uid.now c.args.self.now.len listed))
+    by_resource c.in-Resource.uid.now named.0 named.1 (listed_there c.args.self.now.resources c.list-in-Resource.new.self c.in-Resource.uid.now c.args.place listed))
     c.list-in-Resource.ensures.listed
 
 pub returns-in-Resource-clause-kept : goal.returns-in-Resource-clause-kept
 returns-in-Resource-clause-kept c =
-    keeps c.args.self.now _ (record {
+    keeps c.args.self.now _ refl (record {
       others = λ p h. h;
       principals = λ u p h. h;
       actions = λ u p h. h;
-      resources = holds c.list-in-Resource.result c.args.self.now.resources c.list-in-Resource.new.self c.in-Resource.uid.now c.args.self.now.len c.list-in-Resource.ensures.listed c.list-in-Resource.ensures.err;
+      resources = holds c.list-in-Resource.result c.args.self.now.resources c.list-in-Resource.new.self c.in-Resource.uid.now c.args.place c.list-in-Resource.ensures.listed c.list-in-Resource.ensures.err;
     })
 
 pub returns-in-Nothing-clause-found : goal.returns-in-Nothing-clause-found
 returns-in-Nothing-clause-found c =
     on_ok_weaker c.list_last.result
-    (λ listed b s key. by_nothing (ap (λ ps. is_listed ps c.args.self.now.len) listed ∙ last_listed c.args.self.now.others.items c.args.self.now.len))
+    (λ listed b s key. by_nothing (ap (λ ps. is_listed ps c.args.place) listed ∙ last_listed c.args.self.now.others.items c.args.place))
     c.list_last.ensures.listed
 
 pub returns-in-Nothing-clause-kept : goal.returns-in-Nothing-clause-kept
 returns-in-Nothing-clause-kept c =
-    keeps c.args.self.now _ (record {
-      others = still c.list_last.result c.args.self.now.others.items c.list_last.new.positions.items c.args.self.now.len c.list_last.ensures.listed c.list_last.ensures.err;
+    keeps c.args.self.now _ refl (record {
+      others = still c.list_last.result c.args.self.now.others.items c.list_last.new.positions.items c.args.place c.list_last.ensures.listed c.list_last.ensures.err;
       principals = λ u p h. h;
       actions = λ u p h. h;
       resources = λ u p h. h;

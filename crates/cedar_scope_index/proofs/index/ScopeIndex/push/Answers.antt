@@ -1,9 +1,14 @@
--- What is listed is listed whatever is covered (Growing).
-use Rattle.cedar_scope_index.proofs.Growing.{counted}
+-- What is listed at the place that stands there is found there (Growing).
+use Rattle.std.proofs.Common.{ap, ◌∙◌}
+use Rattle.cedar_scope_index.specs.Places.{position_of}
+use Rattle.cedar_scope_index.proofs.Growing.{counted, found_there}
 use Rattle.cedar_scope_index.proofs.index.ScopeIndex.push.Goals as goal
 
 pub returns-clause-found : goal.returns-clause-found
-returns-clause-found c = counted c.list.new.self _ c.args.self.now.len _ _ (c.in_ok-list.ensures.found _ _ c.key_of.ensures)
+returns-clause-found c =
+    found_there c.list.new.self _ c.place-place.result c.args.self.now.len _ _
+    (ap (λ gaps. position_of gaps.taken.items c.place-place.result) c.list.ensures.gaps ∙ c.place-place.ensures.here)
+    (c.in_ok-list.ensures.found _ _ c.key_of.ensures)
 
 pub returns-clause-kept : goal.returns-clause-kept
 returns-clause-kept c = λ p b s found. counted c.list.new.self _ p b s (c.list.ensures.kept p b s found)
