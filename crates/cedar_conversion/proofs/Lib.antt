@@ -7,6 +7,7 @@ pub mod Refusing
 mod Seen
 mod Trees
 mod Nodes
+mod Sole
 mod Told
 mod Behind
 mod Twice

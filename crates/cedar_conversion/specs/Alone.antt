@@ -29,6 +29,10 @@ abbrev pub only_unary : loose.Mult → Option loose.Unary
 only_unary (loose.mult a loose.no_unaries) = Some a
 only_unary m = None
 
+-- the relation that stands alone
+abbrev pub lone_relation : loose.Expr → Option loose.Relation
+lone_relation e = only_or e >>= only_and >>= only_relation
+
 -- without signs
 abbrev pub unsigned : loose.Unary → Option loose.Member
 unsigned (loose.unary None m) = Some m
@@ -42,6 +46,11 @@ only_literal p = None
 abbrev pub only_name : loose.Primary → Option loose.Name
 only_name (loose.named n) = Some n
 only_name p = None
+
+-- the expression that a primary holds in brackets
+abbrev pub only_expr : loose.Primary → Option loose.Expr
+only_expr (loose.expr e) = Some e
+only_expr p = None
 
 abbrev pub number_of : loose.Literal → Option ℕ
 number_of (loose.num n) = Some n
@@ -60,3 +69,8 @@ read_literal l = Some l
 -- the literal that a member is, without accesses
 abbrev pub lone_literal : loose.Member → Option loose.Literal
 lone_literal m = without_accesses m >>= λ p. only_literal p >>= read_literal
+
+-- how deep the value of a node nests, by the size of such values; one without a value doesn't
+abbrev pub depth : {A : Type 0} → (A → ℕ) → Option A → ℕ
+depth size None = 0
+depth size (Some x) = size x

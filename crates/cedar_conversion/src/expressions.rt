@@ -11,6 +11,7 @@ ghost use Rattle.cedar_conversion.specs.Entries.{MakesEntry};
 ghost use Rattle.cedar_conversion.specs.Heads.{MakesHead, IsBefore};
 ghost use Rattle.cedar_conversion.specs.Shows.{Before, is_call, calls_method, expr_shows, or_shows, and_shows, relation_shows, add_shows, mult_shows, unary_shows, member_shows, access_shows, primary_shows, rec_init_shows};
 
+use crate::lookahead::{enter_add, lone_member, lone_relation, only_expr};
 use crate::{
     Head, Joint, Sign, attribute, call, entity_to_head, expr_to_head, has, head_to_expr, index,
     is_type, is_type_in, ite, join, like, literal_to_head, lone_comparison, lone_number, negative,
@@ -28,9 +29,27 @@ use cedar_names::places::Loc;
 use std::alloc::Global;
 use std::rc::RcStr;
 
-/// The expression; what the builder refuses of its parts is answered also where it has faults behind them.
+/// The expression; what the builder refuses of its parts is answered also where it has faults behind them. What stands alone
+/// takes no frame of the stack for each kind of operators.
 #[cycle(to_expr)]
 pub(crate) fn expr_to_expr<B: ExprBuilder>(
+    alloc: Global,
+    styles: &ExtStyles,
+    node: &Node<Option<Expr>>,
+) -> Result<B::Expr, ConversionError<B::BuildError>>
+    ensures tree { MakesTree B.operations B.meaning B.refusal result (expr_tree styles.now (shown_expr node.now)) }
+    ensures shown { IfErr result (λ error. TellsOnly error (expr_shows styles.now (shown_expr node.now))) }
+{
+    match lone_relation(node) {
+        Some(relation) => relation_to_expr::<B>(alloc, styles, relation),
+        None => branches_to_expr::<B>(alloc, styles, node),
+    }
+}
+
+// An expression that is no relation alone.
+#[cycle(to_expr)]
+#[inline(never)]
+fn branches_to_expr<B: ExprBuilder>(
     alloc: Global,
     styles: &ExtStyles,
     node: &Node<Option<Expr>>,
@@ -105,9 +124,26 @@ fn and_to_expr<B: ExprBuilder>(
     }
 }
 
-// A relation.
+// A relation, which may be one sum alone.
 #[cycle(to_expr)]
 fn relation_to_expr<B: ExprBuilder>(
+    alloc: Global,
+    styles: &ExtStyles,
+    node: &Node<Option<Relation>>,
+) -> Result<B::Expr, ConversionError<B::BuildError>>
+    ensures tree { MakesTree B.operations B.meaning B.refusal result (relation_tree styles.now (shown_relation node.now)) }
+    ensures shown { IfErr result (λ error. TellsOnly error (relation_shows styles.now (shown_relation node.now))) }
+{
+    match enter_add(node) {
+        Some(add) => add_to_expr::<B>(alloc, styles, add),
+        None => comparison_to_expr::<B>(alloc, styles, node),
+    }
+}
+
+// A relation that is no sum alone.
+#[cycle(to_expr)]
+#[inline(never)]
+fn comparison_to_expr<B: ExprBuilder>(
     alloc: Global,
     styles: &ExtStyles,
     node: &Node<Option<Relation>>,
@@ -168,9 +204,26 @@ fn relation_to_expr<B: ExprBuilder>(
     }
 }
 
-// A sum.
+// A sum, which may be one operand alone.
 #[cycle(to_expr)]
 fn add_to_expr<B: ExprBuilder>(
+    alloc: Global,
+    styles: &ExtStyles,
+    node: &Node<Option<Add>>,
+) -> Result<B::Expr, ConversionError<B::BuildError>>
+    ensures tree { MakesTree B.operations B.meaning B.refusal result (add_tree styles.now (shown_add node.now)) }
+    ensures shown { IfErr result (λ error. TellsOnly error (add_shows styles.now (shown_add node.now))) }
+{
+    match lone_member(node) {
+        Some(member) => member_to_expr::<B>(alloc, styles, member),
+        None => sum_to_expr::<B>(alloc, styles, node),
+    }
+}
+
+// A sum that is no operand alone.
+#[cycle(to_expr)]
+#[inline(never)]
+fn sum_to_expr<B: ExprBuilder>(
     alloc: Global,
     styles: &ExtStyles,
     node: &Node<Option<Add>>,
@@ -312,6 +365,7 @@ fn is_call(node: &Node<Option<MemAccess>>) -> bool
 
 // What an access makes of an operand; of a name, whether a method of it `is_called`.
 #[cycle(to_expr)]
+#[inline(never)]
 fn access_to_head<'a, B: ExprBuilder>(
     alloc: Global,
     styles: &ExtStyles,
@@ -350,6 +404,26 @@ fn access_to_head<'a, B: ExprBuilder>(
 /// An operand without signs and accesses.
 #[cycle(to_expr)]
 pub(crate) fn primary_to_head<'a, B: ExprBuilder>(
+    alloc: Global,
+    styles: &ExtStyles,
+    node: &'a Node<Option<Primary>>,
+) -> Result<Head<'a, B::Expr>, ConversionError<B::BuildError>>
+    ensures head { MakesHead B.operations B.meaning B.refusal result (primary_head styles.now (shown_primary node.now)) }
+    ensures shown { IfErr result (λ error. TellsOnly error (primary_shows styles.now (shown_primary node.now))) }
+{
+    match only_expr(node) {
+        Some(expr) => {
+            let inner = expr_to_expr::<B>(alloc, styles, expr);
+            expr_to_head::<B>(inner)
+        }
+        None => operand_to_head::<B>(alloc, styles, node),
+    }
+}
+
+// An operand that is no expression in brackets.
+#[cycle(to_expr)]
+#[inline(never)]
+fn operand_to_head<'a, B: ExprBuilder>(
     alloc: Global,
     styles: &ExtStyles,
     node: &'a Node<Option<Primary>>,

@@ -1,10 +1,20 @@
 // What stands alone in an expression: without operators, signs and accesses.
-ghost use Rattle.std.specs.Prelude.{◌≡◌, ◌<◌, length, IfOk, IfErr, option_to_list};
+ghost use Rattle.std.specs.Prelude.{◌≡◌, ◌<◌, length, IfOk, IfErr, IfSome, option_to_list};
 ghost use Rattle.std.specs.Option.{option_map, option_copied};
 ghost use Rattle.cedar_grammar.specs.Converting as converting;
+ghost use Rattle.cedar_cst.specs.declared.cst.Expr.{size-Expr};
+ghost use Rattle.cedar_cst.specs.declared.cst.Or.{size-Or};
+ghost use Rattle.cedar_cst.specs.declared.cst.And.{size-And};
+ghost use Rattle.cedar_cst.specs.declared.cst.Relation.{size-Relation};
+ghost use Rattle.cedar_cst.specs.declared.cst.Add.{size-Add};
+ghost use Rattle.cedar_cst.specs.declared.cst.Mult.{size-Mult};
+ghost use Rattle.cedar_cst.specs.declared.cst.Unary.{size-Unary};
+ghost use Rattle.cedar_cst.specs.declared.cst.Member.{size-Member};
+ghost use Rattle.cedar_cst.specs.declared.cst.Primary.{size-Primary};
 ghost use Rattle.cedar_cst.specs.LeafView.{shown_literal, shown_name, view_literal};
 ghost use Rattle.cedar_cst.specs.View.{shown_expr, shown_or, shown_and, shown_relation, shown_add, shown_mult, shown_unary, shown_member, shown_primary};
 ghost use Rattle.cedar_conversion.specs.Alone as alone;
+ghost use Rattle.cedar_conversion.specs.Alone.{depth};
 ghost use Rattle.cedar_faults.specs.Reasons.{IsFault, IsFaultOf};
 
 use cedar_cst::cst::{
@@ -18,6 +28,14 @@ use std::alloc::Global;
 /// The chain of `||` that an expression is, if it is one.
 pub fn only_or(node: &Node<Option<Expr>>) -> Option<&Node<Option<Or>>>
     ensures { option_map (λ n. shown_or n.now) result ≡ alone.only_or (shown_expr node.now) }
+{
+    enter_or(node)
+}
+
+// The same; it nests less deeply.
+fn enter_or(node: &Node<Option<Expr>>) -> Option<&Node<Option<Or>>>
+    ensures node { option_map (λ n. shown_or n.now) result ≡ alone.only_or (shown_expr node.now) }
+    ensures below { IfSome result (λ n. depth size-Or n.now.node < depth size-Expr node.now.node) }
 {
     match &node.node {
         None => None,
@@ -33,6 +51,14 @@ pub fn only_or(node: &Node<Option<Expr>>) -> Option<&Node<Option<Or>>>
 /// The lone operand of a chain of `||`.
 pub fn only_and(node: &Node<Option<Or>>) -> Option<&Node<Option<And>>>
     ensures { option_map (λ n. shown_and n.now) result ≡ alone.only_and (shown_or node.now) }
+{
+    enter_and(node)
+}
+
+// The same; it nests less deeply.
+fn enter_and(node: &Node<Option<Or>>) -> Option<&Node<Option<And>>>
+    ensures node { option_map (λ n. shown_and n.now) result ≡ alone.only_and (shown_or node.now) }
+    ensures below { IfSome result (λ n. depth size-And n.now.node < depth size-Or node.now.node) }
 {
     match &node.node {
         None => None,
@@ -50,6 +76,14 @@ pub fn only_and(node: &Node<Option<Or>>) -> Option<&Node<Option<And>>>
 pub fn only_relation(node: &Node<Option<And>>) -> Option<&Node<Option<Relation>>>
     ensures { option_map (λ n. shown_relation n.now) result ≡ alone.only_relation (shown_and node.now) }
 {
+    enter_relation(node)
+}
+
+// The same; it nests less deeply.
+fn enter_relation(node: &Node<Option<And>>) -> Option<&Node<Option<Relation>>>
+    ensures node { option_map (λ n. shown_relation n.now) result ≡ alone.only_relation (shown_and node.now) }
+    ensures below { IfSome result (λ n. depth size-Relation n.now.node < depth size-And node.now.node) }
+{
     match &node.node {
         None => None,
         Some(and) => {
@@ -65,6 +99,14 @@ pub fn only_relation(node: &Node<Option<And>>) -> Option<&Node<Option<Relation>>
 /// The lone operand of a relation.
 pub fn only_add(node: &Node<Option<Relation>>) -> Option<&Node<Option<Add>>>
     ensures { option_map (λ n. shown_add n.now) result ≡ alone.only_add (shown_relation node.now) }
+{
+    enter_add(node)
+}
+
+/// The lone operand of a relation, which nests less deeply.
+pub fn enter_add(node: &Node<Option<Relation>>) -> Option<&Node<Option<Add>>>
+    ensures node { option_map (λ n. shown_add n.now) result ≡ alone.only_add (shown_relation node.now) }
+    ensures below { IfSome result (λ n. depth size-Add n.now.node < depth size-Relation node.now.node) }
 {
     match &node.node {
         None => None,
@@ -112,6 +154,14 @@ pub fn lone_comparison<'n, E: Drop>(
 pub fn only_mult(node: &Node<Option<Add>>) -> Option<&Node<Option<Mult>>>
     ensures { option_map (λ n. shown_mult n.now) result ≡ alone.only_mult (shown_add node.now) }
 {
+    enter_mult(node)
+}
+
+// The same; it nests less deeply.
+fn enter_mult(node: &Node<Option<Add>>) -> Option<&Node<Option<Mult>>>
+    ensures node { option_map (λ n. shown_mult n.now) result ≡ alone.only_mult (shown_add node.now) }
+    ensures below { IfSome result (λ n. depth size-Mult n.now.node < depth size-Add node.now.node) }
+{
     match &node.node {
         None => None,
         Some(add) => {
@@ -127,6 +177,14 @@ pub fn only_mult(node: &Node<Option<Add>>) -> Option<&Node<Option<Mult>>>
 /// The lone operand of a product.
 pub fn only_unary(node: &Node<Option<Mult>>) -> Option<&Node<Option<Unary>>>
     ensures { option_map (λ n. shown_unary n.now) result ≡ alone.only_unary (shown_mult node.now) }
+{
+    enter_unary(node)
+}
+
+// The same; it nests less deeply.
+fn enter_unary(node: &Node<Option<Mult>>) -> Option<&Node<Option<Unary>>>
+    ensures node { option_map (λ n. shown_unary n.now) result ≡ alone.only_unary (shown_mult node.now) }
+    ensures below { IfSome result (λ n. depth size-Unary n.now.node < depth size-Mult node.now.node) }
 {
     match &node.node {
         None => None,
@@ -144,6 +202,14 @@ pub fn only_unary(node: &Node<Option<Mult>>) -> Option<&Node<Option<Unary>>>
 pub fn unsigned(node: &Node<Option<Unary>>) -> Option<&Node<Option<Member>>>
     ensures { option_map (λ n. shown_member n.now) result ≡ alone.unsigned (shown_unary node.now) }
 {
+    enter_member(node)
+}
+
+// The same; it nests less deeply.
+fn enter_member(node: &Node<Option<Unary>>) -> Option<&Node<Option<Member>>>
+    ensures node { option_map (λ n. shown_member n.now) result ≡ alone.unsigned (shown_unary node.now) }
+    ensures below { IfSome result (λ n. depth size-Member n.now.node < depth size-Unary node.now.node) }
+{
     match &node.node {
         None => None,
         Some(unary) => match unary.op {
@@ -153,15 +219,16 @@ pub fn unsigned(node: &Node<Option<Unary>>) -> Option<&Node<Option<Member>>>
     }
 }
 
-/// The member that stands alone.
+/// The member that stands alone; it nests less deeply.
 pub fn lone_member(node: &Node<Option<Add>>) -> Option<&Node<Option<Member>>>
-    ensures { option_map (λ n. shown_member n.now) result ≡ converting.lone_member (shown_add node.now) }
+    ensures node { option_map (λ n. shown_member n.now) result ≡ converting.lone_member (shown_add node.now) }
+    ensures below { IfSome result (λ n. depth size-Member n.now.node < depth size-Add node.now.node) }
 {
-    match only_mult(node) {
+    match enter_mult(node) {
         None => None,
-        Some(mult) => match only_unary(mult) {
+        Some(mult) => match enter_unary(mult) {
             None => None,
-            Some(unary) => unsigned(unary),
+            Some(unary) => enter_member(unary),
         },
     }
 }
@@ -192,19 +259,27 @@ pub fn lone_primary(node: &Node<Option<Add>>) -> Option<&Node<Option<Primary>>>
     }
 }
 
+/// The relation that stands alone; it nests less deeply.
+pub fn lone_relation(node: &Node<Option<Expr>>) -> Option<&Node<Option<Relation>>>
+    ensures node { option_map (λ n. shown_relation n.now) result ≡ alone.lone_relation (shown_expr node.now) }
+    ensures below { IfSome result (λ n. depth size-Relation n.now.node < depth size-Expr node.now.node) }
+{
+    match enter_or(node) {
+        None => None,
+        Some(or) => match enter_and(or) {
+            None => None,
+            Some(and) => enter_relation(and),
+        },
+    }
+}
+
 // The sum that stands alone.
 fn lone_add(node: &Node<Option<Expr>>) -> Option<&Node<Option<Add>>>
     ensures { option_map (λ n. shown_add n.now) result ≡ converting.lone_add (shown_expr node.now) }
 {
-    match only_or(node) {
+    match lone_relation(node) {
         None => None,
-        Some(or) => match only_and(or) {
-            None => None,
-            Some(and) => match only_relation(and) {
-                None => None,
-                Some(relation) => only_add(relation),
-            },
-        },
+        Some(relation) => only_add(relation),
     }
 }
 
@@ -230,6 +305,25 @@ pub fn only_literal(node: &Node<Option<Primary>>) -> Option<&Node<Option<Literal
             Primary::Name(_) => None,
             Primary::Slot(_) => None,
             Primary::Expr(_) => None,
+            Primary::EList(_) => None,
+            Primary::RInits(_) => None,
+        },
+    }
+}
+
+/// The expression that a primary holds in brackets; it nests less deeply.
+pub fn only_expr(node: &Node<Option<Primary>>) -> Option<&Node<Option<Expr>>>
+    ensures node { option_map (λ n. shown_expr n.now) result ≡ alone.only_expr (shown_primary node.now) }
+    ensures below { IfSome result (λ n. depth size-Expr n.now.node < depth size-Primary node.now.node) }
+{
+    match &node.node {
+        None => None,
+        Some(primary) => match primary {
+            Primary::Expr(expr) => Some(expr),
+            Primary::Literal(_) => None,
+            Primary::Ref(_) => None,
+            Primary::Name(_) => None,
+            Primary::Slot(_) => None,
             Primary::EList(_) => None,
             Primary::RInits(_) => None,
         },

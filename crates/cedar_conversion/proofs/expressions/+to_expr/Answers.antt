@@ -30,11 +30,18 @@ use Rattle.cedar_conversion.proofs.Told.{seen_as, fault_seen, of_two, of_two_and
 use Rattle.cedar_conversion.proofs.Behind.{is_first, is_after, used_behind, called_behind, are_counted, keys_behind, dashes_alone, no_dashes, dashes_number, access_at, in_access, accessed_start, accessed_more, accessed_end}
 use Rattle.cedar_conversion.proofs.Chains.{or_begun, or_goes_on, and_begun, and_goes_on, add_begun, add_goes_on, mult_begun, mult_goes_on, items_go_on, entries_go_on}
 use Rattle.cedar_conversion.specs.Shown.{ident_shows, index_shows}
+use Rattle.cedar_conversion.proofs.Sole.{is_around_relation, is_around_add, is_around_member, is_bracketed, tree_of_relation, tree_of_add, tree_of_member, head_in_brackets, by_value}
+use Rattle.cedar_conversion.specs.Alone.{depth}
+use Rattle.cedar_cst.specs.declared.cst.Expr.{size-Expr}
+use Rattle.cedar_cst.specs.declared.cst.Relation.{size-Relation}
+use Rattle.cedar_cst.specs.declared.cst.Add.{size-Add}
+use Rattle.cedar_cst.specs.declared.cst.Member.{size-Member}
+use Rattle.cedar_cst.specs.declared.cst.Primary.{size-Primary}
 use Rattle.cedar_conversion.proofs.expressions.+to_expr.Goals as goal
 
-pub expr_to_expr-returns-in-None-clause-tree : goal.expr_to_expr-returns-in-None-clause-tree
+pub branches_to_expr-returns-in-None-clause-tree : goal.branches_to_expr-returns-in-None-clause-tree
 unfolding expr_tree
-expr_to_expr-returns-in-None-clause-tree g t c = faulty g.B.ExprBuilder.refusal (IsRefused g.B.ExprBuilder.operations) c.missing.result _ c.missing.ensures.fault (empty loose.missing_expr view_expr (expr_tree c.args.styles.now) c.args.node.now c.in-None.is refl)
+branches_to_expr-returns-in-None-clause-tree g t c = faulty g.B.ExprBuilder.refusal (IsRefused g.B.ExprBuilder.operations) c.missing.result _ c.missing.ensures.fault (empty loose.missing_expr view_expr (expr_tree c.args.styles.now) c.args.node.now c.in-None.is refl)
 
 pub or_to_expr-returns-in-None-clause-tree : goal.or_to_expr-returns-in-None-clause-tree
 unfolding or_tree
@@ -44,13 +51,13 @@ pub and_to_expr-returns-in-None-clause-tree : goal.and_to_expr-returns-in-None-c
 unfolding and_tree
 and_to_expr-returns-in-None-clause-tree g t c = faulty g.B.ExprBuilder.refusal (IsRefused g.B.ExprBuilder.operations) c.missing.result _ c.missing.ensures.fault (empty loose.missing_and view_and (and_tree c.args.styles.now) c.args.node.now c.in-None.is refl)
 
-pub relation_to_expr-returns-in-None-clause-tree : goal.relation_to_expr-returns-in-None-clause-tree
+pub comparison_to_expr-returns-in-None-clause-tree : goal.comparison_to_expr-returns-in-None-clause-tree
 unfolding relation_tree
-relation_to_expr-returns-in-None-clause-tree g t c = faulty g.B.ExprBuilder.refusal (IsRefused g.B.ExprBuilder.operations) c.missing.result _ c.missing.ensures.fault (empty loose.missing_relation view_relation (relation_tree c.args.styles.now) c.args.node.now c.in-None.is refl)
+comparison_to_expr-returns-in-None-clause-tree g t c = faulty g.B.ExprBuilder.refusal (IsRefused g.B.ExprBuilder.operations) c.missing.result _ c.missing.ensures.fault (empty loose.missing_relation view_relation (relation_tree c.args.styles.now) c.args.node.now c.in-None.is refl)
 
-pub add_to_expr-returns-in-None-clause-tree : goal.add_to_expr-returns-in-None-clause-tree
+pub sum_to_expr-returns-in-None-clause-tree : goal.sum_to_expr-returns-in-None-clause-tree
 unfolding add_tree
-add_to_expr-returns-in-None-clause-tree g t c = faulty g.B.ExprBuilder.refusal (IsRefused g.B.ExprBuilder.operations) c.missing.result _ c.missing.ensures.fault (empty loose.missing_add view_add (add_tree c.args.styles.now) c.args.node.now c.in-None.is refl)
+sum_to_expr-returns-in-None-clause-tree g t c = faulty g.B.ExprBuilder.refusal (IsRefused g.B.ExprBuilder.operations) c.missing.result _ c.missing.ensures.fault (empty loose.missing_add view_add (add_tree c.args.styles.now) c.args.node.now c.in-None.is refl)
 
 pub mult_to_expr-returns-in-None-clause-tree : goal.mult_to_expr-returns-in-None-clause-tree
 unfolding mult_tree
@@ -64,9 +71,9 @@ pub member_to_expr-returns-in-None-clause-tree : goal.member_to_expr-returns-in-
 unfolding member_tree
 member_to_expr-returns-in-None-clause-tree g t c = faulty g.B.ExprBuilder.refusal (IsRefused g.B.ExprBuilder.operations) c.missing.result _ c.missing.ensures.fault (empty loose.missing_member view_member (member_tree c.args.styles.now) c.args.node.now c.in-None.is refl)
 
-pub primary_to_head-returns-in-None-clause-head : goal.primary_to_head-returns-in-None-clause-head
+pub operand_to_head-returns-in-None-clause-head : goal.operand_to_head-returns-in-None-clause-head
 unfolding primary_head
-primary_to_head-returns-in-None-clause-head g t c = faulty g.B.ExprBuilder.refusal (IsHeadRefused g.B.ExprBuilder.operations) c.missing.result _ c.missing.ensures.fault (empty loose.missing_primary view_primary (primary_head c.args.styles.now) c.args.node.now c.in-None.is refl)
+operand_to_head-returns-in-None-clause-head g t c = faulty g.B.ExprBuilder.refusal (IsHeadRefused g.B.ExprBuilder.operations) c.missing.result _ c.missing.ensures.fault (empty loose.missing_primary view_primary (primary_head c.args.styles.now) c.args.node.now c.in-None.is refl)
 
 pub entry_to_pair-returns-in-None-clause-entry : goal.entry_to_pair-returns-in-None-clause-entry
 unfolding rec_init_tree
@@ -98,16 +105,16 @@ and_to_expr-returns-after-parts-clause-tree g t c =
     let none : drop c.parts.part-index c.deref-part-items.result.now ≡ [] = grind (arith, common_steps) in
     and_end c.args.styles.now (IsBuilt g.B.ExprBuilder.operations g.B.ExprBuilder.meaning) (IsRefused g.B.ExprBuilder.operations) g.B.ExprBuilder.refusal c.parts.whole _ _ c.parts.invariant.tree none
 
-pub add_to_expr-parts-init : goal.add_to_expr-parts-init
-add_to_expr-parts-init g t c = record { tree = add_start c.args.styles.now (IsBuilt g.B.ExprBuilder.operations g.B.ExprBuilder.meaning) (IsRefused g.B.ExprBuilder.operations) g.B.ExprBuilder.refusal c.args.node.now c.in-Some.add c.mult_to_expr-whole.result c.deref-part-items.result.now c.in-Some.is c.mult_to_expr-whole.ensures.tree c.deref-part-items.ensures.value; told = add_begun c.args.styles.now c.mult_to_expr-whole.result c.args.node.now c.in-Some.add c.deref-part-items.result.now c.in-Some.is c.deref-part-items.ensures.value c.mult_to_expr-whole.ensures.shown }
+pub sum_to_expr-parts-init : goal.sum_to_expr-parts-init
+sum_to_expr-parts-init g t c = record { tree = add_start c.args.styles.now (IsBuilt g.B.ExprBuilder.operations g.B.ExprBuilder.meaning) (IsRefused g.B.ExprBuilder.operations) g.B.ExprBuilder.refusal c.args.node.now c.in-Some.add c.mult_to_expr-whole.result c.deref-part-items.result.now c.in-Some.is c.mult_to_expr-whole.ensures.tree c.deref-part-items.ensures.value; told = add_begun c.args.styles.now c.mult_to_expr-whole.result c.args.node.now c.in-Some.add c.deref-part-items.result.now c.in-Some.is c.deref-part-items.ensures.value c.mult_to_expr-whole.ensures.shown }
 
-pub add_to_expr-parts-preserved : goal.add_to_expr-parts-preserved
-add_to_expr-parts-preserved g t c =
+pub sum_to_expr-parts-preserved : goal.sum_to_expr-parts-preserved
+sum_to_expr-parts-preserved g t c =
     let xs = c.deref-part-items.result.now in
     record { tree = add_more c.args.styles.now (IsBuilt g.B.ExprBuilder.operations g.B.ExprBuilder.meaning) (IsRefused g.B.ExprBuilder.operations) g.B.ExprBuilder.refusal c.parts.whole c.mult_to_expr-next.result c.join-whole.result _ _ _ _ c.parts.invariant.tree (cut_at xs xs c.parts.part-index c.part-item.result refl c.parts-test.true c.part-item.is) c.join-whole.ensures.tree c.mult_to_expr-next.ensures.tree; told = add_goes_on c.args.styles.now c.parts.whole c.join-whole.result c.mult_to_expr-next.result _ _ _ _ c.parts.invariant.told (cut_at xs xs c.parts.part-index c.part-item.result refl c.parts-test.true c.part-item.is) c.join-whole.ensures.shown c.mult_to_expr-next.ensures.shown }
 
-pub add_to_expr-returns-after-parts-clause-tree : goal.add_to_expr-returns-after-parts-clause-tree
-add_to_expr-returns-after-parts-clause-tree g t c =
+pub sum_to_expr-returns-after-parts-clause-tree : goal.sum_to_expr-returns-after-parts-clause-tree
+sum_to_expr-returns-after-parts-clause-tree g t c =
     let none : drop c.parts.part-index c.deref-part-items.result.now ≡ [] = grind (arith, common_steps) in
     add_end c.args.styles.now (IsBuilt g.B.ExprBuilder.operations g.B.ExprBuilder.meaning) (IsRefused g.B.ExprBuilder.operations) g.B.ExprBuilder.refusal c.parts.whole _ _ c.parts.invariant.tree none
 
@@ -137,44 +144,44 @@ member_to_expr-returns-after-accesses-clause-tree g t c =
     let none : drop c.accesses.access-index c.deref-access-items.result.now ≡ [] = grind (arith, common_steps) in
     member_end c.args.styles.now (IsHead g.B.ExprBuilder.operations g.B.ExprBuilder.meaning) (IsHeadRefused g.B.ExprBuilder.operations) g.B.ExprBuilder.refusal (IsBuilt g.B.ExprBuilder.operations g.B.ExprBuilder.meaning) (IsRefused g.B.ExprBuilder.operations) c.accesses.head c.head_to_expr.result _ _ c.accesses.invariant.tree none c.head_to_expr.ensures.tree
 
-pub expr_to_expr-returns-in-Or-clause-tree : goal.expr_to_expr-returns-in-Or-clause-tree
-expr_to_expr-returns-in-Or-clause-tree g t c =
+pub branches_to_expr-returns-in-Or-clause-tree : goal.branches_to_expr-returns-in-Or-clause-tree
+branches_to_expr-returns-in-Or-clause-tree g t c =
     let at = one_variant (λ t given. (values_d enum 0 given t).0) (λ a given. refl) c.in-Some.expr c.inner-1.given.0 in
     same_as g.B.ExprBuilder.refusal (IsBuilt g.B.ExprBuilder.operations g.B.ExprBuilder.meaning) (IsRefused g.B.ExprBuilder.operations) c.or_to_expr.result _ _ (expr_or c.args.styles.now c.args.node.now c.in-Some.expr _ c.deref-data.result.now c.in-Or.or c.in-Some.is at c.deref-data.ensures c.in-Or.is) c.or_to_expr.ensures.tree
 
-pub expr_to_expr-returns-in-If-clause-tree : goal.expr_to_expr-returns-in-If-clause-tree
-expr_to_expr-returns-in-If-clause-tree g t c =
+pub branches_to_expr-returns-in-If-clause-tree : goal.branches_to_expr-returns-in-If-clause-tree
+branches_to_expr-returns-in-If-clause-tree g t c =
     let at = one_variant (λ t given. (values_d enum 0 given t).0) (λ a given. refl) c.in-Some.expr c.inner-1.given.0 in
     same_as g.B.ExprBuilder.refusal (IsBuilt g.B.ExprBuilder.operations g.B.ExprBuilder.meaning) (IsRefused g.B.ExprBuilder.operations) c.ite.result _ _ (expr_if c.args.styles.now c.args.node.now c.in-Some.expr _ c.deref-data.result.now c.in-If.test c.in-If.then_expr c.in-If.else_expr c.in-Some.is at c.deref-data.ensures c.in-If.is) (c.ite.ensures.tree _ _ _ c.expr_to_expr-tested.ensures.tree c.expr_to_expr-taken.ensures.tree c.expr_to_expr-other.ensures.tree)
 
-pub relation_to_expr-returns-in-None-comparison-clause-tree : goal.relation_to_expr-returns-in-None-comparison-clause-tree
-relation_to_expr-returns-in-None-comparison-clause-tree g t c =
+pub comparison_to_expr-returns-in-None-comparison-clause-tree : goal.comparison_to_expr-returns-in-None-comparison-clause-tree
+comparison_to_expr-returns-in-None-comparison-clause-tree g t c =
     let none = sym c.as_slice.ensures.value ∙ lone_is _ _ None c.in-Ok.ensures.lone c.in-None-comparison.is in
     same_as g.B.ExprBuilder.refusal (IsBuilt g.B.ExprBuilder.operations g.B.ExprBuilder.meaning) (IsRefused g.B.ExprBuilder.operations) c.add_to_expr-first.result _ _ (relation_alone c.args.styles.now c.args.node.now c.in-Some.relation c.in-Common.initial c.in-Common.extended c.deref-operand.result.now c.in-Some.is c.in-Common.is none c.deref-operand.ensures) c.add_to_expr-first.ensures.tree
 
-pub relation_to_expr-returns-in-Some-comparison-clause-tree : goal.relation_to_expr-returns-in-Some-comparison-clause-tree
-relation_to_expr-returns-in-Some-comparison-clause-tree g t c =
+pub comparison_to_expr-returns-in-Some-comparison-clause-tree : goal.comparison_to_expr-returns-in-Some-comparison-clause-tree
+comparison_to_expr-returns-in-Some-comparison-clause-tree g t c =
     let x = c.in-Some-comparison.link.now in
     let cut = sym c.as_slice.ensures.value ∙ lone_is _ _ (Some c.in-Some-comparison.link) c.in-Ok.ensures.lone c.in-Some-comparison.is in
     same_as g.B.ExprBuilder.refusal (IsBuilt g.B.ExprBuilder.operations g.B.ExprBuilder.meaning) (IsRefused g.B.ExprBuilder.operations) c.join.result _ _ (relation_joined c.args.styles.now c.args.node.now c.in-Some.relation c.in-Common.initial c.in-Common.extended x c.deref-operand.result.now c.in-Some.is c.in-Common.is cut c.deref-operand.ensures) (c.join.ensures.tree _ _ c.add_to_expr-first.ensures.tree c.add_to_expr-second.ensures.tree)
 
-pub relation_to_expr-returns-in-Err-clause-tree : goal.relation_to_expr-returns-in-Err-clause-tree
-relation_to_expr-returns-in-Err-clause-tree g t c =
+pub comparison_to_expr-returns-in-Err-clause-tree : goal.comparison_to_expr-returns-in-Err-clause-tree
+comparison_to_expr-returns-in-Err-clause-tree g t c =
     let (x, y, more, are) = two_of _ c.in-Err.ensures.others in
     let cut = sym c.as_slice.ensures.value ∙ are in
     faulty g.B.ExprBuilder.refusal (IsRefused g.B.ExprBuilder.operations) c.in-Err.error _ c.in-Err.ensures.fault (relation_chain c.args.styles.now c.args.node.now c.in-Some.relation c.in-Common.initial c.in-Common.extended x y more c.in-Some.is c.in-Common.is cut)
 
-pub relation_to_expr-returns-in-Has-clause-tree : goal.relation_to_expr-returns-in-Has-clause-tree
-relation_to_expr-returns-in-Has-clause-tree g t c = same_as g.B.ExprBuilder.refusal (IsBuilt g.B.ExprBuilder.operations g.B.ExprBuilder.meaning) (IsRefused g.B.ExprBuilder.operations) c.has.result _ _ (relation_has c.args.styles.now c.args.node.now c.in-Some.relation c.in-Has.target c.in-Has.field c.deref-holder.result.now c.deref-path.result.now c.in-Some.is c.in-Has.is c.deref-holder.ensures c.deref-path.ensures) (c.has.ensures.tree _ _ c.add_to_expr-held.ensures.tree c.to_fields-attrs.ensures.fields)
+pub comparison_to_expr-returns-in-Has-clause-tree : goal.comparison_to_expr-returns-in-Has-clause-tree
+comparison_to_expr-returns-in-Has-clause-tree g t c = same_as g.B.ExprBuilder.refusal (IsBuilt g.B.ExprBuilder.operations g.B.ExprBuilder.meaning) (IsRefused g.B.ExprBuilder.operations) c.has.result _ _ (relation_has c.args.styles.now c.args.node.now c.in-Some.relation c.in-Has.target c.in-Has.field c.deref-holder.result.now c.deref-path.result.now c.in-Some.is c.in-Has.is c.deref-holder.ensures c.deref-path.ensures) (c.has.ensures.tree _ _ c.add_to_expr-held.ensures.tree c.to_fields-attrs.ensures.fields)
 
-pub relation_to_expr-returns-in-Like-clause-tree : goal.relation_to_expr-returns-in-Like-clause-tree
-relation_to_expr-returns-in-Like-clause-tree g t c = same_as g.B.ExprBuilder.refusal (IsBuilt g.B.ExprBuilder.operations g.B.ExprBuilder.meaning) (IsRefused g.B.ExprBuilder.operations) c.like.result _ _ (relation_like c.args.styles.now c.args.node.now c.in-Some.relation c.in-Like.target c.in-Like.pattern c.deref-matched.result.now c.deref-text.result.now c.in-Some.is c.in-Like.is c.deref-matched.ensures c.deref-text.ensures) (c.like.ensures.tree _ _ c.add_to_expr-subject.ensures.tree c.to_like_pattern-elems.ensures.pattern)
+pub comparison_to_expr-returns-in-Like-clause-tree : goal.comparison_to_expr-returns-in-Like-clause-tree
+comparison_to_expr-returns-in-Like-clause-tree g t c = same_as g.B.ExprBuilder.refusal (IsBuilt g.B.ExprBuilder.operations g.B.ExprBuilder.meaning) (IsRefused g.B.ExprBuilder.operations) c.like.result _ _ (relation_like c.args.styles.now c.args.node.now c.in-Some.relation c.in-Like.target c.in-Like.pattern c.deref-matched.result.now c.deref-text.result.now c.in-Some.is c.in-Like.is c.deref-matched.ensures c.deref-text.ensures) (c.like.ensures.tree _ _ c.add_to_expr-subject.ensures.tree c.to_like_pattern-elems.ensures.pattern)
 
-pub relation_to_expr-returns-in-None-in_entity-clause-tree : goal.relation_to_expr-returns-in-None-in_entity-clause-tree
-relation_to_expr-returns-in-None-in_entity-clause-tree g t c = same_as g.B.ExprBuilder.refusal (IsBuilt g.B.ExprBuilder.operations g.B.ExprBuilder.meaning) (IsRefused g.B.ExprBuilder.operations) c.is_type.result _ _ (relation_is c.args.styles.now c.args.node.now c.in-Some.relation c.in-IsIn.target c.in-IsIn.entity_type c.in-IsIn.in_entity c.deref-typed.result.now c.deref-named.result.now c.in-Some.is c.in-IsIn.is c.in-None-in_entity.is c.deref-typed.ensures c.deref-named.ensures) (c.is_type.ensures.tree _ _ c.add_to_expr-value.ensures.tree c.to_entity_type-name.ensures.path)
+pub comparison_to_expr-returns-in-None-in_entity-clause-tree : goal.comparison_to_expr-returns-in-None-in_entity-clause-tree
+comparison_to_expr-returns-in-None-in_entity-clause-tree g t c = same_as g.B.ExprBuilder.refusal (IsBuilt g.B.ExprBuilder.operations g.B.ExprBuilder.meaning) (IsRefused g.B.ExprBuilder.operations) c.is_type.result _ _ (relation_is c.args.styles.now c.args.node.now c.in-Some.relation c.in-IsIn.target c.in-IsIn.entity_type c.in-IsIn.in_entity c.deref-typed.result.now c.deref-named.result.now c.in-Some.is c.in-IsIn.is c.in-None-in_entity.is c.deref-typed.ensures c.deref-named.ensures) (c.is_type.ensures.tree _ _ c.add_to_expr-value.ensures.tree c.to_entity_type-name.ensures.path)
 
-pub relation_to_expr-returns-in-Some-in_entity-clause-tree : goal.relation_to_expr-returns-in-Some-in_entity-clause-tree
-relation_to_expr-returns-in-Some-in_entity-clause-tree g t c = same_as g.B.ExprBuilder.refusal (IsBuilt g.B.ExprBuilder.operations g.B.ExprBuilder.meaning) (IsRefused g.B.ExprBuilder.operations) c.is_type_in.result _ _ (relation_is_in c.args.styles.now c.args.node.now c.in-Some.relation c.in-IsIn.target c.in-IsIn.entity_type c.in-IsIn.in_entity c.in-Some-in_entity.entity c.deref-typed.result.now c.deref-named.result.now c.deref-among.result.now c.in-Some.is c.in-IsIn.is c.in-Some-in_entity.is c.deref-typed.ensures c.deref-named.ensures c.deref-among.ensures) (c.is_type_in.ensures.tree _ _ _ c.add_to_expr-value.ensures.tree c.to_entity_type-name.ensures.path c.add_to_expr-within.ensures.tree)
+pub comparison_to_expr-returns-in-Some-in_entity-clause-tree : goal.comparison_to_expr-returns-in-Some-in_entity-clause-tree
+comparison_to_expr-returns-in-Some-in_entity-clause-tree g t c = same_as g.B.ExprBuilder.refusal (IsBuilt g.B.ExprBuilder.operations g.B.ExprBuilder.meaning) (IsRefused g.B.ExprBuilder.operations) c.is_type_in.result _ _ (relation_is_in c.args.styles.now c.args.node.now c.in-Some.relation c.in-IsIn.target c.in-IsIn.entity_type c.in-IsIn.in_entity c.in-Some-in_entity.entity c.deref-typed.result.now c.deref-named.result.now c.deref-among.result.now c.in-Some.is c.in-IsIn.is c.in-Some-in_entity.is c.deref-typed.ensures c.deref-named.ensures c.deref-among.ensures) (c.is_type_in.ensures.tree _ _ _ c.add_to_expr-value.ensures.tree c.to_entity_type-name.ensures.path c.add_to_expr-within.ensures.tree)
 
 pub unary_to_expr-returns-in-None-op-clause-tree : goal.unary_to_expr-returns-in-None-op-clause-tree
 unary_to_expr-returns-in-None-op-clause-tree g t c = same_as g.B.ExprBuilder.refusal (IsBuilt g.B.ExprBuilder.operations g.B.ExprBuilder.meaning) (IsRefused g.B.ExprBuilder.operations) c.member_to_expr.result _ _ (unary_plain c.args.styles.now c.args.node.now c.in-Some.unary c.in-Some.is c.in-None-op.is) (c.member_to_expr.ensures.tree)
@@ -208,24 +215,24 @@ access_to_head-returns-in-Field-clause-head g t c v hv = same_as g.B.ExprBuilder
 pub access_to_head-returns-clause-head : goal.access_to_head-returns-clause-head
 access_to_head-returns-clause-head g t c v hv = same_as g.B.ExprBuilder.refusal (IsHead g.B.ExprBuilder.operations g.B.ExprBuilder.meaning) (IsHeadRefused g.B.ExprBuilder.operations) c.index.result _ _ (access_index c.args.styles.now c.args.node.now c.in-Some.access c.in-Index.text v c.in-Some.is c.in-Index.is) (c.index.ensures.head v _ hv c.to_index-key.ensures.text)
 
-pub primary_to_head-returns-in-Literal-clause-head : goal.primary_to_head-returns-in-Literal-clause-head
-primary_to_head-returns-in-Literal-clause-head g t c = same_as g.B.ExprBuilder.refusal (IsHead g.B.ExprBuilder.operations g.B.ExprBuilder.meaning) (IsHeadRefused g.B.ExprBuilder.operations) c.literal_to_head.result _ _ (primary_literal c.args.styles.now c.args.node.now c.in-Some.primary c.in-Literal.literal c.in-Some.is c.in-Literal.is) (c.literal_to_head.ensures.head _ c.to_literal-value.ensures.literal)
+pub operand_to_head-returns-in-Literal-clause-head : goal.operand_to_head-returns-in-Literal-clause-head
+operand_to_head-returns-in-Literal-clause-head g t c = same_as g.B.ExprBuilder.refusal (IsHead g.B.ExprBuilder.operations g.B.ExprBuilder.meaning) (IsHeadRefused g.B.ExprBuilder.operations) c.literal_to_head.result _ _ (primary_literal c.args.styles.now c.args.node.now c.in-Some.primary c.in-Literal.literal c.in-Some.is c.in-Literal.is) (c.literal_to_head.ensures.head _ c.to_literal-value.ensures.literal)
 
-pub primary_to_head-returns-in-Ref-clause-head : goal.primary_to_head-returns-in-Ref-clause-head
-primary_to_head-returns-in-Ref-clause-head g t c = same_as g.B.ExprBuilder.refusal (IsHead g.B.ExprBuilder.operations g.B.ExprBuilder.meaning) (IsHeadRefused g.B.ExprBuilder.operations) c.entity_to_head.result _ _ (primary_ref c.args.styles.now c.args.node.now c.in-Some.primary c.in-Ref.entity c.deref-reference.result.now c.in-Some.is c.in-Ref.is c.deref-reference.ensures) (c.entity_to_head.ensures.head _ c.to_ref-uid.ensures.uid)
+pub operand_to_head-returns-in-Ref-clause-head : goal.operand_to_head-returns-in-Ref-clause-head
+operand_to_head-returns-in-Ref-clause-head g t c = same_as g.B.ExprBuilder.refusal (IsHead g.B.ExprBuilder.operations g.B.ExprBuilder.meaning) (IsHeadRefused g.B.ExprBuilder.operations) c.entity_to_head.result _ _ (primary_ref c.args.styles.now c.args.node.now c.in-Some.primary c.in-Ref.entity c.deref-reference.result.now c.in-Some.is c.in-Ref.is c.deref-reference.ensures) (c.entity_to_head.ensures.head _ c.to_ref-uid.ensures.uid)
 
-pub primary_to_head-returns-in-Name-clause-head : goal.primary_to_head-returns-in-Name-clause-head
-primary_to_head-returns-in-Name-clause-head g t c = record {
+pub operand_to_head-returns-in-Name-clause-head : goal.operand_to_head-returns-in-Name-clause-head
+operand_to_head-returns-in-Name-clause-head g t c = record {
   value = converting.a_name (shown_name c.deref-inner.result.now);
   is = primary_name c.args.styles.now c.args.node.now c.in-Some.primary c.in-Name.name c.deref-inner.result.now c.in-Some.is c.in-Name.is c.deref-inner.ensures;
   stands = refl;
 }
 
-pub primary_to_head-returns-in-Slot-clause-head : goal.primary_to_head-returns-in-Slot-clause-head
-primary_to_head-returns-in-Slot-clause-head g t c = same_as g.B.ExprBuilder.refusal (IsHead g.B.ExprBuilder.operations g.B.ExprBuilder.meaning) (IsHeadRefused g.B.ExprBuilder.operations) c.slot_to_head.result _ _ (primary_slot c.args.styles.now c.args.node.now c.in-Some.primary c.in-Slot.slot c.in-Some.is c.in-Slot.is) (c.slot_to_head.ensures.head _ c.to_slot-id.ensures.slot)
+pub operand_to_head-returns-in-Slot-clause-head : goal.operand_to_head-returns-in-Slot-clause-head
+operand_to_head-returns-in-Slot-clause-head g t c = same_as g.B.ExprBuilder.refusal (IsHead g.B.ExprBuilder.operations g.B.ExprBuilder.meaning) (IsHeadRefused g.B.ExprBuilder.operations) c.slot_to_head.result _ _ (primary_slot c.args.styles.now c.args.node.now c.in-Some.primary c.in-Slot.slot c.in-Some.is c.in-Slot.is) (c.slot_to_head.ensures.head _ c.to_slot-id.ensures.slot)
 
-pub primary_to_head-returns-in-Expr-clause-head : goal.primary_to_head-returns-in-Expr-clause-head
-primary_to_head-returns-in-Expr-clause-head g t c = same_as g.B.ExprBuilder.refusal (IsHead g.B.ExprBuilder.operations g.B.ExprBuilder.meaning) (IsHeadRefused g.B.ExprBuilder.operations) c.expr_to_head.result _ _ (primary_expr c.args.styles.now c.args.node.now c.in-Some.primary c.in-Expr.expr c.in-Some.is c.in-Expr.is) (c.expr_to_head.ensures.head _ c.expr_to_expr-inner.ensures.tree)
+pub operand_to_head-returns-in-Expr-clause-head : goal.operand_to_head-returns-in-Expr-clause-head
+operand_to_head-returns-in-Expr-clause-head g t c = same_as g.B.ExprBuilder.refusal (IsHead g.B.ExprBuilder.operations g.B.ExprBuilder.meaning) (IsHeadRefused g.B.ExprBuilder.operations) c.expr_to_head.result _ _ (primary_expr c.args.styles.now c.args.node.now c.in-Some.primary c.in-Expr.expr c.in-Some.is c.in-Expr.is) (c.expr_to_head.ensures.head _ c.expr_to_expr-inner.ensures.tree)
 
 pub entry_to_pair-returns-in-Some-clause-entry : goal.entry_to_pair-returns-in-Some-clause-entry
 entry_to_pair-returns-in-Some-clause-entry g t c =
@@ -233,19 +240,19 @@ entry_to_pair-returns-in-Some-clause-entry g t c =
     ((λ x y z e h. absurd h), (λ x y z e h. let same : (x, y) ≡ z = cc e in subst (IsEntryRefused g.B.ExprBuilder.operations) same h))
     c.to_key-key.result c.expr_to_expr-value.result c.flatten_tuple_2.result _ _ c.flatten_tuple_2.ensures (found g.B.ExprBuilder.refusal rc_str_bytes c.to_key-key.result _ c.to_key-key.ensures.key) c.expr_to_expr-value.ensures.tree)
 
-pub primary_to_head-items-init : goal.primary_to_head-items-init
-primary_to_head-items-init g t c = record { tree = items_start c.args.styles.now (AreBuilt g.B.ExprBuilder.operations g.B.ExprBuilder.meaning) (AreRefused g.B.ExprBuilder.operations) (IsBuilt g.B.ExprBuilder.operations g.B.ExprBuilder.meaning) (IsRefused g.B.ExprBuilder.operations) g.B.ExprBuilder.refusal (Ok c.new.result) c.deref-item-items.result.now record { value = []; is = refl; stands = built_none g.B.ExprBuilder.operations ∙ ap (λ ys. Ok (map g.B.ExprBuilder.meaning ys)) (sym c.new.ensures.items) }; told = none_told c.new.result _ }
+pub operand_to_head-items-init : goal.operand_to_head-items-init
+operand_to_head-items-init g t c = record { tree = items_start c.args.styles.now (AreBuilt g.B.ExprBuilder.operations g.B.ExprBuilder.meaning) (AreRefused g.B.ExprBuilder.operations) (IsBuilt g.B.ExprBuilder.operations g.B.ExprBuilder.meaning) (IsRefused g.B.ExprBuilder.operations) g.B.ExprBuilder.refusal (Ok c.new.result) c.deref-item-items.result.now record { value = []; is = refl; stands = built_none g.B.ExprBuilder.operations ∙ ap (λ ys. Ok (map g.B.ExprBuilder.meaning ys)) (sym c.new.ensures.items) }; told = none_told c.new.result _ }
 
-pub primary_to_head-items-preserved : goal.primary_to_head-items-preserved
-primary_to_head-items-preserved g t c =
+pub operand_to_head-items-preserved : goal.operand_to_head-items-preserved
+operand_to_head-items-preserved g t c =
     let xs = c.deref-item-items.result.now in
     record { tree = items_more c.args.styles.now (AreBuilt g.B.ExprBuilder.operations g.B.ExprBuilder.meaning) (AreRefused g.B.ExprBuilder.operations) (IsBuilt g.B.ExprBuilder.operations g.B.ExprBuilder.meaning) (IsRefused g.B.ExprBuilder.operations) g.B.ExprBuilder.refusal c.items.made c.pushed-made.result c.expr_to_expr-next.result _ _ _ _ c.items.invariant.tree (cut_at xs xs c.items.item-index c.item-item.result refl c.items-test.true c.item-item.is) c.pushed-made.ensures.trees c.expr_to_expr-next.ensures.tree; told = items_go_on c.args.styles.now c.items.made c.pushed-made.result c.expr_to_expr-next.result _ _ _ _ c.items.invariant.told (cut_at xs xs c.items.item-index c.item-item.result refl c.items-test.true c.item-item.is) c.pushed-made.ensures.shown c.expr_to_expr-next.ensures.shown }
 
-pub primary_to_head-entries-init : goal.primary_to_head-entries-init
-primary_to_head-entries-init g t c = record { tree = entries_start c.args.styles.now (AreEntries g.B.ExprBuilder.operations g.B.ExprBuilder.meaning) (AreEntriesRefused g.B.ExprBuilder.operations) (IsEntry g.B.ExprBuilder.operations g.B.ExprBuilder.meaning) (IsEntryRefused g.B.ExprBuilder.operations) g.B.ExprBuilder.refusal (Ok c.new-in-RInits.result) c.deref-entry-items.result.now record { value = []; is = refl; stands = subst (λ ys. EachIsBuilt g.B.ExprBuilder.operations (meant g.B.ExprBuilder.meaning ys) []) (sym c.new-in-RInits.ensures.items) tt }; told = none_told c.new-in-RInits.result _ }
+pub operand_to_head-entries-init : goal.operand_to_head-entries-init
+operand_to_head-entries-init g t c = record { tree = entries_start c.args.styles.now (AreEntries g.B.ExprBuilder.operations g.B.ExprBuilder.meaning) (AreEntriesRefused g.B.ExprBuilder.operations) (IsEntry g.B.ExprBuilder.operations g.B.ExprBuilder.meaning) (IsEntryRefused g.B.ExprBuilder.operations) g.B.ExprBuilder.refusal (Ok c.new-in-RInits.result) c.deref-entry-items.result.now record { value = []; is = refl; stands = subst (λ ys. EachIsBuilt g.B.ExprBuilder.operations (meant g.B.ExprBuilder.meaning ys) []) (sym c.new-in-RInits.ensures.items) tt }; told = none_told c.new-in-RInits.result _ }
 
-pub primary_to_head-entries-preserved : goal.primary_to_head-entries-preserved
-primary_to_head-entries-preserved g t c =
+pub operand_to_head-entries-preserved : goal.operand_to_head-entries-preserved
+operand_to_head-entries-preserved g t c =
     let xs = c.deref-entry-items.result.now in
     record { tree = entries_more c.args.styles.now (AreEntries g.B.ExprBuilder.operations g.B.ExprBuilder.meaning) (AreEntriesRefused g.B.ExprBuilder.operations) (IsEntry g.B.ExprBuilder.operations g.B.ExprBuilder.meaning) (IsEntryRefused g.B.ExprBuilder.operations) g.B.ExprBuilder.refusal c.entries.pairs c.pushed_entry-pairs.result c.entry_to_pair-pair.result _ _ _ _ c.entries.invariant.tree (cut_at xs xs c.entries.entry-index c.entry-item.result refl c.entries-test.true c.entry-item.is) c.pushed_entry-pairs.ensures.entries c.entry_to_pair-pair.ensures.entry; told = entries_go_on c.args.styles.now c.entries.pairs c.pushed_entry-pairs.result c.entry_to_pair-pair.result _ _ _ _ c.entries.invariant.told (cut_at xs xs c.entries.entry-index c.entry-item.result refl c.entries-test.true c.entry-item.is) c.pushed_entry-pairs.ensures.shown c.entry_to_pair-pair.ensures.shown }
 
@@ -257,15 +264,15 @@ access_to_head-values-preserved g t c =
     let xs = c.deref-arg-items.result.now in
     record { tree = items_more c.args.styles.now (AreBuilt g.B.ExprBuilder.operations g.B.ExprBuilder.meaning) (AreRefused g.B.ExprBuilder.operations) (IsBuilt g.B.ExprBuilder.operations g.B.ExprBuilder.meaning) (IsRefused g.B.ExprBuilder.operations) g.B.ExprBuilder.refusal c.values.values c.pushed-values.result c.expr_to_expr-value.result _ _ _ _ c.values.invariant.tree (cut_at xs xs c.values.arg-index c.arg-item.result refl c.values-test.true c.arg-item.is) c.pushed-values.ensures.trees c.expr_to_expr-value.ensures.tree; told = items_go_on c.args.styles.now c.values.values c.pushed-values.result c.expr_to_expr-value.result _ _ _ _ c.values.invariant.told (cut_at xs xs c.values.arg-index c.arg-item.result refl c.values-test.true c.arg-item.is) c.pushed-values.ensures.shown c.expr_to_expr-value.ensures.shown }
 
-pub primary_to_head-returns-after-items-clause-head : goal.primary_to_head-returns-after-items-clause-head
-primary_to_head-returns-after-items-clause-head g t c =
+pub operand_to_head-returns-after-items-clause-head : goal.operand_to_head-returns-after-items-clause-head
+operand_to_head-returns-after-items-clause-head g t c =
     let xs = c.deref-item-items.result.now in
     let none : drop c.items.item-index xs ≡ [] = grind (arith, common_steps) in
     let all = items_end c.args.styles.now (AreBuilt g.B.ExprBuilder.operations g.B.ExprBuilder.meaning) (AreRefused g.B.ExprBuilder.operations) (IsBuilt g.B.ExprBuilder.operations g.B.ExprBuilder.meaning) (IsRefused g.B.ExprBuilder.operations) g.B.ExprBuilder.refusal c.items.made _ _ c.items.invariant.tree none in
     same_as g.B.ExprBuilder.refusal (IsHead g.B.ExprBuilder.operations g.B.ExprBuilder.meaning) (IsHeadRefused g.B.ExprBuilder.operations) c.set_to_head.result _ _ (primary_list c.args.styles.now c.args.node.now c.in-Some.primary c.in-EList.list c.in-Some.is c.in-EList.is ∙ ap (λ ys. exprs_trees c.args.styles.now (loose.exprs (map shown_expr ys)) >>= λ ts. Some (converting.a_tree (tree.Apply tree.MakeSet (trees ts)))) (sym c.deref-item-items.ensures.value)) (c.set_to_head.ensures.head _ all)
 
-pub primary_to_head-returns-after-entries-clause-head : goal.primary_to_head-returns-after-entries-clause-head
-primary_to_head-returns-after-entries-clause-head g t c =
+pub operand_to_head-returns-after-entries-clause-head : goal.operand_to_head-returns-after-entries-clause-head
+operand_to_head-returns-after-entries-clause-head g t c =
     let xs = c.deref-entry-items.result.now in
     let none : drop c.entries.entry-index xs ≡ [] = grind (arith, common_steps) in
     let all = entries_end c.args.styles.now (AreEntries g.B.ExprBuilder.operations g.B.ExprBuilder.meaning) (AreEntriesRefused g.B.ExprBuilder.operations) (IsEntry g.B.ExprBuilder.operations g.B.ExprBuilder.meaning) (IsEntryRefused g.B.ExprBuilder.operations) g.B.ExprBuilder.refusal c.entries.pairs _ _ c.entries.invariant.tree none in
@@ -278,9 +285,9 @@ access_to_head-returns-in-Call-clause-head g t c v hv =
     let all = items_end c.args.styles.now (AreBuilt g.B.ExprBuilder.operations g.B.ExprBuilder.meaning) (AreRefused g.B.ExprBuilder.operations) (IsBuilt g.B.ExprBuilder.operations g.B.ExprBuilder.meaning) (IsRefused g.B.ExprBuilder.operations) g.B.ExprBuilder.refusal c.values.values _ _ c.values.invariant.tree none in
     same_as g.B.ExprBuilder.refusal (IsHead g.B.ExprBuilder.operations g.B.ExprBuilder.meaning) (IsHeadRefused g.B.ExprBuilder.operations) c.call.result _ _ (access_call c.args.styles.now c.args.node.now c.in-Some.access c.in-Call.args v c.in-Some.is c.in-Call.is ∙ ap (λ ys. v >>= λ h. exprs_trees c.args.styles.now (loose.exprs (map shown_expr ys)) >>= λ ts. called c.args.styles.now h ts >>= λ x. Some (converting.a_tree x)) (sym c.deref-arg-items.ensures.value)) (c.call.ensures.head v _ hv all)
 
-pub expr_to_expr-returns-in-None-clause-shown : goal.expr_to_expr-returns-in-None-clause-shown
+pub branches_to_expr-returns-in-None-clause-shown : goal.branches_to_expr-returns-in-None-clause-shown
 unfolding expr_shows
-expr_to_expr-returns-in-None-clause-shown g t c = fault_seen c.missing.result (expr_shows c.args.styles.now) _ loose.missing_expr _ _ (none_seen loose.missing_expr view_expr c.args.node.now c.in-None.is) c.missing.ensures.kind tt
+branches_to_expr-returns-in-None-clause-shown g t c = fault_seen c.missing.result (expr_shows c.args.styles.now) _ loose.missing_expr _ _ (none_seen loose.missing_expr view_expr c.args.node.now c.in-None.is) c.missing.ensures.kind tt
 
 pub or_to_expr-returns-in-None-clause-shown : goal.or_to_expr-returns-in-None-clause-shown
 unfolding or_shows
@@ -290,13 +297,13 @@ pub and_to_expr-returns-in-None-clause-shown : goal.and_to_expr-returns-in-None-
 unfolding and_shows
 and_to_expr-returns-in-None-clause-shown g t c = fault_seen c.missing.result (and_shows c.args.styles.now) _ loose.missing_and _ _ (none_seen loose.missing_and view_and c.args.node.now c.in-None.is) c.missing.ensures.kind tt
 
-pub relation_to_expr-returns-in-None-clause-shown : goal.relation_to_expr-returns-in-None-clause-shown
+pub comparison_to_expr-returns-in-None-clause-shown : goal.comparison_to_expr-returns-in-None-clause-shown
 unfolding relation_shows
-relation_to_expr-returns-in-None-clause-shown g t c = fault_seen c.missing.result (relation_shows c.args.styles.now) _ loose.missing_relation _ _ (none_seen loose.missing_relation view_relation c.args.node.now c.in-None.is) c.missing.ensures.kind tt
+comparison_to_expr-returns-in-None-clause-shown g t c = fault_seen c.missing.result (relation_shows c.args.styles.now) _ loose.missing_relation _ _ (none_seen loose.missing_relation view_relation c.args.node.now c.in-None.is) c.missing.ensures.kind tt
 
-pub add_to_expr-returns-in-None-clause-shown : goal.add_to_expr-returns-in-None-clause-shown
+pub sum_to_expr-returns-in-None-clause-shown : goal.sum_to_expr-returns-in-None-clause-shown
 unfolding add_shows
-add_to_expr-returns-in-None-clause-shown g t c = fault_seen c.missing.result (add_shows c.args.styles.now) _ loose.missing_add _ _ (none_seen loose.missing_add view_add c.args.node.now c.in-None.is) c.missing.ensures.kind tt
+sum_to_expr-returns-in-None-clause-shown g t c = fault_seen c.missing.result (add_shows c.args.styles.now) _ loose.missing_add _ _ (none_seen loose.missing_add view_add c.args.node.now c.in-None.is) c.missing.ensures.kind tt
 
 pub mult_to_expr-returns-in-None-clause-shown : goal.mult_to_expr-returns-in-None-clause-shown
 unfolding mult_shows
@@ -310,23 +317,23 @@ pub member_to_expr-returns-in-None-clause-shown : goal.member_to_expr-returns-in
 unfolding member_shows
 member_to_expr-returns-in-None-clause-shown g t c = fault_seen c.missing.result (member_shows c.args.styles.now) _ loose.missing_member _ _ (none_seen loose.missing_member view_member c.args.node.now c.in-None.is) c.missing.ensures.kind tt
 
-pub primary_to_head-returns-in-None-clause-shown : goal.primary_to_head-returns-in-None-clause-shown
+pub operand_to_head-returns-in-None-clause-shown : goal.operand_to_head-returns-in-None-clause-shown
 unfolding primary_shows
-primary_to_head-returns-in-None-clause-shown g t c = fault_seen c.missing.result (primary_shows c.args.styles.now) _ loose.missing_primary _ _ (none_seen loose.missing_primary view_primary c.args.node.now c.in-None.is) c.missing.ensures.kind tt
+operand_to_head-returns-in-None-clause-shown g t c = fault_seen c.missing.result (primary_shows c.args.styles.now) _ loose.missing_primary _ _ (none_seen loose.missing_primary view_primary c.args.node.now c.in-None.is) c.missing.ensures.kind tt
 
 pub entry_to_pair-returns-in-None-clause-shown : goal.entry_to_pair-returns-in-None-clause-shown
 unfolding rec_init_shows
 entry_to_pair-returns-in-None-clause-shown g t c = fault_seen c.missing.result (rec_init_shows c.args.styles.now) _ loose.missing_rec_init _ _ (none_seen loose.missing_rec_init view_rec_init c.args.node.now c.in-None.is) c.missing.ensures.kind tt
 
-pub expr_to_expr-returns-in-Or-clause-shown : goal.expr_to_expr-returns-in-Or-clause-shown
+pub branches_to_expr-returns-in-Or-clause-shown : goal.branches_to_expr-returns-in-Or-clause-shown
 unfolding expr_shows
-expr_to_expr-returns-in-Or-clause-shown g t c =
+branches_to_expr-returns-in-Or-clause-shown g t c =
     let at = one_variant (λ t given. (values_d enum 0 given t).0) (λ a given. refl) c.in-Some.expr c.inner-1.given.0 in
     seen_as c.or_to_expr.result (expr_shows c.args.styles.now) _ _ _ (or_expr_seen c.args.node.now c.in-Some.expr _ c.deref-data.result.now c.in-Or.or c.in-Some.is at c.deref-data.ensures c.in-Or.is) (λ k s. s) c.or_to_expr.ensures.shown
 
-pub expr_to_expr-returns-in-If-clause-shown : goal.expr_to_expr-returns-in-If-clause-shown
+pub branches_to_expr-returns-in-If-clause-shown : goal.branches_to_expr-returns-in-If-clause-shown
 unfolding expr_shows
-expr_to_expr-returns-in-If-clause-shown g t c =
+branches_to_expr-returns-in-If-clause-shown g t c =
     let at = one_variant (λ t given. (values_d enum 0 given t).0) (λ a given. refl) c.in-Some.expr c.inner-1.given.0 in
     seen_as c.ite.result (expr_shows c.args.styles.now) _ _ _ (if_expr_seen c.args.node.now c.in-Some.expr _ c.deref-data.result.now c.in-If.test c.in-If.then_expr c.in-If.else_expr c.in-Some.is at c.deref-data.ensures c.in-If.is)
     (of_two_and c.expr_to_expr-tested.result c.expr_to_expr-taken.result (Told c.expr_to_expr-other.result) _ _ _ c.expr_to_expr-tested.ensures.shown c.expr_to_expr-taken.ensures.shown (λ k s. inl s) (λ k s. inr (inl s)) (λ k s. inr (inr (told_each c.expr_to_expr-other.result _ c.expr_to_expr-other.ensures.shown k s)))) c.ite.ensures.shown
@@ -337,8 +344,8 @@ or_to_expr-returns-after-parts-clause-shown g t c = all_told c.parts.whole _ _ c
 pub and_to_expr-returns-after-parts-clause-shown : goal.and_to_expr-returns-after-parts-clause-shown
 and_to_expr-returns-after-parts-clause-shown g t c = all_told c.parts.whole _ _ c.parts.invariant.told
 
-pub add_to_expr-returns-after-parts-clause-shown : goal.add_to_expr-returns-after-parts-clause-shown
-add_to_expr-returns-after-parts-clause-shown g t c = all_told c.parts.whole _ _ c.parts.invariant.told
+pub sum_to_expr-returns-after-parts-clause-shown : goal.sum_to_expr-returns-after-parts-clause-shown
+sum_to_expr-returns-after-parts-clause-shown g t c = all_told c.parts.whole _ _ c.parts.invariant.told
 
 pub mult_to_expr-returns-after-parts-clause-shown : goal.mult_to_expr-returns-after-parts-clause-shown
 mult_to_expr-returns-after-parts-clause-shown g t c = all_told c.parts.whole _ _ c.parts.invariant.told
@@ -348,48 +355,48 @@ member_to_expr-returns-after-accesses-clause-shown g t c =
     let none : drop c.accesses.access-index c.deref-access-items.result.now ≡ [] = grind (arith, common_steps) in
     accessed_end c.args.styles.now c.accesses.head c.head_to_expr.result c.calls_method-is_called.result _ (subst (λ zs. AccessedSoFar c.args.styles.now c.accesses.head c.calls_method-is_called.result (loose.accesses (map shown_mem_access zs)) (member_shows c.args.styles.now (shown_member c.args.node.now))) none c.accesses.invariant.told) c.head_to_expr.ensures.shown
 
-pub relation_to_expr-returns-in-None-comparison-clause-shown : goal.relation_to_expr-returns-in-None-comparison-clause-shown
+pub comparison_to_expr-returns-in-None-comparison-clause-shown : goal.comparison_to_expr-returns-in-None-comparison-clause-shown
 unfolding relation_shows
-relation_to_expr-returns-in-None-comparison-clause-shown g t c =
+comparison_to_expr-returns-in-None-comparison-clause-shown g t c =
     let none = sym c.as_slice.ensures.value ∙ lone_is _ _ None c.in-Ok.ensures.lone c.in-None-comparison.is in
     seen_as c.add_to_expr-first.result (relation_shows c.args.styles.now) _ _ _ (common_seen c.args.node.now c.in-Some.relation c.in-Common.initial c.in-Common.extended [] c.deref-operand.result.now c.in-Some.is c.in-Common.is none c.deref-operand.ensures) (λ k s. s) c.add_to_expr-first.ensures.shown
 
-pub relation_to_expr-returns-in-Some-comparison-clause-shown : goal.relation_to_expr-returns-in-Some-comparison-clause-shown
+pub comparison_to_expr-returns-in-Some-comparison-clause-shown : goal.comparison_to_expr-returns-in-Some-comparison-clause-shown
 unfolding relation_shows
-relation_to_expr-returns-in-Some-comparison-clause-shown g t c =
+comparison_to_expr-returns-in-Some-comparison-clause-shown g t c =
     let x = c.in-Some-comparison.link.now in
     let cut = sym c.as_slice.ensures.value ∙ lone_is _ _ (Some c.in-Some-comparison.link) c.in-Ok.ensures.lone c.in-Some-comparison.is in
     seen_as c.join.result (relation_shows c.args.styles.now) _ _ _ (common_seen c.args.node.now c.in-Some.relation c.in-Common.initial c.in-Common.extended (x ∷ []) c.deref-operand.result.now c.in-Some.is c.in-Common.is cut c.deref-operand.ensures)
     (of_two_and c.add_to_expr-first.result c.add_to_expr-second.result (joint_shows (joint.Relation x.0)) _ _ _ c.add_to_expr-first.ensures.shown c.add_to_expr-second.ensures.shown (λ k s. inl s) (λ k s. inr (inl s)) (λ k s. inr (inr s))) c.join.ensures.shown
 
-pub relation_to_expr-returns-in-Err-clause-shown : goal.relation_to_expr-returns-in-Err-clause-shown
+pub comparison_to_expr-returns-in-Err-clause-shown : goal.comparison_to_expr-returns-in-Err-clause-shown
 unfolding relation_shows
-relation_to_expr-returns-in-Err-clause-shown g t c =
+comparison_to_expr-returns-in-Err-clause-shown g t c =
     let (x, y, more, are) = two_of _ c.in-Err.ensures.others in
     let cut = sym c.as_slice.ensures.value ∙ are in
     fault_seen c.in-Err.error (relation_shows c.args.styles.now) _ _ _ _ (common_seen c.args.node.now c.in-Some.relation c.in-Common.initial c.in-Common.extended (x ∷ y ∷ more) c.in-Common.initial.value c.in-Some.is c.in-Common.is cut refl) c.in-Err.ensures.kind tt
 
-pub relation_to_expr-returns-in-Has-clause-shown : goal.relation_to_expr-returns-in-Has-clause-shown
+pub comparison_to_expr-returns-in-Has-clause-shown : goal.comparison_to_expr-returns-in-Has-clause-shown
 unfolding relation_shows
-relation_to_expr-returns-in-Has-clause-shown g t c =
+comparison_to_expr-returns-in-Has-clause-shown g t c =
     seen_as c.has.result (relation_shows c.args.styles.now) _ _ _ (has_seen c.args.node.now c.in-Some.relation c.in-Has.target c.in-Has.field c.deref-holder.result.now c.deref-path.result.now c.in-Some.is c.in-Has.is c.deref-holder.ensures c.deref-path.ensures)
     (of_two c.add_to_expr-held.result c.to_fields-attrs.result _ _ _ c.add_to_expr-held.ensures.shown c.to_fields-attrs.ensures.shown (λ k s. inl s) (λ k s. inr s)) c.has.ensures.shown
 
-pub relation_to_expr-returns-in-Like-clause-shown : goal.relation_to_expr-returns-in-Like-clause-shown
+pub comparison_to_expr-returns-in-Like-clause-shown : goal.comparison_to_expr-returns-in-Like-clause-shown
 unfolding relation_shows
-relation_to_expr-returns-in-Like-clause-shown g t c =
+comparison_to_expr-returns-in-Like-clause-shown g t c =
     seen_as c.like.result (relation_shows c.args.styles.now) _ _ _ (like_seen c.args.node.now c.in-Some.relation c.in-Like.target c.in-Like.pattern c.deref-matched.result.now c.deref-text.result.now c.in-Some.is c.in-Like.is c.deref-matched.ensures c.deref-text.ensures)
     (of_two c.add_to_expr-subject.result c.to_like_pattern-elems.result _ _ _ c.add_to_expr-subject.ensures.shown c.to_like_pattern-elems.ensures.shown (λ k s. inl s) (λ k s. inr s)) c.like.ensures.shown
 
-pub relation_to_expr-returns-in-None-in_entity-clause-shown : goal.relation_to_expr-returns-in-None-in_entity-clause-shown
+pub comparison_to_expr-returns-in-None-in_entity-clause-shown : goal.comparison_to_expr-returns-in-None-in_entity-clause-shown
 unfolding relation_shows
-relation_to_expr-returns-in-None-in_entity-clause-shown g t c =
+comparison_to_expr-returns-in-None-in_entity-clause-shown g t c =
     seen_as c.is_type.result (relation_shows c.args.styles.now) _ _ _ (is_seen c.args.node.now c.in-Some.relation c.in-IsIn.target c.in-IsIn.entity_type c.in-IsIn.in_entity c.deref-typed.result.now c.deref-named.result.now c.in-Some.is c.in-IsIn.is c.in-None-in_entity.is c.deref-typed.ensures c.deref-named.ensures)
     (of_two c.add_to_expr-value.result c.to_entity_type-name.result _ _ _ c.add_to_expr-value.ensures.shown c.to_entity_type-name.ensures.shown (λ k s. inl s) (λ k s. inr s)) c.is_type.ensures.shown
 
-pub relation_to_expr-returns-in-Some-in_entity-clause-shown : goal.relation_to_expr-returns-in-Some-in_entity-clause-shown
+pub comparison_to_expr-returns-in-Some-in_entity-clause-shown : goal.comparison_to_expr-returns-in-Some-in_entity-clause-shown
 unfolding relation_shows
-relation_to_expr-returns-in-Some-in_entity-clause-shown g t c =
+comparison_to_expr-returns-in-Some-in_entity-clause-shown g t c =
     seen_as c.is_type_in.result (relation_shows c.args.styles.now) _ _ _ (is_in_seen c.args.node.now c.in-Some.relation c.in-IsIn.target c.in-IsIn.entity_type c.in-IsIn.in_entity c.in-Some-in_entity.entity c.deref-typed.result.now c.deref-named.result.now c.deref-among.result.now c.in-Some.is c.in-IsIn.is c.in-Some-in_entity.is c.deref-typed.ensures c.deref-named.ensures c.deref-among.ensures)
     (of_two_and c.add_to_expr-value.result c.to_entity_type-name.result (Told c.add_to_expr-within.result) _ _ _ c.add_to_expr-value.ensures.shown c.to_entity_type-name.ensures.shown (λ k s. inl s) (λ k s. inr (inl s)) (λ k s. inr (inr (told_each c.add_to_expr-within.result _ c.add_to_expr-within.ensures.shown k s)))) c.is_type_in.ensures.shown
 
@@ -453,31 +460,31 @@ access_to_head-returns-in-Call-clause-shown g t c b is =
     seen_as c.call.result (access_at c.args.styles.now c.args.head b c.args.is_called) _ _ _ (call_seen c.args.node.now c.in-Some.access c.in-Call.args c.in-Some.is c.in-Call.is ∙ ap (λ ys. loose.call (loose.exprs (map shown_expr ys))) (sym c.deref-arg-items.ensures.value))
     (in_access c.args.head c.values.values (called_shows c.args.styles.now c.args.head c.values.values) (exprs_show c.args.styles.now (loose.exprs (map shown_expr xs))) _ (all_told c.values.values _ _ c.values.invariant.told) (λ k s. inl s) (λ k s. inr (called_behind c.args.styles.now c.args.head c.values.values b _ k is (are_counted c.args.styles.now g.B.ExprBuilder.operations g.B.ExprBuilder.meaning g.B.ExprBuilder.refusal c.values.values _ all) s))) c.call.ensures.shown
 
-pub primary_to_head-returns-in-Literal-clause-shown : goal.primary_to_head-returns-in-Literal-clause-shown
+pub operand_to_head-returns-in-Literal-clause-shown : goal.operand_to_head-returns-in-Literal-clause-shown
 unfolding primary_shows
-primary_to_head-returns-in-Literal-clause-shown g t c = seen_as c.literal_to_head.result (primary_shows c.args.styles.now) _ _ _ (literal_seen c.args.node.now c.in-Some.primary c.in-Literal.literal c.in-Some.is c.in-Literal.is) (told_each c.to_literal-value.result _ c.to_literal-value.ensures.shown) c.literal_to_head.ensures.shown
+operand_to_head-returns-in-Literal-clause-shown g t c = seen_as c.literal_to_head.result (primary_shows c.args.styles.now) _ _ _ (literal_seen c.args.node.now c.in-Some.primary c.in-Literal.literal c.in-Some.is c.in-Literal.is) (told_each c.to_literal-value.result _ c.to_literal-value.ensures.shown) c.literal_to_head.ensures.shown
 
-pub primary_to_head-returns-in-Ref-clause-shown : goal.primary_to_head-returns-in-Ref-clause-shown
+pub operand_to_head-returns-in-Ref-clause-shown : goal.operand_to_head-returns-in-Ref-clause-shown
 unfolding primary_shows
-primary_to_head-returns-in-Ref-clause-shown g t c = seen_as c.entity_to_head.result (primary_shows c.args.styles.now) _ _ _ (ref_seen c.args.node.now c.in-Some.primary c.in-Ref.entity c.deref-reference.result.now c.in-Some.is c.in-Ref.is c.deref-reference.ensures) (told_each c.to_ref-uid.result _ c.to_ref-uid.ensures.shown) c.entity_to_head.ensures.shown
+operand_to_head-returns-in-Ref-clause-shown g t c = seen_as c.entity_to_head.result (primary_shows c.args.styles.now) _ _ _ (ref_seen c.args.node.now c.in-Some.primary c.in-Ref.entity c.deref-reference.result.now c.in-Some.is c.in-Ref.is c.deref-reference.ensures) (told_each c.to_ref-uid.result _ c.to_ref-uid.ensures.shown) c.entity_to_head.ensures.shown
 
-pub primary_to_head-returns-in-Slot-clause-shown : goal.primary_to_head-returns-in-Slot-clause-shown
+pub operand_to_head-returns-in-Slot-clause-shown : goal.operand_to_head-returns-in-Slot-clause-shown
 unfolding primary_shows
-primary_to_head-returns-in-Slot-clause-shown g t c = seen_as c.slot_to_head.result (primary_shows c.args.styles.now) _ _ _ (slot_seen c.args.node.now c.in-Some.primary c.in-Slot.slot c.in-Some.is c.in-Slot.is) (told_each c.to_slot-id.result _ c.to_slot-id.ensures.shown) c.slot_to_head.ensures.shown
+operand_to_head-returns-in-Slot-clause-shown g t c = seen_as c.slot_to_head.result (primary_shows c.args.styles.now) _ _ _ (slot_seen c.args.node.now c.in-Some.primary c.in-Slot.slot c.in-Some.is c.in-Slot.is) (told_each c.to_slot-id.result _ c.to_slot-id.ensures.shown) c.slot_to_head.ensures.shown
 
-pub primary_to_head-returns-in-Expr-clause-shown : goal.primary_to_head-returns-in-Expr-clause-shown
+pub operand_to_head-returns-in-Expr-clause-shown : goal.operand_to_head-returns-in-Expr-clause-shown
 unfolding primary_shows
-primary_to_head-returns-in-Expr-clause-shown g t c = seen_as c.expr_to_head.result (primary_shows c.args.styles.now) _ _ _ (expr_seen c.args.node.now c.in-Some.primary c.in-Expr.expr c.in-Some.is c.in-Expr.is) (told_each c.expr_to_expr-inner.result _ c.expr_to_expr-inner.ensures.shown) c.expr_to_head.ensures.shown
+operand_to_head-returns-in-Expr-clause-shown g t c = seen_as c.expr_to_head.result (primary_shows c.args.styles.now) _ _ _ (expr_seen c.args.node.now c.in-Some.primary c.in-Expr.expr c.in-Some.is c.in-Expr.is) (told_each c.expr_to_expr-inner.result _ c.expr_to_expr-inner.ensures.shown) c.expr_to_head.ensures.shown
 
-pub primary_to_head-returns-after-items-clause-shown : goal.primary_to_head-returns-after-items-clause-shown
+pub operand_to_head-returns-after-items-clause-shown : goal.operand_to_head-returns-after-items-clause-shown
 unfolding primary_shows
-primary_to_head-returns-after-items-clause-shown g t c =
+operand_to_head-returns-after-items-clause-shown g t c =
     seen_as c.set_to_head.result (primary_shows c.args.styles.now) _ _ _ (list_seen c.args.node.now c.in-Some.primary c.in-EList.list c.in-Some.is c.in-EList.is ∙ ap (λ ys. loose.e_list (loose.exprs (map shown_expr ys))) (sym c.deref-item-items.ensures.value))
     (told_each c.items.made _ (all_told c.items.made _ _ c.items.invariant.told)) c.set_to_head.ensures.shown
 
-pub primary_to_head-returns-after-entries-clause-shown : goal.primary_to_head-returns-after-entries-clause-shown
+pub operand_to_head-returns-after-entries-clause-shown : goal.operand_to_head-returns-after-entries-clause-shown
 unfolding primary_shows
-primary_to_head-returns-after-entries-clause-shown g t c =
+operand_to_head-returns-after-entries-clause-shown g t c =
     let xs = c.deref-entry-items.result.now in
     let none : drop c.entries.entry-index xs ≡ [] = grind (arith, common_steps) in
     let all = entries_end c.args.styles.now (AreEntries g.B.ExprBuilder.operations g.B.ExprBuilder.meaning) (AreEntriesRefused g.B.ExprBuilder.operations) (IsEntry g.B.ExprBuilder.operations g.B.ExprBuilder.meaning) (IsEntryRefused g.B.ExprBuilder.operations) g.B.ExprBuilder.refusal c.entries.pairs _ _ c.entries.invariant.tree none in
@@ -487,3 +494,79 @@ primary_to_head-returns-after-entries-clause-shown g t c =
 pub entry_to_pair-returns-in-Some-clause-shown : goal.entry_to_pair-returns-in-Some-clause-shown
 unfolding rec_init_shows
 entry_to_pair-returns-in-Some-clause-shown g t c = seen_as c.flatten_tuple_2.result (rec_init_shows c.args.styles.now) _ _ _ (rec_init_seen c.args.node.now c.in-Some.entry c.in-Some.is) (of_two c.to_key-key.result c.expr_to_expr-value.result _ _ _ c.to_key-key.ensures.shown c.expr_to_expr-value.ensures.shown (λ k s. inl s) (λ k s. inr s)) (pair_told c.to_key-key.result c.expr_to_expr-value.result c.flatten_tuple_2.result c.flatten_tuple_2.ensures)
+
+pub expr_to_expr-returns-in-Some-clause-tree : goal.expr_to_expr-returns-in-Some-clause-tree
+expr_to_expr-returns-in-Some-clause-tree g t c =
+    same_as g.B.ExprBuilder.refusal (IsBuilt g.B.ExprBuilder.operations g.B.ExprBuilder.meaning) (IsRefused g.B.ExprBuilder.operations) c.relation_to_expr.result _ _ (tree_of_relation c.args.styles.now _ _ (sym c.in-Some.ensures.node)) c.relation_to_expr.ensures.tree
+
+pub relation_to_expr-returns-in-Some-clause-tree : goal.relation_to_expr-returns-in-Some-clause-tree
+relation_to_expr-returns-in-Some-clause-tree g t c =
+    same_as g.B.ExprBuilder.refusal (IsBuilt g.B.ExprBuilder.operations g.B.ExprBuilder.meaning) (IsRefused g.B.ExprBuilder.operations) c.add_to_expr.result _ _ (tree_of_add c.args.styles.now _ _ (sym c.in-Some.ensures.node)) c.add_to_expr.ensures.tree
+
+pub add_to_expr-returns-in-Some-clause-tree : goal.add_to_expr-returns-in-Some-clause-tree
+add_to_expr-returns-in-Some-clause-tree g t c =
+    same_as g.B.ExprBuilder.refusal (IsBuilt g.B.ExprBuilder.operations g.B.ExprBuilder.meaning) (IsRefused g.B.ExprBuilder.operations) c.member_to_expr.result _ _ (tree_of_member c.args.styles.now _ _ (sym c.in-Some.ensures.node)) c.member_to_expr.ensures.tree
+
+pub primary_to_head-returns-in-Some-clause-head : goal.primary_to_head-returns-in-Some-clause-head
+primary_to_head-returns-in-Some-clause-head g t c =
+    same_as g.B.ExprBuilder.refusal (IsHead g.B.ExprBuilder.operations g.B.ExprBuilder.meaning) (IsHeadRefused g.B.ExprBuilder.operations) c.expr_to_head.result _ _ (head_in_brackets c.args.styles.now _ _ (sym c.in-Some.ensures.node)) (c.expr_to_head.ensures.head _ c.expr_to_expr-inner.ensures.tree)
+
+pub expr_to_expr-returns-in-Some-clause-shown : goal.expr_to_expr-returns-in-Some-clause-shown
+unfolding expr_shows or_shows and_shows
+expr_to_expr-returns-in-Some-clause-shown g t c =
+    seen_as c.relation_to_expr.result (expr_shows c.args.styles.now) _ _ _ (is_around_relation _ _ (sym c.in-Some.ensures.node)) (λ k s. inl (inl s)) c.relation_to_expr.ensures.shown
+
+pub relation_to_expr-returns-in-Some-clause-shown : goal.relation_to_expr-returns-in-Some-clause-shown
+unfolding relation_shows
+relation_to_expr-returns-in-Some-clause-shown g t c =
+    seen_as c.add_to_expr.result (relation_shows c.args.styles.now) _ _ _ (is_around_add _ _ (sym c.in-Some.ensures.node)) (λ k s. s) c.add_to_expr.ensures.shown
+
+pub add_to_expr-returns-in-Some-clause-shown : goal.add_to_expr-returns-in-Some-clause-shown
+unfolding add_shows mult_shows unary_shows
+add_to_expr-returns-in-Some-clause-shown g t c =
+    seen_as c.member_to_expr.result (add_shows c.args.styles.now) _ _ _ (is_around_member _ _ (sym c.in-Some.ensures.node)) (λ k s. inl (inl s)) c.member_to_expr.ensures.shown
+
+pub primary_to_head-returns-in-Some-clause-shown : goal.primary_to_head-returns-in-Some-clause-shown
+unfolding primary_shows
+primary_to_head-returns-in-Some-clause-shown g t c =
+    seen_as c.expr_to_head.result (primary_shows c.args.styles.now) _ _ _ (is_bracketed _ _ (sym c.in-Some.ensures.node)) (told_each c.expr_to_expr-inner.result _ c.expr_to_expr-inner.ensures.shown) c.expr_to_head.ensures.shown
+
+pub expr_to_expr-relation_to_expr-requires : goal.expr_to_expr-relation_to_expr-requires
+expr_to_expr-relation_to_expr-requires g t c = λ κs h.
+    let x = c.in-Some.relation.now.node in
+    let y = c.args.node.now.node in (
+      rw (sym c.decreases) (by_value x
+          (λ i. rw i (by_value y (λ j. rw j (omega (arith, c.in-Some.ensures.below, ap (depth size-Relation) i, ap (depth size-Expr) j))) (λ e j. rw j (omega (arith, c.in-Some.ensures.below, ap (depth size-Relation) i, ap (depth size-Expr) j)))))
+          (λ a i. rw i (by_value y (λ j. rw j (omega (arith, c.in-Some.ensures.below, ap (depth size-Relation) i, ap (depth size-Expr) j))) (λ e j. rw j (omega (arith, c.in-Some.ensures.below, ap (depth size-Relation) i, ap (depth size-Expr) j)))))),
+      h,
+    )
+
+pub relation_to_expr-add_to_expr-requires : goal.relation_to_expr-add_to_expr-requires
+relation_to_expr-add_to_expr-requires g t c = λ κs h.
+    let x = c.in-Some.add.now.node in
+    let y = c.args.node.now.node in (
+      rw (sym c.decreases) (by_value x
+          (λ i. rw i (by_value y (λ j. rw j (omega (arith, c.in-Some.ensures.below, ap (depth size-Add) i, ap (depth size-Relation) j))) (λ e j. rw j (omega (arith, c.in-Some.ensures.below, ap (depth size-Add) i, ap (depth size-Relation) j)))))
+          (λ a i. rw i (by_value y (λ j. rw j (omega (arith, c.in-Some.ensures.below, ap (depth size-Add) i, ap (depth size-Relation) j))) (λ e j. rw j (omega (arith, c.in-Some.ensures.below, ap (depth size-Add) i, ap (depth size-Relation) j)))))),
+      h,
+    )
+
+pub add_to_expr-member_to_expr-requires : goal.add_to_expr-member_to_expr-requires
+add_to_expr-member_to_expr-requires g t c = λ κs h.
+    let x = c.in-Some.member.now.node in
+    let y = c.args.node.now.node in (
+      rw (sym c.decreases) (by_value x
+          (λ i. rw i (by_value y (λ j. rw j (omega (arith, c.in-Some.ensures.below, ap (depth size-Member) i, ap (depth size-Add) j))) (λ e j. rw j (omega (arith, c.in-Some.ensures.below, ap (depth size-Member) i, ap (depth size-Add) j)))))
+          (λ a i. rw i (by_value y (λ j. rw j (omega (arith, c.in-Some.ensures.below, ap (depth size-Member) i, ap (depth size-Add) j))) (λ e j. rw j (omega (arith, c.in-Some.ensures.below, ap (depth size-Member) i, ap (depth size-Add) j)))))),
+      h,
+    )
+
+pub primary_to_head-expr_to_expr-inner-requires : goal.primary_to_head-expr_to_expr-inner-requires
+primary_to_head-expr_to_expr-inner-requires g t c = λ κs h.
+    let x = c.in-Some.expr.now.node in
+    let y = c.args.node.now.node in (
+      rw (sym c.decreases) (by_value x
+          (λ i. rw i (by_value y (λ j. rw j (omega (arith, c.in-Some.ensures.below, ap (depth size-Expr) i, ap (depth size-Primary) j))) (λ e j. rw j (omega (arith, c.in-Some.ensures.below, ap (depth size-Expr) i, ap (depth size-Primary) j)))))
+          (λ a i. rw i (by_value y (λ j. rw j (omega (arith, c.in-Some.ensures.below, ap (depth size-Expr) i, ap (depth size-Primary) j))) (λ e j. rw j (omega (arith, c.in-Some.ensures.below, ap (depth size-Expr) i, ap (depth size-Primary) j)))))),
+      h,
+    )

@@ -23,8 +23,8 @@ invariant-and_to_expr-parts g l = record {
   told : ToldSoFar l.whole (relations_show l.styles (loose.relations (map shown_relation (drop l.part-index l.part-items)))) (and_shows l.styles (shown_and l.node));
 }
 
-abbrev pub invariant-add_to_expr-parts : goal.invariant-add_to_expr-parts
-invariant-add_to_expr-parts g l = record {
+abbrev pub invariant-sum_to_expr-parts : goal.invariant-sum_to_expr-parts
+invariant-sum_to_expr-parts g l = record {
   tree : SoFar (IsBuilt g.B.ExprBuilder.operations g.B.ExprBuilder.meaning) (IsRefused g.B.ExprBuilder.operations) g.B.ExprBuilder.refusal l.whole (add_tree l.styles (shown_add l.node)) (λ x. mults_tree l.styles x (loose.mults (map {B = loose.AddOp × loose.Mult} (λ x. (view_add_op x.0, shown_mult x.1)) (drop l.part-index l.part-items))));
   told : ToldSoFar l.whole (mults_show l.styles (loose.mults (map {B = loose.AddOp × loose.Mult} (λ x. (view_add_op x.0, shown_mult x.1)) (drop l.part-index l.part-items)))) (add_shows l.styles (shown_add l.node));
 }
@@ -41,14 +41,14 @@ invariant-member_to_expr-accesses g l = record {
   told : AccessedSoFar l.styles l.head l.is_called (loose.accesses (map shown_mem_access (drop l.access-index l.access-items))) (member_shows l.styles (shown_member l.node));
 }
 
-abbrev pub invariant-primary_to_head-items : goal.invariant-primary_to_head-items
-invariant-primary_to_head-items g l = record {
+abbrev pub invariant-operand_to_head-items : goal.invariant-operand_to_head-items
+invariant-operand_to_head-items g l = record {
   tree : SoFar (AreBuilt g.B.ExprBuilder.operations g.B.ExprBuilder.meaning) (AreRefused g.B.ExprBuilder.operations) g.B.ExprBuilder.refusal l.made (exprs_trees l.styles (loose.exprs (map shown_expr l.item-items))) (items_rest l.styles (drop l.item-index l.item-items));
   told : ToldSoFar l.made (exprs_show l.styles (loose.exprs (map shown_expr (drop l.item-index l.item-items)))) (exprs_show l.styles (loose.exprs (map shown_expr l.item-items)));
 }
 
-abbrev pub invariant-primary_to_head-entries : goal.invariant-primary_to_head-entries
-invariant-primary_to_head-entries g l = record {
+abbrev pub invariant-operand_to_head-entries : goal.invariant-operand_to_head-entries
+invariant-operand_to_head-entries g l = record {
   tree : SoFar (AreEntries g.B.ExprBuilder.operations g.B.ExprBuilder.meaning) (AreEntriesRefused g.B.ExprBuilder.operations) g.B.ExprBuilder.refusal l.pairs (rec_inits_trees l.styles (loose.rec_inits (map shown_rec_init l.entry-items))) (entries_rest l.styles (drop l.entry-index l.entry-items));
   told : ToldSoFar l.pairs (rec_inits_show l.styles (loose.rec_inits (map shown_rec_init (drop l.entry-index l.entry-items)))) (rec_inits_show l.styles (loose.rec_inits (map shown_rec_init l.entry-items)));
 }

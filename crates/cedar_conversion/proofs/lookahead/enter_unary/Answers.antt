@@ -8,10 +8,10 @@ use Rattle.cedar_cst.specs.View.{view_mult, shown_unary}
 use Rattle.cedar_cst.proofs.Views.{seen, view_mult_out}
 use Rattle.cedar_conversion.specs.Alone.{only_unary}
 use Rattle.cedar_conversion.proofs.Steps.{no_lone_unary, some_more}
-use Rattle.cedar_conversion.proofs.lookahead.only_unary.Goals as goal
+use Rattle.cedar_conversion.proofs.lookahead.enter_unary.Goals as goal
 
-pub returns-else-is_empty : goal.returns-else-is_empty
-returns-else-is_empty c =
+pub returns-else-is_empty-clause-node : goal.returns-else-is_empty-clause-node
+returns-else-is_empty-clause-node c =
     let t = c.in-Some.mult in
     let v = (out-Mult t).extended in
     let xs = v.items in

@@ -7,10 +7,10 @@ use Rattle.cedar_cst.specs.View.{view_relation, shown_add}
 use Rattle.cedar_cst.proofs.Views.{seen, view_relation_common}
 use Rattle.cedar_conversion.specs.Alone.{only_add}
 use Rattle.cedar_conversion.proofs.Steps.{no_lone_add, some_more}
-use Rattle.cedar_conversion.proofs.lookahead.only_add.Goals as goal
+use Rattle.cedar_conversion.proofs.lookahead.enter_add.Goals as goal
 
-pub returns-else-is_empty : goal.returns-else-is_empty
-returns-else-is_empty c =
+pub returns-else-is_empty-clause-node : goal.returns-else-is_empty-clause-node
+returns-else-is_empty-clause-node c =
     let t = c.in-Some.relation in
     let v = c.in-Common.extended in
     let xs = v.items in

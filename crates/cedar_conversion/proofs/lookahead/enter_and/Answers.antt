@@ -7,10 +7,10 @@ use Rattle.cedar_cst.specs.View.{view_or, shown_and}
 use Rattle.cedar_cst.proofs.Views.{seen, view_or_out}
 use Rattle.cedar_conversion.specs.Alone.{only_and}
 use Rattle.cedar_conversion.proofs.Steps.{no_lone_and, some_more}
-use Rattle.cedar_conversion.proofs.lookahead.only_and.Goals as goal
+use Rattle.cedar_conversion.proofs.lookahead.enter_and.Goals as goal
 
-pub returns-else-is_empty : goal.returns-else-is_empty
-returns-else-is_empty c =
+pub returns-else-is_empty-clause-node : goal.returns-else-is_empty-clause-node
+returns-else-is_empty-clause-node c =
     let t = c.in-Some.or in
     let v = (out-Or t).extended in
     let xs = v.items in

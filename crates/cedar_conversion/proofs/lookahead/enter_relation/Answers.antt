@@ -7,10 +7,10 @@ use Rattle.cedar_cst.specs.View.{view_and, shown_relation}
 use Rattle.cedar_cst.proofs.Views.{seen, view_and_out}
 use Rattle.cedar_conversion.specs.Alone.{only_relation}
 use Rattle.cedar_conversion.proofs.Steps.{no_lone_relation, some_more}
-use Rattle.cedar_conversion.proofs.lookahead.only_relation.Goals as goal
+use Rattle.cedar_conversion.proofs.lookahead.enter_relation.Goals as goal
 
-pub returns-else-is_empty : goal.returns-else-is_empty
-returns-else-is_empty c =
+pub returns-else-is_empty-clause-node : goal.returns-else-is_empty-clause-node
+returns-else-is_empty-clause-node c =
     let t = c.in-Some.and in
     let v = (out-And t).extended in
     let xs = v.items in
