@@ -1,12 +1,12 @@
 -- Constructs at values, and leaves, by the construct of their expression.
-use Rattle.std.proofs.Common.{◌≡◌, ◌∙◌, refl, ap, sym, subst, List, map, false, Global}
+use Rattle.std.proofs.Common.{◌≡◌, ◌∙◌, refl, ap, sym, subst, List, map, Bool, false, Global}
 use Rattle.std.specs.Prelude.{Result}
 use Rattle.std.specs.declared.rc.RcStr.{RcStr}
 use Rattle.cedar_language.specs.Tree.{Tree, Apply, Trees}
 use Rattle.cedar_language.specs.Value.{Value, RecordOf}
 use Rattle.cedar_language.specs.Facts.{Facts}
 use Rattle.cedar_language.specs.Order.{all_of}
-use Rattle.cedar_partial_evaluation.specs.Partial.{LeafAnswers, partial_in}
+use Rattle.cedar_partial_evaluation.specs.Partial.{LeafAnswers}
 use Rattle.cedar_grammar.specs.Build.{keys}
 use Rattle.cedar_literals.specs.Operators.{unary_operator_of, binary_operator_of}
 use Rattle.cedar_literals.specs.declared.operators.UnaryOp.{UnaryOp}
@@ -20,6 +20,7 @@ use Rattle.cedar_restricted.proofs.Rising.{texts, keys_are}
 use Rattle.cedar_restricted.specs.declared.partial_values.PartialValue.{PartialValue}
 use Rattle.cedar_extensions.specs.declared.evaluation_error.EvaluationError.{EvaluationError}
 use Rattle.cedar_interpreter.specs.Meeting.{MeetsAt}
+use Rattle.cedar_interpreter.specs.Naming.{naming_in}
 use Rattle.cedar_interpreter.specs.Forms.{is_of_list}
 
 -- an operator of one operand, or of two, is no call, set or record
@@ -47,5 +48,5 @@ keyed_value entries made items ks is = ap (λ ks. RecordOf ks (values_of made)) 
 
 -- ---- leaves
 
-pub leaf_as : (facts : Facts) (holds : LeafAnswers) (t u : Tree) (r : Result PartialValue EvaluationError) → t ≡ u → MeetsAt ⊥ (partial_in facts holds u) r → MeetsAt ⊥ (partial_in facts holds t) r
-leaf_as facts holds t u r is h = subst (λ x. MeetsAt ⊥ (partial_in facts holds x) r) (sym is) h
+pub leaf_as : (naming : Bool) (facts : Facts) (holds : LeafAnswers) (t u : Tree) (r : Result PartialValue EvaluationError) → t ≡ u → MeetsAt ⊥ (naming_in naming facts holds u) r → MeetsAt ⊥ (naming_in naming facts holds t) r
+leaf_as naming facts holds t u r is h = subst (λ x. MeetsAt ⊥ (naming_in naming facts holds x) r) (sym is) h

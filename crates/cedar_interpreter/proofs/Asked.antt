@@ -1,6 +1,6 @@
 -- An evaluator holds what its inquiry holds.
-use Rattle.std.proofs.Common.{◌≡◌, ◌∙◌, ℕ, ap, sym, subst, Bor, Global, BuildHasherDefault, FoldHasher}
-use Rattle.std.specs.Prelude.{Option, Some, None}
+use Rattle.std.proofs.Common.{◌≡◌, ◌∙◌, ℕ, refl, ap, sym, subst, Bor, Global, BuildHasherDefault, FoldHasher}
+use Rattle.std.specs.Prelude.{Option, Some, None, codes}
 use Rattle.std.specs.HashMap.{HashMap}
 use Rattle.std.specs.declared.rc.RcStr.{RcStr}
 use Rattle.cedar_language.specs.Uid.{Text}
@@ -8,7 +8,7 @@ use Rattle.cedar_language.specs.Tree.{Variable, Principal, Action, Resource, Con
 use Rattle.cedar_language.specs.Value.{Value}
 use Rattle.cedar_language.specs.Meaning.{slot_outcome}
 use Rattle.cedar_partial_evaluation.specs.Partial.{Answer, answer_of, LeafAnswers}
-use Rattle.cedar_partial_evaluation.specs.Question.{name_held}
+use Rattle.cedar_partial_evaluation.specs.Question.{Part, Given, Missing, part_held, name_held}
 use Rattle.cedar_policy_parts.specs.Bindings.{Bindings, binding_of}
 use Rattle.cedar_entities.specs.declared.store.Entities.{Entities}
 use Rattle.cedar_extensions.specs.Answering.{FunctionAnswers}
@@ -18,6 +18,7 @@ use Rattle.cedar_requests.specs.Holding.{RequestParts}
 use Rattle.cedar_substitution.specs.Told.{told_for}
 use Rattle.cedar_interpreter.specs.Asking.{untold, variable_asked, request_held, StandFor, IsEvaluatorOf}
 use Rattle.cedar_interpreter.specs.Holding.{variable_held, value_told, held_by, depth_of}
+use Rattle.cedar_interpreter.specs.Naming.{IsPlain}
 use Rattle.cedar_interpreter.specs.Operating.{HasFunctions, NamesNothing}
 use Rattle.cedar_interpreter.specs.Seen.{AreSeen}
 use Rattle.cedar_interpreter.specs.declared.evaluator.Evaluator.{Evaluator}
@@ -39,6 +40,17 @@ module _ {F : Type 0} (r : RequestParts) (ev : Evaluator F) (stand : StandFor r 
       ap (λ (f : Variable → Answer). holding slots f (value_told ev.told)) same
       ∙ ap (λ told. holding slots (variable_asked r) (value_told told)) nothing
 
+part_plain : (p : Part) (n : Text) → IsPlain (part_held p None n)
+part_plain (Given u) n = tt
+part_plain (Missing ty) n = refl
+
+-- what stands for a variable other than the context calls nothing
+asked_plain : (r : RequestParts) → IsPlain (variable_asked r Context) → (v : Variable) → IsPlain (variable_asked r v)
+asked_plain r h Principal = part_plain r.principal (codes "principal")
+asked_plain r h Action = part_plain r.action (codes "action")
+asked_plain r h Resource = part_plain r.resource (codes "resource")
+asked_plain r h Context = h
+
 pub is_evaluator : {F : Type 0} (answers : F → FunctionAnswers) (r : RequestParts) (entities : Entities) (table : Table) (depth : ℕ) (ev : Evaluator F) →
     StandFor r ev.variables → ev.told ≡ None → ev.entities.now ≡ entities → as_table answers ev.extensions.now ≡ table → depth_of ev ≡ depth → IsEvaluatorOf answers (untold r) entities table depth ev
 is_evaluator answers r entities table depth ev stand nothing es ts ds = record {
@@ -48,6 +60,12 @@ is_evaluator answers r entities table depth ev stand nothing es ts ds = record {
     entities = subst (λ e. HasFacts e facts) (sym es) has;
     functions = subst (λ x. HasFunctions x facts) (sym ts) functions;
     names_nothing = subst (λ x. NamesNothing x t) (sym ts) names;
+  };
+  reads = λ facts t has functions naming written context. record {
+    knows = record { entities = subst (λ e. HasFacts e facts) (sym es) has; functions = subst (λ x. HasFunctions x facts) (sym ts) functions };
+    naming = ap (λ (x : Table). x.has_unknown) ts ∙ naming;
+    written = written;
+    variables = λ v. subst IsPlain (sym (of_variable r ev stand nothing v)) (asked_plain r context v);
   };
   limit = ds;
 }
@@ -64,5 +82,8 @@ is_told answers r entities table depth ev told seen is = record {
   serves = λ facts t has functions names.
       let s = is.serves facts t has functions names in
       record { entities = s.entities; functions = s.functions; names_nothing = s.names_nothing };
+  reads = λ facts t has functions naming written context.
+      let s = is.reads facts t has functions naming written context in
+      record { knows = record { entities = s.knows.entities; functions = s.knows.functions }; naming = s.naming; written = s.written; variables = s.variables };
   limit = is.limit;
 }

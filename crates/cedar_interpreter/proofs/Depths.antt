@@ -1,6 +1,5 @@
 -- How deep an evaluation nests: of what is known no deeper than the tree is high, nor of what is projected.
-use Rattle.std.proofs.Common.{◌≡◌, ◌≤◌, ◌<◌, ◌∙◌, ℕ, suc, max, refl, ap, sym, subst, arith, Bool, true, false, true≢false}
-use Rattle.std.proofs.Math.Nat.{le-max_left, le-max_right}
+use Rattle.std.proofs.Common.{◌≡◌, ◌≤◌, ◌<◌, ℕ, suc, refl, sym, subst, arith, Bool, true, false}
 use Rattle.std.specs.Prelude.{◌&&◌, Option, Some, None}
 use Rattle.either.specs.declared.Either.{Either}
 use Rattle.cedar_language.specs.Uid.{Text, Uid}
@@ -13,13 +12,13 @@ use Rattle.cedar_language.specs.Restricted.{is_projectable, are_projectable}
 use Rattle.cedar_partial_evaluation.specs.Leaves.{is_left, AreKnown, KnownIsNeverLeft}
 use Rattle.cedar_partial_evaluation.specs.Mentions.{mentions_only, all_mention_only}
 use Rattle.cedar_partial_evaluation.specs.Partial.{Answer, Evaluated, ResidualTree, Failed, answer_of, LeafAnswers, partial_in}
-use Rattle.cedar_policy_parts.specs.Bindings.{Bindings, binding_of}
+use Rattle.cedar_policy_parts.specs.Bindings.{Bindings}
 use Rattle.cedar_extensions.specs.Answering.{FunctionAnswers}
 use Rattle.cedar_interpreter.specs.Depths.{left_height, read_again, evaluation_depth, evaluation_depths}
-use Rattle.cedar_interpreter.specs.Holding.{held_by, Serves, is_evaluated, Deep}
+use Rattle.cedar_interpreter.specs.Holding.{held_by, Knows, is_naming, is_evaluated, NestsBeyond}
 use Rattle.cedar_interpreter.specs.Meeting.{part_answer}
+use Rattle.cedar_interpreter.specs.Naming.{naming_in, naming_depth, naming_depths}
 use Rattle.cedar_interpreter.specs.declared.evaluator.Evaluator.{Evaluator}
-use Rattle.cedar_interpreter.proofs.Serving.{serves_entry}
 
 and_left : (a b : Bool) → (a && b) ≡ true → a ≡ true
 and_left true b h = refl
@@ -69,9 +68,9 @@ module _ (law : KnownIsNeverLeft) (facts : Facts) (mentioned : Variable → Bool
 
 -- ---- what is projected
 
-module _ (facts : Facts) (holds : LeafAnswers) where
+module _ (naming : Bool) (facts : Facts) (holds : LeafAnswers) where
   mutual
-    pub projectable_depth : (t : Tree) → is_projectable t ≡ true → evaluation_depth facts holds t ≤ height t
+    pub projectable_depth : (t : Tree) → is_projectable t ≡ true → naming_depth naming facts holds t ≤ height t
     projectable_depth (Lit l) p = omega arith
     projectable_depth (Unknown n ty) p = omega arith
     projectable_depth (Var v) p = omega arith
@@ -79,15 +78,15 @@ module _ (facts : Facts) (holds : LeafAnswers) where
     projectable_depth (Apply (MakeRecord ks) ts) p = omega (arith, projectable_depths ts p)
     projectable_depth t p = cc
 
-    projectable_depths : (ts : Trees) → are_projectable ts ≡ true → evaluation_depths facts holds ts ≤ heights ts
+    projectable_depths : (ts : Trees) → are_projectable ts ≡ true → naming_depths naming facts holds ts ≤ heights ts
     projectable_depths no_trees p = omega arith
     projectable_depths (a_tree t ts) p = omega (arith, projectable_depth t (and_left _ _ p), projectable_depths ts (and_right _ _ p))
 
 -- an entry that is evaluated again, of what is left of what an attribute is read of
 pub entry_deep : {F : Type 0} (answers : F → FunctionAnswers) (ev : Evaluator F) (slots : Bindings) (depth : ℕ) (a : Text) (of e : Tree) (part : Either Value Tree) (facts : Facts)
-    → Serves answers ev facts (Apply (GetAttr a) (a_tree of no_trees)) → partial_in facts (held_by ev slots) of ≡ part_answer part → height e < left_height (part_answer part) → is_projectable e ≡ true
-    → Deep answers ev depth e → (bs : Bindings) × (suc depth < evaluation_depth facts (held_by ev bs) (Apply (GetAttr a) (a_tree of no_trees)))
+    → Knows answers ev facts → naming_in (is_naming answers ev) facts (held_by ev slots) of ≡ part_answer part → height e < left_height (part_answer part) → is_projectable e ≡ true
+    → NestsBeyond answers ev depth e → (bs : Bindings) × (suc depth < naming_depth (is_naming answers ev) facts (held_by ev bs) (Apply (GetAttr a) (a_tree of no_trees)))
 entry_deep answers ev slots depth a of e part facts has found low plain deep =
-    let (other, d) = deep facts (serves_entry answers ev facts (Apply (GetAttr a) (a_tree of no_trees)) e has plain) in
-    let l : height e < left_height (partial_in facts (held_by ev slots) of) = subst (λ (b : Answer). height e < left_height b) (sym found) low in
-    (slots, omega (arith, d, l, projectable_depth facts (held_by ev other) e plain))
+    let (other, d) = deep facts has in
+    let l : height e < left_height (naming_in (is_naming answers ev) facts (held_by ev slots) of) = subst (λ (b : Answer). height e < left_height b) (sym found) low in
+    (slots, omega (arith, d, l, projectable_depth (is_naming answers ev) facts (held_by ev other) e plain))

@@ -1,6 +1,7 @@
 -- The answers of parts, one after another.
 use Rattle.std.proofs.Common.{◌≡◌, ◌∙◌, refl, ap, suc, List, [], ◌∷◌, ◌++◌, length, map}
 use Rattle.std.specs.List.{list_any}
+use Rattle.std.specs.Prelude.{Bool}
 use Rattle.either.specs.declared.Either.{Either}
 use Rattle.either.specs.declared.Either.TheVariants.{Left, Right}
 use Rattle.cedar_language.specs.Tree.{MakeSet, MakeRecord, Tree, Apply, Trees, no_trees, a_tree}
@@ -9,12 +10,13 @@ use Rattle.cedar_language.specs.Facts.{Facts}
 use Rattle.cedar_language.specs.Order.{all_of}
 use Rattle.cedar_partial_evaluation.specs.Alike.{gathered, is_some_left, Writes, WriteEach}
 use Rattle.cedar_partial_evaluation.specs.MadeAgain.{tree_of, trees_of}
-use Rattle.cedar_partial_evaluation.specs.Partial.{Answer, Evaluated, AllEvaluated, SomeFailed, and_next, LeafAnswers, partial_in, all_partial_in}
+use Rattle.cedar_partial_evaluation.specs.Partial.{Answer, Evaluated, AllEvaluated, SomeFailed, and_next, LeafAnswers}
 use Rattle.cedar_grammar.specs.Build.{trees}
 use Rattle.cedar_restricted.specs.Expressing.{Expresses, ExpressAll}
 use Rattle.cedar_restricted.specs.PartialValues.{PartExpresses}
 use Rattle.cedar_restricted.specs.Splitting.{ExpressEach, is_residual}
 use Rattle.cedar_interpreter.specs.Meeting.{part_answer}
+use Rattle.cedar_interpreter.specs.Naming.{naming_in, all_naming_in}
 
 -- ---- what writes a value
 
@@ -57,9 +59,9 @@ module _ (facts : Facts) where
   fails_behind [] bs k h = h
   fails_behind (p ∷ ps) bs k h = ap (and_next facts (part_answer p)) (fails_behind ps bs k h) ∙ later_fails p k
 
-  pub gathered_all : (holds : LeafAnswers) (ts : List Tree) → gathered facts (map (partial_in facts holds) ts) ≡ all_partial_in facts holds (trees ts)
-  gathered_all holds [] = refl
-  gathered_all holds (t ∷ ts) = ap (and_next facts (partial_in facts holds t)) (gathered_all holds ts)
+  pub gathered_all : (naming : Bool) (holds : LeafAnswers) (ts : List Tree) → gathered facts (map (naming_in naming facts holds) ts) ≡ all_naming_in naming facts holds (trees ts)
+  gathered_all naming holds [] = refl
+  gathered_all naming holds (t ∷ ts) = ap (and_next facts (naming_in naming facts holds t)) (gathered_all naming holds ts)
 
 -- something is left where a part is a residual
 pub some_left : (ps : List (Either Value Tree)) → is_some_left (map part_answer ps) ≡ list_any is_residual ps

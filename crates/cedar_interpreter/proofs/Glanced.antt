@@ -3,14 +3,15 @@ use Rattle.std.proofs.Common.{◌≡◌, ◌∙◌, ◌≤◌, ◌+◌, ℕ, ref
 use Rattle.std.specs.Bool.{Decides, one_answer}
 use Rattle.std.specs.Cmp.Lexicographic.{bytes_decides}
 use Rattle.cedar_language.specs.Uid.{Text, Uid}
-use Rattle.cedar_language.specs.Tree.{Boolean, String, Entity, Literal, Operator, Not, GetAttr, Tree, Lit, Var, Variable, If, And, Or}
-use Rattle.cedar_language.specs.Value.{Value, Plain, no_values, Gives}
+use Rattle.cedar_language.specs.Tree.{Boolean, String, Entity, Literal, Operator, Not, GetAttr, Call, Tree, Lit, Var, Variable, If, And, Or}
+use Rattle.cedar_language.specs.Value.{Value, Plain, Values, no_values, Gives, Fails, FailedExtensionFunctionLookup}
 use Rattle.cedar_language.specs.Facts.{Facts}
 use Rattle.cedar_language.specs.Order.{same, same_text, same_uid}
 use Rattle.cedar_language.specs.OrderLaws.{value_cmp_total, value_cmp_same}
 use Rattle.cedar_language.specs.Operators.{applied, attribute, attribute_held}
-use Rattle.cedar_partial_evaluation.specs.Partial.{Evaluated, AllEvaluated, answer_of, last_answer, and_answer, or_answer, if_answer, and_next, apply_answer, partial_in}
+use Rattle.cedar_partial_evaluation.specs.Partial.{Evaluated, AllEvaluated, LeafAnswers, answer_of, last_answer, and_answer, or_answer, if_answer, and_next, partial_in}
 use Rattle.cedar_entities.specs.Data.{EntityData}
+use Rattle.cedar_entities.specs.declared.store.Entities.{Entities}
 use Rattle.cedar_entities.specs.Held.{held_of}
 use Rattle.cedar_entities.specs.Store.{held_at}
 use Rattle.cedar_grammar.specs.Build.{unary, binary}
@@ -20,9 +21,12 @@ use Rattle.cedar_operators.specs.Operands.{one, two}
 use Rattle.cedar_operators.specs.Store.{HasFacts}
 use Rattle.cedar_interpreter.specs.Glancing.{value_lent, least_depth, Tells}
 use Rattle.cedar_interpreter.specs.Holding.{held_by, variable_held}
+use Rattle.cedar_interpreter.specs.Naming.{construct_answer, naming_in}
 use Rattle.cedar_interpreter.specs.Seen.{IsSeen}
 use Rattle.cedar_interpreter.specs.declared.evaluator.Evaluator.{Evaluator}
 use Rattle.cedar_interpreter.specs.declared.lent.Lent.{Lent}
+use Rattle.cedar_interpreter.proofs.Naming.{without}
+use Rattle.cedar_policy_parts.specs.Bindings.{Bindings}
 
 -- ---- `==` of two literals is any test that decides whether they are one
 
@@ -46,6 +50,19 @@ texts_tie s t = literals_tie (String s) (String t) (same_text s t) (λ h. ap Str
 
 pub uids_tie : (a b : Uid) → same (Plain (Entity a)) (Plain (Entity b)) ≡ same_uid a b
 uids_tie a b = literals_tie (Entity a) (Entity b) (same_uid a b) (λ h. ap Entity ((uids_same a b).0 h), λ e. (uids_same a b).1 (entity_inj a b e))
+
+-- ---- an operator that gives a value whatever functions there are calls none
+
+abbrev without_functions : Facts → Facts
+without_functions facts = record { entity = facts.entity; reaches = facts.reaches; function = λ n. None }
+
+still_facts : (store : Entities) (facts : Facts) → HasFacts store facts → HasFacts store (without_functions facts)
+still_facts store facts has = record { whole = has.whole; closed = has.closed; entities = has.entities; reaches = has.reaches }
+
+construct_gives : (store : Entities) (naming : Bool) (facts : Facts) (holds : LeafAnswers) (op : Operator) (vs : Values) (w : Value) → ((fs : Facts) → HasFacts store fs → applied fs op vs ≡ Gives w) → HasFacts store facts
+    → construct_answer naming facts holds op (AllEvaluated vs) ≡ Evaluated w
+construct_gives store naming facts holds (Call f) vs w k has = let no : Fails FailedExtensionFunctionLookup ≡ Gives w = k (without_functions facts) (still_facts store facts has) in cc
+construct_gives store naming facts holds op vs w k has = ap answer_of (k facts has)
 
 -- ---- trees by their parts
 
@@ -74,7 +91,7 @@ module _ {F : Type 0} (ev : Evaluator F) where
 
   pub literal_tells : (t : Tree) (l : Literal) (v : Value) → t ≡ Lit l → v ≡ Plain l → Tells ev 1 t v
   literal_tells t l v is also = record {
-    value = λ facts slots has. ap (partial_in facts (held_by ev slots)) is ∙ ap Evaluated (sym also);
+    value = λ naming facts slots has. ap (naming_in naming facts (held_by ev slots)) is ∙ ap Evaluated (sym also);
     within = let h : least_depth t ≡ 1 = ap least_depth is in omega (arith, h);
   }
 
@@ -84,7 +101,7 @@ module _ {F : Type 0} (ev : Evaluator F) where
 
   pub variable_tells : (t : Tree) (x : Variable) (v : Value) → t ≡ Var x → variable_held ev x ≡ Evaluated v → Tells ev 1 t v
   variable_tells t x v is held = record {
-    value = λ facts slots has. ap (partial_in facts (held_by ev slots)) is ∙ held;
+    value = λ naming facts slots has. ap (naming_in naming facts (held_by ev slots)) is ∙ held;
     within = let h : least_depth t ≡ 1 = ap least_depth is in omega (arith, h);
   }
 
@@ -96,61 +113,61 @@ module _ {F : Type 0} (ev : Evaluator F) where
   module _ (d : ℕ) where
     pub and_stops : (l r : Tree) (b : Bool) → b ≡ false → Tells ev d l (Plain (Boolean b)) → Tells ev (d + 1) (And l r) (Plain (Boolean false))
     and_stops l r b is h = record {
-      value = λ facts slots has.
+      value = λ naming facts slots has.
           let holds = held_by ev slots in
-          ap (λ x. and_answer facts x (partial_in facts holds r) r) (h.value facts slots has ∙ ap (λ c. Evaluated (Plain (Boolean c))) is);
+          ap (λ x. and_answer facts x (naming_in naming facts holds r) r) (h.value naming facts slots has ∙ ap (λ c. Evaluated (Plain (Boolean c))) is);
       within = omega (arith, h.within);
     }
 
     pub and_goes_on : (l r : Tree) (b c : Bool) → b ≡ true → Tells ev d l (Plain (Boolean b)) → Tells ev d r (Plain (Boolean c)) → Tells ev (d + 1) (And l r) (Plain (Boolean c))
     and_goes_on l r b c is h k = record {
-      value = λ facts slots has.
+      value = λ naming facts slots has.
           let holds = held_by ev slots in
-          ap (λ x. and_answer facts x (partial_in facts holds r) r) (h.value facts slots has ∙ ap (λ c. Evaluated (Plain (Boolean c))) is)
-          ∙ ap (last_answer (And (Lit (Boolean true)))) (k.value facts slots has);
+          ap (λ x. and_answer facts x (naming_in naming facts holds r) r) (h.value naming facts slots has ∙ ap (λ c. Evaluated (Plain (Boolean c))) is)
+          ∙ ap (last_answer (And (Lit (Boolean true)))) (k.value naming facts slots has);
       within = omega (arith, h.within);
     }
 
     pub or_stops : (l r : Tree) (b : Bool) → b ≡ true → Tells ev d l (Plain (Boolean b)) → Tells ev (d + 1) (Or l r) (Plain (Boolean true))
     or_stops l r b is h = record {
-      value = λ facts slots has.
+      value = λ naming facts slots has.
           let holds = held_by ev slots in
-          ap (λ x. or_answer facts x (partial_in facts holds r) r) (h.value facts slots has ∙ ap (λ c. Evaluated (Plain (Boolean c))) is);
+          ap (λ x. or_answer facts x (naming_in naming facts holds r) r) (h.value naming facts slots has ∙ ap (λ c. Evaluated (Plain (Boolean c))) is);
       within = omega (arith, h.within);
     }
 
     pub or_goes_on : (l r : Tree) (b c : Bool) → b ≡ false → Tells ev d l (Plain (Boolean b)) → Tells ev d r (Plain (Boolean c)) → Tells ev (d + 1) (Or l r) (Plain (Boolean c))
     or_goes_on l r b c is h k = record {
-      value = λ facts slots has.
+      value = λ naming facts slots has.
           let holds = held_by ev slots in
-          ap (λ x. or_answer facts x (partial_in facts holds r) r) (h.value facts slots has ∙ ap (λ c. Evaluated (Plain (Boolean c))) is)
-          ∙ ap (last_answer (Or (Lit (Boolean false)))) (k.value facts slots has);
+          ap (λ x. or_answer facts x (naming_in naming facts holds r) r) (h.value naming facts slots has ∙ ap (λ c. Evaluated (Plain (Boolean c))) is)
+          ∙ ap (last_answer (Or (Lit (Boolean false)))) (k.value naming facts slots has);
       within = omega (arith, h.within);
     }
 
     pub if_yes : (t y n : Tree) (b : Bool) (found : Option Lent) → b ≡ true → Tells ev d t (Plain (Boolean b)) → IfSome found (λ l. Tells ev d y (value_lent l)) → IfSome found (λ l. Tells ev (d + 1) (If t y n) (value_lent l))
     if_yes t y n b None is h k = tt
     if_yes t y n b (Some l) is h k = record {
-      value = λ facts slots has.
+      value = λ naming facts slots has.
           let holds = held_by ev slots in
-          ap (λ x. if_answer facts x (partial_in facts holds y) (partial_in facts holds n) y n) (h.value facts slots has ∙ ap (λ c. Evaluated (Plain (Boolean c))) is) ∙ k.value facts slots has;
+          ap (λ x. if_answer facts x (naming_in naming facts holds y) (naming_in naming facts holds n) y n) (h.value naming facts slots has ∙ ap (λ c. Evaluated (Plain (Boolean c))) is) ∙ k.value naming facts slots has;
       within = omega (arith, h.within);
     }
 
     pub if_no : (t y n : Tree) (b : Bool) (found : Option Lent) → b ≡ false → Tells ev d t (Plain (Boolean b)) → IfSome found (λ l. Tells ev d n (value_lent l)) → IfSome found (λ l. Tells ev (d + 1) (If t y n) (value_lent l))
     if_no t y n b None is h k = tt
     if_no t y n b (Some l) is h k = record {
-      value = λ facts slots has.
+      value = λ naming facts slots has.
           let holds = held_by ev slots in
-          ap (λ x. if_answer facts x (partial_in facts holds y) (partial_in facts holds n) y n) (h.value facts slots has ∙ ap (λ c. Evaluated (Plain (Boolean c))) is) ∙ k.value facts slots has;
+          ap (λ x. if_answer facts x (naming_in naming facts holds y) (naming_in naming facts holds n) y n) (h.value naming facts slots has ∙ ap (λ c. Evaluated (Plain (Boolean c))) is) ∙ k.value naming facts slots has;
       within = omega (arith, h.within);
     }
 
     pub one_tells : (op : Operator) (t : Tree) (v w : Value) → Tells ev d t v → ((facts : Facts) → HasFacts ev.entities.now facts → applied facts op (one v) ≡ Gives w) → Tells ev (d + 1) (unary op t) w
     one_tells op t v w h k = record {
-      value = λ facts slots has.
+      value = λ naming facts slots has.
           let holds = held_by ev slots in
-          ap (λ b. apply_answer facts holds op (and_next facts b (AllEvaluated no_values))) (h.value facts slots has) ∙ ap answer_of (k facts has);
+          ap (λ b. construct_answer naming facts holds op (and_next facts b (AllEvaluated no_values))) (h.value naming facts slots has) ∙ construct_gives ev.entities.now naming facts holds op (one v) w k has;
       within = omega (arith, h.within);
     }
 
@@ -164,11 +181,11 @@ module _ {F : Type 0} (ev : Evaluator F) where
 
     pub two_tells : (op : Operator) (s t : Tree) (u v w : Value) → Tells ev d s u → Tells ev d t v → ((facts : Facts) → HasFacts ev.entities.now facts → applied facts op (two u v) ≡ Gives w) → Tells ev (d + 1) (binary op s t) w
     two_tells op s t u v w h g k = record {
-      value = λ facts slots has.
+      value = λ naming facts slots has.
           let holds = held_by ev slots in
-          ap (λ b. apply_answer facts holds op (and_next facts b (and_next facts (partial_in facts holds t) (AllEvaluated no_values)))) (h.value facts slots has)
-          ∙ ap (λ b. apply_answer facts holds op (and_next facts (Evaluated u) (and_next facts b (AllEvaluated no_values)))) (g.value facts slots has)
-          ∙ ap answer_of (k facts has);
+          ap (λ b. construct_answer naming facts holds op (and_next facts b (and_next facts (naming_in naming facts holds t) (AllEvaluated no_values)))) (h.value naming facts slots has)
+          ∙ ap (λ b. construct_answer naming facts holds op (and_next facts (Evaluated u) (and_next facts b (AllEvaluated no_values)))) (g.value naming facts slots has)
+          ∙ construct_gives ev.entities.now naming facts holds op (two u v) w k has;
       within = omega (arith, h.within, g.within);
     }
 
@@ -184,3 +201,8 @@ module _ {F : Type 0} (ev : Evaluator F) where
         ((facts : Facts) → HasFacts ev.entities.now facts → held_at ev.entities.now u ≡ Some (held_of e) → IfSome found (λ l. attribute_held a (facts.entity u) ≡ Gives (value_lent l))) →
         IfSome found (λ l. Tells ev 2 (unary (GetAttr a) (Var x)) (value_lent l))
     attribute_of_given u e held seen k = attribute_of_variable (Plain (Entity u)) held (λ facts has. k facts has seen.0)
+
+-- ---- what is told, where no call may name an unknown
+
+pub told_plainly : {F : Type 0} (ev : Evaluator F) (d : ℕ) (t : Tree) (v : Value) → Tells ev d t v → (facts : Facts) (slots : Bindings) → HasFacts ev.entities.now facts → partial_in facts (held_by ev slots) t ≡ Evaluated v
+told_plainly ev d t v tells facts slots has = sym (without false facts (held_by ev slots) t refl) ∙ tells.value false facts slots has

@@ -1,3 +1,8 @@
+pub mod Constructs
+pub mod Naming
+pub mod NamingDepths
+pub mod Read
+pub mod Nesting
 pub mod Gathering
 pub mod Projecting
 pub mod Seen

@@ -1,11 +1,11 @@
 -- From the answers of the parts of a construct to its own.
-use Rattle.std.proofs.Common.{◌≡◌, ◌∙◌, refl, ap, sym, subst, List, [], ◌∷◌, length, map, true}
+use Rattle.std.proofs.Common.{◌≡◌, ◌∙◌, refl, ap, sym, subst, List, [], ◌∷◌, length, map, Bool, true, false}
 use Rattle.std.proofs.lemmas.List.{length-map}
 use Rattle.std.specs.Prelude.{Result}
 use Rattle.std.specs.List.{list_any}
 use Rattle.either.specs.declared.Either.{Either}
 use Rattle.either.specs.declared.Either.TheVariants.{Left, Right}
-use Rattle.cedar_language.specs.Tree.{Operator, Tree, Lit, Var, Slot, Unknown, If, And, Or, Apply, Trees, no_trees, a_tree}
+use Rattle.cedar_language.specs.Tree.{Operator, Call, Tree, Lit, Var, Slot, Unknown, If, And, Or, Apply, Trees, no_trees, a_tree}
 use Rattle.cedar_language.specs.Value.{Value, Values, no_values, a_value}
 use Rattle.cedar_language.specs.Facts.{Facts}
 use Rattle.cedar_language.specs.Operators.{applied}
@@ -21,23 +21,26 @@ use Rattle.cedar_restricted.specs.declared.partial_values.PartialValue.{PartialV
 use Rattle.cedar_extensions.specs.declared.evaluation_error.EvaluationError.{EvaluationError}
 use Rattle.cedar_interpreter.specs.Forms.{is_of_list}
 use Rattle.cedar_interpreter.specs.Meeting.{part_answer, MeetsAt}
-use Rattle.cedar_interpreter.specs.Operating.{applied_in, left_in, operated}
+use Rattle.cedar_interpreter.specs.Operating.{applied_in, is_call, left_in, operated}
+use Rattle.cedar_interpreter.proofs.Constructs.{construct_left}
 use Rattle.cedar_interpreter.proofs.Gathering.{parts_write, some_left, all_values, expressed_length}
 
 module _ (facts : Facts) where
-  module _ (holds : LeafAnswers) where
-    operated_values : (t : Tree) (vs : Values) → is_of_list t ≡ true → operated facts holds t (AllEvaluated vs) ≡ answer_of (applied_in facts t vs)
-    operated_values (Apply op ts) vs s = refl
-    operated_values (Lit l) vs s = cc
-    operated_values (Var v) vs s = cc
-    operated_values (Slot i) vs s = cc
-    operated_values (Unknown n ty) vs s = cc
-    operated_values (If t y n) vs s = cc
-    operated_values (And l r) vs s = cc
-    operated_values (Or l r) vs s = cc
+  module _ (naming : Bool) (holds : LeafAnswers) where
+    -- what isn't called names nothing
+    pub operated_values : (t : Tree) (vs : Values) → is_of_list t ≡ true → is_call t ≡ false → operated naming facts holds t (AllEvaluated vs) ≡ answer_of (applied_in facts t vs)
+    operated_values (Apply (Call f) ts) vs s c = cc
+    operated_values (Apply op ts) vs s c = refl
+    operated_values (Lit l) vs s c = cc
+    operated_values (Var v) vs s c = cc
+    operated_values (Slot i) vs s c = cc
+    operated_values (Unknown n ty) vs s c = cc
+    operated_values (If t y n) vs s c = cc
+    operated_values (And l r) vs s c = cc
+    operated_values (Or l r) vs s c = cc
 
-    operated_left : (t : Tree) (us : Trees) → is_of_list t ≡ true → operated facts holds t (SomeResiduals us) ≡ left_in facts holds t us
-    operated_left (Apply op ts) us s = refl
+    operated_left : (t : Tree) (us : Trees) → is_of_list t ≡ true → operated naming facts holds t (SomeResiduals us) ≡ left_in facts holds t us
+    operated_left (Apply op ts) us s = construct_left naming facts holds op us
     operated_left (Lit l) us s = cc
     operated_left (Var v) us s = cc
     operated_left (Slot i) us s = cc
@@ -47,14 +50,14 @@ module _ (facts : Facts) where
     operated_left (Or l r) us s = cc
 
     module _ (t : Tree) (strict : is_of_list t ≡ true) (ps : List (Either Value Tree)) where
-      pub of_values : (vs : List Value) (r : Result PartialValue EvaluationError) → ps ≡ map Left vs → MeetsAt ⊥ (answer_of (applied_in facts t (all_of vs))) r → MeetsAt ⊥ (operated facts holds t (gathered facts (map part_answer ps))) r
+      pub of_values : (vs : List Value) (r : Result PartialValue EvaluationError) → ps ≡ map Left vs → MeetsAt ⊥ (operated naming facts holds t (AllEvaluated (all_of vs))) r → MeetsAt ⊥ (operated naming facts holds t (gathered facts (map part_answer ps))) r
       of_values vs r is h =
           let all : gathered facts (map part_answer ps) ≡ AllEvaluated (all_of vs) = ap (λ qs. gathered facts (map part_answer qs)) is ∙ all_values facts vs in
-          subst (λ b. MeetsAt ⊥ b r) (sym (ap (operated facts holds t) all ∙ operated_values t (all_of vs) strict)) h
+          subst (λ b. MeetsAt ⊥ b r) (sym (ap (operated naming facts holds t) all)) h
 
-      pub of_left : GatheredSplits facts → (us : List Tree) → (list_any is_residual ps ≡ true) × ExpressEach ps us → operated facts holds t (gathered facts (map part_answer ps)) ≡ left_in facts holds t (trees us)
+      pub of_left : GatheredSplits facts → (us : List Tree) → (list_any is_residual ps ≡ true) × ExpressEach ps us → operated naming facts holds t (gathered facts (map part_answer ps)) ≡ left_in facts holds t (trees us)
       of_left splits us split =
-          ap (operated facts holds t) (splits.trees (trees us) (map part_answer ps) (parts_write facts ps us split.1) (some_left ps ∙ split.0))
+          ap (operated naming facts holds t) (splits.trees (trees us) (map part_answer ps) (parts_write facts ps us split.1) (some_left ps ∙ split.0))
           ∙ operated_left t (trees us) strict
 
 pub values_count : (ps : List (Either Value Tree)) (vs : List Value) → ps ≡ map Left vs → length vs ≡ length ps

@@ -1,6 +1,6 @@
 -- What an evaluator answers: it holds what its request holds, and an answer to a tree that mentions only what is known is what
 -- the tree means.
-use Rattle.std.specs.Prelude.{◌≡◌, ◌<◌, ℕ, Bool, true, Option, Some, None, codes, Result}
+use Rattle.std.specs.Prelude.{◌≡◌, ◌<◌, ℕ, Bool, true, false, Option, Some, None, codes, Result}
 use Rattle.either.specs.declared.Either.{Either}
 use Rattle.cedar_language.specs.Tree.{Variable, Principal, Action, Resource, Context, SlotId, Tree, Unknown}
 use Rattle.cedar_language.specs.Uid.{Text, Uid}
@@ -11,6 +11,7 @@ use Rattle.cedar_language.specs.Meaning.{Request, slot_outcome, meaning}
 use Rattle.cedar_partial_evaluation.specs.Mentions.{mentions_only}
 use Rattle.cedar_partial_evaluation.specs.Partial.{Answer, Evaluated, ResidualTree, answer_of, LeafAnswers}
 use Rattle.cedar_partial_evaluation.specs.Question.{Part, Given, Missing, part_held, name_held}
+use Rattle.cedar_partial_evaluation.specs.ReadUnknowns.{read_unknowns, calls_unknown}
 use Rattle.cedar_policy_parts.specs.Bindings.{Bindings, binding_of}
 use Rattle.cedar_entities.specs.declared.store.Entities.{Entities}
 use Rattle.cedar_extensions.specs.Answering.{FunctionAnswers}
@@ -21,7 +22,8 @@ use Rattle.cedar_operators.specs.Store.{HasFacts}
 use Rattle.cedar_restricted.specs.PartialValues.{partial_of}
 use Rattle.cedar_restricted_evaluation.specs.Evaluations.{part_answer}
 use Rattle.cedar_requests.specs.Holding.{RequestParts}
-use Rattle.cedar_interpreter.specs.Holding.{held_by, is_evaluated, Serves, depth_of}
+use Rattle.cedar_interpreter.specs.Holding.{held_by, is_evaluated, Serves, ServesRead, depth_of}
+use Rattle.cedar_interpreter.specs.Naming.{IsPlain}
 use Rattle.cedar_interpreter.specs.Operating.{HasFunctions, NamesNothing}
 use Rattle.cedar_interpreter.specs.declared.evaluator.Variables.{Variables}
 use Rattle.cedar_interpreter.specs.declared.evaluator.Evaluator.{Evaluator}
@@ -81,6 +83,7 @@ pub record IsEvaluatorOf {F : Type 0} (answers : F → FunctionAnswers) (i : Inq
   pub store : ev.entities.now ≡ entities
   pub holds : (slots : Bindings) → held_by ev slots ≡ request_held i slots
   pub serves : (facts : Facts) (t : Tree) → HasFacts entities facts → HasFunctions table facts → NamesNothing table t → Serves answers ev facts t
+  pub reads : (facts : Facts) (t : Tree) → HasFacts entities facts → HasFunctions table facts → table.has_unknown ≡ true → calls_unknown (read_unknowns t) ≡ false → IsPlain (variable_asked i.request Context) → ServesRead answers ev facts t
   pub limit : depth_of ev ≡ depth
 
 -- ---- what is known

@@ -1,5 +1,5 @@
 -- How deep the evaluation of a tree nests, its outermost construct being at 1.
-use Rattle.std.specs.Prelude.{ℕ, suc, max, Bool, true, false, cond}
+use Rattle.std.specs.Prelude.{ℕ, suc, max}
 use Rattle.cedar_language.specs.Tree.{GetAttr, Operator, Tree, Lit, Var, Slot, Unknown, If, And, Or, Apply, Trees, no_trees, a_tree}
 use Rattle.cedar_language.specs.Facts.{Facts}
 use Rattle.cedar_language.specs.Height.{height}

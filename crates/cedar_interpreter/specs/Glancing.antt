@@ -1,13 +1,14 @@
 -- What a glance tells: values that are lent, and trees of which they are the value, within a limit of depth.
-use Rattle.std.specs.Prelude.{◌≡◌, ◌≤◌, ℕ, suc, max}
+use Rattle.std.specs.Prelude.{◌≡◌, ◌≤◌, ℕ, suc, max, Bool}
 use Rattle.std.specs.Rc.{rc_str_bytes}
 use Rattle.cedar_language.specs.Tree.{Boolean, Long, String, Entity, Tree, If, And, Or, Apply, Trees, no_trees, a_tree}
 use Rattle.cedar_language.specs.Value.{Value, Plain}
 use Rattle.cedar_language.specs.Facts.{Facts}
-use Rattle.cedar_partial_evaluation.specs.Partial.{Evaluated, partial_in}
+use Rattle.cedar_partial_evaluation.specs.Partial.{Evaluated}
 use Rattle.cedar_policy_parts.specs.Bindings.{Bindings}
 use Rattle.cedar_operators.specs.Store.{HasFacts}
 use Rattle.cedar_interpreter.specs.Holding.{held_by}
+use Rattle.cedar_interpreter.specs.Naming.{naming_in}
 use Rattle.cedar_interpreter.specs.declared.evaluator.Evaluator.{Evaluator}
 use Rattle.cedar_interpreter.specs.declared.lent.Lent.{Lent}
 use Rattle.cedar_interpreter.specs.declared.lent.Lent.TheVariants as lent
@@ -33,7 +34,8 @@ abbrev mutual
   least_depths no_trees = 0
   least_depths (a_tree t ts) = max (least_depth t) (least_depths ts)
 
--- the tree has this value, whatever slots are bound to, and the limit isn't met where it is evaluated
+-- the tree has this value, whatever slots are bound to, and whether or not calls may name unknowns, and the limit isn't met where
+-- it is evaluated
 pub record Tells {F : Type 0} (ev : Evaluator F) (depth : ℕ) (t : Tree) (v : Value) : Type 0 where
-  pub value : (facts : Facts) (slots : Bindings) → HasFacts ev.entities.now facts → partial_in facts (held_by ev slots) t ≡ Evaluated v
+  pub value : (naming : Bool) (facts : Facts) (slots : Bindings) → HasFacts ev.entities.now facts → naming_in naming facts (held_by ev slots) t ≡ Evaluated v
   pub within : least_depth t ≤ depth

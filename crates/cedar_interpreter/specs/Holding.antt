@@ -1,5 +1,5 @@
 -- What an evaluator holds: of the request, and of the entities and functions besides.
-use Rattle.std.specs.Prelude.{◌≡◌, ◌<◌, ⊤, ℕ, Bool, true, false, Option, Some, None, List, [], ◌∷◌}
+use Rattle.std.specs.Prelude.{◌≡◌, ◌<◌, ◌≤◌, ℕ, Bool, true, false, Option, Some, None, List}
 use Rattle.std.specs.Borrow.{Bor}
 use Rattle.std.specs.HashMap.{HashMap}
 use Rattle.std.specs.declared.alloc.Global.{Global}
@@ -11,6 +11,7 @@ use Rattle.cedar_language.specs.Facts.{Facts}
 use Rattle.cedar_language.specs.Meaning.{slot_outcome}
 use Rattle.cedar_partial_evaluation.specs.Partial.{Answer, Evaluated, answer_of, LeafAnswers}
 use Rattle.cedar_partial_evaluation.specs.Question.{name_held}
+use Rattle.cedar_partial_evaluation.specs.ReadUnknowns.{read_unknowns, calls_unknown}
 use Rattle.cedar_grammar.specs.Build.{trees}
 use Rattle.cedar_policy_parts.specs.Bindings.{Bindings, binding_of}
 use Rattle.cedar_operators.specs.Store.{HasFacts}
@@ -20,7 +21,8 @@ use Rattle.cedar_extensions.specs.Answering.{FunctionAnswers}
 use Rattle.cedar_extensions.specs.Table.{as_table}
 use Rattle.cedar_restricted_evaluation.specs.Evaluations.{part_answer}
 use Rattle.cedar_substitution.specs.Told.{told_for}
-use Rattle.cedar_interpreter.specs.Depths.{evaluation_depth, evaluation_depths}
+use Rattle.cedar_interpreter.specs.Depths.{evaluation_depth}
+use Rattle.cedar_interpreter.specs.Naming.{naming_depth, naming_depths, IsPlain}
 use Rattle.cedar_interpreter.specs.Operating.{HasFunctions, NamesNothing}
 use Rattle.cedar_interpreter.specs.Seen.{uid_standing}
 use Rattle.cedar_interpreter.specs.declared.evaluator.Variables.{Variables}
@@ -59,6 +61,10 @@ held_by ev slots = record {
   slot = λ s. answer_of (slot_outcome (binding_of slots s));
 }
 
+-- these are the answers to unknowns without a type, by what is told
+abbrev pub AreTold : {S : Type 0} → Option (Bor (HashMap (RcStr Global) Value S)) → LeafAnswers → Type 0
+AreTold told holds = (n : Text) → holds.unknown n None ≡ name_held (value_told told n) n None
+
 -- the facts are those of what is held, and no call in the tree names an unknown
 pub record Serves {F : Type 0} (answers : F → FunctionAnswers) (ev : Evaluator F) (facts : Facts) (t : Tree) : Type 0 where
   pub entities : HasFacts ev.entities.now facts
@@ -77,11 +83,33 @@ is_held ev v = is_evaluated (variable_held ev v)
 abbrev pub Deep : {F : Type 0} → (F → FunctionAnswers) → Evaluator F → ℕ → Tree → Type 0
 Deep answers ev depth t = (facts : Facts) → Serves answers ev facts t → (slots : Bindings) × (depth < evaluation_depth facts (held_by ev slots) t)
 
--- ---- trees one after another
+-- ---- trees that call `unknown`
 
-abbrev pub ServesEach : {F : Type 0} → (F → FunctionAnswers) → Evaluator F → Facts → List Tree → Type 0
-ServesEach answers ev facts [] = ⊤
-ServesEach answers ev facts (t ∷ ts) = Serves answers ev facts t × ServesEach answers ev facts ts
+-- the facts are those of what is held
+pub record Knows {F : Type 0} (answers : F → FunctionAnswers) (ev : Evaluator F) (facts : Facts) : Type 0 where
+  pub entities : HasFacts ev.entities.now facts
+  pub functions : HasFunctions (as_table answers ev.extensions.now) facts
 
-abbrev pub DeepEach : {F : Type 0} → (F → FunctionAnswers) → Evaluator F → ℕ → List Tree → Type 0
-DeepEach answers ev depth ts = (facts : Facts) → ServesEach answers ev facts ts → (slots : Bindings) × (depth < evaluation_depths facts (held_by ev slots) (trees ts))
+-- the table has the function by which an unknown is named
+abbrev pub is_naming : {F : Type 0} → (F → FunctionAnswers) → Evaluator F → Bool
+is_naming answers ev = (as_table answers ev.extensions.now).has_unknown
+
+-- the facts are those of what is held, and each call of that function in the tree is on one string literal; none stands in what is
+-- left of a variable
+pub record ServesRead {F : Type 0} (answers : F → FunctionAnswers) (ev : Evaluator F) (facts : Facts) (t : Tree) : Type 0 where
+  pub knows : Knows answers ev facts
+  pub naming : is_naming answers ev ≡ true
+  pub written : calls_unknown (read_unknowns t) ≡ false
+  pub variables : (v : Variable) → IsPlain (variable_held ev v)
+
+-- with its slots bound in some way, the evaluation of a tree nests deeper than the limit
+abbrev pub NestsBeyond : {F : Type 0} → (F → FunctionAnswers) → Evaluator F → ℕ → Tree → Type 0
+NestsBeyond answers ev depth t = (facts : Facts) → Knows answers ev facts → (slots : Bindings) × (depth < naming_depth (is_naming answers ev) facts (held_by ev slots) t)
+
+-- the same of one among these
+abbrev pub SomeNestsBeyond : {F : Type 0} → (F → FunctionAnswers) → Evaluator F → ℕ → List Tree → Type 0
+SomeNestsBeyond answers ev depth ts = (facts : Facts) → Knows answers ev facts → (slots : Bindings) × (depth < naming_depths (is_naming answers ev) facts (held_by ev slots) (trees ts))
+
+-- the evaluation of the tree with unknowns in the places of such calls nests as deep as the limit: a call is a level above its text
+abbrev pub IsDeepRead : {F : Type 0} → (F → FunctionAnswers) → Evaluator F → ℕ → Tree → Type 0
+IsDeepRead answers ev depth t = (facts : Facts) → ServesRead answers ev facts t → (slots : Bindings) × (depth ≤ evaluation_depth facts (held_by ev slots) (read_unknowns t))

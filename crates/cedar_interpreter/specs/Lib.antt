@@ -3,6 +3,7 @@ pub mod Meeting
 pub mod Operating
 pub mod Projecting
 pub mod Depths
+pub mod Naming
 pub mod Holding
 pub mod Seen
 pub mod Glancing

@@ -17,6 +17,7 @@ use Rattle.cedar_extensions.specs.Failures.{Failure, OfKind, LimitMet, MemoryRan
 use Rattle.cedar_extensions.specs.Giving.{GivesBy}
 use Rattle.cedar_extensions.specs.declared.evaluation_error.EvaluationError.{EvaluationError}
 pub use Rattle.cedar_restricted_evaluation.specs.Evaluations.{part_answer}
+use Rattle.cedar_interpreter.specs.Naming.{as_read}
 use Rattle.cedar_interpreter.specs.declared.lazy.Tested.{Tested}
 use Rattle.cedar_interpreter.specs.declared.lazy.Tested.TheVariants as tested
 
@@ -28,6 +29,10 @@ IsLimit (Err e) = failure_of e ≡ LimitMet
 -- the answer b; the limit may be met where the evaluation is deep
 abbrev pub MeetsAt : Type 0 → Answer → Result PartialValue EvaluationError → Type 0
 MeetsAt deep b result = GivesBy (λ p. b ≡ part_answer (partial_of p)) (λ k. b ≡ Failed k) deep result
+
+-- the same where what is left is read
+abbrev pub ReadsAt : Type 0 → Answer → Result PartialValue EvaluationError → Type 0
+ReadsAt deep b result = GivesBy (λ p. b ≡ as_read (part_answer (partial_of p))) (λ k. b ≡ Failed k) deep result
 
 -- the value that the answer b is, its error, or `NonValue` where something is left
 abbrev pub ValueAt : Type 0 → Answer → Result Value EvaluationError → Type 0

@@ -7,12 +7,13 @@ use Rattle.cedar_language.specs.Facts.{Facts}
 use Rattle.cedar_language.specs.Operators.{applied}
 use Rattle.cedar_language.specs.Order.{same_name}
 use Rattle.cedar_language.specs.Restricted.{are_projectable}
-use Rattle.cedar_partial_evaluation.specs.Partial.{Answer, ResidualTree, Answers, LeafAnswers, found_tree, stated_type, types_differ, residual_answer, apply_answer}
+use Rattle.cedar_partial_evaluation.specs.Partial.{Answer, ResidualTree, Answers, LeafAnswers, found_tree, stated_type, types_differ, residual_answer}
 use Rattle.cedar_literals.specs.declared.operators.BinaryOp.{BinaryOp}
 use Rattle.cedar_literals.specs.declared.operators.BinaryOp.TheVariants.{Eq}
 use Rattle.cedar_partial_evaluation.specs.ReadUnknowns.{calls_unknown}
 use Rattle.cedar_extensions.specs.Table.{Table}
 pub use Rattle.cedar_extensions.specs.Table.{HasFunctions}
+use Rattle.cedar_interpreter.specs.Naming.{construct_answer}
 
 -- the construct of a tree at these values, where it is an operator
 abbrev pub applied_in : Facts → Tree → Values → Outcome
@@ -29,10 +30,10 @@ abbrev pub left_in : Facts → LeafAnswers → Tree → Trees → Answer
 left_in facts holds (Apply op ts) us = residual_answer facts holds op us
 left_in facts holds t us = ResidualTree t
 
--- both at once, by the answers of its parts
-abbrev pub operated : Facts → LeafAnswers → Tree → Answers → Answer
-operated facts holds (Apply op ts) bs = apply_answer facts holds op bs
-operated facts holds t bs = ResidualTree t
+-- both at once, by the answers of its parts; whether calls may name unknowns
+abbrev pub operated : Bool → Facts → LeafAnswers → Tree → Answers → Answer
+operated naming facts holds (Apply op ts) bs = construct_answer naming facts holds op bs
+operated naming facts holds t bs = ResidualTree t
 
 -- no call of the function by which an unknown is named, where the table has it
 abbrev pub NamesNothing : Table → Tree → Type 0
@@ -42,6 +43,11 @@ NamesNothing table t = (table.has_unknown && calls_unknown t) ≡ false
 abbrev pub entity_type_in : Option ValueType → Option Name
 entity_type_in (Some (EntityType n)) = Some n
 entity_type_in _ = None
+
+-- the unknown that a tree is
+abbrev pub unknown_at : Tree → Option Tree
+unknown_at (Unknown n ty) = Some (Unknown n ty)
+unknown_at t = None
 
 -- ---- what is told by what is left
 

@@ -4,7 +4,7 @@ ghost use Rattle.cedar_language.specs.Facts.{Facts};
 ghost use Rattle.cedar_language.specs.Operators.{applied};
 ghost use Rattle.cedar_language.specs.Order.{all_of};
 ghost use Rattle.cedar_language.specs.Value.{Outcome, RecordOf};
-ghost use Rattle.cedar_partial_evaluation.specs.Partial.{answer_of};
+ghost use Rattle.cedar_partial_evaluation.specs.Partial.{AllEvaluated, LeafAnswers, answer_of};
 ghost use Rattle.cedar_grammar.specs.Build.{keys};
 ghost use Rattle.cedar_literals.specs.Operators.{binary_operator_of};
 ghost use Rattle.cedar_shapes.specs.Parts.{parts as parts_of};
@@ -15,8 +15,10 @@ ghost use Rattle.cedar_operators.specs.Operands.{one, two};
 ghost use Rattle.cedar_operators.specs.Store.{HasFacts};
 ghost use Rattle.cedar_interpreter.specs.Forms.{unary_operator, is_of_list};
 ghost use Rattle.cedar_interpreter.specs.Meeting.{MeetsAt};
-ghost use Rattle.cedar_interpreter.specs.Operating.{applied_in, is_call, NamesNothing, HasFunctions};
+ghost use Rattle.cedar_interpreter.specs.Holding.{AreTold};
+ghost use Rattle.cedar_interpreter.specs.Operating.{applied_in, is_call, operated, HasFunctions};
 
+use crate::leaves::named;
 use crate::operands::UnaryOperator;
 use crate::partial_stores::{open_has, open_pair, open_path};
 use cedar_entities::store::Entities;
@@ -34,7 +36,7 @@ use cedar_restricted_evaluation::{call, keyed};
 use cedar_trees::expr::{Expr, ExprKind};
 use cedar_values::values::Value;
 use std::alloc::{AllocError, Global};
-use std::collections::BTreeMap;
+use std::collections::{BTreeMap, HashMap};
 use std::rc::{Rc, RcStr};
 
 /// A value as an answer.
@@ -126,21 +128,24 @@ pub(crate) fn apply_to_two<F>(
     }
 }
 
-/// What a call, a set or a record gives for the values of its parts.
+/// What a call, a set or a record gives for the values of its parts. An unknown that a call names is answered
+/// by the value that is told for it, if there is one.
 pub(crate) fn apply_to_list<F: ExtensionFunctionObject>(
     alloc: Global,
     expr: &Expr,
     values: Vec<Value>,
     extensions: &Extensions<'_, F>,
+    told: Option<&HashMap<RcStr, Value>>,
 ) -> Result<PartialValue, EvaluationError>
     requires list { is_of_list (bare expr.now) ≡ true }
     requires count { length values.items ≡ length (parts_of (bare expr.now)) }
-    ensures { (facts : Facts) → HasFunctions (as_table F.answers extensions.now) facts → NamesNothing (as_table F.answers extensions.now) (bare expr.now) →
-        MeetsAt ⊥ (answer_of (applied_in facts (bare expr.now) (all_of values.items))) result }
+    ensures { (facts : Facts) → HasFunctions (as_table F.answers extensions.now) facts → (holds : LeafAnswers) → AreTold told.entry holds →
+        MeetsAt ⊥ (operated (as_table F.answers extensions.now).has_unknown facts holds (bare expr.now) (AllEvaluated (all_of values.items))) result }
 {
     match &expr.expr_kind {
         ExprKind::ExtensionFunctionApp { fn_name, .. } => {
-            call(alloc, fn_name, &values, None, extensions)
+            let answer = call(alloc, fn_name, &values, None, extensions);
+            named(alloc, told, answer)
         }
         _ => known(collected(alloc, expr, values)),
     }
@@ -152,7 +157,8 @@ fn collected(alloc: Global, expr: &Expr, values: Vec<Value>) -> Result<Value, Ev
     requires list { is_of_list (bare expr.now) ≡ true }
     requires called { is_call (bare expr.now) ≡ false }
     requires count { length values.items ≡ length (parts_of (bare expr.now)) }
-    ensures { (facts : Facts) → Gives (λ v. v) ⊥ result (applied_in facts (bare expr.now) (all_of values.items)) }
+    ensures found { (facts : Facts) → Gives (λ v. v) ⊥ result (applied_in facts (bare expr.now) (all_of values.items)) }
+    ensures other { is_call (bare expr.now) ≡ false }
 {
     match &expr.expr_kind {
         ExprKind::Set(_) => Ok(Value::set(alloc, values, None)?),

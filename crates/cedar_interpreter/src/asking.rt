@@ -2,6 +2,7 @@
 ghost use Rattle.std.specs.Prelude.{◌≡◌, ⊤, ℕ, option_map, IfOk};
 ghost use Rattle.cedar_language.specs.Facts.{Facts};
 ghost use Rattle.cedar_partial_evaluation.specs.Partial.{Answer, partial_in};
+ghost use Rattle.cedar_partial_evaluation.specs.ReadUnknowns.{read_unknowns};
 ghost use Rattle.cedar_entities.specs.declared.store.Entities.{Entities as Store};
 ghost use Rattle.cedar_extensions.specs.Table.{Table, as_table};
 ghost use Rattle.cedar_trees.specs.Bare.{bare};
@@ -11,8 +12,9 @@ ghost use Rattle.cedar_requests.specs.Contexts.{context_part};
 ghost use Rattle.cedar_requests.specs.Holding.{RequestParts, request_parts};
 ghost use Rattle.cedar_substitution.specs.Told.{told_for};
 ghost use Rattle.cedar_interpreter.specs.Asking.{context_asked, untold, StandFor, IsEvaluatorOf, MeansTree};
-ghost use Rattle.cedar_interpreter.specs.Holding.{held_by, Serves, Deep, depth_of};
-ghost use Rattle.cedar_interpreter.specs.Meeting.{MeetsAt, ValueAt, IsLimit};
+ghost use Rattle.cedar_interpreter.specs.Holding.{held_by, Knows, Serves, ServesRead, is_naming, Deep, IsDeepRead, depth_of};
+ghost use Rattle.cedar_interpreter.specs.Meeting.{MeetsAt, ReadsAt, ValueAt, IsLimit};
+ghost use Rattle.cedar_interpreter.specs.Naming.{naming_in};
 
 use crate::evaluator::{Evaluator, Seen, Variables};
 use cedar_entities::store::Entities;
@@ -21,7 +23,9 @@ use cedar_extensions::extensions::Extensions;
 use cedar_extensions::objects::ExtensionFunctionObject;
 use cedar_literals::variables::Var;
 use cedar_names::shared::Shared;
-use cedar_partial_evaluation::{known_is_meaning, known_is_never_left, leaves_dont_matter};
+use cedar_partial_evaluation::{
+    known_is_meaning, known_is_never_left, leaves_dont_matter, unknowns_are_read,
+};
 use cedar_policy_parts::bindings::SlotEnv;
 use cedar_requests::{Context, Request};
 use cedar_restricted::partial_values::PartialValue;
@@ -77,6 +81,9 @@ impl<'s, 'e, 'f, F: ExtensionFunctionObject> Evaluator<'s, 'e, 'f, F> {
 
     /// The value of an expression, or what is left of it where some of what it reads isn't known.
     ///
+    /// Where the table has the function `unknown`, a call of it on one string literal is the unknown of this
+    /// name; what is left may keep it as that call.
+    ///
     /// It errs with what the expression errs with, `RecursionLimit` where the evaluation nests deeper than
     /// the limit, and `Memory`. (Cedar language reference, "Semantics of operators".)
     pub fn partial_interpret(
@@ -87,7 +94,11 @@ impl<'s, 'e, 'f, F: ExtensionFunctionObject> Evaluator<'s, 'e, 'f, F> {
     ) -> Result<PartialValue, EvaluationError>
         ensures found { (facts : Facts) → Serves F.answers self.now facts (bare expr.now) → MeetsAt ⊤ (partial_in facts (held_by self.now slots.now) (bare expr.now)) result }
         ensures limit { IsLimit result → Deep F.answers self.now (depth_of self.now) (bare expr.now) }
+        ensures named { (facts : Facts) → Knows F.answers self.now facts → MeetsAt ⊤ (naming_in (is_naming F.answers self.now) facts (held_by self.now slots.now) (bare expr.now)) result }
+        ensures read { (facts : Facts) → ServesRead F.answers self.now facts (bare expr.now) → ReadsAt ⊤ (partial_in facts (held_by self.now slots.now) (read_unknowns (bare expr.now))) result }
+        ensures read_limit { IsLimit result → IsDeepRead F.answers self.now (depth_of self.now) (bare expr.now) }
     {
+        unknowns_are_read();
         self.interpret_within(alloc, expr, slots, self.depth)
     }
 
@@ -102,7 +113,10 @@ impl<'s, 'e, 'f, F: ExtensionFunctionObject> Evaluator<'s, 'e, 'f, F> {
         ensures means { (facts : Facts) → Serves F.answers self.now facts (bare expr.now) → MeansTree facts (held_by self.now slots.now) (depth_of self.now) (bare expr.now) result }
         ensures found { (facts : Facts) → Serves F.answers self.now facts (bare expr.now) → ValueAt ⊤ (partial_in facts (held_by self.now slots.now) (bare expr.now)) result }
         ensures limit { IsLimit result → Deep F.answers self.now (depth_of self.now) (bare expr.now) }
+        ensures read { (facts : Facts) → ServesRead F.answers self.now facts (bare expr.now) → ValueAt ⊤ (partial_in facts (held_by self.now slots.now) (read_unknowns (bare expr.now))) result }
+        ensures read_limit { IsLimit result → IsDeepRead F.answers self.now (depth_of self.now) (bare expr.now) }
     {
+        unknowns_are_read();
         known_is_meaning();
         known_is_never_left();
         leaves_dont_matter();

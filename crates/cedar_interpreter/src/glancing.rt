@@ -1,6 +1,6 @@
 // Expressions that are told at a glance: on values that are lent, without memory and without an error. What
 // isn't told so is left to the full evaluation.
-ghost use Rattle.std.specs.Prelude.{◌≡◌, ◌≤◌, ◌+◌, IfSome};
+ghost use Rattle.std.specs.Prelude.{◌≡◌, ◌≤◌, ◌+◌, Bool, IfSome};
 ghost use Rattle.std.specs.Rc.{rc_str_bytes};
 ghost use Rattle.cedar_policy_parts.specs.Bindings.{Bindings};
 ghost use Rattle.cedar_grammar.specs.Build.{unary, binary};
@@ -16,6 +16,7 @@ ghost use Rattle.cedar_trees.specs.Bare.{bare};
 ghost use Rattle.cedar_interpreter.specs.Forms.{unary_operator};
 ghost use Rattle.cedar_interpreter.specs.Glancing.{value_lent, least_depth, Tells};
 ghost use Rattle.cedar_interpreter.specs.Holding.{held_by, variable_held, depth_of};
+ghost use Rattle.cedar_interpreter.specs.Naming.{naming_in};
 
 use crate::evaluator::Evaluator;
 use crate::lent::Lent;
@@ -37,6 +38,8 @@ impl<'s, 'e, 'f, F> Evaluator<'s, 'e, 'f, F> {
     pub fn glance(&self, expr: &Expr) -> Option<bool>
         ensures told { (facts : Facts) (slots : Bindings) → HasFacts self.now.entities.now facts →
             IfSome result (λ b. partial_in facts (held_by self.now slots) (bare expr.now) ≡ Evaluated (Plain (Boolean b))) }
+        ensures named { (naming : Bool) (facts : Facts) (slots : Bindings) → HasFacts self.now.entities.now facts →
+            IfSome result (λ b. naming_in naming facts (held_by self.now slots) (bare expr.now) ≡ Evaluated (Plain (Boolean b))) }
         ensures limit { IfSome result (λ b. least_depth (bare expr.now) ≤ depth_of self.now) }
     {
         if self.entities.is_partial() {

@@ -3,12 +3,12 @@ ghost use Rattle.std.specs.Prelude.{true, ◌≡◌, ⊤, suc, map, length, IfOk
 ghost use Rattle.std.specs.Rc.{rc_str_bytes};
 ghost use Rattle.cedar_language.specs.Facts.{Facts};
 ghost use Rattle.cedar_language.specs.Tree as tree;
-ghost use Rattle.cedar_partial_evaluation.specs.Partial.{partial_in};
 ghost use Rattle.cedar_grammar.specs.Build.{unary};
 ghost use Rattle.cedar_trees.specs.Bare.{bare};
 ghost use Rattle.cedar_interpreter.specs.Forms.{IsOperands};
-ghost use Rattle.cedar_interpreter.specs.Holding.{held_by, Serves, ServesEach, Deep, DeepEach};
+ghost use Rattle.cedar_interpreter.specs.Holding.{held_by, Knows, is_naming, NestsBeyond, SomeNestsBeyond};
 ghost use Rattle.cedar_interpreter.specs.Meeting.{MeetsAt, MeetEachAt, IsLimit};
+ghost use Rattle.cedar_interpreter.specs.Naming.{naming_in};
 
 use crate::attributes::{Projected, attribute};
 use crate::evaluator::Evaluator;
@@ -39,14 +39,15 @@ impl<'s, 'e, 'f, F: ExtensionFunctionObject> Evaluator<'s, 'e, 'f, F> {
         slots: &SlotEnv,
         depth: u32,
     ) -> Result<PartialValue, EvaluationError>
-        ensures found { (facts : Facts) → Serves F.answers self.now facts (bare expr.now) → MeetsAt ⊤ (partial_in facts (held_by self.now slots.now) (bare expr.now)) result }
-        ensures limit { IsLimit result → Deep F.answers self.now depth (bare expr.now) }
+        ensures found { (facts : Facts) → Knows F.answers self.now facts → MeetsAt ⊤ (naming_in (is_naming F.answers self.now) facts (held_by self.now slots.now) (bare expr.now)) result }
+        ensures limit { IsLimit result → NestsBeyond F.answers self.now depth (bare expr.now) }
     {
         at_place(alloc, self.interpret_form(alloc, expr, slots, depth), expr)
     }
 
     #[cycle(interpret)]
     #[tactic(none)]
+    #[inline(never)]
     fn interpret_form(
         &self,
         alloc: Global,
@@ -54,8 +55,8 @@ impl<'s, 'e, 'f, F: ExtensionFunctionObject> Evaluator<'s, 'e, 'f, F> {
         slots: &SlotEnv,
         depth: u32,
     ) -> Result<PartialValue, EvaluationError>
-        ensures found { (facts : Facts) → Serves F.answers self.now facts (bare expr.now) → MeetsAt ⊤ (partial_in facts (held_by self.now slots.now) (bare expr.now)) result }
-        ensures limit { IsLimit result → Deep F.answers self.now depth (bare expr.now) }
+        ensures found { (facts : Facts) → Knows F.answers self.now facts → MeetsAt ⊤ (naming_in (is_naming F.answers self.now) facts (held_by self.now slots.now) (bare expr.now)) result }
+        ensures limit { IsLimit result → NestsBeyond F.answers self.now depth (bare expr.now) }
     {
         let Some(below) = depth.checked_sub(1) else {
             return Err(EvaluationError::recursion_limit(None));
@@ -88,8 +89,8 @@ impl<'s, 'e, 'f, F: ExtensionFunctionObject> Evaluator<'s, 'e, 'f, F> {
         slots: &SlotEnv,
         depth: u32,
     ) -> Result<PartialValue, EvaluationError>
-        ensures found { (facts : Facts) → Serves F.answers self.now facts (tree.If (bare test.now) (bare yes.now.value) (bare no.now.value)) → MeetsAt ⊤ (partial_in facts (held_by self.now slots.now) (tree.If (bare test.now) (bare yes.now.value) (bare no.now.value))) result }
-        ensures limit { IsLimit result → Deep F.answers self.now (suc depth) (tree.If (bare test.now) (bare yes.now.value) (bare no.now.value)) }
+        ensures found { (facts : Facts) → Knows F.answers self.now facts → MeetsAt ⊤ (naming_in (is_naming F.answers self.now) facts (held_by self.now slots.now) (tree.If (bare test.now) (bare yes.now.value) (bare no.now.value))) result }
+        ensures limit { IsLimit result → NestsBeyond F.answers self.now (suc depth) (tree.If (bare test.now) (bare yes.now.value) (bare no.now.value)) }
     {
         match test_answer(alloc, self.interpret_within(alloc, test, slots, depth))? {
             Tested::Yes => self.interpret_within(alloc, yes, slots, depth),
@@ -112,8 +113,8 @@ impl<'s, 'e, 'f, F: ExtensionFunctionObject> Evaluator<'s, 'e, 'f, F> {
         slots: &SlotEnv,
         depth: u32,
     ) -> Result<PartialValue, EvaluationError>
-        ensures found { (facts : Facts) → Serves F.answers self.now facts (tree.And (bare left.now) (bare right.now.value)) → MeetsAt ⊤ (partial_in facts (held_by self.now slots.now) (tree.And (bare left.now) (bare right.now.value))) result }
-        ensures limit { IsLimit result → Deep F.answers self.now (suc depth) (tree.And (bare left.now) (bare right.now.value)) }
+        ensures found { (facts : Facts) → Knows F.answers self.now facts → MeetsAt ⊤ (naming_in (is_naming F.answers self.now) facts (held_by self.now slots.now) (tree.And (bare left.now) (bare right.now.value))) result }
+        ensures limit { IsLimit result → NestsBeyond F.answers self.now (suc depth) (tree.And (bare left.now) (bare right.now.value)) }
     {
         match test_answer(alloc, self.interpret_within(alloc, left, slots, depth))? {
             Tested::No => Ok(truth(false)),
@@ -135,8 +136,8 @@ impl<'s, 'e, 'f, F: ExtensionFunctionObject> Evaluator<'s, 'e, 'f, F> {
         slots: &SlotEnv,
         depth: u32,
     ) -> Result<PartialValue, EvaluationError>
-        ensures found { (facts : Facts) → Serves F.answers self.now facts (tree.Or (bare left.now) (bare right.now.value)) → MeetsAt ⊤ (partial_in facts (held_by self.now slots.now) (tree.Or (bare left.now) (bare right.now.value))) result }
-        ensures limit { IsLimit result → Deep F.answers self.now (suc depth) (tree.Or (bare left.now) (bare right.now.value)) }
+        ensures found { (facts : Facts) → Knows F.answers self.now facts → MeetsAt ⊤ (naming_in (is_naming F.answers self.now) facts (held_by self.now slots.now) (tree.Or (bare left.now) (bare right.now.value))) result }
+        ensures limit { IsLimit result → NestsBeyond F.answers self.now (suc depth) (tree.Or (bare left.now) (bare right.now.value)) }
     {
         match test_answer(alloc, self.interpret_within(alloc, left, slots, depth))? {
             Tested::Yes => Ok(truth(true)),
@@ -159,8 +160,8 @@ impl<'s, 'e, 'f, F: ExtensionFunctionObject> Evaluator<'s, 'e, 'f, F> {
         slots: &SlotEnv,
         depth: u32,
     ) -> Result<PartialValue, EvaluationError>
-        ensures found { (facts : Facts) → Serves F.answers self.now facts (unary (tree.GetAttr (rc_str_bytes attr.now)) (bare of.now)) → MeetsAt ⊤ (partial_in facts (held_by self.now slots.now) (unary (tree.GetAttr (rc_str_bytes attr.now)) (bare of.now))) result }
-        ensures limit { IsLimit result → Deep F.answers self.now (suc depth) (unary (tree.GetAttr (rc_str_bytes attr.now)) (bare of.now)) }
+        ensures found { (facts : Facts) → Knows F.answers self.now facts → MeetsAt ⊤ (naming_in (is_naming F.answers self.now) facts (held_by self.now slots.now) (unary (tree.GetAttr (rc_str_bytes attr.now)) (bare of.now))) result }
+        ensures limit { IsLimit result → NestsBeyond F.answers self.now (suc depth) (unary (tree.GetAttr (rc_str_bytes attr.now)) (bare of.now)) }
     {
         let part = self.interpret_within(alloc, of, slots, depth)?;
         match attribute(alloc, part, attr, loc, self.entities)? {
@@ -179,8 +180,8 @@ impl<'s, 'e, 'f, F: ExtensionFunctionObject> Evaluator<'s, 'e, 'f, F> {
         depth: u32,
     ) -> Result<PartialValue, EvaluationError>
         requires { IsOperands (bare expr.now) operands }
-        ensures found { (facts : Facts) → Serves F.answers self.now facts (bare expr.now) → MeetsAt ⊤ (partial_in facts (held_by self.now slots.now) (bare expr.now)) result }
-        ensures limit { IsLimit result → Deep F.answers self.now (suc depth) (bare expr.now) }
+        ensures found { (facts : Facts) → Knows F.answers self.now facts → MeetsAt ⊤ (naming_in (is_naming F.answers self.now) facts (held_by self.now slots.now) (bare expr.now)) result }
+        ensures limit { IsLimit result → NestsBeyond F.answers self.now (suc depth) (bare expr.now) }
     {
         match operands {
             Operands::One(op, of) => {
@@ -196,12 +197,13 @@ impl<'s, 'e, 'f, F: ExtensionFunctionObject> Evaluator<'s, 'e, 'f, F> {
             Operands::List => {
                 let listed = listed(alloc, expr)?;
                 let parts = self.interpret_parts(alloc, &listed, slots, depth)?;
-                operate_on_list(alloc, expr, parts, self.extensions)
+                operate_on_list(alloc, expr, parts, self.extensions, self.told)
             }
         }
     }
 
     #[cycle(interpret)]
+    #[inline(never)]
     fn interpret_parts(
         &self,
         alloc: Global,
@@ -209,8 +211,8 @@ impl<'s, 'e, 'f, F: ExtensionFunctionObject> Evaluator<'s, 'e, 'f, F> {
         slots: &SlotEnv,
         depth: u32,
     ) -> Result<Vec<PartialValue>, EvaluationError>
-        ensures found { (facts : Facts) → ServesEach F.answers self.now facts (map (λ e. bare e.now) parts.now) → MeetEachAt facts (map (partial_in facts (held_by self.now slots.now)) (map (λ e. bare e.now) parts.now)) result }
-        ensures limit { IsLimit result → DeepEach F.answers self.now depth (map (λ e. bare e.now) parts.now) }
+        ensures found { (facts : Facts) → Knows F.answers self.now facts → MeetEachAt facts (map (naming_in (is_naming F.answers self.now) facts (held_by self.now slots.now)) (map (λ e. bare e.now) parts.now)) result }
+        ensures limit { IsLimit result → SomeNestsBeyond F.answers self.now depth (map (λ e. bare e.now) parts.now) }
         ensures count { IfOk result (λ answers. length answers.items ≡ length (map (λ e. bare e.now) parts.now)) }
     {
         let mut answers = Vec::new(alloc);

@@ -1,19 +1,27 @@
 // Expressions without parts.
-ghost use Rattle.std.specs.Prelude.{◌≡◌, true, IfOk};
+ghost use Rattle.std.specs.Prelude.{◌≡◌, Bool, true, None, option_map, IfOk};
 ghost use Rattle.std.specs.Option.{option_copied};
 ghost use Rattle.cedar_language.specs.Facts.{Facts};
 ghost use Rattle.cedar_language.specs.Meaning.{slot_outcome};
+ghost use Rattle.cedar_language.specs.Operators.{called};
+ghost use Rattle.cedar_language.specs.Tree.{Unknown as Leaf};
+ghost use Rattle.cedar_language.specs.Uid.{Name};
+ghost use Rattle.cedar_language.specs.Value.{Values};
 ghost use Rattle.cedar_literals.specs.Variables.{variable_of};
-ghost use Rattle.cedar_partial_evaluation.specs.Partial.{answer_of, partial_in};
+ghost use Rattle.cedar_partial_evaluation.specs.Partial.{answer_of};
 ghost use Rattle.cedar_partial_evaluation.specs.Question.{name_held, value_held};
 ghost use Rattle.cedar_partial_evaluation.specs.Unknowns.{fits};
 ghost use Rattle.cedar_policy_parts.specs.Bindings.{binding_of};
 ghost use Rattle.cedar_trees.specs.Bare.{bare};
 ghost use Rattle.cedar_trees.specs.Unknowns.{unknown_name, unknown_type};
+ghost use Rattle.cedar_extensions.specs.Table.{Table};
 ghost use Rattle.cedar_restricted.specs.PartialValues.{partial_of};
+ghost use Rattle.cedar_restricted_evaluation.specs.Findings.{Calls};
 ghost use Rattle.cedar_interpreter.specs.Forms.{is_leaf};
 ghost use Rattle.cedar_interpreter.specs.Holding.{held_by, value_told, variable_in};
 ghost use Rattle.cedar_interpreter.specs.Meeting.{MeetsAt};
+ghost use Rattle.cedar_interpreter.specs.Naming.{call_answer, naming_in};
+ghost use Rattle.cedar_interpreter.specs.Operating.{unknown_at};
 
 use crate::evaluator::{Evaluator, Variables};
 use cedar_extensions::evaluation_error::EvaluationError;
@@ -39,7 +47,7 @@ impl<'s, 'e, 'f, F> Evaluator<'s, 'e, 'f, F> {
         slots: &SlotEnv,
     ) -> Result<PartialValue, EvaluationError>
         requires { is_leaf (bare expr.now) ≡ true }
-        ensures { (facts : Facts) → MeetsAt ⊥ (partial_in facts (held_by self.now slots.now) (bare expr.now)) result }
+        ensures { (naming : Bool) (facts : Facts) → MeetsAt ⊥ (naming_in naming facts (held_by self.now slots.now) (bare expr.now)) result }
     {
         match &expr.expr_kind {
             ExprKind::Lit(literal) => Ok(PartialValue::from(Value::from(literal.clone()?))),
@@ -81,6 +89,36 @@ fn copied(alloc: Global, partial: &PartialValue) -> Result<PartialValue, AllocEr
     match partial {
         PartialValue::Value(value) => Ok(PartialValue::Value(value.clone(alloc)?)),
         PartialValue::Residual(rest) => Ok(PartialValue::Residual(rest.clone(alloc)?)),
+    }
+}
+
+/// The answer of a call, by what its function answers: where that names an unknown, the value that is told for
+/// it, or else the unknown itself.
+pub(crate) fn named(
+    alloc: Global,
+    told: Option<&HashMap<RcStr, Value>>,
+    answer: Result<PartialValue, EvaluationError>,
+) -> Result<PartialValue, EvaluationError>
+    ensures { (table : Table) (f : Name) (vs : Values) → Calls table f vs answer →
+        MeetsAt ⊥ (call_answer table.has_unknown (λ n. name_held (value_told told.entry n) n None) f (called (table.function f) vs)) result }
+{
+    match answer {
+        Ok(PartialValue::Value(value)) => Ok(PartialValue::Value(value)),
+        Ok(PartialValue::Residual(rest)) => match unknown_in(&rest) {
+            Some(name) => unknown(alloc, told, name),
+            None => Ok(PartialValue::Residual(rest)),
+        },
+        Err(error) => Err(error),
+    }
+}
+
+// The unknown that an expression is.
+fn unknown_in(expr: &Expr) -> Option<&Unknown>
+    ensures { option_map (λ u. Leaf (unknown_name u) (unknown_type u)) (option_copied result) ≡ unknown_at (bare expr.now) }
+{
+    match &expr.expr_kind {
+        ExprKind::Unknown(unknown) => Some(unknown),
+        _ => None,
     }
 }
 

@@ -13,7 +13,8 @@ ghost use Rattle.cedar_extensions.specs.Table.{as_table};
 ghost use Rattle.cedar_operators.specs.Store.{HasFacts};
 ghost use Rattle.cedar_interpreter.specs.Forms.{unary_operator, is_of_list};
 ghost use Rattle.cedar_interpreter.specs.Meeting.{MeetsAt, part_answer};
-ghost use Rattle.cedar_interpreter.specs.Operating.{operated, NamesNothing, HasFunctions};
+ghost use Rattle.cedar_interpreter.specs.Holding.{AreTold};
+ghost use Rattle.cedar_interpreter.specs.Operating.{operated, HasFunctions};
 
 use crate::applying::{apply_to_list, apply_to_one, apply_to_two};
 use crate::operands::UnaryOperator;
@@ -29,10 +30,14 @@ use cedar_partial_evaluation::gathered_splits;
 use cedar_restricted::partial_values::PartialValue;
 use cedar_restricted::split::split;
 use cedar_trees::expr::Expr;
+use cedar_values::values::Value;
 use either::Either;
 use std::alloc::Global;
+use std::collections::HashMap;
+use std::rc::RcStr;
 
 /// The answer of an operator of one operand, by that one's.
+#[inline(never)]
 pub(crate) fn operate_on_one(
     alloc: Global,
     op: UnaryOperator<'_>,
@@ -50,6 +55,7 @@ pub(crate) fn operate_on_one(
 }
 
 /// The answer of an operator of two operands, by theirs.
+#[inline(never)]
 pub(crate) fn operate_on_two<F>(
     alloc: Global,
     op: BinaryOp,
@@ -80,22 +86,24 @@ pub(crate) fn operate_on_two<F>(
     }
 }
 
-/// The answer of a call, a set or a record, by those of its parts.
+/// The answer of a call, a set or a record, by those of its parts. An unknown that a call names is answered
+/// by the value that is told for it, if there is one.
+#[inline(never)]
 pub(crate) fn operate_on_list<F: ExtensionFunctionObject>(
     alloc: Global,
     expr: &Expr,
     parts: Vec<PartialValue>,
     extensions: &Extensions<'_, F>,
+    told: Option<&HashMap<RcStr, Value>>,
 ) -> Result<PartialValue, EvaluationError>
     requires list { is_of_list (bare expr.now) ≡ true }
     requires count { length parts.items ≡ length (parts_of (bare expr.now)) }
-    ensures { (facts : Facts) → HasFunctions (as_table F.answers extensions.now) facts → NamesNothing (as_table F.answers extensions.now) (bare expr.now) →
-        (holds : LeafAnswers) →
-        MeetsAt ⊥ (operated facts holds (bare expr.now) (gathered facts (map part_answer (map partial_of parts.items)))) result }
+    ensures { (facts : Facts) → HasFunctions (as_table F.answers extensions.now) facts → (holds : LeafAnswers) → AreTold told.entry holds →
+        MeetsAt ⊥ (operated (as_table F.answers extensions.now).has_unknown facts holds (bare expr.now) (gathered facts (map part_answer (map partial_of parts.items)))) result }
 {
     gathered_splits();
     match split(alloc, parts)? {
-        Either::Left(values) => apply_to_list(alloc, expr, values, extensions),
+        Either::Left(values) => apply_to_list(alloc, expr, values, extensions, told),
         Either::Right(exprs) => Ok(wait_for_list(alloc, expr, exprs)?),
     }
 }

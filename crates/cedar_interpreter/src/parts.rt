@@ -8,6 +8,7 @@ use cedar_trees::expr::Expr;
 use std::alloc::{AllocError, Global};
 
 /// The parts of an expression, from the left; refused for memory alone.
+#[inline(never)]
 pub(crate) fn listed(alloc: Global, expr: &Expr) -> Result<Vec<&Expr>, AllocError>
     ensures { IfOk result (λ parts. map (λ e. bare e.now) parts.items ≡ parts_of (bare expr.now)) }
 {

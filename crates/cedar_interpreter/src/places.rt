@@ -18,6 +18,7 @@ fn place_of(alloc: Global, expr: &Expr) -> Result<Option<Loc>, AllocError> {
 }
 
 /// An answer at the place of its expression; an error that has a place keeps it.
+#[inline(never)]
 pub(crate) fn at_place(
     alloc: Global,
     answer: Result<PartialValue, EvaluationError>,

@@ -15,8 +15,8 @@ record_of-requires c =
     record_count c.args.expr.now c.in-Record.entries c.in-Record.is (length c.args.values.items) c.requires.count
     ∙ ap (λ (m : BTreeMap (RcStr Global) (Expr (Unit {0}))). length m.entries) (sym c.deref.ensures)
 
-pub returns-in_ok-record_of-in-Record : goal.returns-in_ok-record_of-in-Record
-returns-in_ok-record_of-in-Record c =
+pub returns-in_ok-record_of-in-Record-clause-found : goal.returns-in_ok-record_of-in-Record-clause-found
+returns-in_ok-record_of-in-Record-clause-found c =
     λ facts.
     ap (λ t. applied_in facts t (all_of c.args.values.items)) (record_is c.args.expr.now c.in-Record.entries c.in-Record.is)
     ∙ sym (ap Gives (c.in_ok-record_of-in-Record.ensures ∙ ap (λ (m : BTreeMap (RcStr Global) (Expr (Unit {0}))). RecordOf (keys (bare_entries m.entries)) (all_of c.args.values.items)) c.deref.ensures))

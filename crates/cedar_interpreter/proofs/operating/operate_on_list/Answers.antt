@@ -4,6 +4,7 @@ use Rattle.std.proofs.lemmas.List.{length-map}
 use Rattle.std.specs.List.{list_any}
 use Rattle.either.specs.declared.Either.TheVariants.{Left}
 use Rattle.cedar_trees.specs.Bare.{bare}
+use Rattle.cedar_extensions.specs.Table.{as_table}
 use Rattle.cedar_restricted.specs.PartialValues.{partial_of}
 use Rattle.cedar_restricted.specs.Splitting.{IsSplitOf, ExpressEach, is_residual}
 use Rattle.cedar_interpreter.proofs.Operated.{of_values, of_left, values_count, exprs_count}
@@ -23,14 +24,14 @@ wait_for_list-requires-clause-count g c =
 
 pub returns-in-Left : goal.returns-in-Left
 returns-in-Left g c =
-    λ facts functions names holds.
+    λ facts functions holds told.
     let parts = map partial_of c.args.parts.items in
     let values : parts ≡ map Left c.in-Left.values.items = subst (IsSplitOf parts) c.in-Left.is c.in_ok-values.ensures in
-    of_values facts holds (bare c.args.expr.now) c.requires.list parts c.in-Left.values.items c.apply_to_list.result values (c.apply_to_list.ensures facts functions names)
+    of_values facts (as_table g.F.ExtensionFunctionObject.answers c.args.extensions.now).has_unknown holds (bare c.args.expr.now) c.requires.list parts c.in-Left.values.items c.apply_to_list.result values (c.apply_to_list.ensures facts functions holds told)
 
 pub returns-in_ok-wait_for_list-in-Right : goal.returns-in_ok-wait_for_list-in-Right
 returns-in_ok-wait_for_list-in-Right g c =
-    λ facts functions names holds.
+    λ facts functions holds told.
     let parts = map partial_of c.args.parts.items in
     let exprs : (list_any is_residual parts ≡ true) × ExpressEach parts (map bare c.in-Right.exprs.items) = subst (IsSplitOf parts) c.in-Right.is c.in_ok-values.ensures in
-    of_left facts holds (bare c.args.expr.now) c.requires.list parts (c.gathered_splits.ensures facts) (map bare c.in-Right.exprs.items) exprs ∙ c.in_ok-wait_for_list-in-Right.ensures facts holds
+    of_left facts (as_table g.F.ExtensionFunctionObject.answers c.args.extensions.now).has_unknown holds (bare c.args.expr.now) c.requires.list parts (c.gathered_splits.ensures facts) (map bare c.in-Right.exprs.items) exprs ∙ c.in_ok-wait_for_list-in-Right.ensures facts holds

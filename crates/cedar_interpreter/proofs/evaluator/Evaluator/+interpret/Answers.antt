@@ -9,7 +9,7 @@ use Rattle.cedar_language.specs.Tree as tree
 use Rattle.cedar_language.specs.Tree.{Boolean, no_trees, a_tree}
 use Rattle.cedar_language.specs.Value.{Plain, no_values}
 use Rattle.cedar_partial_evaluation.specs.Alike.{gathered}
-use Rattle.cedar_partial_evaluation.specs.Partial.{Evaluated, ResidualTree, Failed, SomeFailed, AllEvaluated, and_next, apply_answer, partial_in}
+use Rattle.cedar_partial_evaluation.specs.Partial.{Evaluated, ResidualTree, Failed, SomeFailed, AllEvaluated, and_next, apply_answer}
 use Rattle.cedar_grammar.specs.Build.{unary, binary}
 use Rattle.cedar_literals.specs.Operators.{binary_operator_of}
 use Rattle.cedar_trees.specs.Bare.{bare}
@@ -19,12 +19,15 @@ use Rattle.cedar_extensions.specs.Giving.{FailsBy, fails_on}
 use Rattle.cedar_restricted.specs.PartialValues.{partial_of}
 use Rattle.cedar_restricted.specs.declared.partial_values.PartialValue.{PartialValue}
 use Rattle.cedar_interpreter.specs.Forms.{unary_operator, is_of_list, IsOperands}
-use Rattle.cedar_interpreter.specs.Holding.{held_by, Serves, ServesEach, Deep, DeepEach}
+use Rattle.cedar_interpreter.specs.Holding.{held_by, is_naming, NestsBeyond, SomeNestsBeyond}
 use Rattle.cedar_interpreter.specs.Meeting.{part_answer, tested_answer, IsTested}
+use Rattle.cedar_interpreter.specs.Naming.{naming_in}
 use Rattle.cedar_interpreter.specs.Projecting.{IsProjected}
-use Rattle.cedar_interpreter.proofs.Serving.{serves_and_left, serves_and_right, serves_or_left, serves_or_right, serves_test, serves_yes, serves_no, serves_operands, serves_entry, serves_parts, deep_and_left, deep_and_right, deep_or_left, deep_or_right, deep_if_test, deep_if_yes, deep_if_no, deep_operand, either_deep, positive, lowered, list_meets, list_fails, list_deep, Goes, goes_first, goes_on, cut_fails, cut_deep, ends, ends_count}
+use Rattle.cedar_interpreter.proofs.Constructs.{unary_calls_nothing, binary_calls_nothing}
+use Rattle.cedar_interpreter.proofs.Nesting.{deep_and_left, deep_and_right, deep_or_left, deep_or_right, deep_if_test, deep_if_yes, deep_if_no, deep_operand, either_deep, positive, lowered, list_meets, list_fails, list_deep, Goes, goes_first, goes_on, cut_fails, cut_deep, ends, ends_count}
 use Rattle.cedar_interpreter.proofs.Depths.{entry_deep}
-use Rattle.cedar_interpreter.proofs.Pairs.{one_serves, one_fails, one_meets, one_deep, left_serves, right_serves, left_fails, right_fails, two_meet, left_deep, right_deep}
+use Rattle.cedar_interpreter.proofs.Read.{entry_is}
+use Rattle.cedar_interpreter.proofs.Pairs.{one_fails, one_meets, one_deep, left_fails, right_fails, two_meet, left_deep, right_deep}
 use Rattle.cedar_interpreter.proofs.Steps.{passed, limit_passed, meets_as, meets_anyhow, never_limit, and_as, or_as, if_as}
 use Rattle.cedar_interpreter.proofs.evaluator.Evaluator.+interpret.Goals as goal
 
@@ -110,7 +113,7 @@ interpret_within-returns-clause-limit g t c =
 
 pub interpret_form-returns-in-And-clause-found : goal.interpret_form-returns-in-And-clause-found
 interpret_form-returns-in-And-clause-found g t c =
-    λ facts has. meets_as c.interpret_and.result _ _ (ap (partial_in facts (held_by c.args.self.now c.args.slots.now)) c.in-And.ensures) (c.interpret_and.ensures.found facts (subst (Serves g.F.ExtensionFunctionObject.answers c.args.self.now facts) c.in-And.ensures has))
+    λ facts has. meets_as c.interpret_and.result _ _ (ap (naming_in (is_naming g.F.ExtensionFunctionObject.answers c.args.self.now) facts (held_by c.args.self.now c.args.slots.now)) c.in-And.ensures) (c.interpret_and.ensures.found facts has)
 
 pub interpret_form-returns-in-And-clause-limit : goal.interpret_form-returns-in-And-clause-limit
 interpret_form-returns-in-And-clause-limit g t c =
@@ -119,7 +122,7 @@ interpret_form-returns-in-And-clause-limit g t c =
 
 pub interpret_form-returns-in-Or-clause-found : goal.interpret_form-returns-in-Or-clause-found
 interpret_form-returns-in-Or-clause-found g t c =
-    λ facts has. meets_as c.interpret_or.result _ _ (ap (partial_in facts (held_by c.args.self.now c.args.slots.now)) c.in-Or.ensures) (c.interpret_or.ensures.found facts (subst (Serves g.F.ExtensionFunctionObject.answers c.args.self.now facts) c.in-Or.ensures has))
+    λ facts has. meets_as c.interpret_or.result _ _ (ap (naming_in (is_naming g.F.ExtensionFunctionObject.answers c.args.self.now) facts (held_by c.args.self.now c.args.slots.now)) c.in-Or.ensures) (c.interpret_or.ensures.found facts has)
 
 pub interpret_form-returns-in-Or-clause-limit : goal.interpret_form-returns-in-Or-clause-limit
 interpret_form-returns-in-Or-clause-limit g t c =
@@ -128,7 +131,7 @@ interpret_form-returns-in-Or-clause-limit g t c =
 
 pub interpret_form-returns-in-If-clause-found : goal.interpret_form-returns-in-If-clause-found
 interpret_form-returns-in-If-clause-found g t c =
-    λ facts has. meets_as c.interpret_if.result _ _ (ap (partial_in facts (held_by c.args.self.now c.args.slots.now)) c.in-If.ensures) (c.interpret_if.ensures.found facts (subst (Serves g.F.ExtensionFunctionObject.answers c.args.self.now facts) c.in-If.ensures has))
+    λ facts has. meets_as c.interpret_if.result _ _ (ap (naming_in (is_naming g.F.ExtensionFunctionObject.answers c.args.self.now) facts (held_by c.args.self.now c.args.slots.now)) c.in-If.ensures) (c.interpret_if.ensures.found facts has)
 
 pub interpret_form-returns-in-If-clause-limit : goal.interpret_form-returns-in-If-clause-limit
 interpret_form-returns-in-If-clause-limit g t c =
@@ -137,7 +140,7 @@ interpret_form-returns-in-If-clause-limit g t c =
 
 pub interpret_form-returns-in-GetAttr-clause-found : goal.interpret_form-returns-in-GetAttr-clause-found
 interpret_form-returns-in-GetAttr-clause-found g t c =
-    λ facts has. meets_as c.interpret_attribute.result _ _ (ap (partial_in facts (held_by c.args.self.now c.args.slots.now)) c.in-GetAttr.ensures) (c.interpret_attribute.ensures.found facts (subst (Serves g.F.ExtensionFunctionObject.answers c.args.self.now facts) c.in-GetAttr.ensures has))
+    λ facts has. meets_as c.interpret_attribute.result _ _ (ap (naming_in (is_naming g.F.ExtensionFunctionObject.answers c.args.self.now) facts (held_by c.args.self.now c.args.slots.now)) c.in-GetAttr.ensures) (c.interpret_attribute.ensures.found facts has)
 
 pub interpret_form-returns-in-GetAttr-clause-limit : goal.interpret_form-returns-in-GetAttr-clause-limit
 interpret_form-returns-in-GetAttr-clause-limit g t c =
@@ -163,27 +166,27 @@ interpret_form-leaf-requires g t c =
 
 pub interpret_form-returns-in-Leaf-clause-found : goal.interpret_form-returns-in-Leaf-clause-found
 interpret_form-returns-in-Leaf-clause-found g t c =
-    λ facts has. meets_anyhow c.leaf.result _ (c.leaf.ensures facts)
+    λ facts has. meets_anyhow c.leaf.result _ (c.leaf.ensures (is_naming g.F.ExtensionFunctionObject.answers c.args.self.now) facts)
 
 pub interpret_form-returns-in-Leaf-clause-limit : goal.interpret_form-returns-in-Leaf-clause-limit
 interpret_form-returns-in-Leaf-clause-limit g t c =
-    λ l facts has. absurd (never_limit _ c.leaf.result (c.leaf.ensures facts) l)
+    λ l facts has. absurd (never_limit _ c.leaf.result (c.leaf.ensures (is_naming g.F.ExtensionFunctionObject.answers c.args.self.now) facts) l)
 
 pub interpret_form-returns-in_default-clause-limit : goal.interpret_form-returns-in_default-clause-limit
 interpret_form-returns-in_default-clause-limit g t c =
     let low : c.args.depth < 1 = search rules in
     λ l facts has.
-    let above = positive facts (held_by c.args.self.now c.args.slots.now) (bare c.args.expr.now) in
+    let above = positive (is_naming g.F.ExtensionFunctionObject.answers c.args.self.now) facts (held_by c.args.self.now c.args.slots.now) (bare c.args.expr.now) in
     (c.args.slots.now, omega (arith, above, low))
 
 pub interpret_form-returns-in_default-clause-found : goal.interpret_form-returns-in_default-clause-found
 interpret_form-returns-in_default-clause-found g t c =
-    λ facts has. subst (λ f. FailsBy ⊤ (λ k. partial_in facts (held_by c.args.self.now c.args.slots.now) (bare c.args.expr.now) ≡ Failed k) f) (sym c.recursion_limit.ensures.limit) tt
+    λ facts has. subst (λ f. FailsBy ⊤ (λ k. naming_in (is_naming g.F.ExtensionFunctionObject.answers c.args.self.now) facts (held_by c.args.self.now c.args.slots.now) (bare c.args.expr.now) ≡ Failed k) f) (sym c.recursion_limit.ensures.limit) tt
 
 pub interpret_and-returns-in_err-test_answer-clause-found : goal.interpret_and-returns-in_err-test_answer-clause-found
 interpret_and-returns-in_err-test_answer-clause-found g t c =
-    λ facts has. passed (λ (p : PartialValue). partial_in facts (held_by c.args.self.now c.args.slots.now) (tree.And (bare c.args.left.now) (bare c.args.right.now.value)) ≡ part_answer (partial_of p)) (λ k. partial_in facts (held_by c.args.self.now c.args.slots.now) (tree.And (bare c.args.left.now) (bare c.args.right.now.value)) ≡ Failed k) ⊤ c.in_err-test_answer.field-0.0 c.from_residual.result c.from_residual.ensures
-    (fails_on (failure_of c.in_err-test_answer.field-0.0) (λ k h. and_as facts (partial_in facts (held_by c.args.self.now c.args.slots.now) (bare c.args.left.now)) (partial_in facts (held_by c.args.self.now c.args.slots.now) (bare c.args.right.now.value)) (bare c.args.right.now.value) (Failed k) h) (λ d. d) (c.in_err-test_answer.ensures.found (partial_in facts (held_by c.args.self.now c.args.slots.now) (bare c.args.left.now)) (c.interpret_within.ensures.found facts (serves_and_left g.F.ExtensionFunctionObject.answers c.args.self.now facts (bare c.args.left.now) (bare c.args.right.now.value) has))))
+    λ facts has. passed (λ (p : PartialValue). naming_in (is_naming g.F.ExtensionFunctionObject.answers c.args.self.now) facts (held_by c.args.self.now c.args.slots.now) (tree.And (bare c.args.left.now) (bare c.args.right.now.value)) ≡ part_answer (partial_of p)) (λ k. naming_in (is_naming g.F.ExtensionFunctionObject.answers c.args.self.now) facts (held_by c.args.self.now c.args.slots.now) (tree.And (bare c.args.left.now) (bare c.args.right.now.value)) ≡ Failed k) ⊤ c.in_err-test_answer.field-0.0 c.from_residual.result c.from_residual.ensures
+    (fails_on (failure_of c.in_err-test_answer.field-0.0) (λ k h. and_as facts (naming_in (is_naming g.F.ExtensionFunctionObject.answers c.args.self.now) facts (held_by c.args.self.now c.args.slots.now) (bare c.args.left.now)) (naming_in (is_naming g.F.ExtensionFunctionObject.answers c.args.self.now) facts (held_by c.args.self.now c.args.slots.now) (bare c.args.right.now.value)) (bare c.args.right.now.value) (Failed k) h) (λ d. d) (c.in_err-test_answer.ensures.found (naming_in (is_naming g.F.ExtensionFunctionObject.answers c.args.self.now) facts (held_by c.args.self.now c.args.slots.now) (bare c.args.left.now)) (c.interpret_within.ensures.found facts has)))
 
 pub interpret_and-returns-in_err-test_answer-clause-limit : goal.interpret_and-returns-in_err-test_answer-clause-limit
 interpret_and-returns-in_err-test_answer-clause-limit g t c =
@@ -192,8 +195,8 @@ interpret_and-returns-in_err-test_answer-clause-limit g t c =
 pub interpret_and-returns-in-No-clause-found : goal.interpret_and-returns-in-No-clause-found
 interpret_and-returns-in-No-clause-found g t c =
     λ facts has.
-    let found = subst (IsTested (tested_answer (partial_in facts (held_by c.args.self.now c.args.slots.now) (bare c.args.left.now)))) c.in-No.is (c.in_ok-test_answer.ensures.found (partial_in facts (held_by c.args.self.now c.args.slots.now) (bare c.args.left.now)) (c.interpret_within.ensures.found facts (serves_and_left g.F.ExtensionFunctionObject.answers c.args.self.now facts (bare c.args.left.now) (bare c.args.right.now.value) has))) in
-    and_as facts (partial_in facts (held_by c.args.self.now c.args.slots.now) (bare c.args.left.now)) (partial_in facts (held_by c.args.self.now c.args.slots.now) (bare c.args.right.now.value)) (bare c.args.right.now.value) (Evaluated (Plain (Boolean false))) found ∙ sym c.truth.ensures
+    let found = subst (IsTested (tested_answer (naming_in (is_naming g.F.ExtensionFunctionObject.answers c.args.self.now) facts (held_by c.args.self.now c.args.slots.now) (bare c.args.left.now)))) c.in-No.is (c.in_ok-test_answer.ensures.found (naming_in (is_naming g.F.ExtensionFunctionObject.answers c.args.self.now) facts (held_by c.args.self.now c.args.slots.now) (bare c.args.left.now)) (c.interpret_within.ensures.found facts has)) in
+    and_as facts (naming_in (is_naming g.F.ExtensionFunctionObject.answers c.args.self.now) facts (held_by c.args.self.now c.args.slots.now) (bare c.args.left.now)) (naming_in (is_naming g.F.ExtensionFunctionObject.answers c.args.self.now) facts (held_by c.args.self.now c.args.slots.now) (bare c.args.right.now.value)) (bare c.args.right.now.value) (Evaluated (Plain (Boolean false))) found ∙ sym c.truth.ensures
 
 pub interpret_and-returns-in-No-clause-limit : goal.interpret_and-returns-in-No-clause-limit
 interpret_and-returns-in-No-clause-limit g t c =
@@ -202,29 +205,29 @@ interpret_and-returns-in-No-clause-limit g t c =
 pub interpret_and-returns-in-Yes-clause-found : goal.interpret_and-returns-in-Yes-clause-found
 interpret_and-returns-in-Yes-clause-found g t c =
     λ facts has.
-    let found = subst (IsTested (tested_answer (partial_in facts (held_by c.args.self.now c.args.slots.now) (bare c.args.left.now)))) c.in-Yes.is (c.in_ok-test_answer.ensures.found (partial_in facts (held_by c.args.self.now c.args.slots.now) (bare c.args.left.now)) (c.interpret_within.ensures.found facts (serves_and_left g.F.ExtensionFunctionObject.answers c.args.self.now facts (bare c.args.left.now) (bare c.args.right.now.value) has))) in
-    let right = meets_as c.interpret_within-in-Yes.result (partial_in facts (held_by c.args.self.now c.args.slots.now) (bare c.args.right.now.value)) _ (ap (λ (e : Expr (Unit {0})). partial_in facts (held_by c.args.self.now c.args.slots.now) (bare e)) (sym c.deref.ensures)) (c.interpret_within-in-Yes.ensures.found facts (subst (λ (e : Expr (Unit {0})). Serves g.F.ExtensionFunctionObject.answers c.args.self.now facts (bare e)) (sym c.deref.ensures) (serves_and_right g.F.ExtensionFunctionObject.answers c.args.self.now facts (bare c.args.left.now) (bare c.args.right.now.value) has))) in
-    meets_as c.last_of_and.result _ _ (and_as facts (partial_in facts (held_by c.args.self.now c.args.slots.now) (bare c.args.left.now)) (partial_in facts (held_by c.args.self.now c.args.slots.now) (bare c.args.right.now.value)) (bare c.args.right.now.value) (Evaluated (Plain (Boolean true))) found) (c.last_of_and.ensures.found (partial_in facts (held_by c.args.self.now c.args.slots.now) (bare c.args.right.now.value)) right)
+    let found = subst (IsTested (tested_answer (naming_in (is_naming g.F.ExtensionFunctionObject.answers c.args.self.now) facts (held_by c.args.self.now c.args.slots.now) (bare c.args.left.now)))) c.in-Yes.is (c.in_ok-test_answer.ensures.found (naming_in (is_naming g.F.ExtensionFunctionObject.answers c.args.self.now) facts (held_by c.args.self.now c.args.slots.now) (bare c.args.left.now)) (c.interpret_within.ensures.found facts has)) in
+    let right = meets_as c.interpret_within-in-Yes.result (naming_in (is_naming g.F.ExtensionFunctionObject.answers c.args.self.now) facts (held_by c.args.self.now c.args.slots.now) (bare c.args.right.now.value)) _ (ap (λ (e : Expr (Unit {0})). naming_in (is_naming g.F.ExtensionFunctionObject.answers c.args.self.now) facts (held_by c.args.self.now c.args.slots.now) (bare e)) (sym c.deref.ensures)) (c.interpret_within-in-Yes.ensures.found facts has) in
+    meets_as c.last_of_and.result _ _ (and_as facts (naming_in (is_naming g.F.ExtensionFunctionObject.answers c.args.self.now) facts (held_by c.args.self.now c.args.slots.now) (bare c.args.left.now)) (naming_in (is_naming g.F.ExtensionFunctionObject.answers c.args.self.now) facts (held_by c.args.self.now c.args.slots.now) (bare c.args.right.now.value)) (bare c.args.right.now.value) (Evaluated (Plain (Boolean true))) found) (c.last_of_and.ensures.found (naming_in (is_naming g.F.ExtensionFunctionObject.answers c.args.self.now) facts (held_by c.args.self.now c.args.slots.now) (bare c.args.right.now.value)) right)
 
 pub interpret_and-returns-in-Yes-clause-limit : goal.interpret_and-returns-in-Yes-clause-limit
 interpret_and-returns-in-Yes-clause-limit g t c =
-    λ l. deep_and_right g.F.ExtensionFunctionObject.answers c.args.self.now c.args.depth (bare c.args.left.now) (bare c.args.right.now.value) (subst (λ (e : Expr (Unit {0})). Deep g.F.ExtensionFunctionObject.answers c.args.self.now c.args.depth (bare e)) c.deref.ensures (c.interpret_within-in-Yes.ensures.limit (c.last_of_and.ensures.limit l)))
+    λ l. deep_and_right g.F.ExtensionFunctionObject.answers c.args.self.now c.args.depth (bare c.args.left.now) (bare c.args.right.now.value) (subst (λ (e : Expr (Unit {0})). NestsBeyond g.F.ExtensionFunctionObject.answers c.args.self.now c.args.depth (bare e)) c.deref.ensures (c.interpret_within-in-Yes.ensures.limit (c.last_of_and.ensures.limit l)))
 
 pub interpret_and-returns-in-Open-clause-found : goal.interpret_and-returns-in-Open-clause-found
 interpret_and-returns-in-Open-clause-found g t c =
     λ facts has.
-    let found = subst (IsTested (tested_answer (partial_in facts (held_by c.args.self.now c.args.slots.now) (bare c.args.left.now)))) c.in-Open.is (c.in_ok-test_answer.ensures.found (partial_in facts (held_by c.args.self.now c.args.slots.now) (bare c.args.left.now)) (c.interpret_within.ensures.found facts (serves_and_left g.F.ExtensionFunctionObject.answers c.args.self.now facts (bare c.args.left.now) (bare c.args.right.now.value) has))) in
-    let right = meets_as c.interpret_within-answer.result (partial_in facts (held_by c.args.self.now c.args.slots.now) (bare c.args.right.now.value)) _ (ap (λ (e : Expr (Unit {0})). partial_in facts (held_by c.args.self.now c.args.slots.now) (bare e)) (sym c.deref-in-Open.ensures)) (c.interpret_within-answer.ensures.found facts (subst (λ (e : Expr (Unit {0})). Serves g.F.ExtensionFunctionObject.answers c.args.self.now facts (bare e)) (sym c.deref-in-Open.ensures) (serves_and_right g.F.ExtensionFunctionObject.answers c.args.self.now facts (bare c.args.left.now) (bare c.args.right.now.value) has))) in
-    meets_as c.open_and.result _ _ (and_as facts (partial_in facts (held_by c.args.self.now c.args.slots.now) (bare c.args.left.now)) (partial_in facts (held_by c.args.self.now c.args.slots.now) (bare c.args.right.now.value)) (bare c.args.right.now.value) (ResidualTree (bare c.in-Open.rest)) found) (c.open_and.ensures.found facts (partial_in facts (held_by c.args.self.now c.args.slots.now) (bare c.args.right.now.value)) right)
+    let found = subst (IsTested (tested_answer (naming_in (is_naming g.F.ExtensionFunctionObject.answers c.args.self.now) facts (held_by c.args.self.now c.args.slots.now) (bare c.args.left.now)))) c.in-Open.is (c.in_ok-test_answer.ensures.found (naming_in (is_naming g.F.ExtensionFunctionObject.answers c.args.self.now) facts (held_by c.args.self.now c.args.slots.now) (bare c.args.left.now)) (c.interpret_within.ensures.found facts has)) in
+    let right = meets_as c.interpret_within-answer.result (naming_in (is_naming g.F.ExtensionFunctionObject.answers c.args.self.now) facts (held_by c.args.self.now c.args.slots.now) (bare c.args.right.now.value)) _ (ap (λ (e : Expr (Unit {0})). naming_in (is_naming g.F.ExtensionFunctionObject.answers c.args.self.now) facts (held_by c.args.self.now c.args.slots.now) (bare e)) (sym c.deref-in-Open.ensures)) (c.interpret_within-answer.ensures.found facts has) in
+    meets_as c.open_and.result _ _ (and_as facts (naming_in (is_naming g.F.ExtensionFunctionObject.answers c.args.self.now) facts (held_by c.args.self.now c.args.slots.now) (bare c.args.left.now)) (naming_in (is_naming g.F.ExtensionFunctionObject.answers c.args.self.now) facts (held_by c.args.self.now c.args.slots.now) (bare c.args.right.now.value)) (bare c.args.right.now.value) (ResidualTree (bare c.in-Open.rest)) found) (c.open_and.ensures.found facts (naming_in (is_naming g.F.ExtensionFunctionObject.answers c.args.self.now) facts (held_by c.args.self.now c.args.slots.now) (bare c.args.right.now.value)) right)
 
 pub interpret_and-returns-in-Open-clause-limit : goal.interpret_and-returns-in-Open-clause-limit
 interpret_and-returns-in-Open-clause-limit g t c =
-    λ l. deep_and_right g.F.ExtensionFunctionObject.answers c.args.self.now c.args.depth (bare c.args.left.now) (bare c.args.right.now.value) (subst (λ (e : Expr (Unit {0})). Deep g.F.ExtensionFunctionObject.answers c.args.self.now c.args.depth (bare e)) c.deref-in-Open.ensures (c.interpret_within-answer.ensures.limit (c.open_and.ensures.limit l)))
+    λ l. deep_and_right g.F.ExtensionFunctionObject.answers c.args.self.now c.args.depth (bare c.args.left.now) (bare c.args.right.now.value) (subst (λ (e : Expr (Unit {0})). NestsBeyond g.F.ExtensionFunctionObject.answers c.args.self.now c.args.depth (bare e)) c.deref-in-Open.ensures (c.interpret_within-answer.ensures.limit (c.open_and.ensures.limit l)))
 
 pub interpret_or-returns-in_err-test_answer-clause-found : goal.interpret_or-returns-in_err-test_answer-clause-found
 interpret_or-returns-in_err-test_answer-clause-found g t c =
-    λ facts has. passed (λ (p : PartialValue). partial_in facts (held_by c.args.self.now c.args.slots.now) (tree.Or (bare c.args.left.now) (bare c.args.right.now.value)) ≡ part_answer (partial_of p)) (λ k. partial_in facts (held_by c.args.self.now c.args.slots.now) (tree.Or (bare c.args.left.now) (bare c.args.right.now.value)) ≡ Failed k) ⊤ c.in_err-test_answer.field-0.0 c.from_residual.result c.from_residual.ensures
-    (fails_on (failure_of c.in_err-test_answer.field-0.0) (λ k h. or_as facts (partial_in facts (held_by c.args.self.now c.args.slots.now) (bare c.args.left.now)) (partial_in facts (held_by c.args.self.now c.args.slots.now) (bare c.args.right.now.value)) (bare c.args.right.now.value) (Failed k) h) (λ d. d) (c.in_err-test_answer.ensures.found (partial_in facts (held_by c.args.self.now c.args.slots.now) (bare c.args.left.now)) (c.interpret_within.ensures.found facts (serves_or_left g.F.ExtensionFunctionObject.answers c.args.self.now facts (bare c.args.left.now) (bare c.args.right.now.value) has))))
+    λ facts has. passed (λ (p : PartialValue). naming_in (is_naming g.F.ExtensionFunctionObject.answers c.args.self.now) facts (held_by c.args.self.now c.args.slots.now) (tree.Or (bare c.args.left.now) (bare c.args.right.now.value)) ≡ part_answer (partial_of p)) (λ k. naming_in (is_naming g.F.ExtensionFunctionObject.answers c.args.self.now) facts (held_by c.args.self.now c.args.slots.now) (tree.Or (bare c.args.left.now) (bare c.args.right.now.value)) ≡ Failed k) ⊤ c.in_err-test_answer.field-0.0 c.from_residual.result c.from_residual.ensures
+    (fails_on (failure_of c.in_err-test_answer.field-0.0) (λ k h. or_as facts (naming_in (is_naming g.F.ExtensionFunctionObject.answers c.args.self.now) facts (held_by c.args.self.now c.args.slots.now) (bare c.args.left.now)) (naming_in (is_naming g.F.ExtensionFunctionObject.answers c.args.self.now) facts (held_by c.args.self.now c.args.slots.now) (bare c.args.right.now.value)) (bare c.args.right.now.value) (Failed k) h) (λ d. d) (c.in_err-test_answer.ensures.found (naming_in (is_naming g.F.ExtensionFunctionObject.answers c.args.self.now) facts (held_by c.args.self.now c.args.slots.now) (bare c.args.left.now)) (c.interpret_within.ensures.found facts has)))
 
 pub interpret_or-returns-in_err-test_answer-clause-limit : goal.interpret_or-returns-in_err-test_answer-clause-limit
 interpret_or-returns-in_err-test_answer-clause-limit g t c =
@@ -233,8 +236,8 @@ interpret_or-returns-in_err-test_answer-clause-limit g t c =
 pub interpret_or-returns-in-Yes-clause-found : goal.interpret_or-returns-in-Yes-clause-found
 interpret_or-returns-in-Yes-clause-found g t c =
     λ facts has.
-    let found = subst (IsTested (tested_answer (partial_in facts (held_by c.args.self.now c.args.slots.now) (bare c.args.left.now)))) c.in-Yes.is (c.in_ok-test_answer.ensures.found (partial_in facts (held_by c.args.self.now c.args.slots.now) (bare c.args.left.now)) (c.interpret_within.ensures.found facts (serves_or_left g.F.ExtensionFunctionObject.answers c.args.self.now facts (bare c.args.left.now) (bare c.args.right.now.value) has))) in
-    or_as facts (partial_in facts (held_by c.args.self.now c.args.slots.now) (bare c.args.left.now)) (partial_in facts (held_by c.args.self.now c.args.slots.now) (bare c.args.right.now.value)) (bare c.args.right.now.value) (Evaluated (Plain (Boolean true))) found ∙ sym c.truth.ensures
+    let found = subst (IsTested (tested_answer (naming_in (is_naming g.F.ExtensionFunctionObject.answers c.args.self.now) facts (held_by c.args.self.now c.args.slots.now) (bare c.args.left.now)))) c.in-Yes.is (c.in_ok-test_answer.ensures.found (naming_in (is_naming g.F.ExtensionFunctionObject.answers c.args.self.now) facts (held_by c.args.self.now c.args.slots.now) (bare c.args.left.now)) (c.interpret_within.ensures.found facts has)) in
+    or_as facts (naming_in (is_naming g.F.ExtensionFunctionObject.answers c.args.self.now) facts (held_by c.args.self.now c.args.slots.now) (bare c.args.left.now)) (naming_in (is_naming g.F.ExtensionFunctionObject.answers c.args.self.now) facts (held_by c.args.self.now c.args.slots.now) (bare c.args.right.now.value)) (bare c.args.right.now.value) (Evaluated (Plain (Boolean true))) found ∙ sym c.truth.ensures
 
 pub interpret_or-returns-in-Yes-clause-limit : goal.interpret_or-returns-in-Yes-clause-limit
 interpret_or-returns-in-Yes-clause-limit g t c =
@@ -243,29 +246,29 @@ interpret_or-returns-in-Yes-clause-limit g t c =
 pub interpret_or-returns-in-No-clause-found : goal.interpret_or-returns-in-No-clause-found
 interpret_or-returns-in-No-clause-found g t c =
     λ facts has.
-    let found = subst (IsTested (tested_answer (partial_in facts (held_by c.args.self.now c.args.slots.now) (bare c.args.left.now)))) c.in-No.is (c.in_ok-test_answer.ensures.found (partial_in facts (held_by c.args.self.now c.args.slots.now) (bare c.args.left.now)) (c.interpret_within.ensures.found facts (serves_or_left g.F.ExtensionFunctionObject.answers c.args.self.now facts (bare c.args.left.now) (bare c.args.right.now.value) has))) in
-    let right = meets_as c.interpret_within-in-No.result (partial_in facts (held_by c.args.self.now c.args.slots.now) (bare c.args.right.now.value)) _ (ap (λ (e : Expr (Unit {0})). partial_in facts (held_by c.args.self.now c.args.slots.now) (bare e)) (sym c.deref.ensures)) (c.interpret_within-in-No.ensures.found facts (subst (λ (e : Expr (Unit {0})). Serves g.F.ExtensionFunctionObject.answers c.args.self.now facts (bare e)) (sym c.deref.ensures) (serves_or_right g.F.ExtensionFunctionObject.answers c.args.self.now facts (bare c.args.left.now) (bare c.args.right.now.value) has))) in
-    meets_as c.last_of_or.result _ _ (or_as facts (partial_in facts (held_by c.args.self.now c.args.slots.now) (bare c.args.left.now)) (partial_in facts (held_by c.args.self.now c.args.slots.now) (bare c.args.right.now.value)) (bare c.args.right.now.value) (Evaluated (Plain (Boolean false))) found) (c.last_of_or.ensures.found (partial_in facts (held_by c.args.self.now c.args.slots.now) (bare c.args.right.now.value)) right)
+    let found = subst (IsTested (tested_answer (naming_in (is_naming g.F.ExtensionFunctionObject.answers c.args.self.now) facts (held_by c.args.self.now c.args.slots.now) (bare c.args.left.now)))) c.in-No.is (c.in_ok-test_answer.ensures.found (naming_in (is_naming g.F.ExtensionFunctionObject.answers c.args.self.now) facts (held_by c.args.self.now c.args.slots.now) (bare c.args.left.now)) (c.interpret_within.ensures.found facts has)) in
+    let right = meets_as c.interpret_within-in-No.result (naming_in (is_naming g.F.ExtensionFunctionObject.answers c.args.self.now) facts (held_by c.args.self.now c.args.slots.now) (bare c.args.right.now.value)) _ (ap (λ (e : Expr (Unit {0})). naming_in (is_naming g.F.ExtensionFunctionObject.answers c.args.self.now) facts (held_by c.args.self.now c.args.slots.now) (bare e)) (sym c.deref.ensures)) (c.interpret_within-in-No.ensures.found facts has) in
+    meets_as c.last_of_or.result _ _ (or_as facts (naming_in (is_naming g.F.ExtensionFunctionObject.answers c.args.self.now) facts (held_by c.args.self.now c.args.slots.now) (bare c.args.left.now)) (naming_in (is_naming g.F.ExtensionFunctionObject.answers c.args.self.now) facts (held_by c.args.self.now c.args.slots.now) (bare c.args.right.now.value)) (bare c.args.right.now.value) (Evaluated (Plain (Boolean false))) found) (c.last_of_or.ensures.found (naming_in (is_naming g.F.ExtensionFunctionObject.answers c.args.self.now) facts (held_by c.args.self.now c.args.slots.now) (bare c.args.right.now.value)) right)
 
 pub interpret_or-returns-in-No-clause-limit : goal.interpret_or-returns-in-No-clause-limit
 interpret_or-returns-in-No-clause-limit g t c =
-    λ l. deep_or_right g.F.ExtensionFunctionObject.answers c.args.self.now c.args.depth (bare c.args.left.now) (bare c.args.right.now.value) (subst (λ (e : Expr (Unit {0})). Deep g.F.ExtensionFunctionObject.answers c.args.self.now c.args.depth (bare e)) c.deref.ensures (c.interpret_within-in-No.ensures.limit (c.last_of_or.ensures.limit l)))
+    λ l. deep_or_right g.F.ExtensionFunctionObject.answers c.args.self.now c.args.depth (bare c.args.left.now) (bare c.args.right.now.value) (subst (λ (e : Expr (Unit {0})). NestsBeyond g.F.ExtensionFunctionObject.answers c.args.self.now c.args.depth (bare e)) c.deref.ensures (c.interpret_within-in-No.ensures.limit (c.last_of_or.ensures.limit l)))
 
 pub interpret_or-returns-in-Open-clause-found : goal.interpret_or-returns-in-Open-clause-found
 interpret_or-returns-in-Open-clause-found g t c =
     λ facts has.
-    let found = subst (IsTested (tested_answer (partial_in facts (held_by c.args.self.now c.args.slots.now) (bare c.args.left.now)))) c.in-Open.is (c.in_ok-test_answer.ensures.found (partial_in facts (held_by c.args.self.now c.args.slots.now) (bare c.args.left.now)) (c.interpret_within.ensures.found facts (serves_or_left g.F.ExtensionFunctionObject.answers c.args.self.now facts (bare c.args.left.now) (bare c.args.right.now.value) has))) in
-    let right = meets_as c.interpret_within-answer.result (partial_in facts (held_by c.args.self.now c.args.slots.now) (bare c.args.right.now.value)) _ (ap (λ (e : Expr (Unit {0})). partial_in facts (held_by c.args.self.now c.args.slots.now) (bare e)) (sym c.deref-in-Open.ensures)) (c.interpret_within-answer.ensures.found facts (subst (λ (e : Expr (Unit {0})). Serves g.F.ExtensionFunctionObject.answers c.args.self.now facts (bare e)) (sym c.deref-in-Open.ensures) (serves_or_right g.F.ExtensionFunctionObject.answers c.args.self.now facts (bare c.args.left.now) (bare c.args.right.now.value) has))) in
-    meets_as c.open_or.result _ _ (or_as facts (partial_in facts (held_by c.args.self.now c.args.slots.now) (bare c.args.left.now)) (partial_in facts (held_by c.args.self.now c.args.slots.now) (bare c.args.right.now.value)) (bare c.args.right.now.value) (ResidualTree (bare c.in-Open.rest)) found) (c.open_or.ensures.found facts (partial_in facts (held_by c.args.self.now c.args.slots.now) (bare c.args.right.now.value)) right)
+    let found = subst (IsTested (tested_answer (naming_in (is_naming g.F.ExtensionFunctionObject.answers c.args.self.now) facts (held_by c.args.self.now c.args.slots.now) (bare c.args.left.now)))) c.in-Open.is (c.in_ok-test_answer.ensures.found (naming_in (is_naming g.F.ExtensionFunctionObject.answers c.args.self.now) facts (held_by c.args.self.now c.args.slots.now) (bare c.args.left.now)) (c.interpret_within.ensures.found facts has)) in
+    let right = meets_as c.interpret_within-answer.result (naming_in (is_naming g.F.ExtensionFunctionObject.answers c.args.self.now) facts (held_by c.args.self.now c.args.slots.now) (bare c.args.right.now.value)) _ (ap (λ (e : Expr (Unit {0})). naming_in (is_naming g.F.ExtensionFunctionObject.answers c.args.self.now) facts (held_by c.args.self.now c.args.slots.now) (bare e)) (sym c.deref-in-Open.ensures)) (c.interpret_within-answer.ensures.found facts has) in
+    meets_as c.open_or.result _ _ (or_as facts (naming_in (is_naming g.F.ExtensionFunctionObject.answers c.args.self.now) facts (held_by c.args.self.now c.args.slots.now) (bare c.args.left.now)) (naming_in (is_naming g.F.ExtensionFunctionObject.answers c.args.self.now) facts (held_by c.args.self.now c.args.slots.now) (bare c.args.right.now.value)) (bare c.args.right.now.value) (ResidualTree (bare c.in-Open.rest)) found) (c.open_or.ensures.found facts (naming_in (is_naming g.F.ExtensionFunctionObject.answers c.args.self.now) facts (held_by c.args.self.now c.args.slots.now) (bare c.args.right.now.value)) right)
 
 pub interpret_or-returns-in-Open-clause-limit : goal.interpret_or-returns-in-Open-clause-limit
 interpret_or-returns-in-Open-clause-limit g t c =
-    λ l. deep_or_right g.F.ExtensionFunctionObject.answers c.args.self.now c.args.depth (bare c.args.left.now) (bare c.args.right.now.value) (subst (λ (e : Expr (Unit {0})). Deep g.F.ExtensionFunctionObject.answers c.args.self.now c.args.depth (bare e)) c.deref-in-Open.ensures (c.interpret_within-answer.ensures.limit (c.open_or.ensures.limit l)))
+    λ l. deep_or_right g.F.ExtensionFunctionObject.answers c.args.self.now c.args.depth (bare c.args.left.now) (bare c.args.right.now.value) (subst (λ (e : Expr (Unit {0})). NestsBeyond g.F.ExtensionFunctionObject.answers c.args.self.now c.args.depth (bare e)) c.deref-in-Open.ensures (c.interpret_within-answer.ensures.limit (c.open_or.ensures.limit l)))
 
 pub interpret_if-returns-in_err-test_answer-clause-found : goal.interpret_if-returns-in_err-test_answer-clause-found
 interpret_if-returns-in_err-test_answer-clause-found g t c =
-    λ facts has. passed (λ (p : PartialValue). partial_in facts (held_by c.args.self.now c.args.slots.now) (tree.If (bare c.args.test.now) (bare c.args.yes.now.value) (bare c.args.no.now.value)) ≡ part_answer (partial_of p)) (λ k. partial_in facts (held_by c.args.self.now c.args.slots.now) (tree.If (bare c.args.test.now) (bare c.args.yes.now.value) (bare c.args.no.now.value)) ≡ Failed k) ⊤ c.in_err-test_answer.field-0.0 c.from_residual.result c.from_residual.ensures
-    (fails_on (failure_of c.in_err-test_answer.field-0.0) (λ k h. if_as facts (partial_in facts (held_by c.args.self.now c.args.slots.now) (bare c.args.test.now)) (partial_in facts (held_by c.args.self.now c.args.slots.now) (bare c.args.yes.now.value)) (partial_in facts (held_by c.args.self.now c.args.slots.now) (bare c.args.no.now.value)) (bare c.args.yes.now.value) (bare c.args.no.now.value) (Failed k) h) (λ d. d) (c.in_err-test_answer.ensures.found (partial_in facts (held_by c.args.self.now c.args.slots.now) (bare c.args.test.now)) (c.interpret_within.ensures.found facts (serves_test g.F.ExtensionFunctionObject.answers c.args.self.now facts (bare c.args.test.now) (bare c.args.yes.now.value) (bare c.args.no.now.value) has))))
+    λ facts has. passed (λ (p : PartialValue). naming_in (is_naming g.F.ExtensionFunctionObject.answers c.args.self.now) facts (held_by c.args.self.now c.args.slots.now) (tree.If (bare c.args.test.now) (bare c.args.yes.now.value) (bare c.args.no.now.value)) ≡ part_answer (partial_of p)) (λ k. naming_in (is_naming g.F.ExtensionFunctionObject.answers c.args.self.now) facts (held_by c.args.self.now c.args.slots.now) (tree.If (bare c.args.test.now) (bare c.args.yes.now.value) (bare c.args.no.now.value)) ≡ Failed k) ⊤ c.in_err-test_answer.field-0.0 c.from_residual.result c.from_residual.ensures
+    (fails_on (failure_of c.in_err-test_answer.field-0.0) (λ k h. if_as facts (naming_in (is_naming g.F.ExtensionFunctionObject.answers c.args.self.now) facts (held_by c.args.self.now c.args.slots.now) (bare c.args.test.now)) (naming_in (is_naming g.F.ExtensionFunctionObject.answers c.args.self.now) facts (held_by c.args.self.now c.args.slots.now) (bare c.args.yes.now.value)) (naming_in (is_naming g.F.ExtensionFunctionObject.answers c.args.self.now) facts (held_by c.args.self.now c.args.slots.now) (bare c.args.no.now.value)) (bare c.args.yes.now.value) (bare c.args.no.now.value) (Failed k) h) (λ d. d) (c.in_err-test_answer.ensures.found (naming_in (is_naming g.F.ExtensionFunctionObject.answers c.args.self.now) facts (held_by c.args.self.now c.args.slots.now) (bare c.args.test.now)) (c.interpret_within.ensures.found facts has)))
 
 pub interpret_if-returns-in_err-test_answer-clause-limit : goal.interpret_if-returns-in_err-test_answer-clause-limit
 interpret_if-returns-in_err-test_answer-clause-limit g t c =
@@ -274,43 +277,43 @@ interpret_if-returns-in_err-test_answer-clause-limit g t c =
 pub interpret_if-returns-in-Yes-clause-found : goal.interpret_if-returns-in-Yes-clause-found
 interpret_if-returns-in-Yes-clause-found g t c =
     λ facts has.
-    let found = subst (IsTested (tested_answer (partial_in facts (held_by c.args.self.now c.args.slots.now) (bare c.args.test.now)))) c.in-Yes.is (c.in_ok-test_answer.ensures.found (partial_in facts (held_by c.args.self.now c.args.slots.now) (bare c.args.test.now)) (c.interpret_within.ensures.found facts (serves_test g.F.ExtensionFunctionObject.answers c.args.self.now facts (bare c.args.test.now) (bare c.args.yes.now.value) (bare c.args.no.now.value) has))) in
-    let taken = meets_as c.interpret_within-in-Yes.result (partial_in facts (held_by c.args.self.now c.args.slots.now) (bare c.args.yes.now.value)) _ (ap (λ (e : Expr (Unit {0})). partial_in facts (held_by c.args.self.now c.args.slots.now) (bare e)) (sym c.deref.ensures)) (c.interpret_within-in-Yes.ensures.found facts (subst (λ (e : Expr (Unit {0})). Serves g.F.ExtensionFunctionObject.answers c.args.self.now facts (bare e)) (sym c.deref.ensures) (serves_yes g.F.ExtensionFunctionObject.answers c.args.self.now facts (bare c.args.test.now) (bare c.args.yes.now.value) (bare c.args.no.now.value) has))) in
-    meets_as c.interpret_within-in-Yes.result _ _ (if_as facts (partial_in facts (held_by c.args.self.now c.args.slots.now) (bare c.args.test.now)) (partial_in facts (held_by c.args.self.now c.args.slots.now) (bare c.args.yes.now.value)) (partial_in facts (held_by c.args.self.now c.args.slots.now) (bare c.args.no.now.value)) (bare c.args.yes.now.value) (bare c.args.no.now.value) (Evaluated (Plain (Boolean true))) found) taken
+    let found = subst (IsTested (tested_answer (naming_in (is_naming g.F.ExtensionFunctionObject.answers c.args.self.now) facts (held_by c.args.self.now c.args.slots.now) (bare c.args.test.now)))) c.in-Yes.is (c.in_ok-test_answer.ensures.found (naming_in (is_naming g.F.ExtensionFunctionObject.answers c.args.self.now) facts (held_by c.args.self.now c.args.slots.now) (bare c.args.test.now)) (c.interpret_within.ensures.found facts has)) in
+    let taken = meets_as c.interpret_within-in-Yes.result (naming_in (is_naming g.F.ExtensionFunctionObject.answers c.args.self.now) facts (held_by c.args.self.now c.args.slots.now) (bare c.args.yes.now.value)) _ (ap (λ (e : Expr (Unit {0})). naming_in (is_naming g.F.ExtensionFunctionObject.answers c.args.self.now) facts (held_by c.args.self.now c.args.slots.now) (bare e)) (sym c.deref.ensures)) (c.interpret_within-in-Yes.ensures.found facts has) in
+    meets_as c.interpret_within-in-Yes.result _ _ (if_as facts (naming_in (is_naming g.F.ExtensionFunctionObject.answers c.args.self.now) facts (held_by c.args.self.now c.args.slots.now) (bare c.args.test.now)) (naming_in (is_naming g.F.ExtensionFunctionObject.answers c.args.self.now) facts (held_by c.args.self.now c.args.slots.now) (bare c.args.yes.now.value)) (naming_in (is_naming g.F.ExtensionFunctionObject.answers c.args.self.now) facts (held_by c.args.self.now c.args.slots.now) (bare c.args.no.now.value)) (bare c.args.yes.now.value) (bare c.args.no.now.value) (Evaluated (Plain (Boolean true))) found) taken
 
 pub interpret_if-returns-in-Yes-clause-limit : goal.interpret_if-returns-in-Yes-clause-limit
 interpret_if-returns-in-Yes-clause-limit g t c =
-    λ l. deep_if_yes g.F.ExtensionFunctionObject.answers c.args.self.now c.args.depth (bare c.args.test.now) (bare c.args.yes.now.value) (bare c.args.no.now.value) (subst (λ (e : Expr (Unit {0})). Deep g.F.ExtensionFunctionObject.answers c.args.self.now c.args.depth (bare e)) c.deref.ensures (c.interpret_within-in-Yes.ensures.limit l))
+    λ l. deep_if_yes g.F.ExtensionFunctionObject.answers c.args.self.now c.args.depth (bare c.args.test.now) (bare c.args.yes.now.value) (bare c.args.no.now.value) (subst (λ (e : Expr (Unit {0})). NestsBeyond g.F.ExtensionFunctionObject.answers c.args.self.now c.args.depth (bare e)) c.deref.ensures (c.interpret_within-in-Yes.ensures.limit l))
 
 pub interpret_if-returns-in-No-clause-found : goal.interpret_if-returns-in-No-clause-found
 interpret_if-returns-in-No-clause-found g t c =
     λ facts has.
-    let found = subst (IsTested (tested_answer (partial_in facts (held_by c.args.self.now c.args.slots.now) (bare c.args.test.now)))) c.in-No.is (c.in_ok-test_answer.ensures.found (partial_in facts (held_by c.args.self.now c.args.slots.now) (bare c.args.test.now)) (c.interpret_within.ensures.found facts (serves_test g.F.ExtensionFunctionObject.answers c.args.self.now facts (bare c.args.test.now) (bare c.args.yes.now.value) (bare c.args.no.now.value) has))) in
-    let taken = meets_as c.interpret_within-in-No.result (partial_in facts (held_by c.args.self.now c.args.slots.now) (bare c.args.no.now.value)) _ (ap (λ (e : Expr (Unit {0})). partial_in facts (held_by c.args.self.now c.args.slots.now) (bare e)) (sym c.deref-in-No.ensures)) (c.interpret_within-in-No.ensures.found facts (subst (λ (e : Expr (Unit {0})). Serves g.F.ExtensionFunctionObject.answers c.args.self.now facts (bare e)) (sym c.deref-in-No.ensures) (serves_no g.F.ExtensionFunctionObject.answers c.args.self.now facts (bare c.args.test.now) (bare c.args.yes.now.value) (bare c.args.no.now.value) has))) in
-    meets_as c.interpret_within-in-No.result _ _ (if_as facts (partial_in facts (held_by c.args.self.now c.args.slots.now) (bare c.args.test.now)) (partial_in facts (held_by c.args.self.now c.args.slots.now) (bare c.args.yes.now.value)) (partial_in facts (held_by c.args.self.now c.args.slots.now) (bare c.args.no.now.value)) (bare c.args.yes.now.value) (bare c.args.no.now.value) (Evaluated (Plain (Boolean false))) found) taken
+    let found = subst (IsTested (tested_answer (naming_in (is_naming g.F.ExtensionFunctionObject.answers c.args.self.now) facts (held_by c.args.self.now c.args.slots.now) (bare c.args.test.now)))) c.in-No.is (c.in_ok-test_answer.ensures.found (naming_in (is_naming g.F.ExtensionFunctionObject.answers c.args.self.now) facts (held_by c.args.self.now c.args.slots.now) (bare c.args.test.now)) (c.interpret_within.ensures.found facts has)) in
+    let taken = meets_as c.interpret_within-in-No.result (naming_in (is_naming g.F.ExtensionFunctionObject.answers c.args.self.now) facts (held_by c.args.self.now c.args.slots.now) (bare c.args.no.now.value)) _ (ap (λ (e : Expr (Unit {0})). naming_in (is_naming g.F.ExtensionFunctionObject.answers c.args.self.now) facts (held_by c.args.self.now c.args.slots.now) (bare e)) (sym c.deref-in-No.ensures)) (c.interpret_within-in-No.ensures.found facts has) in
+    meets_as c.interpret_within-in-No.result _ _ (if_as facts (naming_in (is_naming g.F.ExtensionFunctionObject.answers c.args.self.now) facts (held_by c.args.self.now c.args.slots.now) (bare c.args.test.now)) (naming_in (is_naming g.F.ExtensionFunctionObject.answers c.args.self.now) facts (held_by c.args.self.now c.args.slots.now) (bare c.args.yes.now.value)) (naming_in (is_naming g.F.ExtensionFunctionObject.answers c.args.self.now) facts (held_by c.args.self.now c.args.slots.now) (bare c.args.no.now.value)) (bare c.args.yes.now.value) (bare c.args.no.now.value) (Evaluated (Plain (Boolean false))) found) taken
 
 pub interpret_if-returns-in-No-clause-limit : goal.interpret_if-returns-in-No-clause-limit
 interpret_if-returns-in-No-clause-limit g t c =
-    λ l. deep_if_no g.F.ExtensionFunctionObject.answers c.args.self.now c.args.depth (bare c.args.test.now) (bare c.args.yes.now.value) (bare c.args.no.now.value) (subst (λ (e : Expr (Unit {0})). Deep g.F.ExtensionFunctionObject.answers c.args.self.now c.args.depth (bare e)) c.deref-in-No.ensures (c.interpret_within-in-No.ensures.limit l))
+    λ l. deep_if_no g.F.ExtensionFunctionObject.answers c.args.self.now c.args.depth (bare c.args.test.now) (bare c.args.yes.now.value) (bare c.args.no.now.value) (subst (λ (e : Expr (Unit {0})). NestsBeyond g.F.ExtensionFunctionObject.answers c.args.self.now c.args.depth (bare e)) c.deref-in-No.ensures (c.interpret_within-in-No.ensures.limit l))
 
 pub interpret_if-returns-in-Open-clause-found : goal.interpret_if-returns-in-Open-clause-found
 interpret_if-returns-in-Open-clause-found g t c =
     λ facts has.
-    let found = subst (IsTested (tested_answer (partial_in facts (held_by c.args.self.now c.args.slots.now) (bare c.args.test.now)))) c.in-Open.is (c.in_ok-test_answer.ensures.found (partial_in facts (held_by c.args.self.now c.args.slots.now) (bare c.args.test.now)) (c.interpret_within.ensures.found facts (serves_test g.F.ExtensionFunctionObject.answers c.args.self.now facts (bare c.args.test.now) (bare c.args.yes.now.value) (bare c.args.no.now.value) has))) in
-    let yes = meets_as c.interpret_within-yes_answer.result (partial_in facts (held_by c.args.self.now c.args.slots.now) (bare c.args.yes.now.value)) _ (ap (λ (e : Expr (Unit {0})). partial_in facts (held_by c.args.self.now c.args.slots.now) (bare e)) (sym c.deref-in-Open.ensures)) (c.interpret_within-yes_answer.ensures.found facts (subst (λ (e : Expr (Unit {0})). Serves g.F.ExtensionFunctionObject.answers c.args.self.now facts (bare e)) (sym c.deref-in-Open.ensures) (serves_yes g.F.ExtensionFunctionObject.answers c.args.self.now facts (bare c.args.test.now) (bare c.args.yes.now.value) (bare c.args.no.now.value) has))) in
-    let no = meets_as c.interpret_within-no_answer.result (partial_in facts (held_by c.args.self.now c.args.slots.now) (bare c.args.no.now.value)) _ (ap (λ (e : Expr (Unit {0})). partial_in facts (held_by c.args.self.now c.args.slots.now) (bare e)) (sym c.deref-in-Open-2.ensures)) (c.interpret_within-no_answer.ensures.found facts (subst (λ (e : Expr (Unit {0})). Serves g.F.ExtensionFunctionObject.answers c.args.self.now facts (bare e)) (sym c.deref-in-Open-2.ensures) (serves_no g.F.ExtensionFunctionObject.answers c.args.self.now facts (bare c.args.test.now) (bare c.args.yes.now.value) (bare c.args.no.now.value) has))) in
-    meets_as c.open_if.result _ _ (if_as facts (partial_in facts (held_by c.args.self.now c.args.slots.now) (bare c.args.test.now)) (partial_in facts (held_by c.args.self.now c.args.slots.now) (bare c.args.yes.now.value)) (partial_in facts (held_by c.args.self.now c.args.slots.now) (bare c.args.no.now.value)) (bare c.args.yes.now.value) (bare c.args.no.now.value) (ResidualTree (bare c.in-Open.rest)) found) (c.open_if.ensures.found facts (partial_in facts (held_by c.args.self.now c.args.slots.now) (bare c.args.yes.now.value)) (partial_in facts (held_by c.args.self.now c.args.slots.now) (bare c.args.no.now.value)) yes no)
+    let found = subst (IsTested (tested_answer (naming_in (is_naming g.F.ExtensionFunctionObject.answers c.args.self.now) facts (held_by c.args.self.now c.args.slots.now) (bare c.args.test.now)))) c.in-Open.is (c.in_ok-test_answer.ensures.found (naming_in (is_naming g.F.ExtensionFunctionObject.answers c.args.self.now) facts (held_by c.args.self.now c.args.slots.now) (bare c.args.test.now)) (c.interpret_within.ensures.found facts has)) in
+    let yes = meets_as c.interpret_within-yes_answer.result (naming_in (is_naming g.F.ExtensionFunctionObject.answers c.args.self.now) facts (held_by c.args.self.now c.args.slots.now) (bare c.args.yes.now.value)) _ (ap (λ (e : Expr (Unit {0})). naming_in (is_naming g.F.ExtensionFunctionObject.answers c.args.self.now) facts (held_by c.args.self.now c.args.slots.now) (bare e)) (sym c.deref-in-Open.ensures)) (c.interpret_within-yes_answer.ensures.found facts has) in
+    let no = meets_as c.interpret_within-no_answer.result (naming_in (is_naming g.F.ExtensionFunctionObject.answers c.args.self.now) facts (held_by c.args.self.now c.args.slots.now) (bare c.args.no.now.value)) _ (ap (λ (e : Expr (Unit {0})). naming_in (is_naming g.F.ExtensionFunctionObject.answers c.args.self.now) facts (held_by c.args.self.now c.args.slots.now) (bare e)) (sym c.deref-in-Open-2.ensures)) (c.interpret_within-no_answer.ensures.found facts has) in
+    meets_as c.open_if.result _ _ (if_as facts (naming_in (is_naming g.F.ExtensionFunctionObject.answers c.args.self.now) facts (held_by c.args.self.now c.args.slots.now) (bare c.args.test.now)) (naming_in (is_naming g.F.ExtensionFunctionObject.answers c.args.self.now) facts (held_by c.args.self.now c.args.slots.now) (bare c.args.yes.now.value)) (naming_in (is_naming g.F.ExtensionFunctionObject.answers c.args.self.now) facts (held_by c.args.self.now c.args.slots.now) (bare c.args.no.now.value)) (bare c.args.yes.now.value) (bare c.args.no.now.value) (ResidualTree (bare c.in-Open.rest)) found) (c.open_if.ensures.found facts (naming_in (is_naming g.F.ExtensionFunctionObject.answers c.args.self.now) facts (held_by c.args.self.now c.args.slots.now) (bare c.args.yes.now.value)) (naming_in (is_naming g.F.ExtensionFunctionObject.answers c.args.self.now) facts (held_by c.args.self.now c.args.slots.now) (bare c.args.no.now.value)) yes no)
 
 pub interpret_if-returns-in-Open-clause-limit : goal.interpret_if-returns-in-Open-clause-limit
 interpret_if-returns-in-Open-clause-limit g t c =
     λ l. either_deep (c.open_if.ensures.limit l)
-    (λ y. deep_if_yes g.F.ExtensionFunctionObject.answers c.args.self.now c.args.depth (bare c.args.test.now) (bare c.args.yes.now.value) (bare c.args.no.now.value) (subst (λ (e : Expr (Unit {0})). Deep g.F.ExtensionFunctionObject.answers c.args.self.now c.args.depth (bare e)) c.deref-in-Open.ensures (c.interpret_within-yes_answer.ensures.limit y)))
-    (λ n. deep_if_no g.F.ExtensionFunctionObject.answers c.args.self.now c.args.depth (bare c.args.test.now) (bare c.args.yes.now.value) (bare c.args.no.now.value) (subst (λ (e : Expr (Unit {0})). Deep g.F.ExtensionFunctionObject.answers c.args.self.now c.args.depth (bare e)) c.deref-in-Open-2.ensures (c.interpret_within-no_answer.ensures.limit n)))
+    (λ y. deep_if_yes g.F.ExtensionFunctionObject.answers c.args.self.now c.args.depth (bare c.args.test.now) (bare c.args.yes.now.value) (bare c.args.no.now.value) (subst (λ (e : Expr (Unit {0})). NestsBeyond g.F.ExtensionFunctionObject.answers c.args.self.now c.args.depth (bare e)) c.deref-in-Open.ensures (c.interpret_within-yes_answer.ensures.limit y)))
+    (λ n. deep_if_no g.F.ExtensionFunctionObject.answers c.args.self.now c.args.depth (bare c.args.test.now) (bare c.args.yes.now.value) (bare c.args.no.now.value) (subst (λ (e : Expr (Unit {0})). NestsBeyond g.F.ExtensionFunctionObject.answers c.args.self.now c.args.depth (bare e)) c.deref-in-Open-2.ensures (c.interpret_within-no_answer.ensures.limit n)))
 
 pub interpret_attribute-returns-in_err-part-clause-found : goal.interpret_attribute-returns-in_err-part-clause-found
 interpret_attribute-returns-in_err-part-clause-found g t c =
-    λ facts has. passed (λ (p : PartialValue). partial_in facts (held_by c.args.self.now c.args.slots.now) (unary (tree.GetAttr (rc_str_bytes c.args.attr.now)) (bare c.args.of.now)) ≡ part_answer (partial_of p)) (λ k. partial_in facts (held_by c.args.self.now c.args.slots.now) (unary (tree.GetAttr (rc_str_bytes c.args.attr.now)) (bare c.args.of.now)) ≡ Failed k) ⊤ c.in_err-part.field-0.0 c.from_residual.result c.from_residual.ensures
-    (fails_on (failure_of c.in_err-part.field-0.0) (λ k h. ap (λ b. apply_answer facts (held_by c.args.self.now c.args.slots.now) (tree.GetAttr (rc_str_bytes c.args.attr.now)) (and_next facts b (AllEvaluated no_values))) h) (λ d. d) (c.in_err-part.ensures.found facts (serves_operands g.F.ExtensionFunctionObject.answers c.args.self.now facts (tree.GetAttr (rc_str_bytes c.args.attr.now)) (a_tree (bare c.args.of.now) no_trees) has).0))
+    λ facts has. passed (λ (p : PartialValue). naming_in (is_naming g.F.ExtensionFunctionObject.answers c.args.self.now) facts (held_by c.args.self.now c.args.slots.now) (unary (tree.GetAttr (rc_str_bytes c.args.attr.now)) (bare c.args.of.now)) ≡ part_answer (partial_of p)) (λ k. naming_in (is_naming g.F.ExtensionFunctionObject.answers c.args.self.now) facts (held_by c.args.self.now c.args.slots.now) (unary (tree.GetAttr (rc_str_bytes c.args.attr.now)) (bare c.args.of.now)) ≡ Failed k) ⊤ c.in_err-part.field-0.0 c.from_residual.result c.from_residual.ensures
+    (fails_on (failure_of c.in_err-part.field-0.0) (λ k h. ap (λ b. apply_answer facts (held_by c.args.self.now c.args.slots.now) (tree.GetAttr (rc_str_bytes c.args.attr.now)) (and_next facts b (AllEvaluated no_values))) h) (λ d. d) (c.in_err-part.ensures.found facts has))
 
 pub interpret_attribute-returns-in_err-part-clause-limit : goal.interpret_attribute-returns-in_err-part-clause-limit
 interpret_attribute-returns-in_err-part-clause-limit g t c =
@@ -319,8 +322,8 @@ interpret_attribute-returns-in_err-part-clause-limit g t c =
 pub interpret_attribute-returns-in_err-answer-clause-found : goal.interpret_attribute-returns-in_err-answer-clause-found
 interpret_attribute-returns-in_err-answer-clause-found g t c =
     λ facts has.
-    let as_found = ap (λ b. apply_answer facts (held_by c.args.self.now c.args.slots.now) (tree.GetAttr (rc_str_bytes c.args.attr.now)) (and_next facts b (AllEvaluated no_values))) (c.in_ok-part.ensures.found facts (serves_operands g.F.ExtensionFunctionObject.answers c.args.self.now facts (tree.GetAttr (rc_str_bytes c.args.attr.now)) (a_tree (bare c.args.of.now) no_trees) has).0) in
-    passed (λ (p : PartialValue). partial_in facts (held_by c.args.self.now c.args.slots.now) (unary (tree.GetAttr (rc_str_bytes c.args.attr.now)) (bare c.args.of.now)) ≡ part_answer (partial_of p)) (λ k. partial_in facts (held_by c.args.self.now c.args.slots.now) (unary (tree.GetAttr (rc_str_bytes c.args.attr.now)) (bare c.args.of.now)) ≡ Failed k) ⊤ c.in_err-answer.field-0.0 c.from_residual-in_err-answer.result c.from_residual-in_err-answer.ensures
+    let as_found = ap (λ b. apply_answer facts (held_by c.args.self.now c.args.slots.now) (tree.GetAttr (rc_str_bytes c.args.attr.now)) (and_next facts b (AllEvaluated no_values))) (c.in_ok-part.ensures.found facts has) in
+    passed (λ (p : PartialValue). naming_in (is_naming g.F.ExtensionFunctionObject.answers c.args.self.now) facts (held_by c.args.self.now c.args.slots.now) (unary (tree.GetAttr (rc_str_bytes c.args.attr.now)) (bare c.args.of.now)) ≡ part_answer (partial_of p)) (λ k. naming_in (is_naming g.F.ExtensionFunctionObject.answers c.args.self.now) facts (held_by c.args.self.now c.args.slots.now) (unary (tree.GetAttr (rc_str_bytes c.args.attr.now)) (bare c.args.of.now)) ≡ Failed k) ⊤ c.in_err-answer.field-0.0 c.from_residual-in_err-answer.result c.from_residual-in_err-answer.ensures
     (fails_on (failure_of c.in_err-answer.field-0.0) (λ k h. as_found ∙ h) (λ d. tt) (c.in_err-answer.ensures facts has.entities (held_by c.args.self.now c.args.slots.now)))
 
 pub interpret_attribute-returns-in_err-answer-clause-limit : goal.interpret_attribute-returns-in_err-answer-clause-limit
@@ -330,7 +333,7 @@ interpret_attribute-returns-in_err-answer-clause-limit g t c =
 pub interpret_attribute-returns-in-Done-clause-found : goal.interpret_attribute-returns-in-Done-clause-found
 interpret_attribute-returns-in-Done-clause-found g t c =
     λ facts has.
-    let as_found = ap (λ b. apply_answer facts (held_by c.args.self.now c.args.slots.now) (tree.GetAttr (rc_str_bytes c.args.attr.now)) (and_next facts b (AllEvaluated no_values))) (c.in_ok-part.ensures.found facts (serves_operands g.F.ExtensionFunctionObject.answers c.args.self.now facts (tree.GetAttr (rc_str_bytes c.args.attr.now)) (a_tree (bare c.args.of.now) no_trees) has).0) in
+    let as_found = ap (λ b. apply_answer facts (held_by c.args.self.now c.args.slots.now) (tree.GetAttr (rc_str_bytes c.args.attr.now)) (and_next facts b (AllEvaluated no_values))) (c.in_ok-part.ensures.found facts has) in
     as_found ∙ subst (IsProjected facts (held_by c.args.self.now c.args.slots.now) (partial_of c.in_ok-part.part) (apply_answer facts (held_by c.args.self.now c.args.slots.now) (tree.GetAttr (rc_str_bytes c.args.attr.now)) (and_next facts (part_answer (partial_of c.in_ok-part.part)) (AllEvaluated no_values)))) c.in-Done.is (c.in_ok-answer.ensures facts has.entities (held_by c.args.self.now c.args.slots.now))
 
 pub interpret_attribute-returns-in-Done-clause-limit : goal.interpret_attribute-returns-in-Done-clause-limit
@@ -340,16 +343,16 @@ interpret_attribute-returns-in-Done-clause-limit g t c =
 pub interpret_attribute-returns-in-Entry-clause-found : goal.interpret_attribute-returns-in-Entry-clause-found
 interpret_attribute-returns-in-Entry-clause-found g t c =
     λ facts has.
-    let as_found = ap (λ b. apply_answer facts (held_by c.args.self.now c.args.slots.now) (tree.GetAttr (rc_str_bytes c.args.attr.now)) (and_next facts b (AllEvaluated no_values))) (c.in_ok-part.ensures.found facts (serves_operands g.F.ExtensionFunctionObject.answers c.args.self.now facts (tree.GetAttr (rc_str_bytes c.args.attr.now)) (a_tree (bare c.args.of.now) no_trees) has).0) in
+    let as_found = ap (λ b. apply_answer facts (held_by c.args.self.now c.args.slots.now) (tree.GetAttr (rc_str_bytes c.args.attr.now)) (and_next facts b (AllEvaluated no_values))) (c.in_ok-part.ensures.found facts has) in
     let found = subst (IsProjected facts (held_by c.args.self.now c.args.slots.now) (partial_of c.in_ok-part.part) (apply_answer facts (held_by c.args.self.now c.args.slots.now) (tree.GetAttr (rc_str_bytes c.args.attr.now)) (and_next facts (part_answer (partial_of c.in_ok-part.part)) (AllEvaluated no_values)))) c.in-Entry.is (c.in_ok-answer.ensures facts has.entities (held_by c.args.self.now c.args.slots.now)) in
-    meets_as c.interpret_within-in-Entry.result _ _ (as_found ∙ found.0) (c.interpret_within-in-Entry.ensures.found facts (serves_entry g.F.ExtensionFunctionObject.answers c.args.self.now facts (unary (tree.GetAttr (rc_str_bytes c.args.attr.now)) (bare c.args.of.now)) (bare c.in-Entry.entry) has found.2))
+    meets_as c.interpret_within-in-Entry.result _ _ (as_found ∙ found.0 ∙ sym (entry_is (is_naming g.F.ExtensionFunctionObject.answers c.args.self.now) facts (held_by c.args.self.now c.args.slots.now) (bare c.in-Entry.entry) found.2)) (c.interpret_within-in-Entry.ensures.found facts has)
 
 pub interpret_attribute-returns-in-Entry-clause-limit : goal.interpret_attribute-returns-in-Entry-clause-limit
 interpret_attribute-returns-in-Entry-clause-limit g t c =
     λ l facts has.
     let found = subst (IsProjected facts (held_by c.args.self.now c.args.slots.now) (partial_of c.in_ok-part.part) (apply_answer facts (held_by c.args.self.now c.args.slots.now) (tree.GetAttr (rc_str_bytes c.args.attr.now)) (and_next facts (part_answer (partial_of c.in_ok-part.part)) (AllEvaluated no_values)))) c.in-Entry.is (c.in_ok-answer.ensures facts has.entities (held_by c.args.self.now c.args.slots.now)) in
     entry_deep g.F.ExtensionFunctionObject.answers c.args.self.now c.args.slots.now c.args.depth (rc_str_bytes c.args.attr.now) (bare c.args.of.now) (bare c.in-Entry.entry) (partial_of c.in_ok-part.part) facts has
-    (c.in_ok-part.ensures.found facts (serves_operands g.F.ExtensionFunctionObject.answers c.args.self.now facts (tree.GetAttr (rc_str_bytes c.args.attr.now)) (a_tree (bare c.args.of.now) no_trees) has).0) found.1 found.2
+    (c.in_ok-part.ensures.found facts has) found.1 found.2
     (c.interpret_within-in-Entry.ensures.limit l)
 
 -- ---- operands
@@ -370,20 +373,20 @@ pub interpret_strict-returns-in_err-part-in-One-clause-found : goal.interpret_st
 interpret_strict-returns-in_err-part-in-One-clause-found g t c =
     λ facts has.
     let is : bare c.args.expr.now ≡ unary (unary_operator c.in-One.op) (bare c.in-One.of.now) = subst (IsOperands (bare c.args.expr.now)) c.in-One.is c.requires in
-    passed (λ (p : PartialValue). partial_in facts (held_by c.args.self.now c.args.slots.now) (bare c.args.expr.now) ≡ part_answer (partial_of p)) (λ k. partial_in facts (held_by c.args.self.now c.args.slots.now) (bare c.args.expr.now) ≡ Failed k) ⊤ c.in_err-part-in-One.field-0.0 c.from_residual.result c.from_residual.ensures
-    (fails_on (failure_of c.in_err-part-in-One.field-0.0) (λ k h. one_fails (bare c.args.expr.now) (unary_operator c.in-One.op) (bare c.in-One.of.now) is facts (held_by c.args.self.now c.args.slots.now) k h) (λ d. d) (c.in_err-part-in-One.ensures.found facts (one_serves (bare c.args.expr.now) (unary_operator c.in-One.op) (bare c.in-One.of.now) is g.F.ExtensionFunctionObject.answers c.args.self.now facts has)))
+    passed (λ (p : PartialValue). naming_in (is_naming g.F.ExtensionFunctionObject.answers c.args.self.now) facts (held_by c.args.self.now c.args.slots.now) (bare c.args.expr.now) ≡ part_answer (partial_of p)) (λ k. naming_in (is_naming g.F.ExtensionFunctionObject.answers c.args.self.now) facts (held_by c.args.self.now c.args.slots.now) (bare c.args.expr.now) ≡ Failed k) ⊤ c.in_err-part-in-One.field-0.0 c.from_residual.result c.from_residual.ensures
+    (fails_on (failure_of c.in_err-part-in-One.field-0.0) (λ k h. one_fails (bare c.args.expr.now) (unary_operator c.in-One.op) (bare c.in-One.of.now) is (unary_calls_nothing c.in-One.op) (is_naming g.F.ExtensionFunctionObject.answers c.args.self.now) facts (held_by c.args.self.now c.args.slots.now) k h) (λ d. d) (c.in_err-part-in-One.ensures.found facts has))
 
 pub interpret_strict-returns-in_err-part-in-One-clause-limit : goal.interpret_strict-returns-in_err-part-in-One-clause-limit
 interpret_strict-returns-in_err-part-in-One-clause-limit g t c =
     let is : bare c.args.expr.now ≡ unary (unary_operator c.in-One.op) (bare c.in-One.of.now) = subst (IsOperands (bare c.args.expr.now)) c.in-One.is c.requires in
-    λ l. one_deep (bare c.args.expr.now) (unary_operator c.in-One.op) (bare c.in-One.of.now) is g.F.ExtensionFunctionObject.answers c.args.self.now c.args.depth (c.in_err-part-in-One.ensures.limit (limit_passed c.in_err-part-in-One.field-0.0 c.from_residual.result c.from_residual.ensures l))
+    λ l. one_deep (bare c.args.expr.now) (unary_operator c.in-One.op) (bare c.in-One.of.now) is (unary_calls_nothing c.in-One.op) g.F.ExtensionFunctionObject.answers c.args.self.now c.args.depth (c.in_err-part-in-One.ensures.limit (limit_passed c.in_err-part-in-One.field-0.0 c.from_residual.result c.from_residual.ensures l))
 
 pub interpret_strict-returns-in_ok-part-in-One-clause-found : goal.interpret_strict-returns-in_ok-part-in-One-clause-found
 interpret_strict-returns-in_ok-part-in-One-clause-found g t c =
     λ facts has.
     let is : bare c.args.expr.now ≡ unary (unary_operator c.in-One.op) (bare c.in-One.of.now) = subst (IsOperands (bare c.args.expr.now)) c.in-One.is c.requires in
-    one_meets (bare c.args.expr.now) (unary_operator c.in-One.op) (bare c.in-One.of.now) is facts (held_by c.args.self.now c.args.slots.now) (partial_of c.in_ok-part-in-One.part) c.operate_on_one.result
-    (c.in_ok-part-in-One.ensures.found facts (one_serves (bare c.args.expr.now) (unary_operator c.in-One.op) (bare c.in-One.of.now) is g.F.ExtensionFunctionObject.answers c.args.self.now facts has))
+    one_meets (bare c.args.expr.now) (unary_operator c.in-One.op) (bare c.in-One.of.now) is (unary_calls_nothing c.in-One.op) (is_naming g.F.ExtensionFunctionObject.answers c.args.self.now) facts (held_by c.args.self.now c.args.slots.now) (partial_of c.in_ok-part-in-One.part) c.operate_on_one.result
+    (c.in_ok-part-in-One.ensures.found facts has)
     (c.operate_on_one.ensures facts has.entities (held_by c.args.self.now c.args.slots.now))
 
 pub interpret_strict-returns-in_ok-part-in-One-clause-limit : goal.interpret_strict-returns-in_ok-part-in-One-clause-limit
@@ -394,34 +397,34 @@ pub interpret_strict-returns-in_err-left-in-Two-clause-found : goal.interpret_st
 interpret_strict-returns-in_err-left-in-Two-clause-found g t c =
     λ facts has.
     let is : bare c.args.expr.now ≡ binary (binary_operator_of c.in-Two.op) (bare c.in-Two.left.now) (bare c.in-Two.right.now) = subst (IsOperands (bare c.args.expr.now)) c.in-Two.is c.requires in
-    passed (λ (p : PartialValue). partial_in facts (held_by c.args.self.now c.args.slots.now) (bare c.args.expr.now) ≡ part_answer (partial_of p)) (λ k. partial_in facts (held_by c.args.self.now c.args.slots.now) (bare c.args.expr.now) ≡ Failed k) ⊤ c.in_err-left-in-Two.field-0.0 c.from_residual-in_err-left-in-Two.result c.from_residual-in_err-left-in-Two.ensures
-    (fails_on (failure_of c.in_err-left-in-Two.field-0.0) (λ k h. left_fails (bare c.args.expr.now) (binary_operator_of c.in-Two.op) (bare c.in-Two.left.now) (bare c.in-Two.right.now) is facts (held_by c.args.self.now c.args.slots.now) k h) (λ d. d) (c.in_err-left-in-Two.ensures.found facts (left_serves (bare c.args.expr.now) (binary_operator_of c.in-Two.op) (bare c.in-Two.left.now) (bare c.in-Two.right.now) is g.F.ExtensionFunctionObject.answers c.args.self.now facts has)))
+    passed (λ (p : PartialValue). naming_in (is_naming g.F.ExtensionFunctionObject.answers c.args.self.now) facts (held_by c.args.self.now c.args.slots.now) (bare c.args.expr.now) ≡ part_answer (partial_of p)) (λ k. naming_in (is_naming g.F.ExtensionFunctionObject.answers c.args.self.now) facts (held_by c.args.self.now c.args.slots.now) (bare c.args.expr.now) ≡ Failed k) ⊤ c.in_err-left-in-Two.field-0.0 c.from_residual-in_err-left-in-Two.result c.from_residual-in_err-left-in-Two.ensures
+    (fails_on (failure_of c.in_err-left-in-Two.field-0.0) (λ k h. left_fails (bare c.args.expr.now) (binary_operator_of c.in-Two.op) (bare c.in-Two.left.now) (bare c.in-Two.right.now) is (binary_calls_nothing c.in-Two.op) (is_naming g.F.ExtensionFunctionObject.answers c.args.self.now) facts (held_by c.args.self.now c.args.slots.now) k h) (λ d. d) (c.in_err-left-in-Two.ensures.found facts has))
 
 pub interpret_strict-returns-in_err-left-in-Two-clause-limit : goal.interpret_strict-returns-in_err-left-in-Two-clause-limit
 interpret_strict-returns-in_err-left-in-Two-clause-limit g t c =
     let is : bare c.args.expr.now ≡ binary (binary_operator_of c.in-Two.op) (bare c.in-Two.left.now) (bare c.in-Two.right.now) = subst (IsOperands (bare c.args.expr.now)) c.in-Two.is c.requires in
-    λ l. left_deep (bare c.args.expr.now) (binary_operator_of c.in-Two.op) (bare c.in-Two.left.now) (bare c.in-Two.right.now) is g.F.ExtensionFunctionObject.answers c.args.self.now c.args.depth (c.in_err-left-in-Two.ensures.limit (limit_passed c.in_err-left-in-Two.field-0.0 c.from_residual-in_err-left-in-Two.result c.from_residual-in_err-left-in-Two.ensures l))
+    λ l. left_deep (bare c.args.expr.now) (binary_operator_of c.in-Two.op) (bare c.in-Two.left.now) (bare c.in-Two.right.now) is (binary_calls_nothing c.in-Two.op) g.F.ExtensionFunctionObject.answers c.args.self.now c.args.depth (c.in_err-left-in-Two.ensures.limit (limit_passed c.in_err-left-in-Two.field-0.0 c.from_residual-in_err-left-in-Two.result c.from_residual-in_err-left-in-Two.ensures l))
 
 pub interpret_strict-returns-in_err-right-in-Two-clause-found : goal.interpret_strict-returns-in_err-right-in-Two-clause-found
 interpret_strict-returns-in_err-right-in-Two-clause-found g t c =
     λ facts has.
     let is : bare c.args.expr.now ≡ binary (binary_operator_of c.in-Two.op) (bare c.in-Two.left.now) (bare c.in-Two.right.now) = subst (IsOperands (bare c.args.expr.now)) c.in-Two.is c.requires in
-    let left = c.in_ok-left-in-Two.ensures.found facts (left_serves (bare c.args.expr.now) (binary_operator_of c.in-Two.op) (bare c.in-Two.left.now) (bare c.in-Two.right.now) is g.F.ExtensionFunctionObject.answers c.args.self.now facts has) in
-    passed (λ (p : PartialValue). partial_in facts (held_by c.args.self.now c.args.slots.now) (bare c.args.expr.now) ≡ part_answer (partial_of p)) (λ k. partial_in facts (held_by c.args.self.now c.args.slots.now) (bare c.args.expr.now) ≡ Failed k) ⊤ c.in_err-right-in-Two.field-0.0 c.from_residual-in_err-right-in-Two.result c.from_residual-in_err-right-in-Two.ensures
-    (fails_on (failure_of c.in_err-right-in-Two.field-0.0) (λ k h. right_fails (bare c.args.expr.now) (binary_operator_of c.in-Two.op) (bare c.in-Two.left.now) (bare c.in-Two.right.now) is facts (held_by c.args.self.now c.args.slots.now) (partial_of c.in_ok-left-in-Two.left) k left h) (λ d. d) (c.in_err-right-in-Two.ensures.found facts (right_serves (bare c.args.expr.now) (binary_operator_of c.in-Two.op) (bare c.in-Two.left.now) (bare c.in-Two.right.now) is g.F.ExtensionFunctionObject.answers c.args.self.now facts has)))
+    let left = c.in_ok-left-in-Two.ensures.found facts has in
+    passed (λ (p : PartialValue). naming_in (is_naming g.F.ExtensionFunctionObject.answers c.args.self.now) facts (held_by c.args.self.now c.args.slots.now) (bare c.args.expr.now) ≡ part_answer (partial_of p)) (λ k. naming_in (is_naming g.F.ExtensionFunctionObject.answers c.args.self.now) facts (held_by c.args.self.now c.args.slots.now) (bare c.args.expr.now) ≡ Failed k) ⊤ c.in_err-right-in-Two.field-0.0 c.from_residual-in_err-right-in-Two.result c.from_residual-in_err-right-in-Two.ensures
+    (fails_on (failure_of c.in_err-right-in-Two.field-0.0) (λ k h. right_fails (bare c.args.expr.now) (binary_operator_of c.in-Two.op) (bare c.in-Two.left.now) (bare c.in-Two.right.now) is (binary_calls_nothing c.in-Two.op) (is_naming g.F.ExtensionFunctionObject.answers c.args.self.now) facts (held_by c.args.self.now c.args.slots.now) (partial_of c.in_ok-left-in-Two.left) k left h) (λ d. d) (c.in_err-right-in-Two.ensures.found facts has))
 
 pub interpret_strict-returns-in_err-right-in-Two-clause-limit : goal.interpret_strict-returns-in_err-right-in-Two-clause-limit
 interpret_strict-returns-in_err-right-in-Two-clause-limit g t c =
     let is : bare c.args.expr.now ≡ binary (binary_operator_of c.in-Two.op) (bare c.in-Two.left.now) (bare c.in-Two.right.now) = subst (IsOperands (bare c.args.expr.now)) c.in-Two.is c.requires in
-    λ l. right_deep (bare c.args.expr.now) (binary_operator_of c.in-Two.op) (bare c.in-Two.left.now) (bare c.in-Two.right.now) is g.F.ExtensionFunctionObject.answers c.args.self.now c.args.depth (c.in_err-right-in-Two.ensures.limit (limit_passed c.in_err-right-in-Two.field-0.0 c.from_residual-in_err-right-in-Two.result c.from_residual-in_err-right-in-Two.ensures l))
+    λ l. right_deep (bare c.args.expr.now) (binary_operator_of c.in-Two.op) (bare c.in-Two.left.now) (bare c.in-Two.right.now) is (binary_calls_nothing c.in-Two.op) g.F.ExtensionFunctionObject.answers c.args.self.now c.args.depth (c.in_err-right-in-Two.ensures.limit (limit_passed c.in_err-right-in-Two.field-0.0 c.from_residual-in_err-right-in-Two.result c.from_residual-in_err-right-in-Two.ensures l))
 
 pub interpret_strict-returns-in_ok-right-in-Two-clause-found : goal.interpret_strict-returns-in_ok-right-in-Two-clause-found
 interpret_strict-returns-in_ok-right-in-Two-clause-found g t c =
     λ facts has.
     let is : bare c.args.expr.now ≡ binary (binary_operator_of c.in-Two.op) (bare c.in-Two.left.now) (bare c.in-Two.right.now) = subst (IsOperands (bare c.args.expr.now)) c.in-Two.is c.requires in
-    let left = c.in_ok-left-in-Two.ensures.found facts (left_serves (bare c.args.expr.now) (binary_operator_of c.in-Two.op) (bare c.in-Two.left.now) (bare c.in-Two.right.now) is g.F.ExtensionFunctionObject.answers c.args.self.now facts has) in
-    let right = c.in_ok-right-in-Two.ensures.found facts (right_serves (bare c.args.expr.now) (binary_operator_of c.in-Two.op) (bare c.in-Two.left.now) (bare c.in-Two.right.now) is g.F.ExtensionFunctionObject.answers c.args.self.now facts has) in
-    two_meet (bare c.args.expr.now) (binary_operator_of c.in-Two.op) (bare c.in-Two.left.now) (bare c.in-Two.right.now) is facts (held_by c.args.self.now c.args.slots.now) (partial_of c.in_ok-left-in-Two.left) (partial_of c.in_ok-right-in-Two.right) c.operate_on_two.result left right
+    let left = c.in_ok-left-in-Two.ensures.found facts has in
+    let right = c.in_ok-right-in-Two.ensures.found facts has in
+    two_meet (bare c.args.expr.now) (binary_operator_of c.in-Two.op) (bare c.in-Two.left.now) (bare c.in-Two.right.now) is (binary_calls_nothing c.in-Two.op) (is_naming g.F.ExtensionFunctionObject.answers c.args.self.now) facts (held_by c.args.self.now c.args.slots.now) (partial_of c.in_ok-left-in-Two.left) (partial_of c.in_ok-right-in-Two.right) c.operate_on_two.result left right
     (c.operate_on_two.ensures facts has.entities (held_by c.args.self.now c.args.slots.now))
 
 pub interpret_strict-returns-in_ok-right-in-Two-clause-limit : goal.interpret_strict-returns-in_ok-right-in-Two-clause-limit
@@ -436,14 +439,14 @@ pub interpret_strict-returns-in_err-parts-in-List-clause-found : goal.interpret_
 interpret_strict-returns-in_err-parts-in-List-clause-found g t c =
     let list : is_of_list (bare c.args.expr.now) ≡ true = subst (IsOperands (bare c.args.expr.now)) c.in-List.is c.requires in
     let same = (ap (map (λ (e : Bor (Expr (Unit {0}))). bare e.now)) c.deref.ensures.value ∙ c.in_ok-listed-in-List.ensures) in
-    λ facts has. passed (λ (p : PartialValue). partial_in facts (held_by c.args.self.now c.args.slots.now) (bare c.args.expr.now) ≡ part_answer (partial_of p)) (λ k. partial_in facts (held_by c.args.self.now c.args.slots.now) (bare c.args.expr.now) ≡ Failed k) ⊤ c.in_err-parts-in-List.field-0.0 c.from_residual-in_err-parts-in-List.result c.from_residual-in_err-parts-in-List.ensures
-    (fails_on (failure_of c.in_err-parts-in-List.field-0.0) (λ k h. list_fails facts (held_by c.args.self.now c.args.slots.now) (bare c.args.expr.now) k list (subst (λ ts. gathered facts (map (partial_in facts (held_by c.args.self.now c.args.slots.now)) ts) ≡ SomeFailed k) same h)) (λ d. d)
-    (c.in_err-parts-in-List.ensures.found facts (subst (ServesEach g.F.ExtensionFunctionObject.answers c.args.self.now facts) (sym same) (serves_parts g.F.ExtensionFunctionObject.answers c.args.self.now facts (bare c.args.expr.now) list has))))
+    λ facts has. passed (λ (p : PartialValue). naming_in (is_naming g.F.ExtensionFunctionObject.answers c.args.self.now) facts (held_by c.args.self.now c.args.slots.now) (bare c.args.expr.now) ≡ part_answer (partial_of p)) (λ k. naming_in (is_naming g.F.ExtensionFunctionObject.answers c.args.self.now) facts (held_by c.args.self.now c.args.slots.now) (bare c.args.expr.now) ≡ Failed k) ⊤ c.in_err-parts-in-List.field-0.0 c.from_residual-in_err-parts-in-List.result c.from_residual-in_err-parts-in-List.ensures
+    (fails_on (failure_of c.in_err-parts-in-List.field-0.0) (λ k h. list_fails (is_naming g.F.ExtensionFunctionObject.answers c.args.self.now) facts (held_by c.args.self.now c.args.slots.now) (bare c.args.expr.now) k list (subst (λ ts. gathered facts (map (naming_in (is_naming g.F.ExtensionFunctionObject.answers c.args.self.now) facts (held_by c.args.self.now c.args.slots.now)) ts) ≡ SomeFailed k) same h)) (λ d. d)
+    (c.in_err-parts-in-List.ensures.found facts has))
 
 pub interpret_strict-returns-in_err-parts-in-List-clause-limit : goal.interpret_strict-returns-in_err-parts-in-List-clause-limit
 interpret_strict-returns-in_err-parts-in-List-clause-limit g t c =
     let list : is_of_list (bare c.args.expr.now) ≡ true = subst (IsOperands (bare c.args.expr.now)) c.in-List.is c.requires in
-    λ l. list_deep g.F.ExtensionFunctionObject.answers c.args.self.now c.args.depth (bare c.args.expr.now) list (subst (λ ts. DeepEach g.F.ExtensionFunctionObject.answers c.args.self.now c.args.depth ts) (ap (map (λ (e : Bor (Expr (Unit {0}))). bare e.now)) c.deref.ensures.value ∙ c.in_ok-listed-in-List.ensures) (c.in_err-parts-in-List.ensures.limit (limit_passed c.in_err-parts-in-List.field-0.0 c.from_residual-in_err-parts-in-List.result c.from_residual-in_err-parts-in-List.ensures l)))
+    λ l. list_deep g.F.ExtensionFunctionObject.answers c.args.self.now c.args.depth (bare c.args.expr.now) list (subst (λ ts. SomeNestsBeyond g.F.ExtensionFunctionObject.answers c.args.self.now c.args.depth ts) (ap (map (λ (e : Bor (Expr (Unit {0}))). bare e.now)) c.deref.ensures.value ∙ c.in_ok-listed-in-List.ensures) (c.in_err-parts-in-List.ensures.limit (limit_passed c.in_err-parts-in-List.field-0.0 c.from_residual-in_err-parts-in-List.result c.from_residual-in_err-parts-in-List.ensures l)))
 
 pub interpret_strict-operate_on_list-requires-clause-list : goal.interpret_strict-operate_on_list-requires-clause-list
 interpret_strict-operate_on_list-requires-clause-list g t c = subst (IsOperands (bare c.args.expr.now)) c.in-List.is c.requires
@@ -455,14 +458,14 @@ pub interpret_strict-returns-in_ok-parts-in-List-clause-found : goal.interpret_s
 interpret_strict-returns-in_ok-parts-in-List-clause-found g t c =
     let list : is_of_list (bare c.args.expr.now) ≡ true = subst (IsOperands (bare c.args.expr.now)) c.in-List.is c.requires in
     let same = (ap (map (λ (e : Bor (Expr (Unit {0}))). bare e.now)) c.deref.ensures.value ∙ c.in_ok-listed-in-List.ensures) in
-    λ facts has. list_meets facts (held_by c.args.self.now c.args.slots.now) (bare c.args.expr.now) list (map partial_of c.in_ok-parts-in-List.parts.items) c.operate_on_list.result
-    (ap (map (partial_in facts (held_by c.args.self.now c.args.slots.now))) (sym same)
-    ∙ c.in_ok-parts-in-List.ensures.found facts (subst (ServesEach g.F.ExtensionFunctionObject.answers c.args.self.now facts) (sym same) (serves_parts g.F.ExtensionFunctionObject.answers c.args.self.now facts (bare c.args.expr.now) list has)))
-    (c.operate_on_list.ensures facts has.functions has.names_nothing (held_by c.args.self.now c.args.slots.now))
+    λ facts has. list_meets (is_naming g.F.ExtensionFunctionObject.answers c.args.self.now) facts (held_by c.args.self.now c.args.slots.now) (bare c.args.expr.now) list (map partial_of c.in_ok-parts-in-List.parts.items) c.operate_on_list.result
+    (ap (map (naming_in (is_naming g.F.ExtensionFunctionObject.answers c.args.self.now) facts (held_by c.args.self.now c.args.slots.now))) (sym same)
+    ∙ c.in_ok-parts-in-List.ensures.found facts has)
+    (c.operate_on_list.ensures facts has.functions (held_by c.args.self.now c.args.slots.now) (λ n. refl))
 
 pub interpret_strict-returns-in_ok-parts-in-List-clause-limit : goal.interpret_strict-returns-in_ok-parts-in-List-clause-limit
 interpret_strict-returns-in_ok-parts-in-List-clause-limit g t c =
-    λ l facts has. absurd (never_limit _ c.operate_on_list.result (c.operate_on_list.ensures facts has.functions has.names_nothing (held_by c.args.self.now c.args.slots.now)) l)
+    λ l facts has. absurd (never_limit _ c.operate_on_list.result (c.operate_on_list.ensures facts has.functions (held_by c.args.self.now c.args.slots.now) (λ n. refl)) l)
 
 -- ---- parts one by one
 
@@ -498,7 +501,7 @@ interpret_parts-returns-clause-count g t c =
 pub interpret_parts-returns-in_err-answer-clause-found : goal.interpret_parts-returns-in_err-answer-clause-found
 interpret_parts-returns-in_err-answer-clause-found g t c =
     let cut = cut_items (λ (e : Bor (Expr (Unit {0}))). bare e.now) c.args.parts.now c.loop-part.part-index c.part-item.result c.loop-part-test.true c.part-item.is in
-    λ facts has. passed (λ (ps : Vec PartialValue Global). map (partial_in facts (held_by c.args.self.now c.args.slots.now)) (map (λ (e : Bor (Expr (Unit {0}))). bare e.now) c.args.parts.now) ≡ map part_answer (map partial_of ps.items)) (λ k. gathered facts (map (partial_in facts (held_by c.args.self.now c.args.slots.now)) (map (λ (e : Bor (Expr (Unit {0}))). bare e.now) c.args.parts.now)) ≡ SomeFailed k) ⊤ c.in_err-answer.field-0.0 c.from_residual.result c.from_residual.ensures
+    λ facts has. passed (λ (ps : Vec PartialValue Global). map (naming_in (is_naming g.F.ExtensionFunctionObject.answers c.args.self.now) facts (held_by c.args.self.now c.args.slots.now)) (map (λ (e : Bor (Expr (Unit {0}))). bare e.now) c.args.parts.now) ≡ map part_answer (map partial_of ps.items)) (λ k. gathered facts (map (naming_in (is_naming g.F.ExtensionFunctionObject.answers c.args.self.now) facts (held_by c.args.self.now c.args.slots.now)) (map (λ (e : Bor (Expr (Unit {0}))). bare e.now) c.args.parts.now)) ≡ SomeFailed k) ⊤ c.in_err-answer.field-0.0 c.from_residual.result c.from_residual.ensures
     (cut_fails g.F.ExtensionFunctionObject.answers c.args.self.now c.args.slots.now c.args.depth _ _ (map (λ (e : Bor (Expr (Unit {0}))). bare e.now) c.args.parts.now) _ (map partial_of c.loop-part.answers.items) c.loop-part.invariant cut (failure_of c.in_err-answer.field-0.0) facts has (c.in_err-answer.ensures.found facts))
 
 pub interpret_parts-returns-in_err-answer-clause-limit : goal.interpret_parts-returns-in_err-answer-clause-limit

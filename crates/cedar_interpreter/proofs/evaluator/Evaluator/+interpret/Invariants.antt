@@ -1,7 +1,7 @@
 use Rattle.std.proofs.Common.{◌+◌, ◌*◌, map, drop}
 use Rattle.cedar_trees.specs.Bare.{bare}
 use Rattle.cedar_restricted.specs.PartialValues.{partial_of}
-use Rattle.cedar_interpreter.proofs.Serving.{Goes}
+use Rattle.cedar_interpreter.proofs.Nesting.{Goes}
 use Rattle.cedar_interpreter.proofs.evaluator.Evaluator.+interpret.Given as goal
 
 abbrev pub invariant-interpret_parts-loop-part : goal.invariant-interpret_parts-loop-part
