@@ -15,8 +15,8 @@ use Rattle.cedar_extensions.specs.Giving.{FailsBy, fails_on}
 use Rattle.cedar_extensions.specs.declared.evaluation_error.EvaluationError.{EvaluationError}
 use Rattle.cedar_interpreter.specs.Meeting.{IsLimit}
 use Rattle.cedar_operators.specs.Operands.{boolean_in, IsOperand}
-use Rattle.cedar_evaluator.specs.Evaluating.{found_by, JudgesAt, standing_by, StandsBy, StandsAt}
-use Rattle.cedar_evaluator.specs.Evaluations.{Erred, Finds}
+use Rattle.cedar_evaluator.specs.Evaluating.{found_by, JudgesAt, JudgesReadAt, standing_by, StandsBy, StandsAt}
+use Rattle.cedar_evaluator.specs.Evaluations.{Erred, Finds, found_read}
 use Rattle.cedar_evaluator.specs.Grouping.{found_in, IsKeepable}
 
 -- ---- a value
@@ -90,6 +90,10 @@ fails b MemoryRanOut h keepable = keepable refl
 pub finds : (b : Answer) (answer : Result (Either Bool (Expr (Unit {0}))) EvaluationError) → JudgesAt b answer → IsKeepable answer → Finds b (found_in answer)
 finds b (Ok e) h keepable = h
 finds b (Err e) h keepable = fails b (failure_of e) h keepable
+
+pub finds_read : (b : Answer) (answer : Result (Either Bool (Expr (Unit {0}))) EvaluationError) → JudgesReadAt b answer → IsKeepable answer → Finds b (found_read (found_in answer))
+finds_read b (Ok e) h keepable = h
+finds_read b (Err e) h keepable = fails b (failure_of e) h keepable
 
 same_failure : (f g : Failure) → Erred f ≡ Erred g → f ≡ g
 same_failure f g e = cc

@@ -19,7 +19,7 @@ use Rattle.cedar_interpreter.specs.declared.evaluator.Evaluator.{Evaluator}
 use Rattle.cedar_interpreter.proofs.Serving.{serves_and_right, deep_and_right}
 use Rattle.cedar_trees.specs.declared.expr.Expr.{Expr}
 use Rattle.cedar_evaluator.specs.Evaluating.{found_by, JudgesAt}
-use Rattle.cedar_evaluator.specs.Evaluations.{Finds}
+use Rattle.cedar_evaluator.specs.Evaluations.{Finds, found_read}
 use Rattle.cedar_evaluator.specs.Scopes.{IsDecided}
 use Rattle.cedar_evaluator.proofs.Scoped.{right_decides, both_decided}
 
@@ -28,6 +28,10 @@ use Rattle.cedar_evaluator.proofs.Scoped.{right_decides, both_decided}
 pub told_finds : (b : Answer) (s : Bool) → b ≡ Evaluated (Plain (Boolean s)) → Finds b (found_by (Left s))
 told_finds b true h = h
 told_finds b false h = h
+
+pub told_finds_read : (b : Answer) (s : Bool) → b ≡ Evaluated (Plain (Boolean s)) → Finds b (found_read (found_by (Left s)))
+told_finds_read b true h = h
+told_finds_read b false h = h
 
 module _ (facts : Facts) (holds : LeafAnswers) (s : grammar.Policy) where
   pub scope_decided : (o : Option Bool) (a b : Bool) → o ≡ Some a → a ≡ b → IsDecided facts holds (scope_tree s) o → partial_in facts holds (scope_tree s) ≡ Evaluated (Plain (Boolean b))

@@ -21,6 +21,7 @@ pub mod Twice
 mod Again
 mod Scoped
 mod Judged
+mod ReadConditions
 mod Unmet
 mod OutOfScope
 mod Thinned

@@ -18,10 +18,10 @@ use Rattle.cedar_operators.specs.Store.{HasFacts}
 use Rattle.cedar_interpreter.specs.Asking.{Inquiry, variable_asked, request_held}
 use Rattle.cedar_policy_set.specs.Entries.{Entry, Entries, static_policy, template, link, is_policy}
 use Rattle.cedar_policy_set.specs.Scopes.{IsEntryFound, Covers}
-use Rattle.cedar_scope_index.specs.Finding.{IsFound, by_nothing, by_principal, by_action, by_resource, covered, is_listed}
+use Rattle.cedar_scope_index.specs.Finding.{IsFound, IsListedFor, by_nothing, by_principal, by_action, by_resource, covered, stands_at, is_listed}
 use Rattle.cedar_scope_index.specs.Naming.{named, is_settled, named_action}
 use Rattle.cedar_scope_index.specs.declared.index.ScopeIndex.{ScopeIndex}
-use Rattle.cedar_evaluator.specs.Candidates.{AreAmong, HasFound, IsOutOfScope, is_in_given}
+use Rattle.cedar_evaluator.specs.Candidates.{HasFound, IsOutOfScope, is_in_given}
 use Rattle.cedar_evaluator.specs.Scopes.{IsDecided, IsGivenAs, constraint_met}
 use Rattle.cedar_evaluator.specs.declared.scopes.GivenEntity.{GivenEntity}
 use Rattle.cedar_evaluator.proofs.Scoped.{both_decided, constraint_held, action_held}
@@ -84,6 +84,10 @@ module _ (facts : Facts) (holds : LeafAnswers) (b : Bindings) (s : Policy) (p a 
 abbrev IsOut : Inquiry → Entities → Bindings → Policy → Type 0
 IsOut i store b s = (facts : Facts) → HasFacts store facts → partial_in facts (request_held i b) (scope_tree s) ≡ Evaluated (Plain (Boolean false))
 
+-- the positions at which these places stand are among the others
+abbrev pub LeadsInto : ScopeIndex → List ℕ → List ℕ → Type 0
+LeadsInto x ps qs = (t : ℕ) → is_listed ps t ≡ true → is_listed qs (stands_at x t) ≡ true
+
 -- the test decides: where it holds the position is listed, and else the policy is out
 listed_or : (Out : Type 0) (test : Uid → Bool) (n : Uid) (ps : List ℕ) (q : ℕ) → (test n ≡ true → is_listed ps q ≡ true) → (test n ≡ false → Out) → (is_listed ps q ≡ true) ⊎ Out
 listed_or Out test n ps q listed out = by_test (test n) refl
@@ -109,31 +113,35 @@ module _ (i : Inquiry) (store : Entities) (p a r : GivenEntity)
     by_resource_given : IsDecided facts holds (constraint_tree Resource ResourceSlot s.resource) (constraint_met (is_in_given r) r.uid.value b.resource s.resource)
     by_resource_given = constraint_held facts store has r.uid.value r.entity resource.1 holds Resource ResourceSlot b.resource s.resource resource.0 refl
 
-  module _ (x : ScopeIndex) (ps : List ℕ) (found : HasFound x p a r ps) where
-    among_or_out : (q : ℕ) (b : Bindings) (s : Policy) → IsFound x q b s → (is_listed ps q ≡ true) ⊎ IsOut i store b s
-    among_or_out q b s (by_nothing listed) = inl (found.others q listed)
-    among_or_out q b s (by_principal n names listed) =
-        listed_or (IsOut i store b s) (is_in_given p) n ps q (λ e. found.principals n e q listed)
+  module _ (x : ScopeIndex) (ps qs : List ℕ) (found : HasFound x p a r ps) (lead : LeadsInto x ps qs) where
+    among_or_out : (t : ℕ) (b : Bindings) (s : Policy) → IsListedFor x t b s → (is_listed ps t ≡ true) ⊎ IsOut i store b s
+    among_or_out t b s (by_nothing listed) = inl (found.others t listed)
+    among_or_out t b s (by_principal n names listed) =
+        listed_or (IsOut i store b s) (is_in_given p) n ps t (λ e. found.principals n e t listed)
         (λ e facts has. principal_out facts (request_held i b) b s p a r (by_principal_given facts has b s) (by_action_given facts has b s) (by_resource_given facts has b s) n names e)
-    among_or_out q b s (by_action n bound names listed) =
-        listed_or (IsOut i store b s) (is_in_given a) n ps q (λ e. found.actions n e q listed)
+    among_or_out t b s (by_action n bound names listed) =
+        listed_or (IsOut i store b s) (is_in_given a) n ps t (λ e. found.actions n e t listed)
         (λ e facts has. action_out facts (request_held i b) b s p a r (by_principal_given facts has b s) (by_action_given facts has b s) (by_resource_given facts has b s) n bound names e)
-    among_or_out q b s (by_resource n bound names listed) =
-        listed_or (IsOut i store b s) (is_in_given r) n ps q (λ e. found.resources n e q listed)
+    among_or_out t b s (by_resource n bound names listed) =
+        listed_or (IsOut i store b s) (is_in_given r) n ps t (λ e. found.resources n e t listed)
         (λ e facts has. resource_out facts (request_held i b) b s p a r (by_principal_given facts has b s) (by_action_given facts has b s) (by_resource_given facts has b s) n bound names e)
 
-    entry_among_or_out : (q : ℕ) (e : Entry) → IsEntryFound x q e → is_policy e ≡ true → (is_listed ps q ≡ true) ⊎ IsOutOfScope i store e
-    entry_among_or_out q (static_policy s) found_there is = among_or_out q unbound s found_there
+    -- a place that is listed leads to the position
+    there_or_out : (q : ℕ) (b : Bindings) (s : Policy) → IsFound x q b s → (is_listed qs q ≡ true) ⊎ IsOut i store b s
+    there_or_out q b s there = by (among_or_out there.place b s there.listed)
+      where
+        by : (is_listed ps there.place ≡ true) ⊎ IsOut i store b s → (is_listed qs q ≡ true) ⊎ IsOut i store b s
+        by (inl h) = inl (subst (λ n. is_listed qs n ≡ true) there.stands (lead there.place h))
+        by (inr out) = inr out
+
+    entry_among_or_out : (q : ℕ) (e : Entry) → IsEntryFound x q e → is_policy e ≡ true → (is_listed qs q ≡ true) ⊎ IsOutOfScope i store e
+    entry_among_or_out q (static_policy s) found_there is = there_or_out q unbound s found_there
     entry_among_or_out q (template s) found_there is = absurd (cc is)
-    entry_among_or_out q (link t s b) found_there is = among_or_out q b s found_there
+    entry_among_or_out q (link t s b) found_there is = there_or_out q b s found_there
 
   -- where the index covers all entries, a policy stands among what was found, or is out of scope
-  pub found_or_out : (x : ScopeIndex) (es : Entries) (ps qs : List ℕ) → HasFound x p a r ps → Covers es x → length es ≤ covered x → AreAmong ps qs →
+  pub found_or_out : (x : ScopeIndex) (es : Entries) (ps qs : List ℕ) → HasFound x p a r ps → Covers es x → length es ≤ covered x → LeadsInto x ps qs →
       (q : ℕ) (e : Text × Entry) → slice_get es q ≡ Some e → is_policy e.1 ≡ true → (is_listed qs q ≡ true) ⊎ IsOutOfScope i store e.1
-  found_or_out x es ps qs found covers whole among q e at is =
+  found_or_out x es ps qs found covers whole lead q e at is =
       let inside : q < covered x = let here = slice_get_within es q e at in omega (arith, here, whole) in
-      kept (entry_among_or_out x ps found q e.1 (covers.found q e inside at) is)
-    where
-      kept : {Out : Type 0} → (is_listed ps q ≡ true) ⊎ Out → (is_listed qs q ≡ true) ⊎ Out
-      kept (inl h) = inl (among q h)
-      kept (inr h) = inr h
+      entry_among_or_out x ps qs found lead q e.1 (covers.found q e inside at) is

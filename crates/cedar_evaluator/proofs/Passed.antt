@@ -17,6 +17,7 @@ use Rattle.cedar_evaluator.specs.Evaluations.{Unsatisfied, bindings_in, Annotati
 use Rattle.cedar_evaluator.specs.Grouping.{Keeps}
 use Rattle.cedar_evaluator.specs.Responses.{Annotated, Holding, if_effect, satisfied_id, open_id, error_id, annotated, holding_of, without_false}
 use Rattle.cedar_evaluator.specs.declared.groups.Groups.{Groups}
+use Rattle.cedar_evaluator.proofs.ReadConditions.{out_of_scope_read}
 use Rattle.cedar_evaluator.proofs.Scoped.{out_of_scope}
 use Rattle.cedar_evaluator.proofs.Thinned.{Thinned, nothing, kept, left_out, thinned}
 
@@ -67,6 +68,8 @@ module _ (i : Inquiry) (store : Entities) (table : Table) (depth : ℕ) where
     annotations = refl;
     found = λ facts served. out_of_scope facts (request_held i (bindings_in e.1)) (scope_tree (syntax_in e.1)) (syntax_in e.1).body (out facts served.entities);
     limit = λ met. absurd (cc met);
+    read = λ facts served. out_of_scope_read (syntax_in e.1) facts (request_held i (bindings_in e.1)) (out facts served.entities);
+    read_limit = λ met. absurd (cc met);
   }
 
   -- what is kept of all, where these are kept of those that may be in scope

@@ -1,13 +1,14 @@
 -- What an evaluation of a policy for a request finds.
-use Rattle.std.specs.Prelude.{◌≡◌, ◌<◌, ⊤, ℕ, Bool, true, false, List, [], ◌∷◌}
+use Rattle.std.specs.Prelude.{◌≡◌, ◌<◌, ◌≤◌, ⊤, ℕ, Bool, true, false, List, [], ◌∷◌}
 use Rattle.cedar_language.specs.Uid.{Text}
-use Rattle.cedar_language.specs.Tree.{Boolean, Variable, Tree}
+use Rattle.cedar_language.specs.Tree.{Boolean, Variable, Context, Tree}
 use Rattle.cedar_language.specs.Value.{Plain}
 use Rattle.cedar_language.specs.Facts.{Facts}
 use Rattle.cedar_language.specs.Answering.{Effect, Erring}
 use Rattle.cedar_grammar.specs.Build.{Keyed}
 use Rattle.cedar_partial_evaluation.specs.Early.{standing_of_answer}
 use Rattle.cedar_partial_evaluation.specs.Partial.{Answer, Evaluated, ResidualTree, partial_in}
+use Rattle.cedar_partial_evaluation.specs.ReadUnknowns.{read_unknowns, calls_unknown}
 use Rattle.cedar_policy_parts.specs.Bindings.{Bindings, unbound}
 use Rattle.cedar_extensions.specs.Failures.{Failure, OfKind, LimitMet, MemoryRanOut}
 use Rattle.cedar_extensions.specs.Table.{Table}
@@ -16,6 +17,7 @@ use Rattle.cedar_operators.specs.Store.{HasFacts}
 use Rattle.cedar_interpreter.specs.Asking.{Inquiry, variable_asked, request_held}
 use Rattle.cedar_interpreter.specs.Depths.{evaluation_depth}
 use Rattle.cedar_interpreter.specs.Holding.{is_evaluated}
+use Rattle.cedar_interpreter.specs.Naming.{IsPlain}
 use Rattle.cedar_interpreter.specs.Operating.{HasFunctions, NamesNothing}
 use Rattle.cedar_policy_set.specs.Entries.{Entry, static_policy, template, link, Entries}
 pub use Rattle.cedar_policy_set.specs.Texts.{condition_in}
@@ -36,6 +38,11 @@ Finds b (Erred (OfKind k)) = standing_of_answer b ≡ Erring k
 Finds b (Erred LimitMet) = ⊤
 Finds b (Erred MemoryRanOut) = ⊥
 Finds b (Open r) = b ≡ ResidualTree r
+
+-- the same with what is left read: calls of `unknown` on one string literal are unknowns
+abbrev pub found_read : Found → Found
+found_read (Open r) = Open (read_unknowns r)
+found_read f = f
 
 -- the entities that the slots of a policy's template are bound to
 abbrev pub bindings_in : Entry → Bindings
@@ -73,6 +80,23 @@ module _ (i : Inquiry) (store : Entities) (table : Table) (depth : ℕ) where
   abbrev pub IsTooDeep : Entry → Type 0
   IsTooDeep e = (facts : Facts) → IsServed facts (condition_in e) → (slots : Bindings) × (depth < evaluation_depth facts (request_held i slots) (condition_in e))
 
+  -- these are the facts, and each call of `unknown`, which the table has, is on one string literal in the tree; none stands in what is
+  -- left of the request's context
+  pub record IsServedRead (facts : Facts) (t : Tree) : Type 0 where
+    pub entities : HasFacts store facts
+    pub functions : HasFunctions table facts
+    pub naming : table.has_unknown ≡ true
+    pub written : calls_unknown (read_unknowns t) ≡ false
+    pub context : IsPlain (variable_asked i.request Context)
+
+  -- what partial evaluation answers to the policy's condition with unknowns in the places of these calls
+  abbrev pub read_answer : Facts → Entry → Answer
+  read_answer facts e = partial_in facts (request_held i (bindings_in e)) (read_unknowns (condition_in e))
+
+  -- with its slots bound in some way, the evaluation of that nests as deep as the limit: a call is a level above its text
+  abbrev pub IsTooDeepRead : Entry → Type 0
+  IsTooDeepRead e = (facts : Facts) → IsServedRead facts (condition_in e) → (slots : Bindings) × (depth ≤ evaluation_depth facts (request_held i slots) (read_unknowns (condition_in e)))
+
   -- what is kept of the policy of this id
   pub record IsKept (e : Text × Entry) (k : Kept) : Type 0 where
     pub id : k.id ≡ e.0
@@ -80,6 +104,8 @@ module _ (i : Inquiry) (store : Entities) (table : Table) (depth : ℕ) where
     pub annotations : k.annotations ≡ (syntax_in e.1).annotations
     pub found : (facts : Facts) → IsServed facts (condition_in e.1) → Finds (policy_answer facts e.1) k.found
     pub limit : k.found ≡ Erred LimitMet → IsTooDeep e.1
+    pub read : (facts : Facts) → IsServedRead facts (condition_in e.1) → Finds (read_answer facts e.1) (found_read k.found)
+    pub read_limit : k.found ≡ Erred LimitMet → IsTooDeepRead e.1
 
   -- what is kept of each policy, one after another
   abbrev pub AreKept : Entries → List Kept → Type 0

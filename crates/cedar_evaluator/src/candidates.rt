@@ -38,13 +38,13 @@ pub(crate) fn candidates(
         return Ok(None);
     }
     match found_by(alloc, index, principal, action, resource, len)? {
-        Some(found) => Ok(Some(in_order(found))),
+        Some(found) => Ok(Some(in_order(index.positions(found)))),
         None => Ok(None),
     }
 }
 
-// What is listed under these entities and those that they are in, and what is listed under none; not told where one
-// of them has more ancestors than `most`.
+// The places that are listed under these entities and those that they are in, and those that are listed under none;
+// not told where one of them has more ancestors than `most`.
 fn found_by(
     alloc: Global,
     index: &ScopeIndex,

@@ -4,16 +4,18 @@ ghost use Rattle.std.specs.Prelude.{◌<◌, ⊤, ℕ};
 ghost use Rattle.cedar_language.specs.Facts.{Facts};
 ghost use Rattle.cedar_language.specs.Value.{Outcome};
 ghost use Rattle.cedar_partial_evaluation.specs.Partial.{Answer, partial_in};
+ghost use Rattle.cedar_partial_evaluation.specs.ReadUnknowns.{read_unknowns};
 ghost use Rattle.cedar_extensions.specs.Giving.{Gives};
 ghost use Rattle.cedar_policies.specs.Policies.{bindings_of};
-ghost use Rattle.cedar_interpreter.specs.Holding.{held_by, Serves, Deep, depth_of};
+ghost use Rattle.cedar_interpreter.specs.Holding.{held_by, Serves, ServesRead, Deep, IsDeepRead, depth_of};
 ghost use Rattle.cedar_interpreter.specs.Meeting.{MeetsAt, ValueAt, IsLimit};
-ghost use Rattle.cedar_evaluator.specs.Evaluating.{condition_of, JudgesAt, MeansStanding, StandsAt, StandsBy};
+ghost use Rattle.cedar_evaluator.specs.Evaluating.{condition_of, JudgesAt, JudgesReadAt, MeansStanding, StandsAt, StandsBy};
 
 use cedar_extensions::evaluation_error::EvaluationError;
 use cedar_extensions::objects::ExtensionFunctionObject;
 use cedar_interpreter::Evaluator;
 use cedar_operators::get_as_bool;
+use cedar_partial_evaluation::unknowns_are_read;
 use cedar_policies::policies::Policy;
 use cedar_restricted::partial_values::PartialValue;
 use cedar_trees::expr::Expr;
@@ -48,7 +50,10 @@ impl<'s, 'e, 'f, F: ExtensionFunctionObject> EvaluatePolicy for Evaluator<'s, 'e
     ) -> Result<Either<bool, Expr>, EvaluationError>
         ensures found { (facts : Facts) → Serves F.answers self.now facts (condition_of policy.now) → JudgesAt (partial_in facts (held_by self.now (bindings_of policy.now)) (condition_of policy.now)) result }
         ensures limit { IsLimit result → Deep F.answers self.now (depth_of self.now) (condition_of policy.now) }
+        ensures read { (facts : Facts) → ServesRead F.answers self.now facts (condition_of policy.now) → JudgesReadAt (partial_in facts (held_by self.now (bindings_of policy.now)) (read_unknowns (condition_of policy.now))) result }
+        ensures read_limit { IsLimit result → IsDeepRead F.answers self.now (depth_of self.now) (condition_of policy.now) }
     {
+        unknowns_are_read();
         let condition = policy.condition(alloc)?;
         let answer = self.partial_interpret(alloc, &condition, policy.env());
         judged(alloc, answer)
@@ -58,6 +63,8 @@ impl<'s, 'e, 'f, F: ExtensionFunctionObject> EvaluatePolicy for Evaluator<'s, 'e
         ensures means { (facts : Facts) → Serves F.answers self.now facts (condition_of policy.now) → MeansStanding facts (held_by self.now (bindings_of policy.now)) (depth_of self.now) (condition_of policy.now) result }
         ensures found { (facts : Facts) → Serves F.answers self.now facts (condition_of policy.now) → StandsAt (partial_in facts (held_by self.now (bindings_of policy.now)) (condition_of policy.now)) result }
         ensures limit { IsLimit result → Deep F.answers self.now (depth_of self.now) (condition_of policy.now) }
+        ensures read { (facts : Facts) → ServesRead F.answers self.now facts (condition_of policy.now) → StandsAt (partial_in facts (held_by self.now (bindings_of policy.now)) (read_unknowns (condition_of policy.now))) result }
+        ensures read_limit { IsLimit result → IsDeepRead F.answers self.now (depth_of self.now) (condition_of policy.now) }
     {
         let condition = policy.condition(alloc)?;
         let answer = self.interpret(alloc, &condition, policy.env());

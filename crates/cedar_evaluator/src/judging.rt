@@ -6,14 +6,16 @@ ghost use Rattle.cedar_language.specs.Tree.{Boolean};
 ghost use Rattle.cedar_language.specs.Value.{Plain};
 ghost use Rattle.cedar_grammar.specs.Policy.{scope_tree};
 ghost use Rattle.cedar_partial_evaluation.specs.Partial.{Evaluated, partial_in};
+ghost use Rattle.cedar_partial_evaluation.specs.ReadUnknowns.{read_unknowns};
 ghost use Rattle.cedar_entities.specs.declared.store.Entities.{Entities as Store};
 ghost use Rattle.cedar_extensions.specs.Table.{Table};
 ghost use Rattle.cedar_operators.specs.Store.{HasFacts};
 ghost use Rattle.cedar_interpreter.specs.Asking.{Inquiry, request_held, IsEvaluatorOf};
-ghost use Rattle.cedar_interpreter.specs.Holding.{held_by, Serves, Deep, depth_of};
+ghost use Rattle.cedar_interpreter.specs.Holding.{held_by, Serves, ServesRead, Deep, IsDeepRead, depth_of};
 ghost use Rattle.cedar_interpreter.specs.Meeting.{IsLimit};
 ghost use Rattle.cedar_policies.specs.Policies.{bindings_of, policy_syntax};
-ghost use Rattle.cedar_evaluator.specs.Evaluating.{condition_of, JudgesAt, JudgesBy};
+ghost use Rattle.cedar_evaluator.specs.Evaluating.{condition_of, JudgesAt, JudgesBy, JudgesReadAt, JudgesReadBy};
+ghost use Rattle.cedar_evaluator.specs.Evaluations.{IsServedRead};
 ghost use Rattle.cedar_evaluator.specs.Scopes.{IsDecided, AreScopesOf};
 
 use crate::evaluation::{EvaluatePolicy, judged};
@@ -21,6 +23,7 @@ use crate::scopes::Scopes;
 use cedar_extensions::evaluation_error::EvaluationError;
 use cedar_extensions::objects::ExtensionFunctionObject;
 use cedar_interpreter::{Evaluator, last_of_and};
+use cedar_partial_evaluation::unknowns_are_read;
 use cedar_policies::policies::Policy;
 use cedar_trees::expr::Expr;
 use either::Either;
@@ -35,9 +38,12 @@ pub(crate) fn told<F: ExtensionFunctionObject>(
     scopes: &Scopes<'_>,
     policy: &Policy,
 ) -> Option<bool>
-    ensures { (i : Inquiry) (store : Store) (table : Table) (depth : ℕ) → IsEvaluatorOf F.answers i store table depth evaluator.now → AreScopesOf i store scopes.now →
+    ensures found { (i : Inquiry) (store : Store) (table : Table) (depth : ℕ) → IsEvaluatorOf F.answers i store table depth evaluator.now → AreScopesOf i store scopes.now →
         (facts : Facts) → HasFacts store facts → IsDecided facts (request_held i (bindings_of policy.now)) (condition_of policy.now) result }
+    ensures read { (i : Inquiry) (store : Store) (table : Table) (depth : ℕ) → IsEvaluatorOf F.answers i store table depth evaluator.now → AreScopesOf i store scopes.now →
+        (facts : Facts) → IsServedRead i store table depth facts (condition_of policy.now) → IsDecided facts (request_held i (bindings_of policy.now)) (read_unknowns (condition_of policy.now)) result }
 {
+    unknowns_are_read();
     match scopes.hold(policy) {
         Some(false) => Some(false),
         Some(true) => match policy.non_scope_constraints() {
@@ -58,6 +64,8 @@ pub(crate) fn evaluated<F: ExtensionFunctionObject>(
 ) -> Result<Either<bool, Expr>, EvaluationError>
     ensures found { JudgesBy F.answers evaluator.now scopes.now policy.now result }
     ensures limit { IsLimit result → Deep F.answers evaluator.now (depth_of evaluator.now) (condition_of policy.now) }
+    ensures read { JudgesReadBy F.answers evaluator.now scopes.now policy.now result }
+    ensures read_limit { IsLimit result → IsDeepRead F.answers evaluator.now (depth_of evaluator.now) (condition_of policy.now) }
 {
     match told(evaluator, scopes, policy) {
         Some(satisfied) => Ok(Either::Left(satisfied)),
@@ -75,6 +83,8 @@ pub(crate) fn evaluated_in_full<F: ExtensionFunctionObject>(
 ) -> Result<Either<bool, Expr>, EvaluationError>
     ensures found { JudgesBy F.answers evaluator.now scopes.now policy.now result }
     ensures limit { IsLimit result → Deep F.answers evaluator.now (depth_of evaluator.now) (condition_of policy.now) }
+    ensures read { JudgesReadBy F.answers evaluator.now scopes.now policy.now result }
+    ensures read_limit { IsLimit result → IsDeepRead F.answers evaluator.now (depth_of evaluator.now) (condition_of policy.now) }
 {
     match scopes.hold(policy) {
         Some(true) => in_scope(alloc, evaluator, policy),
@@ -90,7 +100,10 @@ fn in_scope<F: ExtensionFunctionObject>(
 ) -> Result<Either<bool, Expr>, EvaluationError>
     ensures found { (facts : Facts) → Serves F.answers evaluator.now facts (condition_of policy.now) → partial_in facts (held_by evaluator.now (bindings_of policy.now)) (scope_tree (policy_syntax policy.now)) ≡ Evaluated (Plain (Boolean true)) → JudgesAt (partial_in facts (held_by evaluator.now (bindings_of policy.now)) (condition_of policy.now)) result }
     ensures limit { IsLimit result → Deep F.answers evaluator.now (depth_of evaluator.now) (condition_of policy.now) }
+    ensures read { (facts : Facts) → ServesRead F.answers evaluator.now facts (condition_of policy.now) → partial_in facts (held_by evaluator.now (bindings_of policy.now)) (scope_tree (policy_syntax policy.now)) ≡ Evaluated (Plain (Boolean true)) → JudgesReadAt (partial_in facts (held_by evaluator.now (bindings_of policy.now)) (read_unknowns (condition_of policy.now))) result }
+    ensures read_limit { IsLimit result → IsDeepRead F.answers evaluator.now (depth_of evaluator.now) (condition_of policy.now) }
 {
+    unknowns_are_read();
     match policy.non_scope_constraints() {
         None => Ok(Either::Left(true)),
         Some(clauses) => {

@@ -1,12 +1,17 @@
 -- What is listed under the entity itself comes first, and then what is listed under its ancestors.
-use Rattle.std.proofs.Common.{◌≡◌, false, Option, Some, None, ap, ◌∙◌, sym, true≢false}
+use Rattle.std.proofs.Common.{◌≡◌, true, false, Option, Some, None, [], ap, ◌∙◌, sym, subst, true≢false}
 use Rattle.std.specs.FinSet as set
 use Rattle.std.specs.Option.{option_copied, option_map_or}
 use Rattle.cedar_entities.specs.Data.{EntityData, ancestors_of}
-use Rattle.cedar_scope_index.specs.Finding.{positions_at}
+use Rattle.cedar_scope_index.specs.Finding.{positions_at, is_listed}
 use Rattle.cedar_evaluator.proofs.Listed.{one_added, all_added}
 use Rattle.cedar_evaluator.proofs.Responding.{if_ok_both}
 use Rattle.cedar_evaluator.proofs.candidates.add_found.Goals as goal
+
+pub returns-then-is_empty-clause-added : goal.returns-then-is_empty-clause-added
+returns-then-is_empty-clause-added c = λ whole u given p h.
+    let none : positions_at c.args.listed.now u ≡ [] = c.is_empty.ensures.0 c.if-is_empty.true u in
+    absurd (true≢false (sym (subst (λ ps. is_listed ps p ≡ true) none h)))
 
 pub returns-in-Some-clause-added : goal.returns-in-Some-clause-added
 returns-in-Some-clause-added c =

@@ -3,7 +3,7 @@ use Rattle.std.proofs.Common.{◌≤◌, length, arith, subst}
 use Rattle.std.specs.Prelude.{IfSome}
 use Rattle.cedar_language.specs.Tree.{Principal, Action, Resource}
 use Rattle.cedar_interpreter.specs.Asking.{variable_asked}
-use Rattle.cedar_scope_index.specs.Finding.{covered}
+use Rattle.cedar_scope_index.specs.Finding.{covered, stands_at}
 use Rattle.cedar_evaluator.specs.Candidates.{HasFound}
 use Rattle.cedar_evaluator.specs.Scopes.{IsGivenAs}
 use Rattle.cedar_evaluator.proofs.OutOfScope.{found_or_out}
@@ -21,5 +21,5 @@ returns-in-Some c = λ i store scopes.
     let whole : length es ≤ covered index = omega (arith, c.if-len.false, c.len.ensures, c.len-len.ensures.len) in
     record {
       rising = c.in_order.ensures.rising;
-      whole = found_or_out i store given.principal given.action given.resource principal action resource index es c.in-Some.found.items c.in_order.result.items found c.scopes-index.ensures whole c.in_order.ensures.kept;
+      whole = found_or_out i store given.principal given.action given.resource principal action resource index es c.in-Some.found.items c.in_order.result.items found c.scopes-index.ensures whole (λ t h. c.in_order.ensures.kept (stands_at index t) (c.positions.ensures t h));
     }

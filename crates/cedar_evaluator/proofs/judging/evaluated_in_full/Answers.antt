@@ -4,10 +4,11 @@ use Rattle.cedar_language.specs.Tree.{Boolean}
 use Rattle.cedar_language.specs.Value.{Plain}
 use Rattle.cedar_grammar.specs.Policy.{scope_tree}
 use Rattle.cedar_partial_evaluation.specs.Partial.{Evaluated, LeafAnswers, partial_in}
+use Rattle.cedar_partial_evaluation.specs.ReadUnknowns.{read_unknowns}
 use Rattle.cedar_interpreter.specs.Asking.{request_held}
 use Rattle.cedar_interpreter.specs.Holding.{held_by}
 use Rattle.cedar_policies.specs.Policies.{bindings_of, policy_syntax}
-use Rattle.cedar_evaluator.specs.Evaluating.{condition_of, JudgesAt}
+use Rattle.cedar_evaluator.specs.Evaluating.{condition_of, JudgesAt, JudgesReadAt}
 use Rattle.cedar_evaluator.proofs.Judged.{scope_decided}
 use Rattle.cedar_evaluator.proofs.judging.evaluated_in_full.Goals as goal
 
@@ -27,3 +28,20 @@ returns-in_default-clause-found g c = λ i store table depth is scopes facts ser
     let p = c.args.policy.now in
     let serves = is.serves facts (condition_of p) served.entities served.functions served.names_nothing in
     subst (λ (h : LeafAnswers). JudgesAt (partial_in facts h (condition_of p)) c.partial_evaluate.result) (is.holds (bindings_of p)) (c.partial_evaluate.ensures.found facts serves)
+
+pub returns-in-Some-true-clause-read : goal.returns-in-Some-true-clause-read
+returns-in-Some-true-clause-read g c = λ i store table depth is scopes facts served.
+    let p = c.args.policy.now in
+    let ev = c.args.evaluator.now in
+    let bs = bindings_of p in
+    let scope = scope_tree (policy_syntax p) in
+    let serves = is.reads facts (condition_of p) served.entities served.functions served.naming served.written served.context in
+    let decided = scope_decided facts (request_held i bs) (policy_syntax p) c.hold.result _ _ c.in-Some-true.is c.in-Some-true.field-0-test (c.hold.ensures i store facts scopes served.entities) in
+    let holds : partial_in facts (held_by ev bs) scope ≡ Evaluated (Plain (Boolean true)) = ap (λ (h : LeafAnswers). partial_in facts h scope) (is.holds bs) ∙ decided in
+    subst (λ (h : LeafAnswers). JudgesReadAt (partial_in facts h (read_unknowns (condition_of p))) c.in_scope.result) (is.holds bs) (c.in_scope.ensures.read facts serves holds)
+
+pub returns-in_default-clause-read : goal.returns-in_default-clause-read
+returns-in_default-clause-read g c = λ i store table depth is scopes facts served.
+    let p = c.args.policy.now in
+    let serves = is.reads facts (condition_of p) served.entities served.functions served.naming served.written served.context in
+    subst (λ (h : LeafAnswers). JudgesReadAt (partial_in facts h (read_unknowns (condition_of p))) c.partial_evaluate.result) (is.holds (bindings_of p)) (c.partial_evaluate.ensures.read facts serves)

@@ -1,12 +1,14 @@
 -- The clauses decide behind a scope that holds.
-use Rattle.std.proofs.Common.{◌≡◌, true, Some, option_map, ap, sym, ◌∙◌}
+use Rattle.std.proofs.Common.{◌≡◌, true, Some, None, option_map, ap, sym, ◌∙◌}
 use Rattle.std.specs.Option.{option_copied}
 use Rattle.cedar_language.specs.Tree.{Boolean, Lit, And}
 use Rattle.cedar_policies.specs.Policies.{bindings_of, policy_syntax}
 use Rattle.cedar_partial_evaluation.specs.Partial.{last_answer, partial_in}
-use Rattle.cedar_interpreter.specs.Holding.{held_by, depth_of}
+use Rattle.cedar_interpreter.specs.Holding.{held_by, is_naming, depth_of}
+use Rattle.cedar_interpreter.specs.Naming.{naming_in}
 use Rattle.cedar_trees.specs.Bare.{bare}
 use Rattle.cedar_evaluator.proofs.Judged.{clauses_found, clauses_served, clauses_deep}
+use Rattle.cedar_evaluator.proofs.ReadConditions.{clauses_found_read, clauses_deep_read, told_by_scope_read}
 use Rattle.cedar_evaluator.proofs.judging.in_scope.Goals as goal
 
 pub returns-in-Some-clause-found : goal.returns-in-Some-clause-found
@@ -26,3 +28,29 @@ returns-in-Some-clause-limit g c = λ met.
     let ev = c.args.evaluator.now in
     let body : s.body ≡ Some t = sym c.non_scope_constraints.ensures ∙ ap (λ o. option_map bare (option_copied o)) c.in-Some.is in
     clauses_deep g.F.ExtensionFunctionObject.answers ev s t body (depth_of ev) (c.partial_interpret-answer.ensures.limit (c.last_of_and.ensures.limit (c.judged.ensures.limit met)))
+
+pub returns-in-Some-clause-read : goal.returns-in-Some-clause-read
+returns-in-Some-clause-read g c = λ facts serves scope.
+    let s = policy_syntax c.args.policy.now in
+    let t = bare c.in-Some.clauses.now in
+    let ev = c.args.evaluator.now in
+    let body : s.body ≡ Some t = sym c.non_scope_constraints.ensures ∙ ap (λ o. option_map bare (option_copied o)) c.in-Some.is in
+    let a = naming_in (is_naming g.F.ExtensionFunctionObject.answers ev) facts (held_by ev c.env.result.now) t in
+    clauses_found_read g.F.ExtensionFunctionObject.answers ev s t body c.unknowns_are_read.ensures ev.extensions.now.named facts c.env.result.now (bindings_of c.args.policy.now) c.env.ensures.bindings serves scope c.judged.result
+    (c.judged.ensures.found (last_answer (And (Lit (Boolean true))) a) (c.last_of_and.ensures.found a (c.partial_interpret-answer.ensures.named facts serves.knows)))
+
+pub returns-in-Some-clause-read_limit : goal.returns-in-Some-clause-read_limit
+returns-in-Some-clause-read_limit g c = λ met.
+    let s = policy_syntax c.args.policy.now in
+    let t = bare c.in-Some.clauses.now in
+    let ev = c.args.evaluator.now in
+    let body : s.body ≡ Some t = sym c.non_scope_constraints.ensures ∙ ap (λ o. option_map bare (option_copied o)) c.in-Some.is in
+    clauses_deep_read g.F.ExtensionFunctionObject.answers ev s t body (depth_of ev) (c.partial_interpret-answer.ensures.read_limit (c.last_of_and.ensures.limit (c.judged.ensures.limit met)))
+
+-- without clauses
+
+pub returns-in-None-clause-read : goal.returns-in-None-clause-read
+returns-in-None-clause-read g c = λ facts serves scope.
+    let s = policy_syntax c.args.policy.now in
+    let body : s.body ≡ None = sym c.non_scope_constraints.ensures ∙ ap (λ o. option_map bare (option_copied o)) c.in-None.is in
+    told_by_scope_read s facts (held_by c.args.evaluator.now (bindings_of c.args.policy.now)) scope body

@@ -2,7 +2,7 @@
 use Rattle.cedar_policies.specs.Policies.{bindings_of}
 use Rattle.cedar_trees.specs.Bare.{bare}
 use Rattle.cedar_evaluator.specs.Evaluating.{condition_of}
-use Rattle.cedar_evaluator.proofs.Evaluated.{meant_so, found_so, limited_so}
+use Rattle.cedar_evaluator.proofs.Evaluated.{meant_so, found_so, limited_so, found_read_so, limited_read_so}
 use Rattle.cedar_evaluator.proofs.evaluation.EvaluatorEvaluatePolicy.evaluate.Goals as goal
 
 pub returns-clause-means : goal.returns-clause-means
@@ -22,3 +22,15 @@ returns-clause-limit g c =
     let p = c.args.policy.now in
     limited_so g.F.ExtensionFunctionObject.answers c.args.self.now (bare c.in_ok-condition.condition) (condition_of p) c.in_ok-condition.ensures c.env.result.now (bindings_of p) c.env.ensures.bindings
     c.interpret-answer.result c.tested.result c.interpret-answer.ensures.limit c.tested.ensures.limit
+
+pub returns-clause-read : goal.returns-clause-read
+returns-clause-read g c =
+    let p = c.args.policy.now in
+    found_read_so g.F.ExtensionFunctionObject.answers c.args.self.now (bare c.in_ok-condition.condition) (condition_of p) c.in_ok-condition.ensures c.env.result.now (bindings_of p) c.env.ensures.bindings
+    c.interpret-answer.result c.tested.result c.interpret-answer.ensures.read c.tested.ensures.found
+
+pub returns-clause-read_limit : goal.returns-clause-read_limit
+returns-clause-read_limit g c =
+    let p = c.args.policy.now in
+    limited_read_so g.F.ExtensionFunctionObject.answers c.args.self.now (bare c.in_ok-condition.condition) (condition_of p) c.in_ok-condition.ensures c.env.result.now (bindings_of p) c.env.ensures.bindings
+    c.interpret-answer.result c.tested.result c.interpret-answer.ensures.read_limit c.tested.ensures.limit

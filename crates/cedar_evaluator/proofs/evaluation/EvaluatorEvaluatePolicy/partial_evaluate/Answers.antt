@@ -2,7 +2,7 @@
 use Rattle.cedar_policies.specs.Policies.{bindings_of}
 use Rattle.cedar_trees.specs.Bare.{bare}
 use Rattle.cedar_evaluator.specs.Evaluating.{condition_of}
-use Rattle.cedar_evaluator.proofs.Evaluated.{judged_so, limited_so}
+use Rattle.cedar_evaluator.proofs.Evaluated.{judged_so, limited_so, judged_read_so, limited_read_so}
 use Rattle.cedar_evaluator.proofs.evaluation.EvaluatorEvaluatePolicy.partial_evaluate.Goals as goal
 
 pub returns-clause-found : goal.returns-clause-found
@@ -16,3 +16,15 @@ returns-clause-limit g c =
     let p = c.args.policy.now in
     limited_so g.F.ExtensionFunctionObject.answers c.args.self.now (bare c.in_ok-condition.condition) (condition_of p) c.in_ok-condition.ensures c.env.result.now (bindings_of p) c.env.ensures.bindings
     c.partial_interpret-answer.result c.judged.result c.partial_interpret-answer.ensures.limit c.judged.ensures.limit
+
+pub returns-clause-read : goal.returns-clause-read
+returns-clause-read g c =
+    let p = c.args.policy.now in
+    judged_read_so g.F.ExtensionFunctionObject.answers c.args.self.now (bare c.in_ok-condition.condition) (condition_of p) c.in_ok-condition.ensures c.env.result.now (bindings_of p) c.env.ensures.bindings
+    c.unknowns_are_read.ensures c.args.self.now.extensions.now.named c.partial_interpret-answer.result c.judged.result c.partial_interpret-answer.ensures.named c.judged.ensures.found
+
+pub returns-clause-read_limit : goal.returns-clause-read_limit
+returns-clause-read_limit g c =
+    let p = c.args.policy.now in
+    limited_read_so g.F.ExtensionFunctionObject.answers c.args.self.now (bare c.in_ok-condition.condition) (condition_of p) c.in_ok-condition.ensures c.env.result.now (bindings_of p) c.env.ensures.bindings
+    c.partial_interpret-answer.result c.judged.result c.partial_interpret-answer.ensures.read_limit c.judged.ensures.limit

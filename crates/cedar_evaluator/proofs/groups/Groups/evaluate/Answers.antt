@@ -14,7 +14,8 @@ returns-then-with_false g c =
     on_ok c.keep.result
     (λ held keepable i store table depth is scopes es keeps.
     keeps_more c.args.with_false i store table depth es c.args.self.now c.keep.new.self (policy_seen p) k keeps (adds_any c.args.with_false k c.args.self.now c.keep.new.self c.if-with_false.true held)
-    (is_kept g.F.ExtensionFunctionObject.answers i store table depth c.args.evaluator.now is p answer (c.evaluated-answer.ensures.found i store table depth is scopes) c.evaluated-answer.ensures.limit keepable))
+    (is_kept g.F.ExtensionFunctionObject.answers i store table depth c.args.evaluator.now is p answer (c.evaluated-answer.ensures.found i store table depth is scopes) c.evaluated-answer.ensures.limit
+    (c.evaluated-answer.ensures.read i store table depth is scopes) c.evaluated-answer.ensures.read_limit keepable))
     c.keep.ensures.held c.keep.ensures.keepable
 
 pub returns-else-with_false : goal.returns-else-with_false

@@ -14,5 +14,6 @@ returns g c =
     on_ok c.keep_without_false.result
     (λ held keepable i store table depth is scopes es keeps.
     keeps_more false i store table depth es c.args.self.now c.keep_without_false.new.self (policy_seen p) (kept_of p answer) keeps held
-    (is_kept g.F.ExtensionFunctionObject.answers i store table depth c.args.evaluator.now is p answer (c.evaluated_in_full-answer.ensures.found i store table depth is scopes) c.evaluated_in_full-answer.ensures.limit keepable))
+    (is_kept g.F.ExtensionFunctionObject.answers i store table depth c.args.evaluator.now is p answer (c.evaluated_in_full-answer.ensures.found i store table depth is scopes) c.evaluated_in_full-answer.ensures.limit
+    (c.evaluated_in_full-answer.ensures.read i store table depth is scopes) c.evaluated_in_full-answer.ensures.read_limit keepable))
     c.keep_without_false.ensures.held c.keep_without_false.ensures.keepable
