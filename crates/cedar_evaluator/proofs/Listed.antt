@@ -7,7 +7,6 @@ use Rattle.std.specs.List.Sorted.{IsPermutation}
 use Rattle.std.specs.Option.{option_map_or}
 use Rattle.std.specs.Set.{is_member}
 use Rattle.std.proofs.lemmas.Bool.Decides.{Decides-eqb}
-use Rattle.std.proofs.lemmas.List.Folds.{list_any-append}
 use Rattle.std.proofs.lemmas.List.Kept.{Contains-dedup_nat}
 use Rattle.std.proofs.lemmas.List.Sorted.{list_any-IsPermutation}
 use Rattle.std.proofs.lemmas.Map.Made.{is_member-Decides}
@@ -16,9 +15,10 @@ use Rattle.cedar_language.specs.Order.{same_uid}
 use Rattle.cedar_policy_parts.specs.SameScopes.{uids_decide}
 use Rattle.cedar_entities.specs.Data.{EntityData, UidSet, ancestors_of}
 use Rattle.cedar_operators.specs.Hierarchy.{is_within_entity}
-use Rattle.cedar_scope_index.specs.Finding.{positions_at, is_listed}
+use Rattle.cedar_scope_index.specs.Finding.{positions_at, AreAmong}
 use Rattle.cedar_scope_index.specs.declared.positions.Positions.{Positions}
-use Rattle.cedar_evaluator.specs.Candidates.{AreAmong, HasListed}
+use Rattle.cedar_scope_index.proofs.Gathering.{among_first, among_second}
+use Rattle.cedar_evaluator.specs.Candidates.{HasListed}
 
 -- sorted, each once
 pub among_sorted : (ps qs : List ℕ) → IsPermutation ps qs → AreAmong ps (dedup nat_eq qs)
@@ -27,20 +27,6 @@ among_sorted ps qs moved p h =
     (is_member-Decides Decides-eqb (dedup nat_eq qs) p).1 (Contains-dedup_nat qs p here)
 
 -- ---- more of them
-
-or_first : (a b : Bool) → a ≡ true → (a || b) ≡ true
-or_first true b h = refl
-or_first false b h = absurd (true≢false (sym h))
-
-or_second : (a b : Bool) → b ≡ true → (a || b) ≡ true
-or_second true b h = refl
-or_second false b h = h
-
-pub among_first : (ps qs : List ℕ) → AreAmong ps (ps ++ qs)
-among_first ps qs p h = list_any-append (nat_eq p) ps qs ∙ or_first (is_listed ps p) (is_listed qs p) h
-
-among_second : (ps qs : List ℕ) → AreAmong qs (ps ++ qs)
-among_second ps qs p h = list_any-append (nat_eq p) ps qs ∙ or_second (is_listed ps p) (is_listed qs p) h
 
 -- each of these entities waits in the walk, or what is listed under it is among the positions
 abbrev pub AreGathered : Positions → List Uid → List Uid → List ℕ → Type 0

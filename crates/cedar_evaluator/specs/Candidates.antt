@@ -1,5 +1,5 @@
 -- Which policies of a set may be in scope, by their positions.
-use Rattle.std.specs.Prelude.{◌≡◌, ◌⊎◌, ℕ, Bool, true, false, List, Some}
+use Rattle.std.specs.Prelude.{◌≡◌, ◌⊎◌, ℕ, Bool, true, false, List, Option, Some, None}
 use Rattle.std.specs.List.{filter_map, slice_get}
 use Rattle.std.specs.List.Sorted.{IsStrictlyIncreasing}
 use Rattle.std.specs.Option.{option_copied}
@@ -16,15 +16,11 @@ use Rattle.cedar_interpreter.specs.Asking.{Inquiry, request_held}
 use Rattle.cedar_policy_set.specs.Entries.{Entry, Entries, is_policy}
 use Rattle.cedar_policy_set.specs.Scopes.{policy_stood}
 use Rattle.cedar_policy_set.specs.Texts.{syntax_in}
-use Rattle.cedar_scope_index.specs.Finding.{positions_at, others_of, is_listed}
+use Rattle.cedar_scope_index.specs.Finding.{positions_at, others_of, is_listed, AreAmong}
 use Rattle.cedar_scope_index.specs.declared.index.ScopeIndex.{ScopeIndex}
 use Rattle.cedar_scope_index.specs.declared.positions.Positions.{Positions}
 use Rattle.cedar_evaluator.specs.Evaluations.{bindings_in}
 use Rattle.cedar_evaluator.specs.declared.scopes.GivenEntity.{GivenEntity}
-
--- each of the ones is one of the others
-abbrev pub AreAmong : List ℕ → List ℕ → Type 0
-AreAmong ps qs = (p : ℕ) → is_listed ps p ≡ true → is_listed qs p ≡ true
 
 -- what is listed under each entity that passes the test is among these
 abbrev pub HasListed : Positions → (Uid → Bool) → List ℕ → Type 0
@@ -34,12 +30,18 @@ HasListed listed test ps = (u : Uid) → test u ≡ true → AreAmong (positions
 abbrev pub is_in_given : GivenEntity → Uid → Bool
 is_in_given g = is_within_entity g.uid.value (option_copied g.entity)
 
--- what an index lists under none, and under the entities that are given and those that they are in, is among these
-pub record HasFound (x : ScopeIndex) (principal action resource : GivenEntity) (ps : List ℕ) : Type 0 where
+-- whether it may be, or be in, the entity that is given: where none is, each may
+abbrev pub is_in_known : Option GivenEntity → Uid → Bool
+is_in_known None u = true
+is_in_known (Some g) u = is_in_given g u
+
+-- what an index lists under none, under the principal that is given and what it is in, and under what the action and
+-- the resource may be, or be in, is among these
+pub record HasFound (x : ScopeIndex) (principal : GivenEntity) (action resource : Option GivenEntity) (ps : List ℕ) : Type 0 where
   pub others : AreAmong (others_of x) ps
   pub principals : HasListed x.principals (is_in_given principal) ps
-  pub actions : HasListed x.actions (is_in_given action) ps
-  pub resources : HasListed x.resources (is_in_given resource) ps
+  pub actions : HasListed x.actions (is_in_known action) ps
+  pub resources : HasListed x.resources (is_in_known resource) ps
 
 -- the scope of a policy is false, by all facts of the store
 abbrev pub IsOutOfScope : Inquiry → Entities → Entry → Type 0

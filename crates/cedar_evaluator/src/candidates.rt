@@ -2,10 +2,12 @@
 ghost use Rattle.std.specs.Prelude.{◌≡◌, IsTrue, IfOk, OnOk, IfSome};
 ghost use Rattle.std.specs.FinSet as set;
 ghost use Rattle.std.specs.List.Sorted.{IsStrictlyIncreasing};
+ghost use Rattle.std.specs.Option.{option_copied};
 ghost use Rattle.cedar_entities.specs.Data.{ancestors_of};
 ghost use Rattle.cedar_entities.specs.declared.store.Entities.{Entities as Store};
 ghost use Rattle.cedar_interpreter.specs.Asking.{Inquiry};
-ghost use Rattle.cedar_evaluator.specs.Candidates.{is_in_given, AreAmong, HasListed, HasFound, AreCandidates};
+ghost use Rattle.cedar_scope_index.specs.Finding.{AreAmong};
+ghost use Rattle.cedar_evaluator.specs.Candidates.{is_in_given, is_in_known, HasListed, HasFound, AreCandidates};
 ghost use Rattle.cedar_evaluator.specs.Scopes.{AreScopesOf};
 
 use crate::scopes::{GivenEntity, Scopes};
@@ -15,9 +17,11 @@ use cedar_scope_index::index::ScopeIndex;
 use cedar_scope_index::positions::Positions;
 use std::alloc::{AllocError, Global};
 
-/// Positions in a set, each below the next, outside of which no policy is in scope of a request. None are told
-/// where the set's index doesn't cover it whole, where the request doesn't give all three entities, or where one
-/// of them has more ancestors than the set has entries. Refused for memory alone.
+/// Positions in a set, each below the next, outside of which no policy is in scope of a request. A scope is asked from
+/// the left, so all that is listed by the action or the resource is told where the action isn't given, and all that is
+/// listed by the resource where that isn't. None are told where the set's index doesn't cover it whole, where the
+/// request doesn't give the principal, where an entity has more ancestors than the set has entries, or where more than
+/// half of the set would be told. Refused for memory alone.
 pub(crate) fn candidates(
     alloc: Global,
     scopes: &Scopes<'_>,
@@ -25,45 +29,64 @@ pub(crate) fn candidates(
 ) -> Result<Option<Vec<usize>>, AllocError>
     ensures { IfOk result (λ found. IfSome found (λ positions. (i : Inquiry) (store : Store) → AreScopesOf i store scopes.now → AreCandidates i store policies.now positions.items)) }
 {
-    let (Some(principal), Some(action), Some(resource)) = (
-        &scopes.principal,
-        &scopes.action,
-        &scopes.resource,
-    ) else {
+    let Some(principal) = &scopes.principal else {
         return Ok(None);
     };
+    let action = scopes.action.as_ref();
+    let resource = action.and(scopes.resource.as_ref());
     let index = policies.scopes();
     let len = policies.len();
     if index.len() < len {
         return Ok(None);
     }
     match found_by(alloc, index, principal, action, resource, len)? {
-        Some(found) => Ok(Some(in_order(index.positions(found)))),
-        None => Ok(None),
+        // Where most are found, a look at each takes less than to put them in order.
+        Some(found) if found.len() <= len / 2 => Ok(Some(in_order(index.positions(found)))),
+        _ => Ok(None),
     }
 }
 
-// The places that are listed under these entities and those that they are in, and those that are listed under none;
-// not told where one of them has more ancestors than `most`.
+// The places that are listed under these entities and those that they are in, all where one isn't given, and those
+// that are listed under none; not told where one of them has more ancestors than `most`.
 fn found_by(
     alloc: Global,
     index: &ScopeIndex,
     principal: &GivenEntity<'_>,
-    action: &GivenEntity<'_>,
-    resource: &GivenEntity<'_>,
+    action: Option<&GivenEntity<'_>>,
+    resource: Option<&GivenEntity<'_>>,
     most: usize,
 ) -> Result<Option<Vec<usize>>, AllocError>
-    ensures { IfOk result (λ found. IfSome found (λ positions. HasFound index.now principal.now action.now resource.now positions.items)) }
+    ensures { IfOk result (λ found. IfSome found (λ positions. HasFound index.now principal.now (option_copied action.entry) (option_copied resource.entry) positions.items)) }
 {
     let mut found = Vec::new(alloc);
     found.extend_from_slice(index.others())?;
     if add_found(&mut found, index.principals(), principal, most)?
-        && add_found(&mut found, index.actions(), action, most)?
-        && add_found(&mut found, index.resources(), resource, most)?
+        && add_known(&mut found, index.actions(), action, most)?
+        && add_known(&mut found, index.resources(), resource, most)?
     {
         Ok(Some(found))
     } else {
         Ok(None)
+    }
+}
+
+// Adds what is listed under an entity and under its ancestors, or under any where it isn't given; false where these
+// are more than `most`.
+fn add_known(
+    found: &mut Vec<usize>,
+    listed: &Positions,
+    known: Option<&GivenEntity<'_>>,
+    most: usize,
+) -> Result<bool, AllocError>
+    ensures kept { OnOk result (AreAmong found.old.items found.new.items) }
+    ensures added { IfOk result (λ whole. IsTrue whole → HasListed listed.now (is_in_known (option_copied known.entry)) found.new.items) }
+{
+    match known {
+        Some(given) => add_found(found, listed, given, most),
+        None => {
+            listed.push_all(found)?;
+            Ok(true)
+        }
     }
 }
 

@@ -2,3 +2,4 @@ mod Growing
 mod Listing
 mod Closing
 mod Moving
+pub mod Gathering

@@ -32,6 +32,10 @@ stands_at x t = position_of x.gaps.taken.items t
 abbrev pub is_listed : List ℕ → ℕ → Bool
 is_listed ps p = list_any (nat_eq p) ps
 
+-- each of the ones is one of the others
+abbrev pub AreAmong : List ℕ → List ℕ → Type 0
+AreAmong ps qs = (p : ℕ) → is_listed ps p ≡ true → is_listed qs p ≡ true
+
 -- A place is listed for a policy with these entities in the places of its slots: among the others, or under an entity
 -- that its scope names. By the action or the resource it is found only where no slot of the principal is open, since that
 -- one is asked first.

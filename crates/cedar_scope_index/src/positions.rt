@@ -25,7 +25,7 @@ impl Drop for Positions {
 }
 
 impl Positions {
-    ghost use Rattle.cedar_scope_index.specs.Finding.{positions_at};
+    ghost use Rattle.cedar_scope_index.specs.Finding.{positions_at, AreAmong};
 
     // None is listed; takes no memory.
     pub(crate) fn new(alloc: Global) -> Positions
@@ -51,6 +51,17 @@ impl Positions {
         ensures { IsTrue result ↔ ((uid : Uid) → positions_at self.now uid ≡ []) }
     {
         self.by_id.is_empty()
+    }
+
+    /// Appends all that are listed under any entity, in no order that is told. Refused for memory alone.
+    pub fn push_all(&self, found: &mut Vec<usize>) -> Result<(), AllocError>
+        ensures kept { OnOk result (AreAmong found.old.items found.new.items) }
+        ensures added { OnOk result ((uid : Uid) → AreAmong (positions_at self.now uid) found.new.items) }
+    {
+        for places in self.by_id.values() {
+            found.extend_from_slice(places)?;
+        }
+        Ok(())
     }
 
     // Lists one more under an entity; refused for memory alone, and nothing is then listed.
