@@ -74,14 +74,17 @@ impl HeldPolicies {
 
     /// Puts the policies of a text, each under its own number, to those that are held; answers the ids
     /// under which they now stand, in the text's order. A policy whose number is bound here to something
-    /// else gets the next number that is free here and in the text. Refused for memory alone, and then
-    /// nothing changes.
+    /// else gets the next number that is free here and in the text. What comes is found by its scopes at once, as far as
+    /// memory allows. Refused for memory alone, and then nothing changes.
     pub fn load(&mut self, alloc: Global, policies: PolicySet) -> Result<Vec<PolicyID>, AllocError>
         requires { IsText policies }
         ensures loaded { IfOk result (λ ids. (ss : List PolicySyntax) → policies ≡ text_entries 0 ss → Loads self.old ss ids.items self.new) }
         ensures err { OnErr result (self.new ≡ self.old) }
     {
-        load(alloc, &mut self.set, &policies)
+        let ids = load(alloc, &mut self.set, &policies)?;
+        // Where memory lacks for it, the next question sees to the rest.
+        let _indexed = self.set.index_scopes(alloc);
+        Ok(ids)
     }
 
     /// Binds the id of a body to the link that it states.
