@@ -51,7 +51,7 @@ module _ {E M R : Type 0} (o : Operations M R) (meaning : E → M) where
       by : (h : Head E) → IsHead o meaning h (converting.a_tree t) → an_operand ≡ before_of h
       by (head.Expr e) s = refl
       by (head.Name n) s = absurd s
-      by (head.Attribute e id) s = absurd s
+      by (head.Attribute e id at) s = absurd s
 
   name_before : (h : Head E) (g : converting.Head) (n : loose.Name) → g ≡ converting.a_name n → IsHead o meaning h g → a_name n ≡ before_of h
   name_before h g n is stands = by h (subst (IsHead o meaning h) is stands)
@@ -59,7 +59,7 @@ module _ {E M R : Type 0} (o : Operations M R) (meaning : E → M) where
       by : (h : Head E) → IsHead o meaning h (converting.a_name n) → a_name n ≡ before_of h
       by (head.Expr e) s = absurd s
       by (head.Name m) s = ap a_name (sym s)
-      by (head.Attribute e id) s = absurd s
+      by (head.Attribute e id at) s = absurd s
 
   attribute_before : (h : Head E) (g : converting.Head) (w : Option Text) (a : Tree) (s : Text) → w ≡ Some s → g ≡ converting.an_attribute a s → IsHead o meaning h g → an_attribute w ≡ before_of h
   attribute_before h g w a s word is stands = by h (subst (IsHead o meaning h) is stands)
@@ -67,7 +67,7 @@ module _ {E M R : Type 0} (o : Operations M R) (meaning : E → M) where
       by : (h : Head E) → IsHead o meaning h (converting.an_attribute a s) → an_attribute w ≡ before_of h
       by (head.Expr e) x = absurd x
       by (head.Name m) x = absurd x
-      by (head.Attribute e id) x = ap an_attribute (word ∙ ap Some (sym x.1))
+      by (head.Attribute e id at) x = ap an_attribute (word ∙ ap Some (sym x.1))
 
   module _ (names : Names) where
     first_before : (h : Head E) (p : loose.Primary) (g : converting.Head) → primary_head names p ≡ Some g → IsHead o meaning h g → first p ≡ before_of h

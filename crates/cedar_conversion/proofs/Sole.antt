@@ -5,7 +5,7 @@ use Rattle.cedar_grammar.specs.Names.{Names}
 use Rattle.cedar_grammar.specs.Reading.{◌>>=◌}
 use Rattle.cedar_grammar.specs.Loose as loose
 use Rattle.cedar_grammar.specs.Converting.{lone_member, primary_head, a_tree, expr_tree, or_tree, ands_tree, and_tree, relations_tree, relation_tree, adds_tree, add_tree, mults_tree, mult_tree, unaries_tree, unary_tree, member_tree}
-use Rattle.cedar_conversion.specs.Alone.{lone_relation, only_add, only_expr}
+use Rattle.cedar_conversion.specs.Alone.{only_or, lone_relation, only_add, only_expr}
 
 -- ---- around what stands alone
 
@@ -32,6 +32,11 @@ is_around_relation (loose.or_expr (loose.or a (loose.an_and b more))) r h = no_p
 is_around_relation (loose.or_expr (loose.or loose.missing_and loose.no_ands)) r h = no_part h
 is_around_relation (loose.or_expr (loose.or (loose.and s (loose.a_relation q rs)) loose.no_ands)) r h = no_part h
 is_around_relation (loose.or_expr (loose.or (loose.and s loose.no_relations) loose.no_ands)) r h = ap around_relation (some_is s r h)
+
+pub is_around_or : (e : loose.Expr) (o : loose.Or) → only_or e ≡ Some o → e ≡ loose.or_expr o
+is_around_or loose.missing_expr o h = no_part h
+is_around_or (loose.if_expr x y z) o h = no_part h
+is_around_or (loose.or_expr p) o h = ap loose.or_expr (some_is p o h)
 
 pub is_around_add : (r : loose.Relation) (a : loose.Add) → only_add r ≡ Some a → r ≡ around_add a
 is_around_add loose.missing_relation a h = no_part h
@@ -83,6 +88,10 @@ module _ (names : Names) where
   pub tree_of_relation : (e : loose.Expr) (r : loose.Relation) → lone_relation e ≡ Some r → expr_tree names e ≡ relation_tree names r
   unfolding expr_tree or_tree ands_tree and_tree relations_tree
   tree_of_relation e r h = ap (expr_tree names) (is_around_relation e r h) ∙ twice (relation_tree names r)
+
+  pub tree_of_or : (e : loose.Expr) (o : loose.Or) → only_or e ≡ Some o → expr_tree names e ≡ or_tree names o
+  unfolding expr_tree
+  tree_of_or e o h = ap (expr_tree names) (is_around_or e o h)
 
   pub tree_of_add : (r : loose.Relation) (a : loose.Add) → only_add r ≡ Some a → relation_tree names r ≡ add_tree names a
   unfolding relation_tree adds_tree

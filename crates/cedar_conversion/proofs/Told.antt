@@ -85,6 +85,16 @@ pub of_part_and : {A E : Type 0} (a : Result A (ConversionError E)) (own p s : T
 of_part_and a own p s only first second k (inl t) = first k (told_each a p only k t)
 of_part_and a own p s only first second k (inr o) = second k o
 
+pub of_part_or : {A E : Type 0} (a : Result A (ConversionError E)) (own p s : ToASTErrorKind → Type 0) → IfErr a (λ e. TellsOnly e p) → ((k : ToASTErrorKind) → own k → s k) → ((k : ToASTErrorKind) → p k → s k) → (k : ToASTErrorKind) → own k ⊎ Told a k → s k
+of_part_or a own p s only first second k (inl o) = first k o
+of_part_or a own p s only first second k (inr t) = second k (told_each a p only k t)
+
+-- the second of three
+pub of_second : {A E : Type 0} (a : Result A (ConversionError E)) (q own p : ToASTErrorKind → Type 0) → IfErr a (λ e. TellsOnly e p) → (k : ToASTErrorKind) → q k ⊎ Told a k ⊎ own k → q k ⊎ p k ⊎ own k
+of_second a q own p only k (inl o) = inl o
+of_second a q own p only k (inr (inl t)) = inr (inl (told_each a p only k t))
+of_second a q own p only k (inr (inr o)) = inr (inr o)
+
 pub of_either : {B E F : Type 0} (e : ConversionError E) (b : Result B (ConversionError F)) (p : ToASTErrorKind → Type 0) → TellsOnly e p → IfErr b (λ f. TellsOnly f p) → (k : ToASTErrorKind) → Tells e k ⊎ Told b k → p k
 of_either e b p first second k (inl t) = first.each k t
 of_either e b p first second k (inr t) = told_each b p second k t

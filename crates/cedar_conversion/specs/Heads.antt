@@ -17,7 +17,7 @@ use Rattle.cedar_conversion.specs.Shows.{Before, a_name, an_attribute, an_operan
 abbrev pub IsHead : {E M R : Type 0} → Operations M R → (E → M) → Head E → converting.Head → Type 0
 IsHead o meaning (head.Expr e) (converting.a_tree t) = IsBuilt o meaning e t
 IsHead o meaning (head.Name n) (converting.a_name x) = shown_name n.now ≡ x
-IsHead o meaning (head.Attribute e id) (converting.an_attribute t s) = IsBuilt o meaning e t × (id ≡ s)
+IsHead o meaning (head.Attribute e id at) (converting.an_attribute t s) = IsBuilt o meaning e t × (id ≡ s)
 IsHead o meaning h g = ⊥
 
 -- the operations make nothing of the expression in it
@@ -40,7 +40,7 @@ given (Err e) = None
 abbrev pub before_of : {E : Type 0} → Head E → Before
 before_of (head.Expr e) = an_operand
 before_of (head.Name n) = a_name (shown_name n.now)
-before_of (head.Attribute e id) = an_attribute (Some id)
+before_of (head.Attribute e id at) = an_attribute (Some id)
 
 -- the same, where it is there
 abbrev pub IsBefore : {E B : Type 0} → Result (Head E) (ConversionError B) → Before → Type 0

@@ -40,11 +40,10 @@ fn is_own_method(name: &str) -> bool
     )
 }
 
-// The fault of a name that is called before its arguments, and is no function.
+// The fault of a name that is called before its arguments, and is no function, at that name.
 fn no_function<E: Drop>(
     alloc: Global,
     styles: &ExtStyles,
-    loc: Option<&Loc>,
     name: &Node<Option<cst::Name>>,
     function: Name,
 ) -> ConversionError<E>
@@ -52,7 +51,7 @@ fn no_function<E: Drop>(
     ensures kind { TellsOnly result (IsNoFunction styles.now (name_variable (shown_name name.now)) function) }
 {
     match kind_of_no_function(alloc, styles, name, function) {
-        Ok(kind) => ConversionError::fault(alloc, kind, loc),
+        Ok(kind) => ConversionError::fault(alloc, kind, name.loc()),
         Err(_) => ConversionError::Memory,
     }
 }
@@ -78,18 +77,18 @@ fn kind_of_no_function(
     Ok(ToASTErrorKind::UnknownFunction { id: function })
 }
 
-// The fault of a name that is called behind its first argument, and is no method.
+// The fault of a name that is called behind its first argument, and is no method, at that name.
 fn no_method<E: Drop>(
     alloc: Global,
     styles: &ExtStyles,
-    loc: Option<&Loc>,
+    name_loc: Option<&Loc>,
     id: UnreservedId,
 ) -> ConversionError<E>
     ensures fault { IsFault result }
     ensures kind { TellsOnly result (IsNoMethod styles.now id) }
 {
     match kind_of_no_method(alloc, styles, id) {
-        Ok(kind) => ConversionError::fault(alloc, kind, loc),
+        Ok(kind) => ConversionError::fault(alloc, kind, name_loc),
         Err(_) => ConversionError::Memory,
     }
 }
@@ -124,7 +123,7 @@ fn call_function<B: ExprBuilder>(
 {
     let function = to_name(alloc, name)?;
     if !styles.is_function(&function) {
-        return Err(no_function(alloc, styles, loc, name, function));
+        return Err(no_function(alloc, styles, name, function));
     }
     let builder = builder_at::<B>(alloc, loc)?;
     taken::<B>(builder.call_extension_fn(function, args))
@@ -197,6 +196,7 @@ fn call_table_method<B: ExprBuilder>(
     loc: Option<&Loc>,
     expr: B::Expr,
     id: UnreservedId,
+    name_loc: Option<&Loc>,
     args: Vec<B::Expr>,
 ) -> Result<B::Expr, ConversionError<B::BuildError>>
     ensures tree { (t : Tree) (xs : List Tree) → IsBuilt B.operations B.meaning expr t → AreBuilt B.operations B.meaning args xs →
@@ -205,7 +205,7 @@ fn call_table_method<B: ExprBuilder>(
     ensures shown { IfErr result (λ error. TellsOnly error (λ kind. (is_among id styles.now.methods ≡ false) × IsNoMethod styles.now id kind)) }
 {
     if !styles.is_method(&id) {
-        return Err(no_method(alloc, styles, loc, id));
+        return Err(no_method(alloc, styles, name_loc, id));
     }
     let mut args = args;
     args.insert(0, expr)?;
@@ -221,6 +221,7 @@ fn call_method<B: ExprBuilder>(
     loc: Option<&Loc>,
     expr: B::Expr,
     id: UnreservedId,
+    name_loc: Option<&Loc>,
     args: Vec<B::Expr>,
 ) -> Result<B::Expr, ConversionError<B::BuildError>>
     ensures tree { (t : Tree) (xs : List Tree) → IsBuilt B.operations B.meaning expr t → AreBuilt B.operations B.meaning args xs →
@@ -238,7 +239,7 @@ fn call_method<B: ExprBuilder>(
         "getTag" => with_argument::<B>(alloc, loc, "getTag", BinaryOp::GetTag, expr, args),
         "hasTag" => with_argument::<B>(alloc, loc, "hasTag", BinaryOp::HasTag, expr, args),
         "isEmpty" => is_empty::<B>(alloc, loc, expr, args),
-        _ => call_table_method::<B>(alloc, styles, loc, expr, id, args),
+        _ => call_table_method::<B>(alloc, styles, loc, expr, id, name_loc, args),
     }
 }
 
@@ -260,11 +261,13 @@ fn called<B: ExprBuilder>(
             Err(ConversionError::fault(alloc, kind, loc))
         }
         Head::Name(name) => call_function::<B>(alloc, styles, loc, name, args),
-        Head::Attribute(expr, id) => call_method::<B>(alloc, styles, loc, expr, id, args),
+        Head::Attribute(expr, id, name_loc) => {
+            call_method::<B>(alloc, styles, loc, expr, id, name_loc, args)
+        }
     }
 }
 
-/// `head(args)`, or the faults of both.
+/// `head(args)`, or the faults of both. What is no function, or no method, is told at its name.
 pub fn call<'a, B: ExprBuilder>(
     alloc: Global,
     styles: &ExtStyles,

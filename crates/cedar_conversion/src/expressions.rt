@@ -11,12 +11,14 @@ ghost use Rattle.cedar_conversion.specs.Entries.{MakesEntry};
 ghost use Rattle.cedar_conversion.specs.Heads.{MakesHead, IsBefore};
 ghost use Rattle.cedar_conversion.specs.Shows.{Before, is_call, calls_method, expr_shows, or_shows, and_shows, relation_shows, add_shows, mult_shows, unary_shows, member_shows, access_shows, primary_shows, rec_init_shows};
 
-use crate::lookahead::{enter_add, lone_member, lone_relation, only_expr};
+use crate::lookahead::{enter_add, enter_or, lone_member, lone_relation, only_expr};
+use crate::relations::{has_to_expr, is_in_to_expr, is_to_expr, like_to_expr};
+use crate::signs::number_to_expr;
 use crate::{
-    Head, Joint, Sign, attribute, call, entity_to_head, expr_to_head, has, head_to_expr, index,
-    is_type, is_type_in, ite, join, like, literal_to_head, lone_comparison, lone_number, negative,
-    pushed, pushed_entry, record_to_head, set_to_head, signed, slot_to_head, to_entity_type,
-    to_fields, to_index, to_key, to_like_pattern, to_literal, to_ref, to_slot, to_unreserved_ident,
+    Head, Joint, Sign, attribute, call, entity_to_head, expr_to_head, head_to_expr, index, ite,
+    join, literal_to_head, lone_comparison, lone_number, pushed, pushed_entry, record_to_head,
+    set_to_head, signed, slot_to_head, to_index, to_key, to_literal, to_ref, to_slot,
+    to_unreserved_ident,
 };
 use cedar_builders::expr_builder::ExprBuilder;
 use cedar_cst::cst::{
@@ -42,14 +44,17 @@ pub(crate) fn expr_to_expr<B: ExprBuilder>(
 {
     match lone_relation(node) {
         Some(relation) => relation_to_expr::<B>(alloc, styles, relation),
-        None => branches_to_expr::<B>(alloc, styles, node),
+        None => match enter_or(node) {
+            Some(or) => or_to_expr::<B>(alloc, styles, or),
+            None => if_to_expr::<B>(alloc, styles, node),
+        },
     }
 }
 
-// An expression that is no relation alone.
+// An expression that is no chain of `||`.
 #[cycle(to_expr)]
 #[inline(never)]
-fn branches_to_expr<B: ExprBuilder>(
+fn if_to_expr<B: ExprBuilder>(
     alloc: Global,
     styles: &ExtStyles,
     node: &Node<Option<Expr>>,
@@ -78,6 +83,7 @@ fn branches_to_expr<B: ExprBuilder>(
 
 // A chain of `||`.
 #[cycle(to_expr)]
+#[inline(never)]
 fn or_to_expr<B: ExprBuilder>(
     alloc: Global,
     styles: &ExtStyles,
@@ -172,15 +178,13 @@ fn comparison_to_expr<B: ExprBuilder>(
                 let holder = &**target;
                 let path = &**field;
                 let held = add_to_expr::<B>(alloc, styles, holder);
-                let attrs = to_fields(alloc, path);
-                has::<B>(alloc, node.loc(), held, attrs)
+                has_to_expr::<B>(alloc, node.loc(), held, path)
             }
             Relation::Like { target, pattern } => {
                 let matched = &**target;
                 let text = &**pattern;
                 let subject = add_to_expr::<B>(alloc, styles, matched);
-                let elems = to_like_pattern(alloc, text);
-                like::<B>(alloc, node.loc(), subject, elems)
+                like_to_expr::<B>(alloc, node.loc(), subject, text)
             }
             Relation::IsIn {
                 target,
@@ -190,13 +194,12 @@ fn comparison_to_expr<B: ExprBuilder>(
                 let typed = &**target;
                 let named = &**entity_type;
                 let value = add_to_expr::<B>(alloc, styles, typed);
-                let name = to_entity_type(alloc, named);
                 match in_entity {
-                    None => is_type::<B>(alloc, node.loc(), value, name),
+                    None => is_to_expr::<B>(alloc, node.loc(), value, named),
                     Some(entity) => {
                         let among = &**entity;
                         let within = add_to_expr::<B>(alloc, styles, among);
-                        is_type_in::<B>(alloc, node.loc(), value, name, within)
+                        is_in_to_expr::<B>(alloc, node.loc(), value, named, within)
                     }
                 }
             }
@@ -293,8 +296,7 @@ fn unary_to_expr<B: ExprBuilder>(
                         if count == 0 {
                             member_to_expr::<B>(alloc, styles, &unary.item)
                         } else {
-                            let item = negative::<B>(alloc, node.loc(), number);
-                            signed::<B>(alloc, node.loc(), Sign::Minus, count - 1, item)
+                            number_to_expr::<B>(alloc, node.loc(), number, count - 1)
                         }
                     }
                     None => {
@@ -369,7 +371,7 @@ fn is_call(node: &Node<Option<MemAccess>>) -> bool
 fn access_to_head<'a, B: ExprBuilder>(
     alloc: Global,
     styles: &ExtStyles,
-    node: &Node<Option<MemAccess>>,
+    node: &'a Node<Option<MemAccess>>,
     head: Result<Head<'a, B::Expr>, ConversionError<B::BuildError>>,
     is_called: bool,
 ) -> Result<Head<'a, B::Expr>, ConversionError<B::BuildError>>
@@ -383,7 +385,7 @@ fn access_to_head<'a, B: ExprBuilder>(
         Some(access) => match access {
             MemAccess::Field(id) => {
                 let word = to_unreserved_ident(alloc, id);
-                attribute::<B>(alloc, node.loc(), head, word, is_called)
+                attribute::<B>(alloc, node.loc(), head, word, id.loc(), is_called)
             }
             MemAccess::Call(args) => {
                 let mut values = Ok(Vec::new(alloc));

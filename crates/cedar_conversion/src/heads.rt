@@ -41,8 +41,8 @@ pub enum Head<'a, E> {
     Expr(E),
     /// A name, which may be called yet.
     Name(&'a Node<Option<Name>>),
-    /// An attribute of an expression, or a method that isn't called yet.
-    Attribute(E, UnreservedId),
+    /// An attribute of an expression, or a method that isn't called yet, and where its name stands.
+    Attribute(E, UnreservedId, Option<&'a Loc>),
 }
 
 /// A literal, or its faults.
@@ -237,7 +237,7 @@ fn used_to_expr<B: ExprBuilder>(
     match head {
         Ok(Head::Expr(expr)) => Ok(expr),
         Ok(Head::Name(name)) => variable::<B>(alloc, loc, name, used),
-        Ok(Head::Attribute(expr, id)) => accessed::<B>(alloc, loc, expr, id),
+        Ok(Head::Attribute(expr, id, _)) => accessed::<B>(alloc, loc, expr, id),
         Err(error) => Err(error),
     }
 }
@@ -268,13 +268,14 @@ fn use_by_text<'a, E>(text: &'a Result<RcStr, E>) -> Use<'a>
     }
 }
 
-/// `head.id`, which may be called yet; whether it is says `is_called`, for the faults of a name that has
-/// neither attributes nor methods.
+/// `head.id`, whose name stands at `name_loc`, and which may be called yet; whether it is says `is_called`,
+/// for the faults of a name that has neither attributes nor methods.
 pub fn attribute<'a, B: ExprBuilder>(
     alloc: Global,
     loc: Option<&Loc>,
     head: Result<Head<'_, B::Expr>, ConversionError<B::BuildError>>,
     id: Result<UnreservedId, ConversionError<B::BuildError>>,
+    name_loc: Option<&'a Loc>,
     is_called: bool,
 ) -> Result<Head<'a, B::Expr>, ConversionError<B::BuildError>>
     ensures head { (v : Option converting.Head) (w : Option Text) → MakesHead B.operations B.meaning B.refusal head.entry v → Finds (λ s. s) id w →
@@ -284,7 +285,7 @@ pub fn attribute<'a, B: ExprBuilder>(
 {
     let expr = used_to_expr::<B>(alloc, loc, head, use_of(&id, is_called));
     let (expr, id) = flatten_tuple_2(expr, id)?;
-    Ok(Head::Attribute(expr, id))
+    Ok(Head::Attribute(expr, id, name_loc))
 }
 
 /// `head["text"]`.

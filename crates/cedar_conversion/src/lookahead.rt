@@ -32,8 +32,8 @@ pub fn only_or(node: &Node<Option<Expr>>) -> Option<&Node<Option<Or>>>
     enter_or(node)
 }
 
-// The same; it nests less deeply.
-fn enter_or(node: &Node<Option<Expr>>) -> Option<&Node<Option<Or>>>
+/// The chain of `||` that an expression is, which nests less deeply.
+pub fn enter_or(node: &Node<Option<Expr>>) -> Option<&Node<Option<Or>>>
     ensures node { option_map (λ n. shown_or n.now) result ≡ alone.only_or (shown_expr node.now) }
     ensures below { IfSome result (λ n. depth size-Or n.now.node < depth size-Expr node.now.node) }
 {

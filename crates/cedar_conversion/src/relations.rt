@@ -5,13 +5,20 @@ ghost use Rattle.cedar_language.specs.Tree.{Tree, PatternElem};
 ghost use Rattle.cedar_language.specs.Uid.{Text, Name};
 ghost use Rattle.cedar_grammar.specs.Build as build;
 ghost use Rattle.cedar_grammar.specs.Build.{unary, is_in};
+ghost use Rattle.cedar_grammar.specs.Escape.{pattern_of};
+ghost use Rattle.cedar_grammar.specs.Converting.{lone_primary, lone_member, member_fields, primary_path, primary_raw};
+ghost use Rattle.cedar_cst.specs.View.{shown_add};
 ghost use Rattle.cedar_faults.specs.Converts.{and_then, Finds};
 ghost use Rattle.cedar_faults.specs.Telling.{Told, TellsOnly};
 ghost use Rattle.cedar_conversion.specs.Building.{MakesTree};
 ghost use Rattle.cedar_conversion.specs.Fields.{path_texts};
+ghost use Rattle.cedar_conversion.specs.Shown.{attributes_show, pattern_shows, type_shows};
 
 use crate::building::{builder_at, taken};
+use crate::primaries::{to_entity_type, to_fields, to_like_pattern};
 use cedar_builders::expr_builder::ExprBuilder;
+use cedar_cst::cst::Add;
+use cedar_cst::node::Node;
 use cedar_faults::{ConversionError, flatten_tuple_2};
 use cedar_literals::patterns::Pattern;
 use cedar_literals::uids::EntityType;
@@ -88,6 +95,76 @@ pub fn is_type_in<B: ExprBuilder>(
     let (target, (name, entity)) = flatten_tuple_2(target, flatten_tuple_2(name, entity))?;
     let builder = builder_at::<B>(alloc, loc)?;
     taken::<B>(builder.is_in_entity_type(target, EntityType::from(name), entity))
+}
+
+/// `target has fields`, or the faults of both.
+#[inline(never)]
+pub(crate) fn has_to_expr<B: ExprBuilder>(
+    alloc: Global,
+    loc: Option<&Loc>,
+    target: Result<B::Expr, ConversionError<B::BuildError>>,
+    fields: &Node<Option<Add>>,
+) -> Result<B::Expr, ConversionError<B::BuildError>>
+    ensures tree { (v : Option Tree) → MakesTree B.operations B.meaning B.refusal target v →
+        MakesTree B.operations B.meaning B.refusal result
+        (and_then v (λ x. and_then (and_then (lone_member (shown_add fields.now)) member_fields) (λ ss. Some (build.has ss x)))) }
+    ensures shown { IfErr result (λ error. TellsOnly error (λ kind. Told target kind ⊎ attributes_show (shown_add fields.now) kind)) }
+{
+    let attrs = to_fields(alloc, fields);
+    has::<B>(alloc, loc, target, attrs)
+}
+
+/// `target like text`, or the faults of both.
+#[inline(never)]
+pub(crate) fn like_to_expr<B: ExprBuilder>(
+    alloc: Global,
+    loc: Option<&Loc>,
+    target: Result<B::Expr, ConversionError<B::BuildError>>,
+    text: &Node<Option<Add>>,
+) -> Result<B::Expr, ConversionError<B::BuildError>>
+    ensures tree { (v : Option Tree) → MakesTree B.operations B.meaning B.refusal target v →
+        MakesTree B.operations B.meaning B.refusal result
+        (and_then v (λ x. and_then (and_then (and_then (lone_primary (shown_add text.now)) primary_raw) pattern_of) (λ q. Some (unary (tree.Like q) x)))) }
+    ensures shown { IfErr result (λ error. TellsOnly error (λ kind. Told target kind ⊎ pattern_shows (shown_add text.now) kind)) }
+{
+    let pattern = to_like_pattern(alloc, text);
+    like::<B>(alloc, loc, target, pattern)
+}
+
+/// `target is name`, or the faults of both.
+#[inline(never)]
+pub(crate) fn is_to_expr<B: ExprBuilder>(
+    alloc: Global,
+    loc: Option<&Loc>,
+    target: Result<B::Expr, ConversionError<B::BuildError>>,
+    name: &Node<Option<Add>>,
+) -> Result<B::Expr, ConversionError<B::BuildError>>
+    ensures tree { (v : Option Tree) → MakesTree B.operations B.meaning B.refusal target v →
+        MakesTree B.operations B.meaning B.refusal result
+        (and_then v (λ x. and_then (and_then (lone_primary (shown_add name.now)) primary_path) (λ p. Some (unary (tree.Is p) x)))) }
+    ensures shown { IfErr result (λ error. TellsOnly error (λ kind. Told target kind ⊎ type_shows (shown_add name.now) kind)) }
+{
+    let named = to_entity_type(alloc, name);
+    is_type::<B>(alloc, loc, target, named)
+}
+
+/// `target is name in entity`, or the faults of all three.
+#[inline(never)]
+pub(crate) fn is_in_to_expr<B: ExprBuilder>(
+    alloc: Global,
+    loc: Option<&Loc>,
+    target: Result<B::Expr, ConversionError<B::BuildError>>,
+    name: &Node<Option<Add>>,
+    entity: Result<B::Expr, ConversionError<B::BuildError>>,
+) -> Result<B::Expr, ConversionError<B::BuildError>>
+    ensures tree { (v : Option Tree) (u : Option Tree) →
+        MakesTree B.operations B.meaning B.refusal target v → MakesTree B.operations B.meaning B.refusal entity u →
+        MakesTree B.operations B.meaning B.refusal result
+        (and_then v (λ x. and_then (and_then (lone_primary (shown_add name.now)) primary_path) (λ p. and_then u (λ y. Some (is_in p x y))))) }
+    ensures shown { IfErr result (λ error. TellsOnly error (λ kind. Told target kind ⊎ type_shows (shown_add name.now) kind ⊎ Told entity kind)) }
+{
+    let named = to_entity_type(alloc, name);
+    is_type_in::<B>(alloc, loc, target, named, entity)
 }
 
 /// `if test then then_expr else else_expr`, or the faults of all three.

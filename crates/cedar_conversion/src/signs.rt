@@ -80,6 +80,21 @@ pub fn negative<B: ExprBuilder>(
     }
 }
 
+/// A number under a minus, and so many `more` before that one.
+#[inline(never)]
+pub(crate) fn number_to_expr<B: ExprBuilder>(
+    alloc: Global,
+    loc: Option<&Loc>,
+    number: u64,
+    more: u8,
+) -> Result<B::Expr, ConversionError<B::BuildError>>
+    ensures tree { MakesTree B.operations B.meaning B.refusal result (and_then (minus_long number) (λ t. Some (repeated Sign.Minus more t))) }
+    ensures shown { IfErr result (λ error. TellsOnly error (minus_shows number)) }
+{
+    let item = negative::<B>(alloc, loc, number);
+    signed::<B>(alloc, loc, Sign::Minus, more, item)
+}
+
 // The number under a minus, where that is a long.
 fn minus(number: u64) -> Option<Literal>
     ensures { option_map (λ l. Lit (literal_of l)) result ≡ minus_long number }

@@ -1,5 +1,5 @@
 -- The tree of a node is what its construct makes of its parts; that of a chain is joined one part at a time.
-use Rattle.std.proofs.Common.{◌≡◌, ◌<◌, Some, Ok, map, drop, [], ◌∷◌, refl, sym, ap, ◌∙◌, subst, arith, None, inl, inr}
+use Rattle.std.proofs.Common.{◌≡◌, ◌⊎◌, ◌<◌, Some, Ok, map, drop, [], ◌∷◌, refl, sym, ap, ◌∙◌, subst, arith, None, inl, inr}
 use Rattle.std.proofs.lemmas.Grind.{common_steps}
 use Rattle.cedar_grammar.specs.Reading.{◌>>=◌}
 use Rattle.std.specs.Rc.{rc_str_bytes}
@@ -9,7 +9,7 @@ use Rattle.cedar_grammar.specs.Converting as converting
 use Rattle.cedar_grammar.specs.Converting.{expr_tree, or_tree, and_tree, relation_tree, add_tree, mult_tree, unary_tree, member_tree, primary_head, rec_init_tree, exprs_trees, rec_inits_trees, record_tree, called, ident_text, alone, primary_text}
 use Rattle.cedar_language.specs.Tree as tree
 use Rattle.cedar_grammar.specs.Build.{trees}
-use Rattle.cedar_cst.specs.View.{view_expr, view_or, view_and, view_relation, view_add, view_mult, view_unary, view_member, view_primary, view_rec_init, shown_expr, shown_rec_init, shown_member, shown_mem_access, view_mem_access}
+use Rattle.cedar_cst.specs.View.{view_expr, view_or, view_and, view_relation, view_add, view_mult, view_unary, view_member, view_primary, view_rec_init, shown_expr, shown_rec_init, shown_add, shown_member, shown_mem_access, view_mem_access}
 use Rattle.cedar_conversion.specs.Building.{IsBuilt, IsRefused, AreBuilt, AreRefused}
 use Rattle.cedar_conversion.specs.Entries.{AreEntries, AreEntriesRefused, IsEntry, IsEntryRefused, EachIsBuilt, meant, entries_show}
 use Rattle.cedar_conversion.specs.Heads.{IsHead, IsHeadRefused, head_shows, called_shows}
@@ -26,22 +26,23 @@ use Rattle.cedar_faults.proofs.Telling.{told_each}
 use Rattle.cedar_conversion.specs.SoFar.{AccessedSoFar}
 use Rattle.cedar_conversion.specs.Shows.{calls_method, joint_shows, expr_shows, or_shows, and_shows, relation_shows, add_shows, mult_shows, unary_shows, member_shows, access_shows, primary_shows, rec_init_shows, used_before, used_at, exprs_show}
 use Rattle.cedar_conversion.proofs.Seen.{none_seen, or_expr_seen, if_expr_seen, common_seen, has_seen, like_seen, is_seen, is_in_seen, unary_seen, member_seen, field_seen, call_seen, index_seen, literal_seen, ref_seen, slot_seen, expr_seen, list_seen, record_seen, rec_init_seen}
-use Rattle.cedar_conversion.proofs.Told.{seen_as, fault_seen, of_two, of_two_and, of_part_and, pair_told, none_told, all_told}
+use Rattle.cedar_conversion.proofs.Told.{seen_as, fault_seen, of_two, of_two_and, of_part_and, of_part_or, pair_told, none_told, all_told}
 use Rattle.cedar_conversion.proofs.Behind.{is_first, is_after, used_behind, called_behind, are_counted, keys_behind, dashes_alone, no_dashes, dashes_number, access_at, in_access, accessed_start, accessed_more, accessed_end}
 use Rattle.cedar_conversion.proofs.Chains.{or_begun, or_goes_on, and_begun, and_goes_on, add_begun, add_goes_on, mult_begun, mult_goes_on, items_go_on, entries_go_on}
-use Rattle.cedar_conversion.specs.Shown.{ident_shows, index_shows}
-use Rattle.cedar_conversion.proofs.Sole.{is_around_relation, is_around_add, is_around_member, is_bracketed, tree_of_relation, tree_of_add, tree_of_member, head_in_brackets, by_value}
+use Rattle.cedar_conversion.specs.Shown.{ident_shows, index_shows, attributes_show, pattern_shows, type_shows}
+use Rattle.cedar_conversion.proofs.Sole.{is_around_or, is_around_relation, is_around_add, is_around_member, is_bracketed, tree_of_or, tree_of_relation, tree_of_add, tree_of_member, head_in_brackets, by_value}
 use Rattle.cedar_conversion.specs.Alone.{depth}
 use Rattle.cedar_cst.specs.declared.cst.Expr.{size-Expr}
+use Rattle.cedar_cst.specs.declared.cst.Or.{size-Or}
 use Rattle.cedar_cst.specs.declared.cst.Relation.{size-Relation}
 use Rattle.cedar_cst.specs.declared.cst.Add.{size-Add}
 use Rattle.cedar_cst.specs.declared.cst.Member.{size-Member}
 use Rattle.cedar_cst.specs.declared.cst.Primary.{size-Primary}
 use Rattle.cedar_conversion.proofs.expressions.+to_expr.Goals as goal
 
-pub branches_to_expr-returns-in-None-clause-tree : goal.branches_to_expr-returns-in-None-clause-tree
+pub if_to_expr-returns-in-None-clause-tree : goal.if_to_expr-returns-in-None-clause-tree
 unfolding expr_tree
-branches_to_expr-returns-in-None-clause-tree g t c = faulty g.B.ExprBuilder.refusal (IsRefused g.B.ExprBuilder.operations) c.missing.result _ c.missing.ensures.fault (empty loose.missing_expr view_expr (expr_tree c.args.styles.now) c.args.node.now c.in-None.is refl)
+if_to_expr-returns-in-None-clause-tree g t c = faulty g.B.ExprBuilder.refusal (IsRefused g.B.ExprBuilder.operations) c.missing.result _ c.missing.ensures.fault (empty loose.missing_expr view_expr (expr_tree c.args.styles.now) c.args.node.now c.in-None.is refl)
 
 pub or_to_expr-returns-in-None-clause-tree : goal.or_to_expr-returns-in-None-clause-tree
 unfolding or_tree
@@ -144,13 +145,13 @@ member_to_expr-returns-after-accesses-clause-tree g t c =
     let none : drop c.accesses.access-index c.deref-access-items.result.now ≡ [] = grind (arith, common_steps) in
     member_end c.args.styles.now (IsHead g.B.ExprBuilder.operations g.B.ExprBuilder.meaning) (IsHeadRefused g.B.ExprBuilder.operations) g.B.ExprBuilder.refusal (IsBuilt g.B.ExprBuilder.operations g.B.ExprBuilder.meaning) (IsRefused g.B.ExprBuilder.operations) c.accesses.head c.head_to_expr.result _ _ c.accesses.invariant.tree none c.head_to_expr.ensures.tree
 
-pub branches_to_expr-returns-in-Or-clause-tree : goal.branches_to_expr-returns-in-Or-clause-tree
-branches_to_expr-returns-in-Or-clause-tree g t c =
+pub if_to_expr-returns-in-Or-clause-tree : goal.if_to_expr-returns-in-Or-clause-tree
+if_to_expr-returns-in-Or-clause-tree g t c =
     let at = one_variant (λ t given. (values_d enum 0 given t).0) (λ a given. refl) c.in-Some.expr c.inner-1.given.0 in
     same_as g.B.ExprBuilder.refusal (IsBuilt g.B.ExprBuilder.operations g.B.ExprBuilder.meaning) (IsRefused g.B.ExprBuilder.operations) c.or_to_expr.result _ _ (expr_or c.args.styles.now c.args.node.now c.in-Some.expr _ c.deref-data.result.now c.in-Or.or c.in-Some.is at c.deref-data.ensures c.in-Or.is) c.or_to_expr.ensures.tree
 
-pub branches_to_expr-returns-in-If-clause-tree : goal.branches_to_expr-returns-in-If-clause-tree
-branches_to_expr-returns-in-If-clause-tree g t c =
+pub if_to_expr-returns-in-If-clause-tree : goal.if_to_expr-returns-in-If-clause-tree
+if_to_expr-returns-in-If-clause-tree g t c =
     let at = one_variant (λ t given. (values_d enum 0 given t).0) (λ a given. refl) c.in-Some.expr c.inner-1.given.0 in
     same_as g.B.ExprBuilder.refusal (IsBuilt g.B.ExprBuilder.operations g.B.ExprBuilder.meaning) (IsRefused g.B.ExprBuilder.operations) c.ite.result _ _ (expr_if c.args.styles.now c.args.node.now c.in-Some.expr _ c.deref-data.result.now c.in-If.test c.in-If.then_expr c.in-If.else_expr c.in-Some.is at c.deref-data.ensures c.in-If.is) (c.ite.ensures.tree _ _ _ c.expr_to_expr-tested.ensures.tree c.expr_to_expr-taken.ensures.tree c.expr_to_expr-other.ensures.tree)
 
@@ -172,16 +173,16 @@ comparison_to_expr-returns-in-Err-clause-tree g t c =
     faulty g.B.ExprBuilder.refusal (IsRefused g.B.ExprBuilder.operations) c.in-Err.error _ c.in-Err.ensures.fault (relation_chain c.args.styles.now c.args.node.now c.in-Some.relation c.in-Common.initial c.in-Common.extended x y more c.in-Some.is c.in-Common.is cut)
 
 pub comparison_to_expr-returns-in-Has-clause-tree : goal.comparison_to_expr-returns-in-Has-clause-tree
-comparison_to_expr-returns-in-Has-clause-tree g t c = same_as g.B.ExprBuilder.refusal (IsBuilt g.B.ExprBuilder.operations g.B.ExprBuilder.meaning) (IsRefused g.B.ExprBuilder.operations) c.has.result _ _ (relation_has c.args.styles.now c.args.node.now c.in-Some.relation c.in-Has.target c.in-Has.field c.deref-holder.result.now c.deref-path.result.now c.in-Some.is c.in-Has.is c.deref-holder.ensures c.deref-path.ensures) (c.has.ensures.tree _ _ c.add_to_expr-held.ensures.tree c.to_fields-attrs.ensures.fields)
+comparison_to_expr-returns-in-Has-clause-tree g t c = same_as g.B.ExprBuilder.refusal (IsBuilt g.B.ExprBuilder.operations g.B.ExprBuilder.meaning) (IsRefused g.B.ExprBuilder.operations) c.has_to_expr.result _ _ (relation_has c.args.styles.now c.args.node.now c.in-Some.relation c.in-Has.target c.in-Has.field c.deref-holder.result.now c.deref-path.result.now c.in-Some.is c.in-Has.is c.deref-holder.ensures c.deref-path.ensures) (c.has_to_expr.ensures.tree _ c.add_to_expr-held.ensures.tree)
 
 pub comparison_to_expr-returns-in-Like-clause-tree : goal.comparison_to_expr-returns-in-Like-clause-tree
-comparison_to_expr-returns-in-Like-clause-tree g t c = same_as g.B.ExprBuilder.refusal (IsBuilt g.B.ExprBuilder.operations g.B.ExprBuilder.meaning) (IsRefused g.B.ExprBuilder.operations) c.like.result _ _ (relation_like c.args.styles.now c.args.node.now c.in-Some.relation c.in-Like.target c.in-Like.pattern c.deref-matched.result.now c.deref-text.result.now c.in-Some.is c.in-Like.is c.deref-matched.ensures c.deref-text.ensures) (c.like.ensures.tree _ _ c.add_to_expr-subject.ensures.tree c.to_like_pattern-elems.ensures.pattern)
+comparison_to_expr-returns-in-Like-clause-tree g t c = same_as g.B.ExprBuilder.refusal (IsBuilt g.B.ExprBuilder.operations g.B.ExprBuilder.meaning) (IsRefused g.B.ExprBuilder.operations) c.like_to_expr.result _ _ (relation_like c.args.styles.now c.args.node.now c.in-Some.relation c.in-Like.target c.in-Like.pattern c.deref-matched.result.now c.deref-text.result.now c.in-Some.is c.in-Like.is c.deref-matched.ensures c.deref-text.ensures) (c.like_to_expr.ensures.tree _ c.add_to_expr-subject.ensures.tree)
 
 pub comparison_to_expr-returns-in-None-in_entity-clause-tree : goal.comparison_to_expr-returns-in-None-in_entity-clause-tree
-comparison_to_expr-returns-in-None-in_entity-clause-tree g t c = same_as g.B.ExprBuilder.refusal (IsBuilt g.B.ExprBuilder.operations g.B.ExprBuilder.meaning) (IsRefused g.B.ExprBuilder.operations) c.is_type.result _ _ (relation_is c.args.styles.now c.args.node.now c.in-Some.relation c.in-IsIn.target c.in-IsIn.entity_type c.in-IsIn.in_entity c.deref-typed.result.now c.deref-named.result.now c.in-Some.is c.in-IsIn.is c.in-None-in_entity.is c.deref-typed.ensures c.deref-named.ensures) (c.is_type.ensures.tree _ _ c.add_to_expr-value.ensures.tree c.to_entity_type-name.ensures.path)
+comparison_to_expr-returns-in-None-in_entity-clause-tree g t c = same_as g.B.ExprBuilder.refusal (IsBuilt g.B.ExprBuilder.operations g.B.ExprBuilder.meaning) (IsRefused g.B.ExprBuilder.operations) c.is_to_expr.result _ _ (relation_is c.args.styles.now c.args.node.now c.in-Some.relation c.in-IsIn.target c.in-IsIn.entity_type c.in-IsIn.in_entity c.deref-typed.result.now c.deref-named.result.now c.in-Some.is c.in-IsIn.is c.in-None-in_entity.is c.deref-typed.ensures c.deref-named.ensures) (c.is_to_expr.ensures.tree _ c.add_to_expr-value.ensures.tree)
 
 pub comparison_to_expr-returns-in-Some-in_entity-clause-tree : goal.comparison_to_expr-returns-in-Some-in_entity-clause-tree
-comparison_to_expr-returns-in-Some-in_entity-clause-tree g t c = same_as g.B.ExprBuilder.refusal (IsBuilt g.B.ExprBuilder.operations g.B.ExprBuilder.meaning) (IsRefused g.B.ExprBuilder.operations) c.is_type_in.result _ _ (relation_is_in c.args.styles.now c.args.node.now c.in-Some.relation c.in-IsIn.target c.in-IsIn.entity_type c.in-IsIn.in_entity c.in-Some-in_entity.entity c.deref-typed.result.now c.deref-named.result.now c.deref-among.result.now c.in-Some.is c.in-IsIn.is c.in-Some-in_entity.is c.deref-typed.ensures c.deref-named.ensures c.deref-among.ensures) (c.is_type_in.ensures.tree _ _ _ c.add_to_expr-value.ensures.tree c.to_entity_type-name.ensures.path c.add_to_expr-within.ensures.tree)
+comparison_to_expr-returns-in-Some-in_entity-clause-tree g t c = same_as g.B.ExprBuilder.refusal (IsBuilt g.B.ExprBuilder.operations g.B.ExprBuilder.meaning) (IsRefused g.B.ExprBuilder.operations) c.is_in_to_expr.result _ _ (relation_is_in c.args.styles.now c.args.node.now c.in-Some.relation c.in-IsIn.target c.in-IsIn.entity_type c.in-IsIn.in_entity c.in-Some-in_entity.entity c.deref-typed.result.now c.deref-named.result.now c.deref-among.result.now c.in-Some.is c.in-IsIn.is c.in-Some-in_entity.is c.deref-typed.ensures c.deref-named.ensures c.deref-among.ensures) (c.is_in_to_expr.ensures.tree _ _ c.add_to_expr-value.ensures.tree c.add_to_expr-within.ensures.tree)
 
 pub unary_to_expr-returns-in-None-op-clause-tree : goal.unary_to_expr-returns-in-None-op-clause-tree
 unary_to_expr-returns-in-None-op-clause-tree g t c = same_as g.B.ExprBuilder.refusal (IsBuilt g.B.ExprBuilder.operations g.B.ExprBuilder.meaning) (IsRefused g.B.ExprBuilder.operations) c.member_to_expr.result _ _ (unary_plain c.args.styles.now c.args.node.now c.in-Some.unary c.in-Some.is c.in-None-op.is) (c.member_to_expr.ensures.tree)
@@ -204,7 +205,7 @@ unary_to_expr-returns-then-count-eq0-clause-tree g t c = same_as g.B.ExprBuilder
 pub unary_to_expr-returns-else-count-eq0-clause-tree : goal.unary_to_expr-returns-else-count-eq0-clause-tree
 unary_to_expr-returns-else-count-eq0-clause-tree g t c =
     let more : 0 < c.in-Dash.count = omega arith in
-    same_as g.B.ExprBuilder.refusal (IsBuilt g.B.ExprBuilder.operations g.B.ExprBuilder.meaning) (IsRefused g.B.ExprBuilder.operations) c.signed-else-count-eq0.result _ _ (unary_number c.args.styles.now c.args.node.now c.in-Some.unary c.in-Dash.count c.in-Some-lone_number.number c.in-Some.is (c.in-Some-op.is ∙ ap Some c.in-Dash.is) (sym c.lone_number.ensures ∙ c.in-Some-lone_number.is) more) (c.signed-else-count-eq0.ensures.tree _ c.negative-item.ensures.tree)
+    same_as g.B.ExprBuilder.refusal (IsBuilt g.B.ExprBuilder.operations g.B.ExprBuilder.meaning) (IsRefused g.B.ExprBuilder.operations) c.number_to_expr.result _ _ (unary_number c.args.styles.now c.args.node.now c.in-Some.unary c.in-Dash.count c.in-Some-lone_number.number c.in-Some.is (c.in-Some-op.is ∙ ap Some c.in-Dash.is) (sym c.lone_number.ensures ∙ c.in-Some-lone_number.is) more) c.number_to_expr.ensures.tree
 
 pub access_to_head-returns-in-None-clause-head : goal.access_to_head-returns-in-None-clause-head
 access_to_head-returns-in-None-clause-head g t c v hv = faulty g.B.ExprBuilder.refusal (IsHeadRefused g.B.ExprBuilder.operations) c.missing.result _ c.missing.ensures.fault (access_none c.args.styles.now c.args.node.now v c.in-None.is)
@@ -285,9 +286,9 @@ access_to_head-returns-in-Call-clause-head g t c v hv =
     let all = items_end c.args.styles.now (AreBuilt g.B.ExprBuilder.operations g.B.ExprBuilder.meaning) (AreRefused g.B.ExprBuilder.operations) (IsBuilt g.B.ExprBuilder.operations g.B.ExprBuilder.meaning) (IsRefused g.B.ExprBuilder.operations) g.B.ExprBuilder.refusal c.values.values _ _ c.values.invariant.tree none in
     same_as g.B.ExprBuilder.refusal (IsHead g.B.ExprBuilder.operations g.B.ExprBuilder.meaning) (IsHeadRefused g.B.ExprBuilder.operations) c.call.result _ _ (access_call c.args.styles.now c.args.node.now c.in-Some.access c.in-Call.args v c.in-Some.is c.in-Call.is ∙ ap (λ ys. v >>= λ h. exprs_trees c.args.styles.now (loose.exprs (map shown_expr ys)) >>= λ ts. called c.args.styles.now h ts >>= λ x. Some (converting.a_tree x)) (sym c.deref-arg-items.ensures.value)) (c.call.ensures.head v _ hv all)
 
-pub branches_to_expr-returns-in-None-clause-shown : goal.branches_to_expr-returns-in-None-clause-shown
+pub if_to_expr-returns-in-None-clause-shown : goal.if_to_expr-returns-in-None-clause-shown
 unfolding expr_shows
-branches_to_expr-returns-in-None-clause-shown g t c = fault_seen c.missing.result (expr_shows c.args.styles.now) _ loose.missing_expr _ _ (none_seen loose.missing_expr view_expr c.args.node.now c.in-None.is) c.missing.ensures.kind tt
+if_to_expr-returns-in-None-clause-shown g t c = fault_seen c.missing.result (expr_shows c.args.styles.now) _ loose.missing_expr _ _ (none_seen loose.missing_expr view_expr c.args.node.now c.in-None.is) c.missing.ensures.kind tt
 
 pub or_to_expr-returns-in-None-clause-shown : goal.or_to_expr-returns-in-None-clause-shown
 unfolding or_shows
@@ -325,15 +326,15 @@ pub entry_to_pair-returns-in-None-clause-shown : goal.entry_to_pair-returns-in-N
 unfolding rec_init_shows
 entry_to_pair-returns-in-None-clause-shown g t c = fault_seen c.missing.result (rec_init_shows c.args.styles.now) _ loose.missing_rec_init _ _ (none_seen loose.missing_rec_init view_rec_init c.args.node.now c.in-None.is) c.missing.ensures.kind tt
 
-pub branches_to_expr-returns-in-Or-clause-shown : goal.branches_to_expr-returns-in-Or-clause-shown
+pub if_to_expr-returns-in-Or-clause-shown : goal.if_to_expr-returns-in-Or-clause-shown
 unfolding expr_shows
-branches_to_expr-returns-in-Or-clause-shown g t c =
+if_to_expr-returns-in-Or-clause-shown g t c =
     let at = one_variant (λ t given. (values_d enum 0 given t).0) (λ a given. refl) c.in-Some.expr c.inner-1.given.0 in
     seen_as c.or_to_expr.result (expr_shows c.args.styles.now) _ _ _ (or_expr_seen c.args.node.now c.in-Some.expr _ c.deref-data.result.now c.in-Or.or c.in-Some.is at c.deref-data.ensures c.in-Or.is) (λ k s. s) c.or_to_expr.ensures.shown
 
-pub branches_to_expr-returns-in-If-clause-shown : goal.branches_to_expr-returns-in-If-clause-shown
+pub if_to_expr-returns-in-If-clause-shown : goal.if_to_expr-returns-in-If-clause-shown
 unfolding expr_shows
-branches_to_expr-returns-in-If-clause-shown g t c =
+if_to_expr-returns-in-If-clause-shown g t c =
     let at = one_variant (λ t given. (values_d enum 0 given t).0) (λ a given. refl) c.in-Some.expr c.inner-1.given.0 in
     seen_as c.ite.result (expr_shows c.args.styles.now) _ _ _ (if_expr_seen c.args.node.now c.in-Some.expr _ c.deref-data.result.now c.in-If.test c.in-If.then_expr c.in-If.else_expr c.in-Some.is at c.deref-data.ensures c.in-If.is)
     (of_two_and c.expr_to_expr-tested.result c.expr_to_expr-taken.result (Told c.expr_to_expr-other.result) _ _ _ c.expr_to_expr-tested.ensures.shown c.expr_to_expr-taken.ensures.shown (λ k s. inl s) (λ k s. inr (inl s)) (λ k s. inr (inr (told_each c.expr_to_expr-other.result _ c.expr_to_expr-other.ensures.shown k s)))) c.ite.ensures.shown
@@ -379,26 +380,27 @@ comparison_to_expr-returns-in-Err-clause-shown g t c =
 pub comparison_to_expr-returns-in-Has-clause-shown : goal.comparison_to_expr-returns-in-Has-clause-shown
 unfolding relation_shows
 comparison_to_expr-returns-in-Has-clause-shown g t c =
-    seen_as c.has.result (relation_shows c.args.styles.now) _ _ _ (has_seen c.args.node.now c.in-Some.relation c.in-Has.target c.in-Has.field c.deref-holder.result.now c.deref-path.result.now c.in-Some.is c.in-Has.is c.deref-holder.ensures c.deref-path.ensures)
-    (of_two c.add_to_expr-held.result c.to_fields-attrs.result _ _ _ c.add_to_expr-held.ensures.shown c.to_fields-attrs.ensures.shown (λ k s. inl s) (λ k s. inr s)) c.has.ensures.shown
+    seen_as c.has_to_expr.result (relation_shows c.args.styles.now) _ _ _ (has_seen c.args.node.now c.in-Some.relation c.in-Has.target c.in-Has.field c.deref-holder.result.now c.deref-path.result.now c.in-Some.is c.in-Has.is c.deref-holder.ensures c.deref-path.ensures)
+    (of_part_and c.add_to_expr-held.result (attributes_show (shown_add c.deref-path.result.now)) _ _ c.add_to_expr-held.ensures.shown (λ k s. inl s) (λ k s. inr s)) c.has_to_expr.ensures.shown
 
 pub comparison_to_expr-returns-in-Like-clause-shown : goal.comparison_to_expr-returns-in-Like-clause-shown
 unfolding relation_shows
 comparison_to_expr-returns-in-Like-clause-shown g t c =
-    seen_as c.like.result (relation_shows c.args.styles.now) _ _ _ (like_seen c.args.node.now c.in-Some.relation c.in-Like.target c.in-Like.pattern c.deref-matched.result.now c.deref-text.result.now c.in-Some.is c.in-Like.is c.deref-matched.ensures c.deref-text.ensures)
-    (of_two c.add_to_expr-subject.result c.to_like_pattern-elems.result _ _ _ c.add_to_expr-subject.ensures.shown c.to_like_pattern-elems.ensures.shown (λ k s. inl s) (λ k s. inr s)) c.like.ensures.shown
+    seen_as c.like_to_expr.result (relation_shows c.args.styles.now) _ _ _ (like_seen c.args.node.now c.in-Some.relation c.in-Like.target c.in-Like.pattern c.deref-matched.result.now c.deref-text.result.now c.in-Some.is c.in-Like.is c.deref-matched.ensures c.deref-text.ensures)
+    (of_part_and c.add_to_expr-subject.result (pattern_shows (shown_add c.deref-text.result.now)) _ _ c.add_to_expr-subject.ensures.shown (λ k s. inl s) (λ k s. inr s)) c.like_to_expr.ensures.shown
 
 pub comparison_to_expr-returns-in-None-in_entity-clause-shown : goal.comparison_to_expr-returns-in-None-in_entity-clause-shown
 unfolding relation_shows
 comparison_to_expr-returns-in-None-in_entity-clause-shown g t c =
-    seen_as c.is_type.result (relation_shows c.args.styles.now) _ _ _ (is_seen c.args.node.now c.in-Some.relation c.in-IsIn.target c.in-IsIn.entity_type c.in-IsIn.in_entity c.deref-typed.result.now c.deref-named.result.now c.in-Some.is c.in-IsIn.is c.in-None-in_entity.is c.deref-typed.ensures c.deref-named.ensures)
-    (of_two c.add_to_expr-value.result c.to_entity_type-name.result _ _ _ c.add_to_expr-value.ensures.shown c.to_entity_type-name.ensures.shown (λ k s. inl s) (λ k s. inr s)) c.is_type.ensures.shown
+    seen_as c.is_to_expr.result (relation_shows c.args.styles.now) _ _ _ (is_seen c.args.node.now c.in-Some.relation c.in-IsIn.target c.in-IsIn.entity_type c.in-IsIn.in_entity c.deref-typed.result.now c.deref-named.result.now c.in-Some.is c.in-IsIn.is c.in-None-in_entity.is c.deref-typed.ensures c.deref-named.ensures)
+    (of_part_and c.add_to_expr-value.result (type_shows (shown_add c.deref-named.result.now)) _ _ c.add_to_expr-value.ensures.shown (λ k s. inl s) (λ k s. inr s)) c.is_to_expr.ensures.shown
 
 pub comparison_to_expr-returns-in-Some-in_entity-clause-shown : goal.comparison_to_expr-returns-in-Some-in_entity-clause-shown
 unfolding relation_shows
 comparison_to_expr-returns-in-Some-in_entity-clause-shown g t c =
-    seen_as c.is_type_in.result (relation_shows c.args.styles.now) _ _ _ (is_in_seen c.args.node.now c.in-Some.relation c.in-IsIn.target c.in-IsIn.entity_type c.in-IsIn.in_entity c.in-Some-in_entity.entity c.deref-typed.result.now c.deref-named.result.now c.deref-among.result.now c.in-Some.is c.in-IsIn.is c.in-Some-in_entity.is c.deref-typed.ensures c.deref-named.ensures c.deref-among.ensures)
-    (of_two_and c.add_to_expr-value.result c.to_entity_type-name.result (Told c.add_to_expr-within.result) _ _ _ c.add_to_expr-value.ensures.shown c.to_entity_type-name.ensures.shown (λ k s. inl s) (λ k s. inr (inl s)) (λ k s. inr (inr (told_each c.add_to_expr-within.result _ c.add_to_expr-within.ensures.shown k s)))) c.is_type_in.ensures.shown
+    seen_as c.is_in_to_expr.result (relation_shows c.args.styles.now) _ _ _ (is_in_seen c.args.node.now c.in-Some.relation c.in-IsIn.target c.in-IsIn.entity_type c.in-IsIn.in_entity c.in-Some-in_entity.entity c.deref-typed.result.now c.deref-named.result.now c.deref-among.result.now c.in-Some.is c.in-IsIn.is c.in-Some-in_entity.is c.deref-typed.ensures c.deref-named.ensures c.deref-among.ensures)
+    (of_part_and c.add_to_expr-value.result (λ k. type_shows (shown_add c.deref-named.result.now) k ⊎ Told c.add_to_expr-within.result k) _ _ c.add_to_expr-value.ensures.shown (λ k s. inl s)
+    (of_part_or c.add_to_expr-within.result (type_shows (shown_add c.deref-named.result.now)) _ _ c.add_to_expr-within.ensures.shown (λ k s. inr (inl s)) (λ k s. inr (inr s)))) c.is_in_to_expr.ensures.shown
 
 pub unary_to_expr-returns-in-None-op-clause-shown : goal.unary_to_expr-returns-in-None-op-clause-shown
 unfolding unary_shows
@@ -432,8 +434,8 @@ pub unary_to_expr-returns-else-count-eq0-clause-shown : goal.unary_to_expr-retur
 unfolding unary_shows
 unary_to_expr-returns-else-count-eq0-clause-shown g t c =
     let more : 0 < c.in-Dash.count = omega arith in
-    seen_as c.signed-else-count-eq0.result (unary_shows c.args.styles.now) _ _ _ (unary_seen c.args.node.now c.in-Some.unary (Some (signs.Dash c.in-Dash.count)) c.in-Some.is (c.in-Some-op.is ∙ ap Some c.in-Dash.is))
-    (λ k s. dashes_number c.in-Dash.count _ c.in-Some-lone_number.number _ k (sym c.lone_number.ensures ∙ c.in-Some-lone_number.is) more (told_each c.negative-item.result _ c.negative-item.ensures.shown k s)) c.signed-else-count-eq0.ensures.shown
+    seen_as c.number_to_expr.result (unary_shows c.args.styles.now) _ _ _ (unary_seen c.args.node.now c.in-Some.unary (Some (signs.Dash c.in-Dash.count)) c.in-Some.is (c.in-Some-op.is ∙ ap Some c.in-Dash.is))
+    (λ k s. dashes_number c.in-Dash.count _ c.in-Some-lone_number.number _ k (sym c.lone_number.ensures ∙ c.in-Some-lone_number.is) more s) c.number_to_expr.ensures.shown
 
 pub access_to_head-returns-in-None-clause-shown : goal.access_to_head-returns-in-None-clause-shown
 unfolding access_shows
@@ -499,6 +501,10 @@ pub expr_to_expr-returns-in-Some-clause-tree : goal.expr_to_expr-returns-in-Some
 expr_to_expr-returns-in-Some-clause-tree g t c =
     same_as g.B.ExprBuilder.refusal (IsBuilt g.B.ExprBuilder.operations g.B.ExprBuilder.meaning) (IsRefused g.B.ExprBuilder.operations) c.relation_to_expr.result _ _ (tree_of_relation c.args.styles.now _ _ (sym c.in-Some.ensures.node)) c.relation_to_expr.ensures.tree
 
+pub expr_to_expr-returns-in-Some-enter_or-clause-tree : goal.expr_to_expr-returns-in-Some-enter_or-clause-tree
+expr_to_expr-returns-in-Some-enter_or-clause-tree g t c =
+    same_as g.B.ExprBuilder.refusal (IsBuilt g.B.ExprBuilder.operations g.B.ExprBuilder.meaning) (IsRefused g.B.ExprBuilder.operations) c.or_to_expr.result _ _ (tree_of_or c.args.styles.now _ _ (sym c.in-Some-enter_or.ensures.node)) c.or_to_expr.ensures.tree
+
 pub relation_to_expr-returns-in-Some-clause-tree : goal.relation_to_expr-returns-in-Some-clause-tree
 relation_to_expr-returns-in-Some-clause-tree g t c =
     same_as g.B.ExprBuilder.refusal (IsBuilt g.B.ExprBuilder.operations g.B.ExprBuilder.meaning) (IsRefused g.B.ExprBuilder.operations) c.add_to_expr.result _ _ (tree_of_add c.args.styles.now _ _ (sym c.in-Some.ensures.node)) c.add_to_expr.ensures.tree
@@ -515,6 +521,11 @@ pub expr_to_expr-returns-in-Some-clause-shown : goal.expr_to_expr-returns-in-Som
 unfolding expr_shows or_shows and_shows
 expr_to_expr-returns-in-Some-clause-shown g t c =
     seen_as c.relation_to_expr.result (expr_shows c.args.styles.now) _ _ _ (is_around_relation _ _ (sym c.in-Some.ensures.node)) (λ k s. inl (inl s)) c.relation_to_expr.ensures.shown
+
+pub expr_to_expr-returns-in-Some-enter_or-clause-shown : goal.expr_to_expr-returns-in-Some-enter_or-clause-shown
+unfolding expr_shows
+expr_to_expr-returns-in-Some-enter_or-clause-shown g t c =
+    seen_as c.or_to_expr.result (expr_shows c.args.styles.now) _ _ _ (is_around_or _ _ (sym c.in-Some-enter_or.ensures.node)) (λ k s. s) c.or_to_expr.ensures.shown
 
 pub relation_to_expr-returns-in-Some-clause-shown : goal.relation_to_expr-returns-in-Some-clause-shown
 unfolding relation_shows
@@ -538,6 +549,16 @@ expr_to_expr-relation_to_expr-requires g t c = λ κs h.
       rw (sym c.decreases) (by_value x
           (λ i. rw i (by_value y (λ j. rw j (omega (arith, c.in-Some.ensures.below, ap (depth size-Relation) i, ap (depth size-Expr) j))) (λ e j. rw j (omega (arith, c.in-Some.ensures.below, ap (depth size-Relation) i, ap (depth size-Expr) j)))))
           (λ a i. rw i (by_value y (λ j. rw j (omega (arith, c.in-Some.ensures.below, ap (depth size-Relation) i, ap (depth size-Expr) j))) (λ e j. rw j (omega (arith, c.in-Some.ensures.below, ap (depth size-Relation) i, ap (depth size-Expr) j)))))),
+      h,
+    )
+
+pub expr_to_expr-or_to_expr-requires : goal.expr_to_expr-or_to_expr-requires
+expr_to_expr-or_to_expr-requires g t c = λ κs h.
+    let x = c.in-Some-enter_or.or.now.node in
+    let y = c.args.node.now.node in (
+      rw (sym c.decreases) (by_value x
+          (λ i. rw i (by_value y (λ j. rw j (omega (arith, c.in-Some-enter_or.ensures.below, ap (depth size-Or) i, ap (depth size-Expr) j))) (λ e j. rw j (omega (arith, c.in-Some-enter_or.ensures.below, ap (depth size-Or) i, ap (depth size-Expr) j)))))
+          (λ a i. rw i (by_value y (λ j. rw j (omega (arith, c.in-Some-enter_or.ensures.below, ap (depth size-Or) i, ap (depth size-Expr) j))) (λ e j. rw j (omega (arith, c.in-Some-enter_or.ensures.below, ap (depth size-Or) i, ap (depth size-Expr) j)))))),
       h,
     )
 
