@@ -22,7 +22,7 @@ use Rattle.cedar_replies.specs.Erring.{with_kinds, and_kind}
 use Rattle.cedar_replies.specs.Kinds.{kind_of}
 use Rattle.cedar_replies.specs.declared.error_kind.ErrorKind.{ErrorKind}
 
-same_text : (x y : Text) → text_eq x y ≡ true → x ≡ y
+pub same_text : (x y : Text) → text_eq x y ≡ true → x ≡ y
 same_text x y e = text_cmp_same x y (elim (text_cmp x y) as (λ r. is_eq r ≡ true → r ≡ Equal) [ Less ↦ λ h. cc | Equal ↦ λ h. refl | Greater ↦ λ h. cc ] e)
 
 -- ---- the keys of a map rise

@@ -19,6 +19,7 @@ pub mod AnsweredTold
 pub mod Named
 pub mod Stated
 pub mod WrittenNames
+pub mod Gathered
 pub mod JoinedIds
 pub mod TellParts
 pub mod TellBodies

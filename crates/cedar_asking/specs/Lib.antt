@@ -5,6 +5,7 @@ pub mod Contexts
 pub mod Laws
 pub mod Bodies
 pub mod Answering
+pub mod AskedNames
 pub mod Unknowns
 pub mod UnknownNames
 pub mod Tells

@@ -3,6 +3,7 @@
 #![tactic(auto)]
 
 mod answering;
+mod asked_names;
 mod bodies;
 mod joining;
 mod listing;
@@ -16,6 +17,7 @@ ghost use Rattle.cedar_asking.specs.Laws.{StoresHaveWorldFacts, TablesServeWorld
 ghost use Rattle.cedar_asking.specs.TellLaws.{MoreIsTold, QuestionsAreKept, TellsAreAnswered, TellsAreRefused, LimitsAreOfPolicies};
 
 pub use answering::{answer, answer_told};
+pub use asked_names::untold_names;
 pub use bodies::request_of;
 pub use telling::told_by;
 

@@ -44,7 +44,7 @@ fn names_no_unknown(asked: &AskBody<'_>, entries: &BTreeMap<RcStr, Expr>) -> boo
     false
 }
 
-fn is_told(told: &HashMap<RcStr, Value>, name: &str) -> bool
+pub(crate) fn is_told(told: &HashMap<RcStr, Value>, name: &str) -> bool
     ensures { result ≡ is_some (finite.get (told_in told.now.entries) name.now) }
 {
     told.contains_key(name)

@@ -33,7 +33,7 @@ fn is_missing(part: &AskedPart<'_>, variable: &str, name: &str) -> bool
 }
 
 // The entries of the record that is given for the context.
-fn context_entries(context: Option<&Expr>) -> Option<&BTreeMap<RcStr, Expr>>
+pub(crate) fn context_entries(context: Option<&Expr>) -> Option<&BTreeMap<RcStr, Expr>>
     requires { IsGivenRestricted context }
     ensures context { entries_as (option_map (λ entries. fields_in entries.now) result) ≡ unwrap_or (option_map given_context context.entry) NoContext }
     ensures restricted { IfSome result (λ entries. some_field unrestricted (fields_in entries.now) ≡ false) }

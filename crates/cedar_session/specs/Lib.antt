@@ -8,5 +8,6 @@ pub mod Programs
 pub mod Reading
 pub mod Running
 pub mod Sessions
+pub mod Lending
 pub mod Owning
 pub mod InMemory

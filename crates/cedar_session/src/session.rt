@@ -38,9 +38,9 @@ pub struct Session<'e, 'f, F: ExtensionFunctionObject = NoFunction> {
     allocator: Global,
     extensions: &'e Extensions<'f, F>,
     depth: u32,
-    policies: HeldPolicies,
-    entities: HeldEntities,
-    asked: Option<Asked>,
+    pub(crate) policies: HeldPolicies,
+    pub(crate) entities: HeldEntities,
+    pub(crate) asked: Option<Asked>,
     ghost steady: { ∥ KeepsOpen (setting_with F.answers extensions.now depth) policies entities asked ∥₁ },
 }
 

@@ -1,0 +1,21 @@
+-- What a session lends of its open question.
+use Rattle.std.specs.Prelude.{◌≡◌, Bool, false, not, is_some, ◌&&◌, Option, Some, None}
+use Rattle.std.specs.FinMap as finite
+use Rattle.cedar_language.specs.Uid.{Text}
+use Rattle.cedar_world.specs.Question.{is_unknown}
+use Rattle.cedar_world.specs.Setting.{Setting}
+use Rattle.cedar_world.specs.World.{World, Asked}
+use Rattle.cedar_asking.specs.Keeping.{IsFirstResponse}
+use Rattle.cedar_evaluator.specs.declared.partial_response.PartialResponse.{PartialResponse}
+use Rattle.cedar_session.specs.Open.{bare}
+
+-- the question that is open wants a value of this name, and none is told
+abbrev pub is_untold : Option Asked → Text → Bool
+is_untold None n = false
+is_untold (Some asked) n = not (is_some (finite.get asked.told n)) && is_unknown asked.question n
+
+-- the first response to the question that is open, by the policies and entities held
+pub record IsResponse (by : Setting) (world : World) (response : PartialResponse) : Type 0 where
+  pub asked : Asked
+  pub is_open : world.asked ≡ Some asked
+  pub responds : ∥ IsFirstResponse by (bare world.policies world.entities) asked.question response ∥₁
