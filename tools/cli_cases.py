@@ -102,20 +102,27 @@ def of_folders(program):
         yield name, wanted, ran(program, words, text_of(f"{folder}/stdin").encode(), folder)
 
 
+def status_of(block):
+    """How a run of the page ends: by what it decides, or by what it tells."""
+    decided = re.search(r"(?m)^(allow|deny|open) must=", block)
+    if decided:
+        return {"allow": 0, "deny": 2, "open": 3}[decided[1]]
+    return 1 if re.search(r"(?m)^FAIL|^\S+:\d+:\d+: (?!policy)", block) else 0
+
+
 def of_page(program):
     """The files of the page, each below a line that names it, and what each command prints."""
     if not os.path.exists(PAGE):
         return
     with tempfile.TemporaryDirectory(prefix="page-") as room:
         for block in re.findall(r"(?ms)^```(?:\w+)?\n(.*?)^```", text_of(PAGE)):
-            file = re.match(r"(?://|#) (\S+\.(?:cedar|tests|entities))\b.*\n", block)
+            file = re.match(r"(?://|#) (\S+\.(?:cedar|tests|entities|question))\b.*\n", block)
             command = re.match(r"\$ cedar_cli (.*)\n", block)
             if file:
                 with open(f"{room}/{file[1]}", "w", encoding="utf-8") as it:
                     it.write(block)
             elif command:
-                status = 1 if re.search(r"(?m)^FAIL|^\S+:\d+:\d+: (?!policy)", block) else 0
-                yield f"{PAGE}: {command[1]}", (status, block[command.end() :], ""), ran(program, command[1].split(), b"", room)
+                yield f"{PAGE}: {command[1]}", (status_of(block), block[command.end() :], ""), ran(program, command[1].split(), b"", room)
 
 
 # ---- what no file shows
@@ -133,12 +140,24 @@ def beside(program):
         yield f"({levels} brackets)", wanted, ran(program, ["check"], deep)
     with open("/dev/full", "wb") as full:
         yield "(output that can't be written)", (3, "", ""), ran(program, ["check"], fine, stdout=full)
+    explained = ["explain", f"{CASES}/explain-allow/staff.cedar", f"{CASES}/explain-allow/people.entities", f"{CASES}/explain-allow/question"]
+    with open("/dev/full", "wb") as full:
+        yield "(an explanation that can't be written)", (5, "", ""), ran(program, explained, stdout=full)
     got = ran(program, ["check", "nothing.cedar"])
     yield "(a file that isn't there)", (3, "", got[2].decode()), got
     got = ran(program, ["test", "/"])
     yield "(a folder)", (3, "", got[2].decode()), got
     yield "(a word that is no UTF-8)", (2, "", usage(program)), ran(program, [b"check", b"\xff"])
     line = b"permit(principal, action, resource);\n"
+    with tempfile.TemporaryDirectory(prefix="body-") as room:
+        with open(f"{room}/long", "wb") as it:
+            it.write(b" " * 1_048_577)
+        long = (1, f"{room}/long: the text is longer than 1,048,576 bytes\n", "")
+        yield "(a question too long)", long, ran(program, [*explained[:3], f"{room}/long"])
+        with open(f"{room}/deep", "wb") as it:
+            it.write(b"[" * 257 + b"]" * 257)
+        deep = (1, f"{room}/deep: the text is nested too deep\n", "")
+        yield "(entities too deep)", deep, ran(program, [*explained[:2], f"{room}/deep", explained[3]])
     with tempfile.TemporaryDirectory(prefix="long-") as room:
         with open(f"{room}/long.tests", "wb") as it:
             it.write(b"test a\nload < long.cedar\n")

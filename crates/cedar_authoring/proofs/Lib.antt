@@ -1,3 +1,7 @@
+mod Awaited
 mod Checked
 mod Ran
+mod Refusals
+mod Standings
 mod Told
+mod Waiting

@@ -1,5 +1,5 @@
 -- What is told of one more.
-use Rattle.std.proofs.Common.{◌≡◌, ℕ, ◌+◌, ◌<◌, List, [], ◌∷◌, ◌++◌, length, take, get_or, refl, sym, ap, subst, ◌∙◌, append_assoc}
+use Rattle.std.proofs.Common.{◌≡◌, ℕ, ◌+◌, ◌<◌, Result, Ok, Err, OnOk, List, [], ◌∷◌, ◌++◌, length, take, get_or, refl, sym, ap, subst, ◌∙◌, append_assoc}
 use Rattle.std.proofs.lemmas.List.{append-nil, take_more}
 use Rattle.cedar_language.specs.Uid.{Text}
 use Rattle.cedar_authoring.specs.Telling.{Adds, TellsEach}
@@ -34,3 +34,8 @@ module _ {X : Type 0} (Tells : X → Text → Type 0) where
     (let P : List X → Type 0 = λ ys. TellsEach Tells ys (so_far.0 ++ adds.0) in subst P (more_taken [] xs i x within is) (TellsEach-push (take i xs) x so_far.0 adds.0 so_far.1 adds.1)),
     adds.2 ∙ (ap (λ t. t ++ adds.0) so_far.2 ∙ append_assoc start so_far.0 adds.0),
   )
+
+-- what was added to a text where a call went well
+pub told_on_ok : {A E : Type 0} (result : Result A E) (Tells : Text → Type 0) (old new more : Text) → Tells more → OnOk result (new ≡ old ++ more) → OnOk result (Adds Tells old new)
+told_on_ok (Ok a) Tells old new more tells is = (more, tells, is)
+told_on_ok (Err e) Tells old new more tells is = is

@@ -1,5 +1,10 @@
+pub mod Awaiting
 pub mod Checks
+pub mod Explaining
 pub mod Faults
+pub mod Names
 pub mod Places
 pub mod Scripts
+pub mod Standing
+pub mod StandingWords
 pub mod Telling

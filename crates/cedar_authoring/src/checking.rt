@@ -109,7 +109,7 @@ fn refuse_unread(
 }
 
 /// Tells what is wrong with a text as a whole.
-fn refuse(
+pub(crate) fn refuse(
     alloc: Global,
     name: &str,
     place: Option<Position>,
@@ -124,7 +124,7 @@ fn refuse(
 }
 
 /// The report of a text that is refused.
-fn refused(told: String) -> Report
+pub(crate) fn refused(told: String) -> Report
     ensures text { string_bytes result.text ≡ string_bytes told }
     ensures status { result.status ≡ 1 }
 {

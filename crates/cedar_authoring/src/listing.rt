@@ -53,7 +53,7 @@ fn place_of(text: &str, policy: &Template) -> Option<Position> {
 }
 
 /// `template` where it has slots, else its effect; and behind it the annotation `@id`, if it has one.
-fn described(alloc: Global, policy: Option<&Template>) -> Result<String, AllocError> {
+pub(crate) fn described(alloc: Global, policy: Option<&Template>) -> Result<String, AllocError> {
     let Some(policy) = policy else {
         return Ok(String::new(alloc));
     };

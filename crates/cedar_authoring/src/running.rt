@@ -142,7 +142,7 @@ fn run_step(
     let outcome = session.apply(&Command::of(step.verb, step.body.as_str()));
     let fine = is_expected(alloc, step, &outcome)?;
     if !fine {
-        tell_wrong(alloc, extensions, wrong, name, step, &outcome)?;
+        tell_wrong(alloc, extensions, session, wrong, name, step, &outcome)?;
     }
     Ok(fine)
 }

@@ -1,16 +1,15 @@
 // What is told of a command that isn't answered as is expected.
-use crate::checking::DEPTH;
-use crate::faults::tell_faults;
+use crate::giving::{Refused, Source, faults_told};
 use crate::script::Step;
 use crate::telling::push_indented;
-use cedar_parser::strict::parse_policyset;
-use cedar_session::{Extensions, Refusal, Reply, Verb, line_in_memory};
+use cedar_session::{Extensions, Refusal, Reply, Session, line_in_memory};
 use std::alloc::{AllocError, Global};
 
-/// Tells where a command stands, what was expected, what is answered, and the faults of a text of policies.
+/// Tells where a command stands, what was expected, what is answered, and the faults of a text that is refused.
 pub(crate) fn tell_wrong(
     alloc: Global,
     extensions: &Extensions<'_>,
+    session: &Session<'_, '_>,
     told: &mut String,
     name: &str,
     step: &Step,
@@ -31,7 +30,10 @@ pub(crate) fn tell_wrong(
     let line = String::from_utf8_lossy(alloc, line.as_slice())?;
     let answered = format!(in alloc; "answered {}", line.as_str().trim_end())?;
     push_indented(told, answered.as_str())?;
-    tell_text(alloc, extensions, told, name, step)
+    match outcome {
+        Ok(_) => Ok(()),
+        Err(refusal) => tell_refused(alloc, extensions, session, told, name, step, *refusal),
+    }
 }
 
 /// The first line of a body, or the file that has it, behind a space.
@@ -45,22 +47,33 @@ fn about(alloc: Global, step: &Step) -> Result<String, AllocError> {
     }
 }
 
-/// Tells the faults of a text of policies, where they stand in the script or the file.
-fn tell_text(
+/// Tells the faults of a command's text that is refused, where they stand in the script or the file.
+fn tell_refused(
     alloc: Global,
     extensions: &Extensions<'_>,
+    session: &Session<'_, '_>,
     told: &mut String,
     name: &str,
     step: &Step,
+    refusal: Refusal,
 ) -> Result<(), AllocError> {
-    if step.verb != Verb::Load {
-        return Ok(());
-    }
     match &step.file {
-        Some(file) => tell_policies(alloc, extensions, told, file.as_str(), step.body.as_str()),
+        Some(file) => {
+            let source = Source {
+                name: file.as_str(),
+                text: step.body.as_str(),
+            };
+            let command = Refused::of(step.verb, source, refusal);
+            push_faults(alloc, extensions, session, told, command)
+        }
         None => {
             let text = placed(alloc, step)?;
-            tell_policies(alloc, extensions, told, name, text.as_str())
+            let source = Source {
+                name,
+                text: text.as_str(),
+            };
+            let command = Refused::of(step.verb, source, refusal);
+            push_faults(alloc, extensions, session, told, command)
         }
     }
 }
@@ -79,17 +92,16 @@ fn placed(alloc: Global, step: &Step) -> Result<String, AllocError> {
     Ok(text)
 }
 
-fn tell_policies(
+fn push_faults(
     alloc: Global,
     extensions: &Extensions<'_>,
+    session: &Session<'_, '_>,
     told: &mut String,
-    name: &str,
-    text: &str,
+    command: Refused<'_>,
 ) -> Result<(), AllocError> {
-    let Err(errors) = parse_policyset(alloc, text, extensions, DEPTH) else {
+    let Some(faults) = faults_told(alloc, extensions, session, command)? else {
         return Ok(());
     };
-    let faults = tell_faults(alloc, name, text, &errors)?;
     for line in faults.as_str().lines() {
         push_indented(told, line)?;
     }

@@ -11,6 +11,14 @@ pub(crate) fn read_input(rt: &HostRuntime) -> io::Result<Vec<u8>> {
     Ok(bytes)
 }
 
+/// Reads a file; or gives the status where it couldn't be read.
+pub(crate) fn read_bytes(rt: &HostRuntime, name: &str) -> Result<Vec<u8>, u8> {
+    match fs::read(rt, name) {
+        Ok(bytes) => Ok(bytes),
+        Err(error) => Err(unread(rt, name, &error)),
+    }
+}
+
 /// Says why a file couldn't be read, and gives the status for it.
 pub(crate) fn unread(rt: &HostRuntime, name: &str, error: &Error) -> u8 {
     let _ = eprintln!(rt; "{name}: {error}");

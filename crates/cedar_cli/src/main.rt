@@ -1,32 +1,47 @@
 //! The program `cedar_cli`, for those who write policies: `check` says why a text is refused, and where; `test` runs
-//! tests of policies. The work is done by `cedar_authoring`; files and arguments are read here.
+//! tests of policies; `explain` says what decides a question. The work is done by `cedar_authoring`; files and
+//! arguments are read here.
 #![tactic(auto)]
 
 mod files;
 
-use crate::files::{read_input, read_script_files, unread};
-use cedar_authoring::{Report, Script, ScriptError, check_text, read_script, run_script};
+use crate::files::{read_bytes, read_input, read_script_files, unread};
+use cedar_authoring::{
+    Named, Report, Script, ScriptError, check_text, explained, read_script, run_script,
+};
 use std::process::ExitCode;
 use std::{env, fs, io};
 
 const USAGE: &str =
-    "usage: cedar_cli check [FILE..] | cedar_cli test FILE.. | cedar_cli --help | cedar_cli --version";
+    "usage: cedar_cli check [FILE..] | test FILE.. | explain POLICIES ENTITIES QUESTION | --help | --version";
 
 const HELP: &str = r#"cedar_cli check [FILE..]   checks texts of policies: files, or standard input
 cedar_cli test FILE..      runs the tests of scripts
+cedar_cli explain POLICIES ENTITIES QUESTION
+                           tells what decides a question: three files
 
-check  Of a text that is fine a line tells of each policy where it stands, and its id. Of any other
-       lines tell each fault with its place.
-test   A script has a command on a line: a verb and a body, or `<` and a file. Lines that begin with
-       a space go on with the body. `=> WORDS` says what must answer the command before it, and
-       `test NAME` begins a test. Each is told to be ok or to FAIL.
+check    Of a text that is fine a line tells of each policy where it stands, and its id. Of any
+         other lines tell each fault with its place.
+test     A script has a command on a line: a verb and a body, or `<` and a file. Lines that begin
+         with a space go on with the body. `=> WORDS` says what must answer the command before it,
+         and `test NAME` begins a test. Each is told to be ok or to FAIL.
+explain  ENTITIES are written as `put` takes them, and the QUESTION as `ask` does. First stands the
+         answer, then how each policy stands, and last the names to tell.
 
-exit status
+exit status of check and test
   0  each text is fine; each test passed, and there is one
   1  some text is refused; some test failed
-  2  a script has a fault, or the words behind the name are none of these
+  2  a script has a fault
   3  a file couldn't be read, or what is told couldn't be written
-  4  there wasn't enough memory"#;
+  4  there wasn't enough memory
+exit status of explain
+  0  allow
+  1  some text is refused
+  2  deny
+  3  open
+  4  there wasn't enough memory
+  5  a file couldn't be read, or what is told couldn't be written
+Where the words behind the name are none of these it is 2."#;
 
 const VERSION: &str = "cedar_cli 0.1.0";
 
@@ -39,14 +54,27 @@ const DEVICE: u8 = 3;
 
 const NO_MEMORY: u8 = 4;
 
+/// The same as `DEVICE` where a question is explained, whose status says what is decided.
+const DEVICE_OF_EXPLAIN: u8 = 5;
+
 fn main(rt: HostRuntime) -> ExitCode {
-    let Ok(words) = env::args(&rt) else {
-        return ExitCode::from(usage(&rt));
+    let words = match env::args(&rt) {
+        Ok(words) => words,
+        Err(error) => return ExitCode::from(refuse_words(&rt, &error)),
     };
     let Ok(words) = words.skip(1).collect::<Vec<String>>(rt.alloc()) else {
         return ExitCode::from(NO_MEMORY);
     };
     ExitCode::from(run(&rt, words.as_slice()))
+}
+
+/// The status where the words can't be read: one is no UTF-8, or there wasn't enough memory.
+fn refuse_words(rt: &HostRuntime, error: &io::Error) -> u8 {
+    if error.kind() == io::ErrorKind::OutOfMemory {
+        NO_MEMORY
+    } else {
+        usage(rt)
+    }
 }
 
 /// Does what the words say.
@@ -58,6 +86,10 @@ fn run(rt: &HostRuntime, words: &[String]) -> u8 {
         "check" if others.is_empty() => check_one(rt, "-", read_input(rt)),
         "check" => check(rt, others),
         "test" if !others.is_empty() => test(rt, others),
+        "explain" => match others {
+            [policies, entities, question] => explain(rt, policies, entities, question),
+            _ => usage(rt),
+        },
         "--help" if others.is_empty() => say(rt, HELP),
         "--version" if others.is_empty() => say(rt, VERSION),
         _ => usage(rt),
@@ -135,5 +167,45 @@ fn test_script(rt: &HostRuntime, name: &str, mut script: Script) -> u8 {
     match run_script(rt.alloc(), name, &script) {
         Ok(report) => tell(rt, &report),
         Err(_) => NO_MEMORY,
+    }
+}
+
+fn explain(rt: &HostRuntime, policies: &str, entities: &str, question: &str) -> u8 {
+    match explain_files(rt, policies, entities, question) {
+        Ok(status) => status,
+        Err(DEVICE) => DEVICE_OF_EXPLAIN,
+        Err(status) => status,
+    }
+}
+
+/// Explains the question of a file; or gives the status where a file couldn't be read or the output written.
+fn explain_files(
+    rt: &HostRuntime,
+    policies: &str,
+    entities: &str,
+    question: &str,
+) -> Result<u8, u8> {
+    let policies_read = read_bytes(rt, policies)?;
+    let entities_read = read_bytes(rt, entities)?;
+    let question_read = read_bytes(rt, question)?;
+    let explained = explained(
+        rt.alloc(),
+        text_named(policies, &policies_read),
+        text_named(entities, &entities_read),
+        text_named(question, &question_read),
+    );
+    match explained {
+        Ok(report) => match print!(rt; "{}", report.text) {
+            Ok(()) => Ok(report.status),
+            Err(_) => Err(DEVICE),
+        },
+        Err(_) => Err(NO_MEMORY),
+    }
+}
+
+fn text_named<'t>(name: &'t str, bytes: &'t Vec<u8>) -> Named<'t> {
+    Named {
+        name,
+        bytes: bytes.as_slice(),
     }
 }

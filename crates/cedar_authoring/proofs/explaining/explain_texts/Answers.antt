@@ -1,0 +1,96 @@
+-- The session was just made, and is given the texts one after another (Refusals).
+use Rattle.std.proofs.Common.{◌≡◌, ◌∙◌, List, inr, refl, sym, subst, string_bytes}
+use Rattle.std.proofs.lemmas.Result.{IfOk-weaker}
+use Rattle.cedar_language.specs.Uid.{Text}
+use Rattle.cedar_replies.specs.Refusals.{refusal_of}
+use Rattle.cedar_replies.specs.Replies.{answer_of}
+use Rattle.cedar_session.specs.Programs.{setting_within}
+use Rattle.cedar_session.specs.Sessions.{setting_of, world_of}
+use Rattle.cedar_world.specs.Commands.{Load, Put, Ask, Named, Done, Answered, Refused}
+use Rattle.cedar_world.specs.Setting.{Setting}
+use Rattle.cedar_world.specs.World.{new_world}
+use Rattle.cedar_authoring.specs.Explaining.{status_of, IsUnexplained, TellsAnswered, TellsExplained, policies_refused, entities_refused, question_refused}
+use Rattle.cedar_authoring.specs.declared.checking.Report.{Report}
+use Rattle.cedar_authoring.proofs.Refusals.{never_one, unless_memory, both_ok, stepped}
+use Rattle.cedar_authoring.proofs.explaining.explain_texts.Goals as goal
+
+pub returns-in-Err-clause-refused : goal.returns-in-Err-clause-refused
+returns-in-Err-clause-refused c =
+    let by = setting_within 256 c.in_ok-extensions.extensions in
+    let start = c.in-Ok.session in
+    let new = world_of c.load.new.self in
+    let r = c.in-Err.refusal in
+    let step = stepped (setting_of start) by (world_of start) new_world new Load c.args.policies.text.now (Refused (refusal_of r)) c.in-Ok.ensures.setting c.in-Ok.ensures.world c.in-Err.ensures.step in
+    unless_memory c.tell_refusal.result r c.of-command.result.refusal (λ (report : Report). report.status ≡ 1) c.of-command.ensures c.tell_refusal.ensures.other
+    (λ other. inr (by, (c.in_ok-extensions.extensions, c.in_ok-extensions.ensures.alone, refl), policies_refused (new, refusal_of r, other, step)))
+
+pub returns-in-Err-put-clause-refused : goal.returns-in-Err-put-clause-refused
+returns-in-Err-put-clause-refused c =
+    let by = setting_within 256 c.in_ok-extensions.extensions in
+    let start = c.in-Ok.session in
+    let loaded = world_of c.load.new.self in
+    let new = world_of c.put.new.self in
+    let ids = c.in-Ok-load.ids.items in
+    let r = c.in-Err-put.refusal in
+    let loads = stepped (setting_of start) by (world_of start) new_world loaded Load c.args.policies.text.now (Named ids) c.in-Ok.ensures.setting c.in-Ok.ensures.world c.in-Ok-load.ensures.step in
+    let step = stepped (setting_of c.load.new.self) by loaded loaded new Put c.args.entities.text.now (Refused (refusal_of r)) (c.in-Ok-load.ensures.setting ∙ c.in-Ok.ensures.setting) refl c.in-Err-put.ensures.step in
+    unless_memory c.tell_refusal-in-Err-put.result r c.of-command-in-Err-put.result.refusal (λ (report : Report). report.status ≡ 1) c.of-command-in-Err-put.ensures c.tell_refusal-in-Err-put.ensures.other
+    (λ other. inr (by, (c.in_ok-extensions.extensions, c.in_ok-extensions.ensures.alone, refl), entities_refused ids loaded loads (new, refusal_of r, other, step)))
+
+pub returns-in-Ok-ask-clause-explained : goal.returns-in-Ok-ask-clause-explained
+returns-in-Ok-ask-clause-explained c =
+    let by = setting_within 256 c.in_ok-extensions.extensions in
+    let start = c.in-Ok.session in
+    let loaded = world_of c.load.new.self in
+    let held = world_of c.put.new.self in
+    let asked = world_of c.ask.new.self in
+    let ids = c.in-Ok-load.ids.items in
+    let answer = answer_of c.in-Ok-ask.answer in
+    let name = c.args.policies.name.now in
+    let after_load : setting_of c.load.new.self ≡ by = c.in-Ok-load.ensures.setting ∙ c.in-Ok.ensures.setting in
+    let after_put : setting_of c.put.new.self ≡ by = c.in_default-put.ensures.setting ∙ after_load in
+    let after_ask : setting_of c.ask.new.self ≡ by = c.in-Ok-ask.ensures.setting ∙ after_put in
+    let P : Report → Type 0 = λ report. TellsAnswered name (setting_of c.ask.new.self) asked c.as_slice.result.now answer (string_bytes report.text) in
+    let Q : Report → Type 0 = λ report. report.status ≡ status_of answer.decision in
+    let R : Report → Type 0 = λ report. (report.status ≡ 1 → ⊥) → TellsExplained name c.args.policies.text.now c.args.entities.text.now c.args.question.text.now report.status (string_bytes report.text) in
+    both_ok c.explain.result P Q R
+    (λ report tells decides other. record {
+      by = by;
+      program = (c.in_ok-extensions.extensions, c.in_ok-extensions.ensures.alone, refl);
+      ids = ids;
+      loaded = loaded;
+      loads = stepped (setting_of start) by (world_of start) new_world loaded Load c.args.policies.text.now (Named ids) c.in-Ok.ensures.setting c.in-Ok.ensures.world c.in-Ok-load.ensures.step;
+      held = held;
+      puts = stepped (setting_of c.load.new.self) by loaded loaded held Put c.args.entities.text.now Done after_load refl c.in_default-put.ensures.step;
+      answer = answer;
+      asked = asked;
+      asks = stepped (setting_of c.put.new.self) by held held asked Ask c.args.question.text.now (Answered answer) after_put refl c.in-Ok-ask.ensures.step;
+      tells = subst (λ (is : List Text). TellsAnswered name by asked is answer (string_bytes report.text)) c.as_slice.ensures.value
+          (subst (λ (s : Setting). TellsAnswered name s asked c.as_slice.result.now answer (string_bytes report.text)) after_ask tells);
+      decides = decides;
+    })
+    c.explain.ensures.told c.explain.ensures.status
+
+pub returns-in-Ok-ask-clause-refused : goal.returns-in-Ok-ask-clause-refused
+returns-in-Ok-ask-clause-refused c =
+    let decided = (answer_of c.in-Ok-ask.answer).decision in
+    let P : Report → Type 0 = λ report. report.status ≡ status_of decided in
+    let Q : Report → Type 0 = λ report. report.status ≡ 1 → IsUnexplained c.args.policies.text.now c.args.entities.text.now c.args.question.text.now in
+    IfOk-weaker c.explain.result P Q (λ report decides is. absurd (never_one decided (sym decides ∙ is))) c.explain.ensures.status
+
+pub returns-clause-refused : goal.returns-clause-refused
+returns-clause-refused c =
+    let by = setting_within 256 c.in_ok-extensions.extensions in
+    let start = c.in-Ok.session in
+    let loaded = world_of c.load.new.self in
+    let held = world_of c.put.new.self in
+    let new = world_of c.ask.new.self in
+    let ids = c.in-Ok-load.ids.items in
+    let r = c.in-Err-ask.refusal in
+    let after_load : setting_of c.load.new.self ≡ by = c.in-Ok-load.ensures.setting ∙ c.in-Ok.ensures.setting in
+    let after_put : setting_of c.put.new.self ≡ by = c.in_default-put.ensures.setting ∙ after_load in
+    let loads = stepped (setting_of start) by (world_of start) new_world loaded Load c.args.policies.text.now (Named ids) c.in-Ok.ensures.setting c.in-Ok.ensures.world c.in-Ok-load.ensures.step in
+    let puts = stepped (setting_of c.load.new.self) by loaded loaded held Put c.args.entities.text.now Done after_load refl c.in_default-put.ensures.step in
+    let step = stepped (setting_of c.put.new.self) by held held new Ask c.args.question.text.now (Refused (refusal_of r)) after_put refl c.in-Err-ask.ensures.step in
+    unless_memory c.tell_refusal-in-Err-ask.result r c.of-command-in-Err-ask.result.refusal (λ (report : Report). report.status ≡ 1) c.of-command-in-Err-ask.ensures c.tell_refusal-in-Err-ask.ensures.other
+    (λ other. inr (by, (c.in_ok-extensions.extensions, c.in_ok-extensions.ensures.alone, refl), question_refused ids loaded held loads puts (new, refusal_of r, other, step)))

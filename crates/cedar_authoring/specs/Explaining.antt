@@ -1,0 +1,77 @@
+-- What is told of a question: what a session answers, and how each policy stands.
+use Rattle.std.specs.Prelude.{◌≡◌, ◌≢◌, ◌⊎◌, ◌<◌, ℕ, List, [], ◌++◌, length, None, Option, Some, IsUtf8}
+use Rattle.cedar_language.specs.Answering.{Decision, Allow, Deny}
+use Rattle.cedar_language.specs.Uid.{Text}
+use Rattle.cedar_frames.specs.Heads.{body_limit}
+use Rattle.cedar_frames.specs.declared.verb.Verb.{Verb}
+use Rattle.cedar_evaluator.specs.declared.partial_response.PartialResponse.{PartialResponse}
+use Rattle.cedar_world.specs.Answer.{Answer}
+use Rattle.cedar_world.specs.Commands.{Load, Put, Ask, Named, Done, Answered, Refused, Refusal, Memory}
+use Rattle.cedar_world.specs.Lines.{answer_line}
+use Rattle.cedar_world.specs.Setting.{Setting}
+use Rattle.cedar_world.specs.Step.{Step}
+use Rattle.cedar_world.specs.World.{World, new_world, Policies, in_force_at}
+use Rattle.cedar_session.specs.Lending.{IsResponse}
+use Rattle.cedar_session.specs.Programs.{IsProgramSetting}
+use Rattle.cedar_authoring.specs.Names.{TellsNames}
+use Rattle.cedar_authoring.specs.Standing.{TellsStanding}
+use Rattle.cedar_authoring.specs.Telling.{TellsEach}
+
+-- what a status says of what is decided
+abbrev pub status_of : Option Decision → ℕ
+status_of (Some Allow) = 0
+status_of (Some Deny) = 2
+status_of None = 3
+
+-- nothing is told of a template, and of a policy in force how it stands
+abbrev pub TellsOne : Text → Policies → PartialResponse → Text → Text → Type 0
+TellsOne name policies response id told =
+    ((in_force_at policies id ≡ None) × (told ≡ [])) ⊎ TellsStanding name response id told
+
+abbrev pub TellsPolicies : Text → Policies → PartialResponse → List Text → Text → Type 0
+TellsPolicies name policies response ids told = TellsEach (TellsOne name policies response) ids told
+
+-- The line of an answer, then of each policy how it stands, as the session's response has it, and last what to tell.
+pub record TellsAnswered (name : Text) (by : Setting) (asked : World) (ids : List Text) (answer : Answer) (told : Text) : Type 0 where
+  pub response : PartialResponse
+  pub responds : IsResponse by asked response
+  pub lines : Text
+  pub each : TellsPolicies name asked.policies response ids lines
+  pub last : Text
+  pub names : TellsNames asked.asked response last
+  pub whole : told ≡ (answer_line answer ++ lines) ++ last
+
+-- A session that was just made loads the policies, puts the entities and answers the question, and that is told.
+pub record TellsExplained (name policies entities question : Text) (status : ℕ) (told : Text) : Type 0 where
+  pub by : Setting
+  pub program : IsProgramSetting by
+  pub ids : List Text
+  pub loaded : World
+  pub loads : Step by new_world Load policies (Named ids) loaded
+  pub held : World
+  pub puts : Step by loaded Put entities Done held
+  pub answer : Answer
+  pub asked : World
+  pub asks : Step by held Ask question (Answered answer) asked
+  pub tells : TellsAnswered name by asked ids answer told
+  pub decides : status ≡ status_of answer.decision
+
+-- bytes that are no command's text
+abbrev pub IsNoText : Text → Type 0
+IsNoText bytes = (IsUtf8 bytes → ⊥) ⊎ (body_limit < length bytes)
+
+-- a command is refused, and not for memory
+abbrev pub Refuses : Setting → World → Verb → Text → Type 0
+Refuses by old verb text = (new : World) × (r : Refusal) × (r ≢ Memory) × Step by old verb text (Refused r) new
+
+-- A session that was just made refuses one of these texts, which it is given in their order.
+pub data SomeRefused (by : Setting) (policies entities question : Text) : Type 0 where
+  policies_refused : Refuses by new_world Load policies → SomeRefused by policies entities question
+  entities_refused : (ids : List Text) (loaded : World) → Step by new_world Load policies (Named ids) loaded → Refuses by loaded Put entities → SomeRefused by policies entities question
+  question_refused : (ids : List Text) (loaded held : World) → Step by new_world Load policies (Named ids) loaded → Step by loaded Put entities Done held
+      → Refuses by held Ask question → SomeRefused by policies entities question
+
+-- One of the three is no text, or a session refuses it.
+abbrev pub IsUnexplained : Text → Text → Text → Type 0
+IsUnexplained policies entities question =
+    (IsNoText policies ⊎ IsNoText entities ⊎ IsNoText question) ⊎ ((by : Setting) × IsProgramSetting by × SomeRefused by policies entities question)

@@ -1,0 +1,169 @@
+// How policies stand, as a response has it.
+ghost use Rattle.std.specs.Prelude.{◌≡◌, is_some, string_bytes, OnOk, map};
+ghost use Rattle.cedar_evaluator.specs.Holding.{error_seen};
+ghost use Rattle.cedar_evaluator.specs.declared.partial_response.PartialResponse.{PartialResponse as Response};
+ghost use Rattle.cedar_policies.specs.Policies.{policy_id};
+ghost use Rattle.cedar_authoring.specs.Standing.{is_in, is_open, is_satisfied, standing_words, TellsStanding};
+ghost use Rattle.cedar_authoring.specs.StandingWords.{words_of};
+ghost use Rattle.cedar_authoring.specs.Telling.{Adds};
+
+use crate::awaiting::{awaited, listed, push_standing};
+use crate::giving::Source;
+use crate::listing::described;
+use crate::places::{Position, position_in};
+use crate::telling::{push_indented, tell};
+use cedar_evaluator::AuthorizationError;
+use cedar_extensions::evaluation_error::EvaluationError;
+use cedar_names::places::Loc;
+use cedar_policies::policies::Policy;
+use cedar_session::{PartialResponse, PolicyID};
+use cedar_trees::expr::Expr;
+use indexmap::IndexMap;
+use std::alloc::{AllocError, Global};
+
+/// How a policy stands.
+#[derive(Clone, Copy)]
+pub(crate) enum Standing<'r> {
+    Satisfied,
+    NotSatisfied,
+    Errs(&'r EvaluationError),
+    /// With what is left of its condition.
+    Open(&'r Expr),
+}
+
+impl<'r> Standing<'r> {
+    /// How the policy of this id stands.
+    pub(crate) fn of(response: &'r PartialResponse, id: &PolicyID) -> Standing<'r>
+        ensures { words_of result ≡ standing_words response.now id.now }
+    {
+        if is_satisfied(response, id) {
+            return Standing::Satisfied;
+        }
+        if let Some(rest) = rest_of(response, id) {
+            return Standing::Open(rest);
+        }
+        match error_of(response.errors.as_slice(), id) {
+            Some(error) => Standing::Errs(error),
+            None => Standing::NotSatisfied,
+        }
+    }
+
+    /// How a line that tells of it ends.
+    fn words(self) -> &'static str
+        ensures { result.now ≡ words_of self.entry }
+    {
+        match self {
+            Standing::Satisfied => " is satisfied",
+            Standing::NotSatisfied => " is not satisfied",
+            Standing::Errs(_) => " errs",
+            Standing::Open(_) => " is open",
+        }
+    }
+}
+
+fn is_satisfied(response: &PartialResponse, id: &PolicyID) -> bool
+    ensures { result ≡ is_satisfied response.now id.now }
+{
+    is_in(&response.satisfied_permits, id) || is_in(&response.satisfied_forbids, id)
+}
+
+fn is_in<V>(group: &IndexMap<PolicyID, V>, id: &PolicyID) -> bool
+    ensures { result ≡ is_in id.now group.now.entries }
+{
+    group.get(id).is_some()
+}
+
+/// What is left of the policy of this id, if it is open.
+fn rest_of<'r>(response: &'r PartialResponse, id: &PolicyID) -> Option<&'r Expr>
+    ensures { is_some result ≡ is_open response.now id.now }
+{
+    if let Some(kept) = response.residual_permits.get(id) {
+        return Some(&kept.0);
+    }
+    match response.residual_forbids.get(id) {
+        Some(kept) => Some(&kept.0),
+        None => None,
+    }
+}
+
+/// Why the policy of this id errs, if it does.
+fn error_of<'r>(errors: &'r [AuthorizationError], id: &PolicyID) -> Option<&'r EvaluationError>
+    ensures { is_some result ≡ is_in id.now (map error_seen errors.now) }
+{
+    for failed in errors {
+        match failed {
+            AuthorizationError::PolicyEvaluationError { id: of, error } => {
+                if of == id {
+                    return Some(error);
+                }
+            }
+        }
+    }
+    None
+}
+
+/// Tells how a policy of a text stands.
+pub(crate) fn tell_standing(
+    alloc: Global,
+    told: &mut String,
+    source: Source<'_>,
+    policy: &Policy,
+    standing: Standing<'_>,
+    untold: &[&str],
+) -> Result<(), AllocError>
+    ensures { (response : Response) → words_of standing.entry ≡ standing_words response (policy_id policy.now) → OnOk result (Adds (TellsStanding source.entry.name.now response (policy_id policy.now)) (string_bytes told.old) (string_bytes told.new)) }
+{
+    let place = place_in(source, policy.loc());
+    let what = described(alloc, Some(policy.template()))?;
+    let line = format!(in alloc;
+        "{} {}{}",
+        policy.id().as_str(),
+        what.as_str(),
+        standing.words()
+    )?;
+    let below = match standing {
+        Standing::Satisfied | Standing::NotSatisfied => String::new(alloc),
+        Standing::Errs(error) => why(alloc, source, error)?,
+        Standing::Open(rest) => left(alloc, rest, untold)?,
+    };
+    tell(
+        alloc,
+        told,
+        source.name,
+        place,
+        line.as_str(),
+        below.as_str(),
+    )
+}
+
+fn place_in(source: Source<'_>, loc: Option<&Loc>) -> Option<Position> {
+    match loc {
+        Some(loc) => Some(position_in(source.text.as_bytes(), loc.start())),
+        None => None,
+    }
+}
+
+/// Why a policy errs, and where.
+fn why(alloc: Global, source: Source<'_>, error: &EvaluationError) -> Result<String, AllocError> {
+    let message = match place_in(source, error.source_loc()) {
+        None => format!(in alloc; "{error}")?,
+        Some(at) => format!(in alloc; "{}:{}:{}: {error}", source.name, at.line, at.column)?,
+    };
+    let mut told = String::new(alloc);
+    push_indented(&mut told, message.as_str())?;
+    Ok(told)
+}
+
+/// What is left of a policy, and the names for which it waits.
+fn left(alloc: Global, rest: &Expr, untold: &[&str]) -> Result<String, AllocError> {
+    let mut standing = Vec::new(alloc);
+    push_standing(alloc, &mut standing, rest)?;
+    let names = awaited(alloc, untold, standing.as_slice())?;
+    let names = listed(alloc, names.as_slice())?;
+    let rest = format!(in alloc; "{rest}")?;
+    let waits = format!(in alloc; "waits for {names}")?;
+    let mut told = String::new(alloc);
+    push_indented(&mut told, rest.as_str())?;
+    push_indented(&mut told, waits.as_str())?;
+    Ok(told)
+}

@@ -1,0 +1,2 @@
+forbid(principal == ?principal, action, resource);
+permit(principal == User::"bob", action, resource);

@@ -1,0 +1,2 @@
+// cafÃ©ÿ
+permit(principal, action, resource);

@@ -1,0 +1,2 @@
+permit(principal, action, resource)
+when { principal == User::"alice" && context.mfa };
