@@ -1,6 +1,6 @@
 // Contexts compared, and gone over by their entries.
 use cedar_requests::Context;
-use cedar_rows::{Answer, no_case, said, separate};
+use cedar_rows::{Answer, append, no_case, said};
 use std::alloc::Global;
 
 /// Puts the context aside, and answers whether there was one.
@@ -21,10 +21,7 @@ fn compared(alloc: Global, at: &Option<Context>, aside: &Option<Context>) -> Ans
 fn listed(alloc: Global, context: Context) -> Answer {
     let mut text = String::new(alloc);
     for (key, expr) in context.into_iter(alloc)? {
-        separate(&mut text)?;
-        text.push_str(key.as_str())?;
-        text.push_str(": ")?;
-        text.push_str(expr.to_string(alloc)?.as_str())?;
+        append(&mut text, format!(in alloc; "{}: {expr}", key.as_str()))?;
     }
     Ok(text)
 }

@@ -54,14 +54,30 @@ pub(crate) fn answer(
     entities: &Entities,
     table: &Extensions<'_>,
 ) -> Answer {
-    let (Some(expr), Some(depth)) = (exprs.pop(), word_depth(depth)) else {
+    let Some(depth) = word_depth(depth) else {
         return no_case(alloc);
     };
-    let Some(request) = question(alloc, missing)? else {
-        return no_case(alloc);
-    };
-    let evaluator = Evaluator::new(alloc, &request, entities, table, depth)?;
-    of(alloc, verb, &evaluator, &expr)
+    match question(alloc, missing)? {
+        Some(request) => of_request(alloc, verb, depth, exprs, &request, entities, table),
+        None => no_case(alloc),
+    }
+}
+
+/// What it is evaluated to for a request.
+fn of_request(
+    alloc: Global,
+    verb: &str,
+    depth: u32,
+    exprs: &mut Vec<Expr>,
+    request: &Request,
+    entities: &Entities,
+    table: &Extensions<'_>,
+) -> Answer {
+    let evaluator = Evaluator::new(alloc, request, entities, table, depth)?;
+    match exprs.pop() {
+        Some(expr) => of(alloc, verb, &evaluator, &expr),
+        None => no_case(alloc),
+    }
 }
 
 /// What it is evaluated to for the request that was made last.
@@ -74,14 +90,12 @@ pub(crate) fn answer_of(
     entities: &Entities,
     table: &Extensions<'_>,
 ) -> Answer {
-    let (Some(expr), Some(depth)) = (exprs.pop(), word_depth(depth)) else {
-        return no_case(alloc);
-    };
-    let Some(request) = requests.request() else {
-        return no_case(alloc);
-    };
-    let evaluator = Evaluator::new(alloc, request, entities, table, depth)?;
-    of(alloc, verb, &evaluator, &expr)
+    match (word_depth(depth), requests.request()) {
+        (Some(depth), Some(request)) => {
+            of_request(alloc, verb, depth, exprs, request, entities, table)
+        }
+        _ => no_case(alloc),
+    }
 }
 
 /// What it is evaluated to as a restricted expression.
@@ -92,11 +106,23 @@ pub(crate) fn restricted(
     exprs: &mut Vec<Expr>,
     table: &Extensions<'_>,
 ) -> Answer {
-    let (Some(expr), Some(depth)) = (exprs.pop(), word_depth(depth)) else {
+    let Some(depth) = word_depth(depth) else {
         return no_case(alloc);
     };
     let evaluator = RestrictedEvaluator::new(table, depth);
-    match BorrowedRestrictedExpr::new(alloc, &expr) {
+    match exprs.pop() {
+        Some(expr) => of_restricted(alloc, verb, &evaluator, &expr),
+        None => no_case(alloc),
+    }
+}
+
+fn of_restricted(
+    alloc: Global,
+    verb: &str,
+    evaluator: &RestrictedEvaluator<'_, '_>,
+    expr: &Expr,
+) -> Answer {
+    match BorrowedRestrictedExpr::new(alloc, expr) {
         Ok(expr) => match verb {
             "value" => show(alloc, evaluator.interpret(alloc, expr)),
             "partial" => show(alloc, evaluator.partial_interpret(alloc, expr)),

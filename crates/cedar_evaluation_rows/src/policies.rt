@@ -3,6 +3,7 @@ use crate::evaluators::question;
 use crate::requests::word_depth;
 use cedar_entities::store::Entities;
 use cedar_evaluator::authorizer::Authorizer;
+use cedar_evaluator::errors::AuthorizationError;
 use cedar_evaluator::evaluation::EvaluatePolicy;
 use cedar_evaluator::partial_response::PartialResponse;
 use cedar_evaluator::response::Response;
@@ -15,7 +16,7 @@ use cedar_policies::policies::Policy;
 use cedar_policy_parts::PolicyID;
 use cedar_policy_set::sets::PolicySet;
 use cedar_requests::Request;
-use cedar_rows::{Answer, no_case, refused, said, separate, show, tell};
+use cedar_rows::{Answer, append, no_case, put, refused, said, show, tell};
 use either::Either;
 use std::alloc::{AllocError, Global};
 
@@ -68,110 +69,112 @@ fn of_each(
 ) -> Answer {
     let mut text = String::new(alloc);
     for policy in set.policies() {
-        separate(&mut text)?;
-        text.push_str(of(alloc, verb, evaluator, policy)?.as_str())?;
+        append(&mut text, of(alloc, verb, evaluator, policy))?;
     }
     Ok(text)
 }
 
-fn add_ids(alloc: Global, text: &mut String, ids: &[PolicyID]) -> Result<(), AllocError> {
-    for id in ids {
-        text.push(' ')?;
-        text.push_str(id.to_string(alloc)?.as_str())?;
+fn told_ids(alloc: Global, ids: Result<Vec<PolicyID>, AllocError>) -> Answer {
+    let mut text = String::new(alloc);
+    for id in &ids? {
+        put(&mut text, " ", id.to_string(alloc))?;
     }
-    Ok(())
+    Ok(text)
+}
+
+fn told_errors(alloc: Global, errors: &[AuthorizationError]) -> Answer {
+    let mut text = String::new(alloc);
+    for error in errors {
+        put(&mut text, ", ", error.to_string(alloc))?;
+    }
+    Ok(text)
 }
 
 /// What is decided, the policies that must and that may be reasons, and the errors.
 pub(crate) fn responded(alloc: Global, response: &PartialResponse) -> Answer {
-    let mut text = tell(alloc, response.decision())?;
-    text.push_str(" must")?;
-    let must = response.must_be_determining_ids(alloc)?;
-    add_ids(alloc, &mut text, must.as_slice())?;
-    text.push_str(" may")?;
-    let may = response.may_be_determining_ids(alloc)?;
-    add_ids(alloc, &mut text, may.as_slice())?;
-    for error in &response.errors {
-        text.push_str(", ")?;
-        text.push_str(error.to_string(alloc)?.as_str())?;
-    }
-    Ok(text)
+    let decision = response.decision();
+    let must = told_ids(alloc, response.must_be_determining_ids(alloc))?;
+    let may = told_ids(alloc, response.may_be_determining_ids(alloc))?;
+    let errors = told_errors(alloc, response.errors.as_slice())?;
+    format!(in alloc; "{decision:?} must{must} may{may}{errors}")
 }
 
 /// Whether the request is allowed, the reasons, and the errors.
 pub(crate) fn answered(alloc: Global, response: &Response) -> Answer {
     let mut text = tell(alloc, response.decision)?;
     for id in &response.diagnostics.reason {
-        text.push(' ')?;
-        text.push_str(id.to_string(alloc)?.as_str())?;
+        put(&mut text, " ", id.to_string(alloc))?;
     }
-    for error in &response.diagnostics.errors {
-        text.push_str(", ")?;
-        text.push_str(error.to_string(alloc)?.as_str())?;
+    let errors = told_errors(alloc, response.diagnostics.errors.as_slice());
+    put(&mut text, "", errors)?;
+    Ok(text)
+}
+
+/// What is left of a policy.
+fn left_of(alloc: Global, policy: &Policy) -> Answer {
+    let condition = policy.condition(alloc)?;
+    format!(in alloc; "{} {condition}", policy.id())
+}
+
+/// What is left of policies, one after another.
+fn listed(alloc: Global, policies: Result<Vec<Policy>, AllocError>) -> Answer {
+    let mut text = String::new(alloc);
+    for policy in &policies? {
+        append(&mut text, left_of(alloc, policy))?;
     }
     Ok(text)
 }
 
-/// What is left of policies, one after another.
-fn listed(alloc: Global, policies: &[Policy]) -> Answer {
-    let mut text = String::new(alloc);
-    for policy in policies {
-        separate(&mut text)?;
-        text.push_str(policy.id().to_string(alloc)?.as_str())?;
-        text.push(' ')?;
-        text.push_str(policy.condition(alloc)?.to_string(alloc)?.as_str())?;
+fn annotations_of(alloc: Global, policy: &Policy) -> Answer {
+    let mut text = policy.id().to_string(alloc)?;
+    for (key, annotation) in policy.annotations().iter() {
+        write!(text, " @{key}({annotation})")?;
     }
     Ok(text)
 }
 
 /// The annotations of policies, one after another.
-fn annotated(alloc: Global, policies: &[Policy]) -> Answer {
+fn annotated(alloc: Global, policies: Result<Vec<Policy>, AllocError>) -> Answer {
     let mut text = String::new(alloc);
-    for policy in policies {
-        separate(&mut text)?;
-        text.push_str(policy.id().to_string(alloc)?.as_str())?;
-        for (key, annotation) in policy.annotations().iter() {
-            write!(text, " @{key}({annotation})")?;
-        }
+    for policy in &policies? {
+        append(&mut text, annotations_of(alloc, policy))?;
     }
     Ok(text)
 }
 
-fn named(alloc: Global, ids: &[&PolicyID]) -> Answer {
+fn named(alloc: Global, ids: Result<Vec<&PolicyID>, AllocError>) -> Answer {
     let mut text = String::new(alloc);
-    for id in ids {
-        separate(&mut text)?;
-        text.push_str(id.to_string(alloc)?.as_str())?;
+    for id in &ids? {
+        append(&mut text, id.to_string(alloc))?;
     }
     Ok(text)
+}
+
+fn condition(alloc: Global, policy: &Policy) -> Answer {
+    policy.condition(alloc)?.to_string(alloc)
 }
 
 /// What is left of the policy of an id.
 fn got(alloc: Global, response: &PartialResponse, id: &str) -> Answer {
-    match response.get(alloc, &PolicyID::from_string(alloc, id)?)? {
+    let id = PolicyID::from_string(alloc, id)?;
+    match response.get(alloc, &id)? {
+        Some(policy) => condition(alloc, &policy),
         None => no_case(alloc),
-        Some(policy) => policy.condition(alloc)?.to_string(alloc),
     }
 }
 
 /// What a reader of the response gives.
 pub(crate) fn read_response(alloc: Global, reader: &str, response: &PartialResponse) -> Answer {
     match reader {
-        "satisfied" => listed(alloc, response.definitely_satisfied(alloc)?.as_slice()),
-        "must" => listed(alloc, response.must_be_determining(alloc)?.as_slice()),
-        "may" => listed(alloc, response.may_be_determining(alloc)?.as_slice()),
-        "open" => listed(alloc, response.nontrivial_residuals(alloc)?.as_slice()),
-        "open-forbids" => listed(alloc, response.nontrivial_forbids(alloc)?.as_slice()),
-        "all" => listed(alloc, response.all_residuals(alloc)?.as_slice()),
-        "annotations" => annotated(alloc, response.all_residuals(alloc)?.as_slice()),
-        "open-ids" => {
-            let ids: Vec<&PolicyID> = response.nontrivial_residual_ids().collect(alloc)?;
-            named(alloc, ids.as_slice())
-        }
-        "errored" => {
-            let ids: Vec<&PolicyID> = response.definitely_errored().collect(alloc)?;
-            named(alloc, ids.as_slice())
-        }
+        "satisfied" => listed(alloc, response.definitely_satisfied(alloc)),
+        "must" => listed(alloc, response.must_be_determining(alloc)),
+        "may" => listed(alloc, response.may_be_determining(alloc)),
+        "open" => listed(alloc, response.nontrivial_residuals(alloc)),
+        "open-forbids" => listed(alloc, response.nontrivial_forbids(alloc)),
+        "all" => listed(alloc, response.all_residuals(alloc)),
+        "annotations" => annotated(alloc, response.all_residuals(alloc)),
+        "open-ids" => named(alloc, response.nontrivial_residual_ids().collect(alloc)),
+        "errored" => named(alloc, response.definitely_errored().collect(alloc)),
         _ => got(alloc, response, reader),
     }
 }
@@ -190,9 +193,12 @@ fn respond(
         return responded(alloc, &response);
     }
     let response = authorizer.is_authorized_without_false(alloc, request, set, entities)?;
-    let mut text = responded(alloc, &response)?;
-    text.push_str(", left ")?;
-    text.push_str(read_response(alloc, "all", &response)?.as_str())?;
+    responded_with_rest(alloc, &response)
+}
+
+fn responded_with_rest(alloc: Global, response: &PartialResponse) -> Answer {
+    let mut text = responded(alloc, response)?;
+    put(&mut text, ", left ", read_response(alloc, "all", response))?;
     Ok(text)
 }
 
@@ -222,25 +228,35 @@ pub(crate) fn answer(
     entities: &Entities,
     table: &Extensions<'_>,
 ) -> Answer {
-    match verb {
-        "read" | "read-open" => return read(alloc, verb, one, table, set),
-        "residuals" => return residuals(alloc, one, set, entities, table),
-        _ => {}
+    match (verb, word_depth(one)) {
+        ("read" | "read-open", _) => read(alloc, verb, one, table, set),
+        ("residuals", _) => residuals(alloc, one, set, entities, table),
+        (_, Some(depth)) => match question(alloc, missing)? {
+            Some(request) => asked(alloc, verb, depth, request, set, entities, table),
+            None => no_case(alloc),
+        },
+        _ => no_case(alloc),
     }
-    let (Some(depth), Some(request)) = (word_depth(one), question(alloc, missing)?) else {
-        return no_case(alloc);
-    };
+}
+
+/// What is asked of policies for a request.
+fn asked(
+    alloc: Global,
+    verb: &str,
+    depth: u32,
+    request: Request,
+    set: &PolicySet,
+    entities: &Entities,
+    table: &Extensions<'_>,
+) -> Answer {
+    let authorizer = Authorizer::new(table, depth);
     match verb {
         "respond" | "respond-without-false" => {
-            let authorizer = Authorizer::new(table, depth);
             respond(alloc, verb, &authorizer, request, set, entities)
         }
         "answer" => {
-            let authorizer = Authorizer::new(table, depth);
-            answered(
-                alloc,
-                &authorizer.is_authorized(alloc, request, set, entities)?,
-            )
+            let response = authorizer.is_authorized(alloc, request, set, entities)?;
+            answered(alloc, &response)
         }
         "value" | "left" => {
             let evaluator = Evaluator::new(alloc, &request, entities, table, depth)?;

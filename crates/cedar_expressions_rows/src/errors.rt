@@ -1,6 +1,6 @@
 // Why an expression has no value: the texts of errors, their places, and that `==` looks at both.
 use cedar_expressions::ast::{
-    EntityUID, Expr, Literal, Name, NonEmpty, ParseNameError, Type, Value,
+    BinaryOp, EntityUID, Expr, Literal, Name, NonEmpty, ParseNameError, Type, UnaryOp, Value,
 };
 use cedar_expressions::evaluator::{
     BinaryOpOverflowError, EvaluationError, IntegerOverflowError, UnaryOpOverflowError,
@@ -120,11 +120,31 @@ pub(crate) fn mistyped(
     }
 }
 
-fn long(text: &str) -> Option<Value> {
-    match text.parse::<i64>() {
-        Ok(long) => Some(Value::from(Literal::Long(long))),
-        Err(_) => None,
-    }
+fn long(text: &str) -> Option<i64> {
+    text.parse::<i64>().ok()
+}
+
+fn of_one(
+    alloc: Global,
+    op: UnaryOp,
+    long: i64,
+    loc: Option<Loc>,
+) -> Result<IntegerOverflowError, AllocError> {
+    let value = Value::from(Literal::Long(long));
+    let error = UnaryOpOverflowError::new(alloc, op, value, loc)?;
+    Ok(IntegerOverflowError::from(error))
+}
+
+fn of_two(
+    alloc: Global,
+    op: BinaryOp,
+    longs: (i64, i64),
+    loc: Option<Loc>,
+) -> Result<IntegerOverflowError, AllocError> {
+    let a = Value::from(Literal::Long(longs.0));
+    let b = Value::from(Literal::Long(longs.1));
+    let error = BinaryOpOverflowError::new(alloc, op, a, b, loc)?;
+    Ok(IntegerOverflowError::from(error))
 }
 
 /// The error of an operator of this name on these numbers, if it is one and they are numbers.
@@ -136,17 +156,11 @@ fn overflow(
 ) -> Result<Option<IntegerOverflowError>, AllocError> {
     match numbers.split_once(',') {
         Some((a, b)) => match (binary_op(verb), long(a), long(b)) {
-            (Some(op), Some(a), Some(b)) => {
-                let error = BinaryOpOverflowError::new(alloc, op, a, b, loc)?;
-                Ok(Some(IntegerOverflowError::from(error)))
-            }
+            (Some(op), Some(a), Some(b)) => Ok(Some(of_two(alloc, op, (a, b), loc)?)),
             _ => Ok(None),
         },
         None => match (unary_op(verb), long(numbers)) {
-            (Some(op), Some(a)) => {
-                let error = UnaryOpOverflowError::new(alloc, op, a, loc)?;
-                Ok(Some(IntegerOverflowError::from(error)))
-            }
+            (Some(op), Some(a)) => Ok(Some(of_one(alloc, op, a, loc)?)),
             _ => Ok(None),
         },
     }

@@ -6,13 +6,13 @@ use cedar_expressions::ast::{
 };
 use cedar_expressions::evaluator::{EvaluationError, interpret_restricted};
 use cedar_expressions::extensions::ExtensionFunctionObject;
-use cedar_rows::{Answer, no_case};
+use cedar_rows::{Answer, no_case, refused};
 use std::alloc::Global;
 
 fn told_answer(alloc: Global, found: Result<PartialValue, EvaluationError>) -> Answer {
     match found {
         Ok(partial) => told(alloc, &partial),
-        Err(error) => format!(in alloc; "refused: {error}"),
+        Err(error) => refused(alloc, error),
     }
 }
 

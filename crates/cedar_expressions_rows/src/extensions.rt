@@ -17,7 +17,7 @@ use cedar_expressions::extensions::{
 };
 use cedar_expressions::{Extensions, FromNormalizedStr};
 use cedar_rows::trees::type_of;
-use cedar_rows::{Answer, no_case, refused, said, separate, tell};
+use cedar_rows::{Answer, append, no_case, refused, said, tell};
 use std::alloc::{AllocError, Global};
 use std::collections::HashMap;
 
@@ -96,8 +96,7 @@ fn joined<'a, I: Iterator<Item = &'a Name> + Drop>(alloc: Global, names: I) -> A
 {
     let mut text = String::new(alloc);
     for name in names {
-        separate(&mut text)?;
-        text.push_str(name.to_string(alloc)?.as_str())?;
+        append(&mut text, name.to_string(alloc))?;
     }
     Ok(text)
 }
@@ -179,8 +178,7 @@ pub(crate) fn told_output(
 pub(crate) fn told_types(alloc: Global, types: &[SchemaType]) -> Answer {
     let mut text = String::new(alloc);
     for ty in types {
-        separate(&mut text)?;
-        text.push_str(ty.to_string(alloc)?.as_str())?;
+        append(&mut text, ty.to_string(alloc))?;
     }
     Ok(text)
 }
@@ -207,6 +205,11 @@ pub(crate) fn asked(
     }
 }
 
+fn types_of(alloc: Global, name: &str) -> Result<Vec<Name>, ParseNameError> {
+    let name = Name::from_normalized_str(alloc, name)?;
+    Ok(vec![in alloc; name]?)
+}
+
 fn extension_of(
     alloc: Global,
     name: &str,
@@ -214,8 +217,7 @@ fn extension_of(
     functions: Vec<ExtensionFunction>,
 ) -> Result<Extension, ParseNameError> {
     let name = Name::from_normalized_str(alloc, name)?;
-    let mut types = Vec::new(alloc);
-    types.push(Name::from_normalized_str(alloc, ordered)?)?;
+    let types = types_of(alloc, ordered)?;
     Ok(Extension::new(name, functions, types))
 }
 
@@ -242,8 +244,7 @@ pub(crate) fn extension(
 fn told_functions(alloc: Global, extension: &Extension) -> Answer {
     let mut text = String::new(alloc);
     for function in extension.funcs() {
-        separate(&mut text)?;
-        text.push_str(function.name().to_string(alloc)?.as_str())?;
+        append(&mut text, function.name().to_string(alloc))?;
     }
     Ok(text)
 }

@@ -53,6 +53,25 @@ fn of_two(
     }
 }
 
+fn binary(alloc: Global, verb: &str, first: Value, last: Value, table: &Extensions<'_>) -> Answer {
+    match verb {
+        "add" | "subtract" | "multiply" => arithmetic(alloc, verb, first, last),
+        _ => of_two(alloc, verb, &first, &last, table),
+    }
+}
+
+fn like(alloc: Global, value: &Value, word: &str) -> Answer {
+    let pattern = pattern(alloc, word)?;
+    told(alloc, is_like(alloc, value, &pattern))
+}
+
+fn is(alloc: Global, value: &Value, word: &str) -> Answer {
+    match EntityType::from_normalized_str(alloc, word) {
+        Ok(entity_type) => told(alloc, is_of_type(alloc, value, &entity_type)),
+        Err(error) => error.to_string(alloc),
+    }
+}
+
 fn arithmetic(alloc: Global, verb: &str, left: Value, right: Value) -> Answer {
     match verb {
         "add" => told(alloc, binary_arith(alloc, BinaryOp::Add, left, right, None)),
@@ -77,15 +96,11 @@ pub(crate) fn answer(
         "not" => told(alloc, unary_app(alloc, UnaryOp::Not, last, None)),
         "negative" => told(alloc, unary_app(alloc, UnaryOp::Neg, last, None)),
         "is-empty" => told(alloc, unary_app(alloc, UnaryOp::IsEmpty, last, None)),
-        "like" => told(alloc, is_like(alloc, &last, &pattern(alloc, word)?)),
-        "is" => match EntityType::from_normalized_str(alloc, word) {
-            Ok(entity_type) => told(alloc, is_of_type(alloc, &last, &entity_type)),
-            Err(error) => error.to_string(alloc),
-        },
-        _ => match (verb, values.pop()) {
-            ("add" | "subtract" | "multiply", Some(first)) => arithmetic(alloc, verb, first, last),
-            (_, Some(first)) => of_two(alloc, verb, &first, &last, table),
-            (_, None) => no_case(alloc),
+        "like" => like(alloc, &last, word),
+        "is" => is(alloc, &last, word),
+        _ => match values.pop() {
+            Some(first) => binary(alloc, verb, first, last, table),
+            None => no_case(alloc),
         },
     }
 }

@@ -8,7 +8,8 @@ use cedar_expressions::ast::{
 use cedar_rows::stack::{is_place, place, told_place, top};
 use cedar_rows::trees::{is_literal, literal, unknown};
 use cedar_rows::{
-    Answer, count_of, has, has_each, mapped, no_case, number, paired, push, said, separate, taken,
+    Answer, append, both, count_of, has, has_each, mapped, no_case, number, paired, push, said,
+    taken,
 };
 use either::Either;
 use std::alloc::{AllocError, Global};
@@ -62,6 +63,10 @@ fn argument_of(
     }
 }
 
+fn written_argument(alloc: Global, argument: &Argument) -> Answer {
+    argument.to_expr(alloc)?.to_string(alloc)
+}
+
 fn push_argument(
     alloc: Global,
     argument: Result<Argument, ParseNameError>,
@@ -69,9 +74,9 @@ fn push_argument(
 ) -> Answer {
     match argument {
         Ok(argument) => {
-            let written = argument.to_expr(alloc)?.to_string(alloc)?;
+            let text = written_argument(alloc, &argument)?;
             arguments.push(argument)?;
-            Ok(written)
+            Ok(text)
         }
         Err(error) => error.to_string(alloc),
     }
@@ -112,17 +117,27 @@ pub fn rank_of(
     push(alloc, values, rank_value(alloc, rank(alloc, args)))
 }
 
+fn set(alloc: Global, count: &str, values: &mut Vec<Value>) -> Answer {
+    if !has(count, values) {
+        return no_case(alloc);
+    }
+    let items = taken(alloc, number(count), values)?;
+    push(alloc, values, Value::set(alloc, items, None))
+}
+
+fn record(alloc: Global, keys: &str, values: &mut Vec<Value>) -> Answer {
+    if !has_each(keys, values) {
+        return no_case(alloc);
+    }
+    let items = taken(alloc, count_of(keys), values)?;
+    let pairs = paired(alloc, keys, items)?;
+    push(alloc, values, Value::record(alloc, pairs, None))
+}
+
 pub fn value(alloc: Global, verb: &str, word: &str, values: &mut Vec<Value>) -> Answer {
     match verb {
-        "set" if has(word, values) => {
-            let items = taken(alloc, number(word), values)?;
-            push(alloc, values, Value::set(alloc, items, None))
-        }
-        "record" if has_each(word, values) => {
-            let items = taken(alloc, count_of(word), values)?;
-            let pairs = paired(alloc, word, items)?;
-            push(alloc, values, Value::record(alloc, pairs, None))
-        }
+        "set" => set(alloc, word, values),
+        "record" => record(alloc, word, values),
         _ if is_literal(verb, word) => {
             push(alloc, values, literal_value(literal(alloc, verb, word)))
         }
@@ -222,6 +237,15 @@ pub fn partial(
     }
 }
 
+/// The partial value on top stands at a place.
+fn moved(alloc: Global, word: &str, partials: &mut Vec<PartialValue>) -> Answer {
+    let place = place(alloc, word)?;
+    match partials.pop() {
+        Some(partial) => hold(alloc, partial.with_maybe_source_loc(place), partials),
+        None => no_case(alloc),
+    }
+}
+
 /// What is made of the partial value on top.
 pub fn converted(
     alloc: Global,
@@ -231,14 +255,13 @@ pub fn converted(
     values: &mut Vec<Value>,
     partials: &mut Vec<PartialValue>,
 ) -> Answer {
+    if verb == "placed" && is_place(word) {
+        return moved(alloc, word, partials);
+    }
     let Some(partial) = partials.pop() else {
         return no_case(alloc);
     };
     match verb {
-        "placed" if is_place(word) => {
-            let place = place(alloc, word)?;
-            hold(alloc, partial.with_maybe_source_loc(place), partials)
-        }
         "to_expr" => push(alloc, stack, partial.to_expr(alloc)),
         "from_in" => push(alloc, stack, Expr::from_in(alloc, partial)),
         "value" => push(alloc, values, Value::try_from(partial)),
@@ -248,9 +271,8 @@ pub fn converted(
 
 fn joined<T: Display + Drop>(alloc: Global, name: &str, items: Vec<T>) -> Answer {
     let mut text = String::new(alloc);
-    for item in items {
-        separate(&mut text)?;
-        text.push_str(item.to_string(alloc)?.as_str())?;
+    for item in &items {
+        append(&mut text, item.to_string(alloc))?;
     }
     format!(in alloc; "{name}: {text}")
 }
@@ -283,16 +305,20 @@ fn are_equal<T: PartialEq + Drop, E: PartialEq + Drop>(
     }
 }
 
+fn text(alloc: Global, partial: Option<&PartialValue>) -> Answer {
+    match partial {
+        Some(partial) => partial.to_string(alloc),
+        None => no_case(alloc),
+    }
+}
+
 /// The text of the partial value on top; or whether the two on top are equal, or are refused alike as
 /// values, or as restricted expressions.
 pub fn compared_parts(alloc: Global, verb: &str, partials: &mut Vec<PartialValue>) -> Answer {
-    let Some(second) = partials.pop() else {
-        return no_case(alloc);
-    };
     if verb == "text" {
-        return second.to_string(alloc);
+        return text(alloc, partials.last());
     }
-    let Some(first) = partials.pop() else {
+    let Some((second, first)) = both(partials.pop(), partials.pop()) else {
         return no_case(alloc);
     };
     match verb {

@@ -4,13 +4,14 @@ use cedar_expressions::ast::{
     RepresentableExtensionValue, RestrictedElements, RestrictedExpr, RestrictedExprShapeOnly,
     RestrictedPairs, Unknown, ValueKind,
 };
+use cedar_expressions::parser::Loc;
 use cedar_expressions::{Extensions, FromIn};
 use cedar_rows::names::{Names, loc};
 use cedar_rows::trees::is_literal;
 use cedar_rows::values::{Stack, is_key, long, rank};
 use cedar_rows::{
-    Answer, alike, count_of, has, has_each, index, maybe, no_case, number, paired, push, said,
-    taken,
+    Answer, alike, count_of, has, has_each, index, maybe, no_case, number, paired, push, refused,
+    said, taken,
 };
 use std::alloc::{AllocError, Global};
 use std::convert::AsRef;
@@ -31,7 +32,7 @@ fn put<T: AsRef<Expr> + Drop, E: Display + Drop>(
             stack.push(made)?;
             Ok(text)
         }
-        Err(error) => format!(in alloc; "refused: {error}"),
+        Err(error) => refused(alloc, error),
     }
 }
 
@@ -75,24 +76,41 @@ pub fn joined(
     stack: &mut Restricted,
 ) -> Answer {
     match verb {
-        "set" if has(word, stack) => {
-            let items = taken(alloc, number(word), stack)?;
-            put(alloc, stack, RestrictedExpr::set(alloc, items))
-        }
-        "record" if has_each(word, stack) => {
-            let items = taken(alloc, count_of(word), stack)?;
-            let pairs = paired(alloc, word, items)?;
-            put(alloc, stack, RestrictedExpr::record(alloc, pairs))
-        }
-        "call" if has(word, stack) => match names.name.take() {
-            Some(name) => {
-                let args = taken(alloc, number(word), stack)?;
-                let call = RestrictedExpr::call_extension_fn(alloc, name, args);
-                put(alloc, stack, call)
-            }
-            None => no_case(alloc),
-        },
+        "set" => set(alloc, word, stack),
+        "record" => record(alloc, word, stack),
+        "call" => called(alloc, word, names, stack),
         _ => no_case(alloc),
+    }
+}
+
+fn set(alloc: Global, count: &str, stack: &mut Restricted) -> Answer {
+    if !has(count, stack) {
+        return no_case(alloc);
+    }
+    let items = taken(alloc, number(count), stack)?;
+    put(alloc, stack, RestrictedExpr::set(alloc, items))
+}
+
+fn record(alloc: Global, keys: &str, stack: &mut Restricted) -> Answer {
+    if !has_each(keys, stack) {
+        return no_case(alloc);
+    }
+    let items = taken(alloc, count_of(keys), stack)?;
+    let pairs = paired(alloc, keys, items)?;
+    put(alloc, stack, RestrictedExpr::record(alloc, pairs))
+}
+
+fn called(alloc: Global, count: &str, names: &mut Names, stack: &mut Restricted) -> Answer {
+    if !has(count, stack) {
+        return no_case(alloc);
+    }
+    let args = taken(alloc, number(count), stack)?;
+    match names.name.take() {
+        Some(name) => {
+            let call = RestrictedExpr::call_extension_fn(alloc, name, args);
+            put(alloc, stack, call)
+        }
+        None => no_case(alloc),
     }
 }
 
@@ -196,24 +214,27 @@ pub fn again(alloc: Global, verb: &str, text: &str, stack: &mut Restricted) -> A
 }
 
 pub fn changed(alloc: Global, verb: &str, stack: &mut Restricted) -> Answer {
-    match (verb, stack.pop()) {
-        ("placed", Some(top)) => {
-            let loc = Some(loc(alloc, "0", "1")?);
-            put(
-                alloc,
-                stack,
-                Ok::<_, AllocError>(top.with_maybe_source_loc(loc)),
-            )
+    match verb {
+        "placed" => {
+            let loc = loc(alloc, "0", "1")?;
+            moved(alloc, Some(loc), stack)
         }
-        ("unplaced", Some(top)) => {
-            put(
-                alloc,
-                stack,
-                Ok::<_, AllocError>(top.with_maybe_source_loc(None)),
-            )
-        }
-        ("drop", Some(_top)) => said(alloc, stack.is_empty()),
+        "unplaced" => moved(alloc, None, stack),
+        "drop" => match stack.pop() {
+            Some(_top) => said(alloc, stack.is_empty()),
+            None => no_case(alloc),
+        },
         _ => no_case(alloc),
+    }
+}
+
+fn moved(alloc: Global, loc: Option<Loc>, stack: &mut Restricted) -> Answer {
+    match stack.pop() {
+        Some(top) => {
+            let moved = top.with_maybe_source_loc(loc);
+            put(alloc, stack, Ok::<_, AllocError>(moved))
+        }
+        None => no_case(alloc),
     }
 }
 

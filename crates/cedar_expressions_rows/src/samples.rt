@@ -105,11 +105,13 @@ fn add_longs(words: &str, values: &mut Vec<Value>) -> Result<bool, AllocError> {
 
 /// What the sample of this name says of itself, and what it answers to the values and then the longs.
 pub(crate) fn called(alloc: Global, name: &str, longs: &str, values: &mut Vec<Value>) -> Answer {
-    let are_longs = add_longs(longs, values)?;
+    if !add_longs(longs, values)? {
+        return no_case(alloc);
+    }
     match made(alloc, name) {
-        Some(Ok(function)) if are_longs => told(alloc, &function, values),
+        Some(Ok(function)) => told(alloc, &function, values),
         Some(Err(error)) => refused(alloc, error),
-        _ => no_case(alloc),
+        None => no_case(alloc),
     }
 }
 

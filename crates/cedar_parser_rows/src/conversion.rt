@@ -17,7 +17,7 @@ use cedar_policy_conversion::{
 };
 use cedar_policy_parts::PolicyID;
 use cedar_policy_set::sets::PolicySet;
-use cedar_rows::{Answer, no_case};
+use cedar_rows::{Answer, no_case, put};
 use cedar_trees::errors::ExpressionConstructionError;
 use either::Either;
 use std::alloc::Global;
@@ -206,8 +206,8 @@ fn sorted(alloc: Global, found: Result<Either<StaticPolicy, Template>, PolicyErr
 pub(crate) fn each(alloc: Global, set: &PolicySet) -> Answer {
     let mut told = String::new(alloc);
     for template in set.all_templates() {
-        let next = format!(in alloc; "{}: {template} ", template.id())?;
-        told.push_str(next.as_str())?;
+        let next = format!(in alloc; "{}: {template} ", template.id());
+        put(&mut told, "", next)?;
     }
     Ok(told)
 }
@@ -219,9 +219,7 @@ pub(crate) fn faults<E: Display>(alloc: Global, error: &ConversionError<E>) -> A
     };
     let mut told = fault(alloc, &faults.head)?;
     for next in &faults.tail {
-        let next = fault(alloc, next)?;
-        told.push_str("; ")?;
-        told.push_str(next.as_str())?;
+        put(&mut told, "; ", fault(alloc, next))?;
     }
     Ok(told)
 }

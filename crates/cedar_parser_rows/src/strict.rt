@@ -13,7 +13,7 @@ use cedar_parser::strict::{
 };
 use cedar_policy_set::sets::PolicySet;
 use cedar_restricted::restricted::RestrictedExpr;
-use cedar_rows::{Answer, no_case};
+use cedar_rows::{Answer, no_case, put};
 use std::alloc::{AllocError, Global};
 use std::fmt::Display;
 
@@ -21,47 +21,47 @@ use std::fmt::Display;
 const DEPTH: u32 = 4;
 
 pub(crate) fn read(alloc: Global, verb: &str, text: &str) -> Answer {
-    let extensions = Extensions::all_available(alloc)?;
     match verb {
-        "body" => body(
-            alloc,
-            parse_restrictedexpr(alloc, text, &bodies(alloc, &extensions)?, DEPTH),
-        ),
-        "data" => data(
-            alloc,
-            read_data(alloc, text, &bodies(alloc, &extensions)?, DEPTH)?,
-        ),
+        "body" | "data" | "literal" => of_bodies(alloc, verb, text, &bodies(alloc)?),
+        "policies" | "expression" => of_policies(alloc, verb, text, &policies(alloc)?),
         "entity" => told(alloc, parse_euid_strict(alloc, text)),
-        "literal" => literal(
-            alloc,
-            parse_literal_strict(alloc, text, &bodies(alloc, &extensions)?, DEPTH),
-        ),
-        "policies" => set(
-            alloc,
-            parse_policyset_strict(alloc, text, &policies(alloc, &extensions)?, DEPTH),
-        ),
-        "expression" => told(
-            alloc,
-            parse_expr_strict(alloc, text, &policies(alloc, &extensions)?, DEPTH),
-        ),
+        _ => no_case(alloc),
+    }
+}
+
+fn of_bodies(alloc: Global, verb: &str, text: &str, styles: &ExtStyles) -> Answer {
+    match verb {
+        "body" => body(alloc, parse_restrictedexpr(alloc, text, styles, DEPTH)),
+        "data" => data(alloc, read_data(alloc, text, styles, DEPTH)),
+        "literal" => literal(alloc, parse_literal_strict(alloc, text, styles, DEPTH)),
+        _ => no_case(alloc),
+    }
+}
+
+fn of_policies(alloc: Global, verb: &str, text: &str, styles: &ExtStyles) -> Answer {
+    match verb {
+        "policies" => set(alloc, parse_policyset_strict(alloc, text, styles, DEPTH)),
+        "expression" => told(alloc, parse_expr_strict(alloc, text, styles, DEPTH)),
         _ => no_case(alloc),
     }
 }
 
 /// What was read straight, or that it is left to the parser.
-fn data(alloc: Global, read: Option<RestrictedExpr>) -> Answer {
-    match read {
+fn data(alloc: Global, read: Result<Option<RestrictedExpr>, AllocError>) -> Answer {
+    match read? {
         Some(body) => body.to_string(alloc),
         None => String::from_str(alloc, "left to the parser"),
     }
 }
 
-fn bodies(alloc: Global, extensions: &Extensions<'_>) -> Result<ExtStyles, AllocError> {
-    ExtStyles::from_extensions(alloc, extensions)
+fn bodies(alloc: Global) -> Result<ExtStyles, AllocError> {
+    let extensions: Extensions<'_> = Extensions::all_available(alloc)?;
+    ExtStyles::from_extensions(alloc, &extensions)
 }
 
-fn policies(alloc: Global, extensions: &Extensions<'_>) -> Result<ExtStyles, AllocError> {
-    ExtStyles::for_policies(alloc, extensions)
+fn policies(alloc: Global) -> Result<ExtStyles, AllocError> {
+    let extensions: Extensions<'_> = Extensions::all_available(alloc)?;
+    ExtStyles::for_policies(alloc, &extensions)
 }
 
 /// What was read, or all errors with their places.
@@ -98,7 +98,7 @@ fn literal(alloc: Global, read: Result<Literal, LiteralParseError>) -> Answer {
 fn all(alloc: Global, errors: &ParseErrors) -> Answer {
     let mut told = String::new(alloc);
     for next in errors {
-        add(&mut told, error(alloc, next)?.as_str())?;
+        add(&mut told, error(alloc, next))?;
     }
     Ok(told)
 }
@@ -107,17 +107,15 @@ fn all(alloc: Global, errors: &ParseErrors) -> Answer {
 fn taken(alloc: Global, errors: ParseErrors) -> Answer {
     let mut told = String::new(alloc);
     for next in errors {
-        add(&mut told, error(alloc, &next)?.as_str())?;
+        add(&mut told, error(alloc, &next))?;
     }
     Ok(told)
 }
 
 /// Adds an error behind others.
-fn add(told: &mut String, next: &str) -> Result<(), AllocError> {
-    if !told.is_empty() {
-        told.push_str("; ")?;
-    }
-    told.push_str(next)
+fn add(told: &mut String, next: Answer) -> Result<(), AllocError> {
+    let between = if told.is_empty() { "" } else { "; " };
+    put(told, between, next)
 }
 
 /// An error, after its place.

@@ -58,12 +58,17 @@ pub fn maybe<T: Display + Drop>(alloc: Global, found: Option<T>) -> Answer {
     }
 }
 
-/// Puts what stands between parts behind a text that has one. Refused for memory alone.
-pub fn separate(text: &mut String) -> Result<(), AllocError> {
-    if text.is_empty() {
-        return Ok(());
-    }
-    text.push_str(", ")
+/// Puts a part behind those that a text has, and what stands between them. Refused for memory alone.
+pub fn append(text: &mut String, part: Answer) -> Result<(), AllocError> {
+    let between = if text.is_empty() { "" } else { ", " };
+    put(text, between, part)
+}
+
+/// Puts a part behind a text and these characters. Refused for memory alone.
+pub fn put(text: &mut String, before: &str, part: Answer) -> Result<(), AllocError> {
+    let part = part?;
+    text.push_str(before)?;
+    text.push_str(part.as_str())
 }
 
 /// Whether the two are equal and have one hash.

@@ -18,7 +18,7 @@ pub mod uids;
 pub mod values;
 
 pub use answers::{
-    Answer, alike, maybe, no_case, refused, said, separate, show, spell, tell, text_of,
+    Answer, alike, append, maybe, no_case, put, refused, said, show, spell, tell, text_of,
 };
-pub use registers::{count_of, has, has_each, hold, keep, mapped, paired, push, taken};
+pub use registers::{both, count_of, has, has_each, hold, keep, mapped, paired, push, taken};
 pub use steps::{Step, cut, index, number, plain, read};

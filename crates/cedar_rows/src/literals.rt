@@ -51,15 +51,27 @@ fn elems(alloc: Global, text: &str) -> Result<Vec<PatternElem>, AllocError> {
     text.chars().map(elem).collect(alloc)
 }
 
+fn pattern_in(alloc: Global, text: &str) -> Result<Pattern, AllocError> {
+    Pattern::from_in(alloc, elems(alloc, text)?)
+}
+
+fn shared_pattern(alloc: Global, text: &str) -> Result<Pattern, AllocError> {
+    let elems = Rc::new(alloc, elems(alloc, text)?)?;
+    Ok(Pattern::from(elems))
+}
+
+/// Whether the pattern is that of the text, and has its hash.
+fn is_pattern(alloc: Global, pattern: &Pattern, text: &str) -> Answer {
+    let other = self::pattern(alloc, text)?;
+    said(alloc, alike(pattern, &other))
+}
+
 /// What a step on patterns makes of the text, or asks of the pattern held.
 pub fn patterns(alloc: Global, verb: &str, text: &str, held: &mut Literals) -> Answer {
     match verb {
         "pattern" => keep(alloc, &mut held.pattern, pattern(alloc, text)),
-        "pattern-in" => show(alloc, Pattern::from_in(alloc, elems(alloc, text)?)),
-        "shared-pattern" => {
-            let elems = Rc::new(alloc, elems(alloc, text)?)?;
-            show(alloc, Ok::<_, AllocError>(Pattern::from(elems)))
-        }
+        "pattern-in" => show(alloc, pattern_in(alloc, text)),
+        "shared-pattern" => show(alloc, shared_pattern(alloc, text)),
         _ => called(alloc, verb, text, held),
     }
 }
@@ -71,7 +83,7 @@ fn called(alloc: Global, verb: &str, text: &str, held: &Literals) -> Answer {
     match verb {
         "matches" => said(alloc, pattern.wildcard_match(text)),
         "pattern-copy" => show(alloc, pattern.clone()),
-        "pattern-alike" => said(alloc, alike(pattern, &self::pattern(alloc, text)?)),
+        "pattern-alike" => is_pattern(alloc, pattern, text),
         "pattern-len" => tell(alloc, pattern.len()),
         "pattern-empty" => said(alloc, pattern.is_empty()),
         "pattern-elems" => tell(alloc, pattern.get_elems().len()),

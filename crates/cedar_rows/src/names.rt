@@ -1,5 +1,5 @@
 // Identifiers, names and places.
-use crate::{Answer, alike, index, keep, no_case, number, refused, said, show, tell};
+use crate::{Answer, alike, both, index, keep, no_case, number, refused, said, show, tell};
 use cedar_names::conversions::FromIn;
 use cedar_names::identifiers::{AnyId, Id, UnreservedId, is_normalized_ident};
 use cedar_names::names::{InternalName, Name};
@@ -139,19 +139,24 @@ pub fn converted(alloc: Global, verb: &str, held: &mut Names) -> Answer {
             Some(id) => keep(alloc, &mut held.internal, InternalName::from_in(alloc, id)),
             None => no_case(alloc),
         },
-        "type-in-namespace" => match (held.id.take(), held.internal.take()) {
-            (Some(id), Some(namespace)) => {
-                let loc = Some(loc(alloc, "0", "1")?);
-                let name = InternalName::type_in_namespace(alloc, id, namespace, loc);
-                keep(alloc, &mut held.internal, name)
-            }
-            _ => no_case(alloc),
-        },
+        "type-in-namespace" => placed_type(alloc, held),
         "id-of-internal" => match held.internal.take() {
             Some(name) => keep(alloc, &mut held.id, Id::from_in(alloc, name)),
             None => no_case(alloc),
         },
         _ => no_case(alloc),
+    }
+}
+
+/// The type of the identifier in the namespace held, at a place.
+fn placed_type(alloc: Global, held: &mut Names) -> Answer {
+    let loc = loc(alloc, "0", "1")?;
+    match both(held.id.take(), held.internal.take()) {
+        Some((id, namespace)) => {
+            let name = InternalName::type_in_namespace(alloc, id, namespace, Some(loc));
+            keep(alloc, &mut held.internal, name)
+        }
+        None => no_case(alloc),
     }
 }
 

@@ -24,10 +24,7 @@ pub fn answer(alloc: Global, verb: &str, text: &str) -> Answer {
             Err(error) => refused(alloc, error),
         },
         "unreserved" => match UnreservedId::from_normalized_str(alloc, text) {
-            Ok(id) => {
-                let loc = Some(loc(alloc, "0", "1")?);
-                placed(alloc, RawName::new_from_unreserved(alloc, id, loc))
-            }
+            Ok(id) => placed(alloc, unreserved(alloc, id)),
             Err(error) => refused(alloc, error),
         },
         "in-none" | "in-internal" | "in-name" => match RawName::from_normalized_str(alloc, text) {
@@ -36,6 +33,11 @@ pub fn answer(alloc: Global, verb: &str, text: &str) -> Answer {
         },
         _ => no_case(alloc),
     }
+}
+
+fn unreserved(alloc: Global, id: UnreservedId) -> Result<RawName, AllocError> {
+    let loc = loc(alloc, "0", "1")?;
+    RawName::new_from_unreserved(alloc, id, Some(loc))
 }
 
 /// The name, and where it is written.

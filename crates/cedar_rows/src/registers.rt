@@ -56,6 +56,14 @@ pub fn hold<T: Drop, E: Display + Drop>(
     }
 }
 
+/// Both, where there are both.
+pub fn both<T: Drop, U: Drop>(first: Option<T>, second: Option<U>) -> Option<(T, U)> {
+    match (first, second) {
+        (Some(first), Some(second)) => Some((first, second)),
+        _ => None,
+    }
+}
+
 /// Whether the word writes a number, and the stack has as many.
 pub fn has<T>(word: &str, stack: &[T]) -> bool {
     match index(word) {

@@ -1,7 +1,7 @@
 // Shapes of expressions compared, hashed and walked, and chains that take no stack.
 use crate::stack::{place, told_place};
 use crate::trees::numbered;
-use crate::{Answer, hold, index, no_case, number, said, separate, tell};
+use crate::{Answer, append, hold, index, no_case, number, said, tell};
 use cedar_literals::literals::Literal;
 use cedar_literals::slots::SlotId;
 use cedar_literals::types::Type;
@@ -9,7 +9,7 @@ use cedar_literals::variables::Var;
 use cedar_names::errors::ParseNameError;
 use cedar_names::names::Name;
 use cedar_names::reading::FromNormalizedStr;
-use cedar_shapes::iteration::{ExprIterator, Slots, Unknowns};
+use cedar_shapes::iteration::{ExprIterator, SlotRef, Slots, Unknowns};
 use cedar_shapes::readers::ExprReaders;
 use cedar_shapes::shapes::{ExprShape, ExprShapeOnly};
 use cedar_shapes::types::FunctionTypes;
@@ -151,50 +151,54 @@ fn count(alloc: Global, expr: &Expr) -> Answer {
     tell(alloc, count)
 }
 
-fn subexpressions(alloc: Global, expr: &Expr) -> Answer {
+type Parts<'a> = Result<Vec<&'a Expr>, AllocError>;
+
+fn parts(alloc: Global, expr: &Expr) -> Parts<'_> {
+    expr.subexpressions(alloc)?.collect(alloc)
+}
+
+fn shown(alloc: Global, parts: Parts<'_>) -> Answer {
     let mut text = String::new(alloc);
-    for part in expr.subexpressions(alloc)? {
-        separate(&mut text)?;
-        text.push_str(part.to_string(alloc)?.as_str())?;
+    for part in &parts? {
+        append(&mut text, part.to_string(alloc))?;
     }
     Ok(text)
 }
 
-fn places(alloc: Global, expr: &Expr) -> Answer {
+fn places(alloc: Global, parts: Parts<'_>) -> Answer {
     let mut text = String::new(alloc);
-    for part in expr.subexpressions(alloc)? {
-        separate(&mut text)?;
-        text.push_str(told_place(alloc, part.source_loc())?.as_str())?;
+    for part in &parts? {
+        append(&mut text, told_place(alloc, part.source_loc()))?;
     }
     Ok(text)
 }
 
-fn slots(alloc: Global, slots: Slots<'_>) -> Answer {
+fn told_slot(alloc: Global, slot: &SlotRef<'_>) -> Answer {
+    let slot = slot.to_slot(alloc)?;
+    let place = told_place(alloc, slot.loc.as_ref())?;
+    format!(in alloc; "{} {place}", slot.id)
+}
+
+fn slots(alloc: Global, slots: Result<Slots<'_>, AllocError>) -> Answer {
     let mut text = String::new(alloc);
-    for slot in slots {
-        separate(&mut text)?;
-        let slot = slot.to_slot(alloc)?;
-        text.push_str(slot.id.to_string(alloc)?.as_str())?;
-        text.push(' ')?;
-        text.push_str(told_place(alloc, slot.loc.as_ref())?.as_str())?;
+    for slot in slots? {
+        append(&mut text, told_slot(alloc, &slot))?;
     }
     Ok(text)
 }
 
-fn push_unknown(alloc: Global, text: &mut String, unknown: &Unknown) -> Result<(), AllocError> {
-    text.push_str(unknown.name.as_str())?;
-    if let Some(ty) = &unknown.type_annotation {
-        text.push_str(": ")?;
-        text.push_str(ty.to_string(alloc)?.as_str())?;
+fn told_unknown(alloc: Global, unknown: &Unknown) -> Answer {
+    let name = unknown.name.as_str();
+    match &unknown.type_annotation {
+        Some(ty) => format!(in alloc; "{name}: {ty}"),
+        None => String::from_str(alloc, name),
     }
-    Ok(())
 }
 
-fn unknowns(alloc: Global, unknowns: Unknowns<'_>) -> Answer {
+fn unknowns(alloc: Global, unknowns: Result<Unknowns<'_>, AllocError>) -> Answer {
     let mut text = String::new(alloc);
-    for unknown in unknowns {
-        separate(&mut text)?;
-        push_unknown(alloc, &mut text, unknown)?;
+    for unknown in unknowns? {
+        append(&mut text, told_unknown(alloc, unknown))?;
     }
     Ok(text)
 }
@@ -221,12 +225,12 @@ pub fn walked<F: FunctionTypes>(alloc: Global, verb: &str, stack: &[Expr], table
     };
     match verb {
         "count" => count(alloc, expr),
-        "subexpressions" => subexpressions(alloc, expr),
-        "places" => places(alloc, expr),
-        "slots" => slots(alloc, expr.slots(alloc)?),
-        "slots_new" => slots(alloc, Slots::new(alloc, expr)?),
-        "unknowns" => unknowns(alloc, expr.unknowns(alloc)?),
-        "unknowns_new" => unknowns(alloc, Unknowns::new(alloc, expr)?),
+        "subexpressions" => shown(alloc, parts(alloc, expr)),
+        "places" => places(alloc, parts(alloc, expr)),
+        "slots" => slots(alloc, expr.slots(alloc)),
+        "slots_new" => slots(alloc, Slots::new(alloc, expr)),
+        "unknowns" => unknowns(alloc, expr.unknowns(alloc)),
+        "unknowns_new" => unknowns(alloc, Unknowns::new(alloc, expr)),
         "contains_unknown" => said(alloc, expr.contains_unknown()),
         "is_projectable" => said(alloc, expr.is_projectable()),
         "try_type_of" => told_type(alloc, expr.try_type_of(alloc, table)),

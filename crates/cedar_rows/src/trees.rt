@@ -1,7 +1,8 @@
 // Expressions by their constructors, and what they say of themselves.
 use crate::stack::{is_place, place, told_place, top};
 use crate::{
-    Answer, count_of, has, has_each, mapped, no_case, number, paired, push, said, show, taken, tell,
+    Answer, both, count_of, has, has_each, mapped, no_case, number, paired, push, said, show,
+    taken, tell,
 };
 use cedar_literals::literals::Literal;
 use cedar_literals::operators::{BinaryOp, UnaryOp};
@@ -13,6 +14,7 @@ use cedar_literals::variables::Var;
 use cedar_names::conversions::FromIn;
 use cedar_names::errors::ParseNameError;
 use cedar_names::names::Name;
+use cedar_names::places::Loc;
 use cedar_names::reading::FromNormalizedStr;
 use cedar_trees::errors::{DuplicateKeyError, ExpressionConstructionError};
 use cedar_trees::expr::{Expr, ExprKind};
@@ -117,13 +119,15 @@ fn copied(alloc: Global, unknown: &Unknown) -> Answer {
 
 /// Of an unknown of this type and one of none.
 pub fn unknowns(alloc: Global, verb: &str, name: &str, ty: &str) -> Answer {
-    match (unknown(alloc, name, ty), unknown(alloc, name, "")) {
-        (Ok(typed), Ok(untyped)) => match verb {
-            "clone" => copied(alloc, &typed),
-            "shown" => show(alloc, made(Expr::unknown(typed))),
-            "equal" => said(alloc, typed == untyped),
-            _ => no_case(alloc),
-        },
+    let typed = unknown(alloc, name, ty).ok();
+    let untyped = unknown(alloc, name, "").ok();
+    let Some((typed, untyped)) = both(typed, untyped) else {
+        return no_case(alloc);
+    };
+    match verb {
+        "clone" => copied(alloc, &typed),
+        "shown" => show(alloc, made(Expr::unknown(typed))),
+        "equal" => said(alloc, typed == untyped),
         _ => no_case(alloc),
     }
 }
@@ -396,8 +400,12 @@ pub fn numbered(data: u8) -> Expr<u8> {
 
 fn parts(alloc: Global, expr: Expr<u8>) -> Answer {
     let (kind, loc, data) = expr.into_parts();
-    let place = told_place(alloc, loc.as_ref())?;
-    let kind = kind_of(alloc, kind)?;
+    told_parts(alloc, kind_of(alloc, kind), loc.as_ref(), data)
+}
+
+fn told_parts(alloc: Global, kind: Answer, loc: Option<&Loc>, data: u8) -> Answer {
+    let kind = kind?;
+    let place = told_place(alloc, loc)?;
     format!(in alloc; "{kind} {place} {data}")
 }
 

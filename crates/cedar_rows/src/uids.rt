@@ -1,7 +1,7 @@
 // Entity uids, their types and slots.
 use crate::names::{Names, loc};
 use crate::trees::slot;
-use crate::{Answer, alike, keep, no_case, said, show, tell};
+use crate::{Answer, alike, both, keep, no_case, said, show, tell};
 use cedar_literals::slots::{Slot, SlotId};
 use cedar_literals::types::StaticallyTyped;
 use cedar_literals::uids::{Eid, EntityType, EntityUID};
@@ -123,28 +123,29 @@ pub fn called(alloc: Global, verb: &str, held: &mut Uids) -> Answer {
         "copied-uid" => keep(alloc, &mut held.second, uid.clone(alloc)),
         "type-of-uid" => keep(alloc, &mut held.entity_type, uid.entity_type().clone(alloc)),
         "placed-type" => {
-            let loc = loc(alloc, "0", "1")?;
-            keep(
-                alloc,
-                &mut held.entity_type,
-                uid.entity_type().with_loc(alloc, Some(&loc)),
-            )
+            let placed = placed_type(alloc, uid);
+            keep(alloc, &mut held.entity_type, placed)
         }
         "put-together" => put_together(alloc, held),
         _ => no_case(alloc),
     }
 }
 
+fn placed_type(alloc: Global, uid: &EntityUID) -> Result<EntityType, AllocError> {
+    let loc = loc(alloc, "0", "1")?;
+    uid.entity_type().with_loc(alloc, Some(&loc))
+}
+
 /// The second uid is that of the type held, at a place.
 fn put_together(alloc: Global, held: &mut Uids) -> Answer {
     let loc = loc(alloc, "0", "1")?;
-    match (held.entity_type.take(), held.second.take()) {
-        (Some(entity_type), Some(second)) => {
+    match both(held.entity_type.take(), held.second.take()) {
+        Some((entity_type, second)) => {
             let eid = second.components().1;
             let uid = EntityUID::from_components(entity_type, eid, Some(loc));
             keep(alloc, &mut held.second, Ok::<_, AllocError>(uid))
         }
-        _ => no_case(alloc),
+        None => no_case(alloc),
     }
 }
 

@@ -2,8 +2,8 @@
 use crate::names::loc;
 use crate::trees::is_literal;
 use crate::{
-    Answer, alike, count_of, has, has_each, index, mapped, no_case, number, paired, push, said,
-    show, taken, tell,
+    Answer, alike, count_of, has, has_each, index, mapped, no_case, number, paired, push, put,
+    said, show, taken, tell,
 };
 use cedar_literals::bounded_display::BoundedToString;
 use cedar_literals::literals::Literal;
@@ -290,15 +290,28 @@ fn of_literal_sets(alloc: Global, verb: &str, set: &Set, other: &Set) -> Answer 
     }
 }
 
+/// The value with so many elements of each set and record, or with all where no word says how many.
+fn shown(alloc: Global, count: &str, value: &Value) -> Answer {
+    if count.is_empty() {
+        return show(alloc, BoundedToString::to_string(value, alloc, None));
+    }
+    match index(count) {
+        Some(count) => show(alloc, BoundedToString::to_string(value, alloc, Some(count))),
+        None => no_case(alloc),
+    }
+}
+
+fn bounded(alloc: Global, count: &str, value: &Value) -> Answer {
+    match index(count) {
+        Some(count) => show(alloc, value.to_string_bounded(alloc, count)),
+        None => no_case(alloc),
+    }
+}
+
 fn of_one(alloc: Global, verb: &str, text: &str, value: &Value) -> Answer {
     match verb {
-        "show" if text.is_empty() || index(text).is_some() => {
-            show(alloc, BoundedToString::to_string(value, alloc, index(text)))
-        }
-        "bounded" if index(text).is_some() => show(
-            alloc,
-            value.to_string_bounded(alloc, number(text)),
-        ),
+        "show" => shown(alloc, text, value),
+        "bounded" => bounded(alloc, text, value),
         "unbounded" => show(alloc, value.to_string_unbounded(alloc)),
         "type-of" => show(alloc, value.type_of(alloc)),
         "has-place" => said(alloc, value.source_loc().is_some()),
@@ -326,10 +339,9 @@ fn show_literals(alloc: Global, set: &Set) -> Answer {
     let Some(literals) = set.fast() else {
         return String::from_str(alloc, "None");
     };
-    let mut text = format!(in alloc; "{}", literals.len())?;
+    let mut text = tell(alloc, literals.len())?;
     for literal in literals.iter() {
-        text.push(';')?;
-        text.push_str(literal.to_string(alloc)?.as_str())?;
+        put(&mut text, ";", literal.to_string(alloc))?;
     }
     Ok(text)
 }

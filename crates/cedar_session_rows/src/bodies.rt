@@ -8,22 +8,13 @@ use cedar_held::{
 use cedar_literals::literals::Literal;
 use cedar_literals::uids::EntityUID;
 use cedar_names::errors::ParseNameError;
-use cedar_names::names::Name;
 use cedar_replies::Refusal;
 use cedar_restricted::partial_values::PartialValue;
 use cedar_restricted::restricted::RestrictedExpr;
-use cedar_rows::{Answer, cut, no_case, number, push, taken, tell};
+use cedar_rows::{Answer, cut, no_case, push, tell, trees};
 use cedar_trees::expr::Expr;
 use std::alloc::{AllocError, Global};
-use std::rc::{Rc, RcStr};
-
-fn long(text: &str) -> Expr {
-    Expr::val(Literal::Long(text.parse::<i64>().unwrap_or(0)))
-}
-
-fn string(alloc: Global, text: &str) -> Result<Expr, AllocError> {
-    Ok(Expr::val(Literal::String(RcStr::from_str(alloc, text)?)))
-}
+use std::rc::Rc;
 
 /// The entity of this id, whose type is `G`.
 fn entity(alloc: Global, id: &str) -> Result<Expr, ParseNameError> {
@@ -31,45 +22,25 @@ fn entity(alloc: Global, id: &str) -> Result<Expr, ParseNameError> {
     Ok(Expr::val(Literal::EntityUID(Rc::new(alloc, uid)?)))
 }
 
-/// The call of a function on what is on top.
-fn call(alloc: Global, name: &str, stack: &mut Vec<Expr>) -> Result<Expr, ParseNameError> {
-    let name = Name::parse_unqualified_name(alloc, name)?;
-    let args = taken(alloc, 1, stack)?;
-    Ok(Expr::call_extension_fn(alloc, name, args)?)
-}
-
-/// Each key with its tree, the last one's being on top.
-fn keyed(
-    alloc: Global,
-    keys: &str,
-    stack: &mut Vec<Expr>,
-) -> Result<Vec<(RcStr, Expr)>, AllocError> {
-    let values = taken(alloc, keys.split_whitespace().count(), stack)?;
-    let mut pairs = Vec::new(alloc);
-    for (key, value) in keys.split_whitespace().zip(values) {
-        pairs.push((RcStr::from_str(alloc, key)?, value))?;
+/// The record of the keys between blanks, whose trees are on top.
+fn record(alloc: Global, keys: &str, stack: &mut Vec<Expr>) -> Answer {
+    if keys.is_empty() {
+        return trees::record(alloc, "record", "-", stack);
     }
-    Ok(pairs)
+    let keys = keys.replace(alloc, ' ', ",")?;
+    trees::record(alloc, "record", keys.as_str(), stack)
 }
 
 pub(crate) fn made(alloc: Global, text: &str, stack: &mut Vec<Expr>) -> Answer {
     let (verb, text) = cut(text);
     match verb {
-        "long" => push(alloc, stack, Ok::<_, AllocError>(long(text))),
-        "string" => push(alloc, stack, string(alloc, text)),
+        "long" => trees::leaf(alloc, "long", text, "", stack),
+        "string" => trees::leaf(alloc, "text", text, "", stack),
         "entity" => push(alloc, stack, entity(alloc, text)),
-        "list" => {
-            let items = taken(alloc, number(text), stack)?;
-            push(alloc, stack, Expr::set(alloc, items))
-        }
-        "record" => {
-            let pairs = keyed(alloc, text, stack)?;
-            push(alloc, stack, Expr::record(alloc, pairs))
-        }
-        _ => {
-            let call = call(alloc, text, stack);
-            push(alloc, stack, call)
-        }
+        "list" => trees::set(alloc, text, stack),
+        "record" => record(alloc, text, stack),
+        "call" => trees::call(alloc, text, "1", stack),
+        _ => no_case(alloc),
     }
 }
 
@@ -88,11 +59,16 @@ pub(crate) fn read(
         "uids" => uids_told(alloc, uids_of(alloc, &tree)),
         "question" => question_told(alloc, ask_body(alloc, &tree)),
         "bodies" => bodies_told(alloc, entity_bodies(alloc, &tree)),
-        _ => listed(alloc, tree, extensions, text.parse::<u32>().unwrap_or(0)),
+        "entities" => listed(alloc, tree, extensions, text),
+        _ => no_case(alloc),
     }
 }
 
-fn listed(alloc: Global, tree: Expr, extensions: &Extensions<'_, Ranks>, depth: u32) -> Answer {
+/// What it lists within the depth that the word writes.
+fn listed(alloc: Global, tree: Expr, extensions: &Extensions<'_, Ranks>, depth: &str) -> Answer {
+    let Ok(depth) = depth.parse::<u32>() else {
+        return no_case(alloc);
+    };
     match RestrictedExpr::new(alloc, tree) {
         Ok(body) => entities_told(
             alloc,

@@ -2,16 +2,16 @@
 use crate::devices::{Broken, Drip, Narrow};
 use crate::words::{bytes, one_line, plain};
 use cedar_frames::{Next, ReadFailed, Verb, Watched, next_frame, put, put_quoted, read_byte};
-use cedar_rows::{Answer, cut, number, tell};
-use std::alloc::Global;
+use cedar_rows::{Answer, cut, index, no_case, tell};
+use std::alloc::{AllocError, Global};
 use std::io::{Read, Write};
 
 pub(crate) fn answer(alloc: Global, text: &str) -> Answer {
     let (verb, text) = cut(text);
     match verb {
         "quoted" => quoted(alloc, text),
-        "put" => put_twice(alloc, number(text)),
-        "flush" => flushed(alloc, number(text)),
+        "put" => put_twice(alloc, text),
+        "flush" => flushed(alloc, text),
         "verb" => named(alloc, Verb::named(text.as_bytes())),
         _ => given(alloc, verb, text),
     }
@@ -20,29 +20,47 @@ pub(crate) fn answer(alloc: Global, text: &str) -> Answer {
 /// What a device gives for bytes by some steps.
 fn given(alloc: Global, device: &str, text: &str) -> Answer {
     let (steps, text) = cut(text);
+    if !steps.chars().all(is_step) {
+        return no_case(alloc);
+    }
     let given = bytes(alloc, text)?;
     match device {
         "whole" => by_steps(alloc, given.as_slice(), steps),
         "drip" => by_steps(alloc, Drip(given.as_slice()), steps),
-        _ => by_steps(alloc, Broken(given.as_slice()), steps),
+        "broken" => by_steps(alloc, Broken(given.as_slice()), steps),
+        _ => no_case(alloc),
     }
 }
 
-/// What a reader gives, by a letter for each call: `f` for the next frame, and `b` for a byte.
+/// A step is `f` for the next frame, or `b` for a byte.
+fn is_step(step: char) -> bool {
+    step == 'f' || step == 'b'
+}
+
+/// What a reader gives by each step, and whether it has failed.
 fn by_steps<R: Read + Drop>(alloc: Global, reader: R, steps: &str) -> Answer {
     let mut reader = Watched::new(reader);
     let mut text = String::new(alloc);
     for step in steps.chars() {
-        let found = if step == 'f' {
-            next_told(alloc, next_frame(alloc, &mut reader))?
-        } else {
-            tell(alloc, read_byte(&mut reader))?
-        };
-        text.push_str(found.as_str())?;
-        text.push_str("; ")?;
+        put_step(alloc, step, &mut reader, &mut text)?;
     }
     text.push_str(if reader.failed() { "failed" } else { "sound" })?;
     Ok(text)
+}
+
+fn put_step<R: Read + Drop>(
+    alloc: Global,
+    step: char,
+    reader: &mut Watched<R>,
+    text: &mut String,
+) -> Result<(), AllocError> {
+    let found = if step == 'f' {
+        next_told(alloc, next_frame(alloc, reader))?
+    } else {
+        tell(alloc, read_byte(reader))?
+    };
+    text.push_str(found.as_str())?;
+    text.push_str("; ")
 }
 
 fn next_told(alloc: Global, next: Result<Next, ReadFailed>) -> Answer {
@@ -68,7 +86,10 @@ fn quoted(alloc: Global, text: &str) -> Answer {
 }
 
 /// What a writer with this room takes of three texts, and whether it failed.
-fn put_twice(alloc: Global, room: usize) -> Answer {
+fn put_twice(alloc: Global, room: &str) -> Answer {
+    let Some(room) = index(room) else {
+        return no_case(alloc);
+    };
     let mut narrow = Narrow::with_room(alloc, room);
     let mut writer = Watched::new(&mut narrow);
     put(&mut writer, b"end\n");
@@ -80,7 +101,10 @@ fn put_twice(alloc: Global, room: usize) -> Answer {
 }
 
 /// Whether a writer with this room takes nothing, whether it then has failed, and the same of a flush.
-fn flushed(alloc: Global, room: usize) -> Answer {
+fn flushed(alloc: Global, room: &str) -> Answer {
+    let Some(room) = index(room) else {
+        return no_case(alloc);
+    };
     let mut writer = Watched::new(Narrow::with_room(alloc, room));
     let is_written = writer.write(b"").is_ok();
     let failed = writer.failed();

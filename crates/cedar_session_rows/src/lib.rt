@@ -76,16 +76,27 @@ fn begin_within<'e, 'f>(
     }
 }
 
-/// What a line answers. Refused for memory alone.
-pub fn answer(alloc: Global, line: &str, held: &mut Held<'_, '_>) -> Answer {
+/// Whether a session has a command of this verb.
+fn is_command(verb: &str) -> bool {
+    matches!(
+        verb,
+        "load"
+            | "link"
+            | "unlink"
+            | "remove-static"
+            | "remove-template"
+            | "add"
+            | "put"
+            | "remove"
+            | "ask"
+            | "tell"
+    )
+}
+
+fn answered(alloc: Global, line: &str, held: &mut Held<'_, '_>) -> Answer {
     let (verb, text) = cut(line);
     match verb {
-        "" => begin(alloc, held.tables.bare(), DEPTH, held),
         "session" => begin_within(alloc, held.tables.bare(), text, held),
-        "ranks" => match text {
-            "" => begin(alloc, held.tables.with_ranks(), DEPTH, held),
-            _ => no_case(alloc),
-        },
         "run" => runs::at_devices(text, &mut held.session),
         "program" => runs::of_program(alloc, text),
         "failure" => runs::of_failure(alloc, text),
@@ -93,6 +104,17 @@ pub fn answer(alloc: Global, line: &str, held: &mut Held<'_, '_>) -> Answer {
         "replies" => replies::answer(alloc, text),
         "tree" => bodies::made(alloc, text, &mut held.stack),
         "body" => bodies::read(alloc, text, held.tables.bare(), &mut held.stack),
-        _ => runs::of_command(verb, text, &mut held.session),
+        _ if is_command(verb) => runs::of_command(verb, text, &mut held.session),
+        _ => no_case(alloc),
+    }
+}
+
+/// What a line answers. Refused for memory alone.
+pub fn answer(alloc: Global, line: &str, held: &mut Held<'_, '_>) -> Answer {
+    match line {
+        "" => begin(alloc, held.tables.bare(), DEPTH, held),
+        "ranks" => begin(alloc, held.tables.with_ranks(), DEPTH, held),
+        _ if words::is_written(line) => answered(alloc, line, held),
+        _ => no_case(alloc),
     }
 }

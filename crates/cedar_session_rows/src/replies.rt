@@ -1,7 +1,7 @@
 // Lines that say what a command is answered.
 use crate::words::{one_line, plain};
 use cedar_replies::put_line;
-use cedar_rows::{Answer as Line, cut};
+use cedar_rows::{Answer as Line, cut, no_case};
 use cedar_session::{
     Answer, Decision, Erring, ErrorKind, PolicyID, PolicyIds, Refusal, Reply, Watched,
 };
@@ -17,7 +17,8 @@ pub(crate) fn answer(alloc: Global, text: &str) -> Line {
         "allow" => line(alloc, decided(alloc, Some(Decision::Allow), text)),
         "deny" => line(alloc, decided(alloc, Some(Decision::Deny), text)),
         "not-utf8" => line(alloc, Err(Refusal::NotUtf8)),
-        _ => line(alloc, Err(Refusal::from(AllocError))),
+        "memory" => line(alloc, Err(Refusal::from(AllocError))),
+        _ => no_case(alloc),
     }
 }
 

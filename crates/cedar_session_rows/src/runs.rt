@@ -2,7 +2,7 @@
 use crate::devices::{Asking, Broken, Drip, Faltering, Halting, Hearing, Narrow};
 use crate::ranks::Ranks;
 use crate::words::{bytes, one_line};
-use cedar_rows::{Answer, cut, number};
+use cedar_rows::{Answer, cut, index, no_case};
 use cedar_session::{End, RunError, Session, Watched, program, run, run_input};
 use std::alloc::{AllocError, Global};
 use std::cell::Cell;
@@ -48,54 +48,78 @@ pub(crate) fn of_command(verb: &str, body: &str, session: &mut Session<'_, '_, R
     }
 }
 
-/// A run over any bytes: whole, a byte at a time, with a reader that breaks behind them or once at each NUL, with
-/// a writer that has room for so many bytes or fails once, at a write or a flush, or at a client that waits for a
-/// line at each NUL.
+/// A run over any bytes, at a device that a word names.
 pub(crate) fn at_devices(text: &str, session: &mut Session<'_, '_, Ranks>) -> Answer {
-    let alloc = session.allocator();
     let (device, text) = cut(text);
     match device {
-        "narrow" => return at_narrow(text, session),
-        "client" => return at_client(text, session),
-        "faltering" => return at_faltering(text, session),
-        _ => {}
+        "narrow" => at_narrow(text, session),
+        "client" => at_client(text, session),
+        "faltering" => at_faltering(text, session),
+        _ => at_readers(device, text, session),
     }
+}
+
+/// A run over the bytes whole, a byte at a time, interrupted once at each NUL, or at a reader that breaks behind them.
+fn at_readers(device: &str, text: &str, session: &mut Session<'_, '_, Ranks>) -> Answer {
+    let alloc = session.allocator();
     let given = bytes(alloc, text)?;
+    match device {
+        "whole" => at_reader(given.as_slice(), session),
+        "drip" => at_reader(Drip(given.as_slice()), session),
+        "halting" => at_reader(Halting(given.as_slice()), session),
+        "broken" => at_reader(Broken(given.as_slice()), session),
+        _ => no_case(alloc),
+    }
+}
+
+fn at_reader<R: Read + Drop>(reader: R, session: &mut Session<'_, '_, Ranks>) -> Answer {
+    let alloc = session.allocator();
     let mut written = Vec::new(alloc);
-    let end = match device {
-        "whole" => ended(session, given.as_slice(), &mut written),
-        "drip" => ended(session, Drip(given.as_slice()), &mut written),
-        "halting" => ended(session, Halting(given.as_slice()), &mut written),
-        _ => ended(session, Broken(given.as_slice()), &mut written),
-    };
+    let end = ended(session, reader, &mut written);
     told(alloc, written.as_slice(), end)
 }
 
+/// A run whose writer has room for so many bytes.
 fn at_narrow(text: &str, session: &mut Session<'_, '_, Ranks>) -> Answer {
     let alloc = session.allocator();
     let (room, text) = cut(text);
+    let Some(room) = index(room) else {
+        return no_case(alloc);
+    };
     let given = bytes(alloc, text)?;
-    let mut narrow = Narrow::with_room(alloc, number(room));
+    let mut narrow = Narrow::with_room(alloc, room);
     let end = ended(session, given.as_slice(), &mut narrow);
     told(alloc, narrow.taken.as_slice(), end)
 }
 
-/// A run whose writer fails once: `write` behind so many bytes, or `flush` behind so many others.
+/// A writer that fails once: at a `write` behind so many bytes, or at a `flush` behind so many others.
+fn faltering(alloc: Global, call: &str, count: &str) -> Option<Faltering> {
+    let before = Some(index(count)?);
+    let (bytes, flushes) = match call {
+        "write" => (before, None),
+        "flush" => (None, before),
+        _ => return None,
+    };
+    Some(Faltering {
+        taken: Vec::new(alloc),
+        bytes,
+        flushes,
+    })
+}
+
 fn at_faltering(text: &str, session: &mut Session<'_, '_, Ranks>) -> Answer {
     let alloc = session.allocator();
     let (call, text) = cut(text);
     let (count, text) = cut(text);
     let given = bytes(alloc, text)?;
-    let before = Some(number(count));
-    let mut faltering = Faltering {
-        taken: Vec::new(alloc),
-        bytes: if call == "write" { before } else { None },
-        flushes: if call == "flush" { before } else { None },
+    let Some(mut faltering) = faltering(alloc, call, count) else {
+        return no_case(alloc);
     };
     let end = ended(session, given.as_slice(), &mut faltering);
     told(alloc, faltering.taken.as_slice(), end)
 }
 
+/// A run at a client that waits for a line at each NUL.
 fn at_client(text: &str, session: &mut Session<'_, '_, Ranks>) -> Answer {
     let alloc = session.allocator();
     let given = bytes(alloc, text)?;
@@ -113,7 +137,8 @@ fn at_client(text: &str, session: &mut Session<'_, '_, Ranks>) -> Answer {
 pub(crate) fn of_failure(alloc: Global, device: &str) -> Answer {
     match device {
         "reader" => RunError::Read.to_string(alloc),
-        _ => RunError::Write.to_string(alloc),
+        "writer" => RunError::Write.to_string(alloc),
+        _ => no_case(alloc),
     }
 }
 
@@ -137,34 +162,42 @@ fn status_told(alloc: Global, status: u8, written: &[u8], errors: &[u8]) -> Answ
     format!(in alloc; "{status}|{written}|{errors}")
 }
 
+/// The program's work over an input in memory.
+fn in_memory(alloc: Global, given: &[u8]) -> Answer {
+    let outcome = run_input(alloc, given)?;
+    status_told(alloc, outcome.status, outcome.text.as_slice(), b"")
+}
+
+/// The program's work with so many arguments.
+fn with_arguments(alloc: Global, arguments: usize, given: &[u8]) -> Answer {
+    let mut written = Vec::new(alloc);
+    let mut errors = Vec::new(alloc);
+    let status = status(alloc, arguments, given, &mut written, &mut errors);
+    status_told(alloc, status, written.as_slice(), errors.as_slice())
+}
+
+/// The program's work at a writer that has room for so many bytes.
+fn within_room<R: Read + Drop>(alloc: Global, room: usize, reader: R) -> Answer {
+    let mut narrow = Narrow::with_room(alloc, room);
+    let mut errors = Vec::new(alloc);
+    let status = status(alloc, 0, reader, &mut narrow, &mut errors);
+    status_told(alloc, status, narrow.taken.as_slice(), errors.as_slice())
+}
+
 /// The program's work with so many arguments; or with none, over an input in memory, or at a writer that has room
 /// for so many bytes and at a reader that breaks behind its bytes or does not.
 pub(crate) fn of_program(alloc: Global, text: &str) -> Answer {
     let (device, text) = cut(text);
     let (count, text) = cut(text);
-    let given = bytes(alloc, text)?;
-    let mut errors = Vec::new(alloc);
-    if device == "memory" {
-        let outcome = run_input(alloc, given.as_slice())?;
-        return status_told(
-            alloc,
-            outcome.status,
-            outcome.text.as_slice(),
-            errors.as_slice(),
-        );
-    }
-    if device == "whole" {
-        let mut written = Vec::new(alloc);
-        let given = given.as_slice();
-        let status = status(alloc, number(count), given, &mut written, &mut errors);
-        return status_told(alloc, status, written.as_slice(), errors.as_slice());
-    }
-    let mut narrow = Narrow::with_room(alloc, number(count));
-    let status = if device == "narrow" {
-        status(alloc, 0, given.as_slice(), &mut narrow, &mut errors)
-    } else {
-        let broken = Broken(given.as_slice());
-        status(alloc, 0, broken, &mut narrow, &mut errors)
+    let Some(count) = index(count) else {
+        return no_case(alloc);
     };
-    status_told(alloc, status, narrow.taken.as_slice(), errors.as_slice())
+    let given = bytes(alloc, text)?;
+    match device {
+        "memory" => in_memory(alloc, given.as_slice()),
+        "whole" => with_arguments(alloc, count, given.as_slice()),
+        "narrow" => within_room(alloc, count, given.as_slice()),
+        "broken" => within_room(alloc, count, Broken(given.as_slice())),
+        _ => no_case(alloc),
+    }
 }

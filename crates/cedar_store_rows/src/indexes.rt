@@ -1,7 +1,6 @@
 // The index of scopes of the set at hand, and the policies at its positions.
 use crate::words::{Answer, Case, done, no_case, text, told, uid};
 use cedar_literals::uids::EntityUID;
-use cedar_names::errors::ParseNameError;
 use cedar_scope_index::index::ScopeIndex;
 use cedar_scope_index::positions::Positions;
 use cedar_store::ast::{Policy, PolicySet};
@@ -15,12 +14,16 @@ fn listed(alloc: Global, positions: &[usize]) -> Answer {
     Ok(text)
 }
 
-/// Those of each variable that stand under the entity.
-fn under(alloc: Global, index: &ScopeIndex, uid: Result<EntityUID, ParseNameError>) -> Answer {
-    let uid = uid?;
-    let principals = listed(alloc, index.principals().at(&uid))?;
-    let actions = listed(alloc, index.actions().at(&uid))?;
-    let resources = listed(alloc, index.resources().at(&uid))?;
+/// Those of each variable that stand under the entity of this word.
+fn under(alloc: Global, index: &ScopeIndex, word: &str) -> Answer {
+    let uid = uid(alloc, word)?;
+    under_uid(alloc, index, &uid)
+}
+
+fn under_uid(alloc: Global, index: &ScopeIndex, uid: &EntityUID) -> Answer {
+    let principals = listed(alloc, index.principals().at(uid))?;
+    let actions = listed(alloc, index.actions().at(uid))?;
+    let resources = listed(alloc, index.resources().at(uid))?;
     Ok(format!(in alloc; "{principals}/{actions}/{resources}")?)
 }
 
@@ -48,7 +51,7 @@ pub(crate) fn answer(alloc: Global, case: &Case<'_>, set: &mut PolicySet) -> Ans
         "len" => told(alloc, &set.scopes().len()),
         "others" => listed(alloc, set.scopes().others()),
         "parts" => by_parts(alloc, set.scopes()),
-        "under" => under(alloc, set.scopes(), uid(alloc, case.one)),
+        "under" => under(alloc, set.scopes(), case.one),
         "at" => match case.one.parse::<usize>() {
             Ok(position) => policy_id(alloc, set.policy_at(position)),
             Err(_) => no_case(alloc),

@@ -42,21 +42,28 @@ fn annotation(alloc: Global, value: &str) -> Result<Annotation, AllocError> {
 }
 
 fn annotated(alloc: Global, key: &str, value: &str) -> Result<Annotations, ParseNameError> {
+    let key = AnyId::from_normalized_str(alloc, key)?;
+    let annotation = annotation(alloc, value)?;
     let mut entries = BTreeMap::new(alloc);
-    entries.insert(
-        AnyId::from_normalized_str(alloc, key)?,
-        annotation(alloc, value)?,
-    )?;
+    entries.insert(key, annotation)?;
     Ok(Annotations::from(entries))
+}
+
+type Pairs = Vec<(AnyId, Annotation)>;
+
+/// Puts the key of a word with its value behind the others.
+fn put_pair(alloc: Global, word: &str, pairs: &mut Pairs) -> Result<(), ParseNameError> {
+    let (key, value) = word.split_once('.').unwrap_or((word, ""));
+    let key = AnyId::from_normalized_str(alloc, key)?;
+    pairs.push((key, annotation(alloc, value)?))?;
+    Ok(())
 }
 
 /// Those of keys and values with dots between them, in their order.
 fn all_annotated(alloc: Global, words: &str) -> Result<Annotations, ParseNameError> {
     let mut pairs = Vec::new(alloc);
     for word in words.split(',') {
-        let (key, value) = word.split_once('.').unwrap_or((word, ""));
-        let key = AnyId::from_normalized_str(alloc, key)?;
-        pairs.push((key, annotation(alloc, value)?))?;
+        put_pair(alloc, word, &mut pairs)?;
     }
     Ok(Annotations::from_iter(alloc, pairs)?)
 }
@@ -172,10 +179,19 @@ pub fn resource(alloc: Global, case: &Case<'_>, at: &mut ResourceConstraint) -> 
     }
 }
 
+fn put_shared(
+    alloc: Global,
+    word: &str,
+    all: &mut Vec<Rc<EntityUID>>,
+) -> Result<(), ParseNameError> {
+    all.push(shared(alloc, word)?)?;
+    Ok(())
+}
+
 fn all_shared(alloc: Global, words: &str) -> Result<Vec<Rc<EntityUID>>, ParseNameError> {
     let mut all = Vec::new(alloc);
     for word in words.split(',') {
-        all.push(shared(alloc, word)?)?;
+        put_shared(alloc, word, &mut all)?;
     }
     Ok(all)
 }

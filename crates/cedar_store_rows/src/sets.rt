@@ -75,18 +75,25 @@ fn replaced(alloc: Global, at: &mut PolicySet, made: Result<PolicySet, PolicySet
 
 /// The policy is put aside, or the set is made of it alone, or of those that were put aside.
 pub fn collect(alloc: Global, verb: &str, policy: &mut Option<Policy>, held: &mut Sets) -> Answer {
-    match (verb, policy.take()) {
-        ("aside", Some(policy)) => {
+    match policy.take() {
+        Some(policy) => put_aside(alloc, verb, policy, held),
+        None if verb == "all" => {
+            let aside = mem::replace(&mut held.aside, Vec::new(alloc));
+            let set = PolicySet::try_from_iter(alloc, aside);
+            replaced(alloc, &mut held.set, set)
+        }
+        None => no_case(alloc),
+    }
+}
+
+fn put_aside(alloc: Global, verb: &str, policy: Policy, held: &mut Sets) -> Answer {
+    match verb {
+        "aside" => {
             held.aside.push(policy)?;
             text(alloc, "ok")
         }
-        ("single", Some(policy)) => {
+        "single" => {
             let set = PolicySet::singleton(alloc, policy);
-            replaced(alloc, &mut held.set, set)
-        }
-        ("all", None) => {
-            let aside = mem::replace(&mut held.aside, Vec::new(alloc));
-            let set = PolicySet::try_from_iter(alloc, aside);
             replaced(alloc, &mut held.set, set)
         }
         _ => no_case(alloc),

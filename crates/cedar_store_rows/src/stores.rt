@@ -72,10 +72,10 @@ pub(crate) fn fill(
     held: &mut Stores,
 ) -> Answer {
     let at = &mut held.store;
-    let entities = all(alloc, entities);
     let Some(computation) = computation(verb) else {
         return no_case(alloc);
     };
+    let entities = all(alloc, entities);
     match verb {
         "add" => {
             let edited = taken(alloc, at).add_entities(alloc, entities, computation);
@@ -97,9 +97,9 @@ pub(crate) fn fill(
 /// Entities are removed, or those that aren't held are unknown from now on.
 pub(crate) fn edit(alloc: Global, case: &Case<'_>, held: &mut Stores) -> Answer {
     let at = &mut held.store;
-    let gone = uids(alloc, case.one)?;
     match case.verb {
         "remove" => {
+            let gone = uids(alloc, case.one)?;
             let store = taken(alloc, at);
             let edited = store.remove_entities(alloc, &gone, TCComputation::ComputeNow);
             kept(alloc, at, edited)

@@ -6,8 +6,8 @@ use cedar_extensions::extensions::Extensions;
 use cedar_literals::slots::Slot;
 use cedar_policy_parts::ExpectedStaticPolicy;
 use cedar_store::ast::{
-    Annotations, Effect, EntityUID, Policy, PolicyID, SlotEnv, StaticPolicy, Template,
-    TemplateBody, TemplateValidationError, UnexpectedSlotError,
+    Annotations, Effect, EntityUID, LinkingError, Policy, PolicyID, SlotEnv, StaticPolicy,
+    Template, TemplateBody, TemplateValidationError, UnexpectedSlotError,
 };
 use cedar_store::prelude::{FromIn, TemplateLinks};
 use cedar_trees::expr::Expr;
@@ -56,13 +56,17 @@ fn effect(word: &str) -> Option<Effect> {
     }
 }
 
+/// The template of the scope at hand, whose clause is the topmost expression.
 fn template(
     alloc: Global,
-    id: PolicyID,
+    id: &str,
     effect: Effect,
-    scope: Scope,
-    clause: Option<Expr>,
+    scope: &mut Scope,
+    stack: &mut Stack,
 ) -> Result<Template, AllocError> {
+    let id = PolicyID::from_string(alloc, id)?;
+    let scope = mem::replace(scope, scopes::any(alloc));
+    let clause = stack.pop();
     Template::new(
         alloc,
         id,
@@ -76,13 +80,17 @@ fn template(
     )
 }
 
+/// The static policy of the same.
 fn static_policy(
     alloc: Global,
-    id: PolicyID,
+    id: &str,
     effect: Effect,
-    scope: Scope,
-    clause: Option<Expr>,
+    scope: &mut Scope,
+    stack: &mut Stack,
 ) -> Result<StaticPolicy, UnexpectedSlotError> {
+    let id = PolicyID::from_string(alloc, id)?;
+    let scope = mem::replace(scope, scopes::any(alloc));
+    let clause = stack.pop();
     StaticPolicy::new(
         alloc,
         id,
@@ -104,16 +112,13 @@ pub fn make(
     stack: &mut Stack,
     held: &mut Policies,
 ) -> Answer {
-    let id = PolicyID::from_string(alloc, case.one)?;
-    let scope = mem::replace(scope, scopes::any(alloc));
-    let clause = stack.pop();
     match (case.verb, effect(case.two)) {
         ("template", Some(effect)) => {
-            let template = template(alloc, id, effect, scope, clause);
+            let template = template(alloc, case.one, effect, scope, stack);
             keep(alloc, &mut held.template, template)
         }
         ("static", Some(effect)) => {
-            let own = static_policy(alloc, id, effect, scope, clause);
+            let own = static_policy(alloc, case.one, effect, scope, stack);
             keep(alloc, &mut held.own, own)
         }
         _ => no_case(alloc),
@@ -127,14 +132,17 @@ pub fn clause(
     stack: &mut Stack,
     at: &mut Option<Policy>,
 ) -> Answer {
+    let Some(effect) = effect(case.verb) else {
+        return no_case(alloc);
+    };
     let id = PolicyID::from_string(alloc, case.one)?;
-    match (effect(case.verb), stack.pop()) {
-        (Some(effect), Some(when)) => keep(
+    match stack.pop() {
+        Some(when) => keep(
             alloc,
             at,
             Policy::from_when_clause(alloc, effect, when, id, None),
         ),
-        _ => no_case(alloc),
+        None => no_case(alloc),
     }
 }
 
@@ -142,10 +150,12 @@ fn from_clause(
     alloc: Global,
     effect: Effect,
     when: Expr,
-    id: PolicyID,
-    annotations: Annotations,
+    id: &str,
+    annotations: &mut Annotations,
 ) -> Result<Policy, AllocError> {
     let when = Rc::new(alloc, when)?;
+    let id = PolicyID::from_string(alloc, id)?;
+    let annotations = mem::replace(annotations, Annotations::new(alloc));
     let annotations = Rc::new(alloc, annotations)?;
     Policy::from_when_clause_annos(alloc, effect, when, id, None, annotations)
 }
@@ -158,14 +168,15 @@ pub fn annotated(
     stack: &mut Stack,
     held: &mut Policies,
 ) -> Answer {
-    let id = PolicyID::from_string(alloc, case.one)?;
-    let annotations = mem::replace(&mut scope.annotations, Annotations::new(alloc));
-    match (effect(case.verb), stack.pop()) {
-        (Some(effect), Some(when)) => {
-            let policy = from_clause(alloc, effect, when, id, annotations);
+    let Some(effect) = effect(case.verb) else {
+        return no_case(alloc);
+    };
+    match stack.pop() {
+        Some(when) => {
+            let policy = from_clause(alloc, effect, when, case.one, &mut scope.annotations);
             keep(alloc, &mut held.policy, policy)
         }
-        _ => no_case(alloc),
+        None => no_case(alloc),
     }
 }
 
@@ -232,6 +243,11 @@ fn listed_slots(alloc: Global, slots: &[Slot]) -> Answer {
     Ok(text)
 }
 
+fn of_copied_body(alloc: Global, template: &Template) -> Result<Template, AllocError> {
+    let body = template.body().clone(alloc)?;
+    Template::from_in(alloc, body)
+}
+
 /// What is asked of the template.
 pub fn ask(
     alloc: Global,
@@ -253,10 +269,7 @@ pub fn ask(
             keep(alloc, &mut held.second, template.new_id(alloc, id))
         }
         "copy" => keep(alloc, &mut held.second, template.clone(alloc)),
-        "of-body" => {
-            let body = template.body().clone(alloc)?;
-            keep(alloc, &mut held.second, Template::from_in(alloc, body))
-        }
+        "of-body" => keep(alloc, &mut held.second, of_copied_body(alloc, template)),
         _ => match &held.second {
             Some(second) => of_two(alloc, case.verb, template, second),
             None => no_case(alloc),
@@ -294,19 +307,29 @@ pub fn lend(alloc: Global, held: &mut Policies) -> Answer {
     keep(alloc, &mut held.template, template)
 }
 
+fn linked(
+    alloc: Global,
+    template: Rc<Template>,
+    id: &str,
+    bindings: &mut SlotEnv,
+) -> Result<Policy, LinkingError> {
+    let id = PolicyID::from_string(alloc, id)?;
+    let bindings = mem::replace(bindings, SlotEnv::new());
+    Template::link(alloc, template, id, bindings)
+}
+
 /// What was shared is made a policy, by its own id or by another one and bindings.
 pub fn link(alloc: Global, case: &Case<'_>, bindings: &mut SlotEnv, held: &mut Policies) -> Answer {
-    let id = PolicyID::from_string(alloc, case.one)?;
     let Some(template) = held.shared.take() else {
         return no_case(alloc);
     };
-    let at = &mut held.policy;
     match case.verb {
-        "link" => {
-            let bindings = mem::replace(bindings, SlotEnv::new());
-            keep(alloc, at, Template::link(alloc, template, id, bindings))
-        }
-        "as-policy" => keep(alloc, at, Template::try_as_policy(template)),
+        "link" => keep(
+            alloc,
+            &mut held.policy,
+            linked(alloc, template, case.one, bindings),
+        ),
+        "as-policy" => keep(alloc, &mut held.policy, Template::try_as_policy(template)),
         _ => no_case(alloc),
     }
 }

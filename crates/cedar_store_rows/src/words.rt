@@ -140,12 +140,17 @@ pub fn uid(alloc: Global, word: &str) -> Result<EntityUID, ParseNameError> {
     EntityUID::with_eid_and_type(alloc, entity_type, id)
 }
 
+fn put_uid(alloc: Global, word: &str, all: &mut HashSet<EntityUID>) -> Result<(), ParseNameError> {
+    all.insert(uid(alloc, word)?)?;
+    Ok(())
+}
+
 /// Those of the words between commas.
 pub fn uids(alloc: Global, words: &str) -> Result<HashSet<EntityUID>, ParseNameError> {
     let mut all = HashSet::new(alloc);
     for word in words.split(',') {
         if !word.is_empty() {
-            all.insert(uid(alloc, word)?)?;
+            put_uid(alloc, word, &mut all)?;
         }
     }
     Ok(all)
