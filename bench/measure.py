@@ -113,6 +113,21 @@ def grants(held):
     return frame('put', '[' + users + ']') + frame('load', text)
 
 
+def many_grants(held, each=10_000):
+    """The same by texts and lists of so many; all users are in one of as many groups as ten grants have each."""
+    for first in range(0, held, each):
+        numbers = range(first, min(first + each, held))
+        users = ', '.join('{uid: User::"u%d", parents: [Group::"g%d"]}' % (n, n // 10) for n in numbers)
+        grant = 'permit(principal in Group::"g%d", action == Action::"view", resource == Photo::"p%d");\n'
+        yield frame('put', '[' + users + ']')
+        yield frame('load', ''.join(grant % (n // 10, n) for n in numbers))
+
+
+def early_ask(held):
+    n = held // 2
+    return frame('ask', '{principal: User::"u%d", resource: Photo::"p%d", context: {}}' % (n, n))
+
+
 def ask_of_grants(held):
     n = held // 2
     return frame('ask', '{principal: User::"u%d", action: Action::"view", resource: Photo::"p%d", context: {}}' % (n, n))
@@ -122,6 +137,10 @@ def single():
     """A run without a command and one with many, and how many there are."""
     for held, count in ((10, 20_000), (100, 10_000), (1000, 1000), (10_000, 100)):
         yield 'an ask, %s grants' % format(held, ','), grants(held), grants(held) + ask_of_grants(held) * count, count
+    held = 100_000
+    before = b''.join(many_grants(held))
+    yield 'the first ask over 100,000 grants', before, before + ask_of_grants(held), 1
+    yield 'one without an action, 100,000 grants', before + ask_of_grants(held), before + ask_of_grants(held) + early_ask(held) * 1000, 1000
     user = '[{uid: User::"u7", attrs: {level: 50}}]'
     ask = frame('ask', ASK.replace('{}', '{hour: 9}'))
     for held, count in ((10, 20_000), (100, 10_000), (1000, 1000)):

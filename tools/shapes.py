@@ -1,10 +1,10 @@
 #!/usr/bin/env python3
 """shapes.py --program PATH [--seconds N] [NAME..]: runs the program over bodies of 1,048,576 bytes of one shape each, by `load`,
 `put` and `ask`, and over 100,000 attributes, 100,000 parents, 10,000 unknowns and 30,000 policies, under a stack of 8 MiB and in
-2 GB of memory, and over the deepest clauses and bodies that the limit lets stand under a stack of 2 MiB; or over those that are
-named. Each must be answered by one of the lines that its shape allows, the `ask {}` behind it as its shape says, and else as in a
-session that never read it, and the last line must be `end`; none may take longer than N seconds (20 where none are given). Prints
-what each took, and fails where one isn't so."""
+2 GB of memory, and over the deepest clauses and bodies that the limit lets stand under a stack of 1 MiB (2 MiB where operators of
+all kinds stand in each level); or over those that are named. Each must be answered by one of the lines that its shape allows, the
+`ask {}` behind it as its shape says, and else as in a session that never read it, and the last line must be `end`; none may take
+longer than N seconds (20 where none are given). Prints what each took, and fails where one isn't so."""
 
 import argparse
 import resource
@@ -17,7 +17,7 @@ sys.dont_write_bytecode = True
 from cases import frame
 
 SIZE = 1048576
-STACK, SMALL_STACK, MEMORY = 8 << 20, 2 << 20, 2 << 30
+STACK, SMALL_STACK, MEMORY = 8 << 20, 1 << 20, 2 << 30
 VERBS = ("load", "put", "ask")
 REFUSED = ("refused Text", "refused Depth")
 CLAUSE = b"permit(principal, action, resource) when {"
@@ -81,6 +81,7 @@ DEEP_CLAUSES = {
     "sums": (b"1 + (", b"1", b")", ERRED),
     "products": (b"1 * (", b"1", b")", ERRED),
     "accesses": (b"(", b"{}", b").a", "deny must=[] may=[] erring="),
+    "operators": (b"true || true && 1 < 1 + 1 * -(", b"1", b")", ALLOWED),
 }
 
 # The same of a body, in which it stands as the value of an attribute, and the line that the body is answered.
@@ -169,7 +170,8 @@ def deep():
     for name, (opens, inner, closes, asked) in DEEP_CLAUSES.items():
         body = CLAUSE + nested(opens, inner, closes, 0) + b"};"
         allowed = ("refused Text",) if asked is None else ('ok ["policy0"]',)
-        yield f"load-deep-{name}", "load", body, allowed, asked or "", SMALL_STACK
+        stack = 2 * SMALL_STACK if name == "operators" else SMALL_STACK
+        yield f"load-deep-{name}", "load", body, allowed, asked or "", stack
     for name, (opens, inner, closes, told) in DEEP_BODIES.items():
         asked = b"{context: {a: " + nested(opens, inner, closes, 2) + b"}}"
         yield f"ask-deep-{name}", "ask", asked, (told or DENIED,), "", SMALL_STACK
