@@ -2,7 +2,6 @@
 use Rattle.std.proofs.Common.{◌≡◌, ◌∙◌, ◌<◌, ℕ, ap, sym, subst, Bool, true, false, not, is_some, Some, None, Global, Ok, Err}
 use Rattle.std.specs.BTreeMap.{BTreeMap}
 use Rattle.std.specs.FinMap as finite
-use Rattle.std.specs.HashMap.{HashMap}
 use Rattle.std.specs.Prelude.{Result}
 use Rattle.std.specs.declared.rc.RcStr.{RcStr}
 use Rattle.cedar_language.specs.Height.{height}
@@ -33,10 +32,10 @@ use Rattle.cedar_asking.proofs.TellParts.{each_uncalled, record_higher, fields_n
 same_question : (p q : Question) → Some p ≡ Some q → p ≡ q
 same_question p q e = cc
 
-module _ (S : Type 0) (told : HashMap (RcStr Global) Value S) (table : Table) (depth : ℕ) (tree asks : Tree) where
+module _ (told : BTreeMap (RcStr Global) Value) (table : Table) (depth : ℕ) (tree asks : Tree) where
   -- this is what the body tells for the question that is stated
-  abbrev pub Answers : Result (HashMap (RcStr Global) Value S) Refusal → Type 0
-  Answers result = (by : Setting) (q : Question) → Serves table by (holds_call tree) → ask_body asks ≡ Some q → TellsBody {S = S} by q (told_in told.entries) depth tree result
+  abbrev pub Answers : Result (BTreeMap (RcStr Global) Value) Refusal → Type 0
+  Answers result = (by : Setting) (q : Question) → Serves table by (holds_call tree) → ask_body asks ≡ Some q → TellsBody by q (told_in told.entries) depth tree result
 
   module _ (fs : Fields) (is : tree ≡ record_tree fs) where
     tells : tell_body tree ≡ Some (named_all fs)
@@ -95,7 +94,7 @@ module _ (S : Type 0) (told : HashMap (RcStr Global) Value S) (table : Table) (d
               let are = values_are by serves in
               (named_all fs, tells, (new by q serves a, (are.given, are.are, sym (misfits_are q are.given) ∙ ap (some_misfit q) (sym are.seen) ∙ misfits true h by q serves a)))
 
-          pub all_told : some_misfit (question_of b) (seen_entries values.entries) ≡ false → (all : HashMap (RcStr Global) Value S) → told_in all.entries ≡ with_attributes (told_in told.entries) (seen_entries values.entries) → Answers (Ok all)
+          pub all_told : some_misfit (question_of b) (seen_entries values.entries) ≡ false → (all : BTreeMap (RcStr Global) Value) → told_in all.entries ≡ with_attributes (told_in told.entries) (seen_entries values.entries) → Answers (Ok all)
           all_told h all put by q serves a =
               let are = values_are by serves in
               let held = evaluated.hold_values in (

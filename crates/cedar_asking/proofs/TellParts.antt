@@ -3,7 +3,7 @@ use Rattle.std.proofs.Common.{◌≡◌, ◌∙◌, ◌≤◌, ◌<◌, ℕ, suc
 use Rattle.std.specs.Borrow.{Bor}
 use Rattle.std.specs.Cmp.Lexicographic.{bytes_decides, nat_list_eq_equiv}
 use Rattle.std.specs.FinMap as finite
-use Rattle.std.specs.BTreeMap.{BTreeMap}
+use Rattle.std.specs.BTreeMap.{BTreeMap, is_at}
 use Rattle.std.specs.List.{AllZip}
 use Rattle.std.specs.Option.{IfSome}
 use Rattle.std.specs.Map.{lookup, KeepsOthers}
@@ -36,6 +36,7 @@ use Rattle.cedar_world.specs.Values.{some_field}
 use Rattle.cedar_entities.specs.Attributes.{Attribute, Entries, seen_entries}
 use Rattle.cedar_restricted.specs.PartialValues.{partial_of}
 use Rattle.cedar_restricted.specs.declared.partial_values.PartialValue.{PartialValue}
+use Rattle.cedar_substitution.proofs.Lookups.{key_cmp, same_key, looked_up, keeps_texts}
 use Rattle.cedar_held.specs.Entities.{named_all}
 use Rattle.cedar_held.specs.Fields.{unrestricted, deeper, as_entries}
 use Rattle.cedar_held.specs.Lent.{fields_in}
@@ -159,9 +160,6 @@ find_at n (e ∷ es) = λ i. cond (is_eq-slice_cmp n (rc_str_bytes e.0) i) (Some
 pub told_at : (n : Text) (es : Values) → finite.get (told_in es) n ≡ value_at n es
 told_at n es = finite.get-from_entries text_cmp_total (map (λ (e : RcStr Global × Value). (rc_str_bytes e.0, e.1)) es) n ∙ find_at n es
 
-abbrev pub same_key : RcStr Global → RcStr Global → Bool
-same_key k l = bytes_eq (rc_str_bytes k) (rc_str_bytes l)
-
 texts_differ : (k n l : Text) → bytes_eq k n ≡ false → bytes_eq k l ≡ true → bytes_eq n l ≡ false
 texts_differ k n l differs same = ap (bytes_eq n) (sym ((bytes_decides k l).0 same)) ∙ nat_list_eq_equiv.symm n k ∙ differs
 
@@ -171,12 +169,12 @@ value_after true k w old new n is here keeps = ap (λ m. value_at m new) (sym ((
 value_after false k w old new n is here keeps =
     keeps (λ l. bytes_eq n (rc_str_bytes l)) (λ x y. nat_list_eq_equiv.congr n (rc_str_bytes x) (rc_str_bytes y)) (λ l same. texts_differ (rc_str_bytes k) n (rc_str_bytes l) is same)
 
-pub told_more : (k : RcStr Global) (v : Value) (old new : Values) → lookup (same_key k) new ≡ Some v → KeepsOthers same_key (same_key k) old new → told_in new ≡ finite.insert (told_in old) (rc_str_bytes k) v
+pub told_more : (k : RcStr Global) (v : Value) (old new : Values) → lookup (is_at (key_cmp k)) new ≡ Some v → KeepsOthers (eq_by_cmp key_cmp) (is_at (key_cmp k)) old new → told_in new ≡ finite.insert (told_in old) (rc_str_bytes k) v
 told_more k v old new here keeps = finite.same_map text_cmp_total text_cmp_same _ _ (λ n.
     let turned : bytes_eq (rc_str_bytes k) n ≡ eq_by_cmp text_cmp n (rc_str_bytes k) = nat_list_eq_equiv.symm (rc_str_bytes k) n ∙ sym (is_eq-slice_cmp n (rc_str_bytes k)) in
     let before = sym (told_at n old) in
     told_at n new
-    ∙ value_after (bytes_eq (rc_str_bytes k) n) k (Some v) old new n refl here keeps
+    ∙ value_after (bytes_eq (rc_str_bytes k) n) k (Some v) old new n refl (sym (looked_up (rc_str_bytes k) new) ∙ here) (keeps_texts k old new keeps)
     ∙ (λ i. cond (turned i) (Some v) (before i))
     ∙ sym (finite.get-insert text_cmp_total (told_in old) (rc_str_bytes k) v n))
 

@@ -1,7 +1,7 @@
 -- Values told for the unknowns of a question, and the body that tells more.
 use Rattle.std.specs.Prelude.{◌≡◌, ◌<◌, ⊤, ℕ, Bool, true, false, not, Some, None, is_some, Result, Ok, Err, List, map}
+use Rattle.std.specs.BTreeMap.{BTreeMap}
 use Rattle.std.specs.FinMap as finite
-use Rattle.std.specs.HashMap.{HashMap}
 use Rattle.std.specs.Rc.{rc_str_bytes}
 use Rattle.std.specs.declared.alloc.Global.{Global}
 use Rattle.std.specs.declared.rc.RcStr.{RcStr}
@@ -69,7 +69,7 @@ abbrev pub Tells : Tree → (Fields → Type 0) → Type 0
 Tells tree Holds = (fs : Fields) × (tell_body tree ≡ Some fs) × Holds fs
 
 -- all that is told with what a body tells for a question, or why it tells nothing; want of memory says nothing
-abbrev pub TellsBody : {S : Type 0} → Setting → Question → Told → ℕ → Tree → Result (HashMap (RcStr Global) Value S) Refusal → Type 0
+abbrev pub TellsBody : Setting → Question → Told → ℕ → Tree → Result (BTreeMap (RcStr Global) Value) Refusal → Type 0
 TellsBody by q told depth tree (Ok all) = Tells tree (λ fs. TellMore by q told fs (told_in all.entries))
 TellsBody by q told depth tree (Err refusal.Shape) = tell_body tree ≡ None
 TellsBody by q told depth tree (Err refusal.Evaluation) = Tells tree (λ fs. err by q told fs ≡ true)

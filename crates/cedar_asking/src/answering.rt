@@ -40,7 +40,7 @@ use cedar_replies::{Answer, Erring, PolicyIds, Refusal};
 use cedar_requests::Request;
 use cedar_values::values::Value;
 use std::alloc::{AllocError, Global};
-use std::collections::HashMap;
+use std::collections::BTreeMap;
 use std::rc::RcStr;
 
 // The policies that must be reasons and those that may be, as a response tells them; where no policy is open,
@@ -124,7 +124,7 @@ fn why_not_told(error: &ReauthorizationError) -> Refusal
 pub fn answer_told<F: ExtensionFunctionObject>(
     alloc: Global,
     first: &PartialResponse,
-    told: &HashMap<RcStr, Value>,
+    told: &BTreeMap<RcStr, Value>,
     last: &Answer,
     entities: &Entities,
     extensions: &Extensions<'_, F>,

@@ -24,7 +24,7 @@ use cedar_restricted::restricted::RestrictedExpr;
 use cedar_trees::expr::{Expr, ExprKind};
 use cedar_values::values::Value;
 use std::alloc::{AllocError, Global};
-use std::collections::{BTreeMap, HashMap};
+use std::collections::BTreeMap;
 use std::rc::RcStr;
 
 fn push_name<'e>(names: &mut Vec<&'e str>, name: &'e str) -> Result<(), AllocError>
@@ -139,7 +139,7 @@ fn names_asked(alloc: Global, body: &RestrictedExpr) -> Result<Vec<&str>, AllocE
 fn without_told<'n>(
     alloc: Global,
     names: &[&'n str],
-    told: &HashMap<RcStr, Value>,
+    told: &BTreeMap<RcStr, Value>,
 ) -> Result<Vec<&'n str>, AllocError>
     ensures { IfOk result (λ left. map (λ n. n.now) left.items ≡ filter (λ n. not (is_some (finite.get (told_in told.now.entries) n))) (map (λ n. n.now) names.now)) }
 {
@@ -158,7 +158,7 @@ fn without_told<'n>(
 pub fn untold_names<'q>(
     alloc: Global,
     question: &'q RestrictedExpr,
-    told: &HashMap<RcStr, Value>,
+    told: &BTreeMap<RcStr, Value>,
 ) -> Result<Vec<&'q str>, AllocError>
     ensures { IfOk result (λ names. AreUntoldOf (restricted_tree question.now) (told_in told.now.entries) (map (λ n. n.now) names.items)) }
 {

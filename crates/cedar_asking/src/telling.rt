@@ -28,7 +28,7 @@ use cedar_restricted::restricted::RestrictedExpr;
 use cedar_trees::expr::Expr;
 use cedar_values::values::Value;
 use std::alloc::{AllocError, Global};
-use std::collections::{BTreeMap, HashMap};
+use std::collections::BTreeMap;
 use std::rc::RcStr;
 
 // Whether some key is no unknown of the question's.
@@ -44,14 +44,14 @@ fn names_no_unknown(asked: &AskBody<'_>, entries: &BTreeMap<RcStr, Expr>) -> boo
     false
 }
 
-pub(crate) fn is_told(told: &HashMap<RcStr, Value>, name: &str) -> bool
+pub(crate) fn is_told(told: &BTreeMap<RcStr, Value>, name: &str) -> bool
     ensures { result ≡ is_some (finite.get (told_in told.now.entries) name.now) }
 {
     told.contains_key(name)
 }
 
 // Whether some key was told before.
-fn names_told(told: &HashMap<RcStr, Value>, entries: &BTreeMap<RcStr, Expr>) -> bool
+fn names_told(told: &BTreeMap<RcStr, Value>, entries: &BTreeMap<RcStr, Expr>) -> bool
     ensures { result ≡ some_key (λ n. is_some (finite.get (told_in told.now.entries) n)) (fields_in entries.now) }
 {
     for (name, _expr) in entries {
@@ -86,7 +86,7 @@ fn holds_misfit(asked: &AskBody<'_>, values: &BTreeMap<RcStr, PartialValue>) -> 
 }
 
 // A value stands at the name then; a residual isn't put there.
-fn put(told: &mut HashMap<RcStr, Value>, name: RcStr, part: PartialValue) -> Result<(), AllocError>
+fn put(told: &mut BTreeMap<RcStr, Value>, name: RcStr, part: PartialValue) -> Result<(), AllocError>
     ensures { OnOk result (told_in told.new.entries ≡ with_attribute (told_in told.old.entries) (rc_str_bytes name) (partial_of part)) }
 {
     if let PartialValue::Value(value) = part {
@@ -97,9 +97,9 @@ fn put(told: &mut HashMap<RcStr, Value>, name: RcStr, part: PartialValue) -> Res
 
 // What is told, and these values besides.
 fn with_values(
-    told: &HashMap<RcStr, Value>,
+    told: &BTreeMap<RcStr, Value>,
     mut values: BTreeMap<RcStr, PartialValue>,
-) -> Result<HashMap<RcStr, Value>, AllocError>
+) -> Result<BTreeMap<RcStr, Value>, AllocError>
     ensures { IfOk result (λ all. told_in all.entries ≡ with_attributes (told_in told.now.entries) (seen_entries values.entries)) }
 {
     let mut all = told.clone()?;
@@ -123,10 +123,10 @@ pub fn told_by<F: ExtensionFunctionObject>(
     alloc: Global,
     body: &RestrictedExpr,
     question: &RestrictedExpr,
-    told: &HashMap<RcStr, Value>,
+    told: &BTreeMap<RcStr, Value>,
     extensions: &Extensions<'_, F>,
     depth: u32,
-) -> Result<HashMap<RcStr, Value>, Refusal>
+) -> Result<BTreeMap<RcStr, Value>, Refusal>
     ensures { (by : Setting) (q : Question) → Serves (as_table F.answers extensions.now) by (holds_call (restricted_tree body.now)) → world.ask_body (restricted_tree question.now) ≡ Some q → TellsBody by q (told_in told.now.entries) depth (restricted_tree body.now) result }
 {
     let Some(entries) = entries_of(body.as_ref()) else {

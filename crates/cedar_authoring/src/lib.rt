@@ -16,17 +16,15 @@ mod giving;
 mod listing;
 mod places;
 mod running;
-mod script;
-mod script_lines;
 mod shapes;
 mod standing;
 mod telling;
 mod value_faults;
 mod wrong;
 
+pub use cedar_scripts::{Script, ScriptError, ScriptFault, Step, Test, read_script};
 pub use checking::{Report, check_text};
 pub use explaining::{Named, explained};
 pub use faults::tell_faults;
 pub use places::{Position, line_and_column};
 pub use running::run_script;
-pub use script::{Script, ScriptError, ScriptFault, Step, Test, read_script};

@@ -4,8 +4,9 @@ pub mod Search
 pub mod Finding
 pub mod Refusal
 pub mod Resetting
-pub mod Written
 pub mod NumberSets
 pub mod Numbered
 pub mod KeysFound
 pub mod WholeRows
+pub mod Turned
+pub mod Leading

@@ -14,8 +14,3 @@ IsTcRefusal-weaker dag P Q on (Memory e) h = h
 pub on_err : {T E P : Type 0} (r : Result T E) → P → OnErr r P
 on_err (Ok x) h = tt
 on_err (Err e) h = h
-
--- what two facts about a refusal give together
-pub on_err_both : {T E P Q R : Type 0} (r : Result T E) → (P → Q → R) → OnErr r P → OnErr r Q → OnErr r R
-on_err_both (Ok x) f h k = tt
-on_err_both (Err e) f h k = f h k

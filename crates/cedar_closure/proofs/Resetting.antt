@@ -3,7 +3,6 @@ use Rattle.std.proofs.Common.{◌≡◌, ◌⊎◌, inl, inr, Bool, true, false,
 use Rattle.std.specs.Option.{option_map_or, IsSomeAnd, is_some}
 use Rattle.std.specs.Cmp.{IsEquivalence}
 use Rattle.std.specs.Set.{is_member}
-use Rattle.std.specs.HashMap.{HashMap, get}
 use Rattle.cedar_language.specs.Facts.{Reaches, edge, further}
 use Rattle.cedar_closure.specs.Graph.{SameKeys, SameNodes, IsBetween, IsBuiltBeside, IsClosedBeside, edges_at}
 use Rattle.cedar_closure.proofs.Members.{member_alike}
@@ -25,12 +24,12 @@ module _ {V : Type 0} (Same : V → V → Type 0) where
   direct_stays_in direct stays (Some v) None h = absurd h
   direct_stays_in direct stays (Some v) (Some w) h = stays v w h
 
-module _ {K V S : Type 0} (eq : K → K → Bool) (Same : V → V → Type 0) where
-  pub nodes_through : ((u v w : V) → Same u v → Same v w → Same u w) → (m n k : HashMap K V S) → SameNodes eq Same m n → SameNodes eq Same n k → SameNodes eq Same m k
-  nodes_through through m n k h j q = same_through Same through (get eq m q) (get eq n q) (get eq k q) (h q) (j q)
+module _ {K V : Type 0} (Same : V → V → Type 0) where
+  pub nodes_through : ((u v w : V) → Same u v → Same v w → Same u w) → (m n k : K → Option V) → SameNodes Same m n → SameNodes Same n k → SameNodes Same m k
+  nodes_through through m n k h j q = same_through Same through (m q) (n q) (k q) (h q) (j q)
 
-  pub direct_at : (direct : V → List K) → ((u v : V) → Same u v → direct v ≡ direct u) → (m n : HashMap K V S) → SameNodes eq Same m n → (a : K) → edges_at eq direct n a ≡ edges_at eq direct m a
-  direct_at direct stays m n same a = direct_stays_in Same direct stays (get eq m a) (get eq n a) (same a)
+  pub direct_at : (direct : V → List K) → ((u v : V) → Same u v → direct v ≡ direct u) → (m n : K → Option V) → SameNodes Same m n → (a : K) → edges_at direct n a ≡ edges_at direct m a
+  direct_at direct stays m n same a = direct_stays_in Same direct stays (m a) (n a) (same a)
 
 -- D: the direct edges; E: those before
 module _ {K : Type 0} (eq : K → K → Bool) (D E : K → List K) where
@@ -67,18 +66,18 @@ module _ {K : Type 0} (eq : K → K → Bool) (D E : K → List K) where
     ] refl
 
 -- where all keys with a node are listed, each node has its direct edges alone
-module _ {K V S : Type 0} (eq : K → K → Bool) (direct edges : V → List K) (m n : HashMap K V S) (listed : List K) where
+module _ {K V : Type 0} (eq : K → K → Bool) (direct edges : V → List K) (m n : K → Option V) (listed : List K) where
   nowhere : (o : Option V) → is_some o ≡ false → option_map_or edges o [] ≡ option_map_or direct o []
   nowhere None h = refl
   nowhere (Some v) h = absurd (true≢false h)
 
-  pub reset_everywhere : ((q : K) → is_member eq listed q ≡ is_some (get eq m q))
-      → ((a : K) → IsTrue (is_member eq listed a) → SameKeys eq (edges_at eq direct m a) (edges_at eq edges n a))
-      → ((a : K) → is_member eq listed a ≡ false → edges_at eq edges n a ≡ edges_at eq edges m a)
-      → (a : K) → SameKeys eq (edges_at eq direct m a) (edges_at eq edges n a)
-  reset_everywhere keys reset others a = elim (is_member eq listed a) as (λ b. is_member eq listed a ≡ b → SameKeys eq (edges_at eq direct m a) (edges_at eq edges n a)) [
+  pub reset_everywhere : ((q : K) → is_member eq listed q ≡ is_some (m q))
+      → ((a : K) → IsTrue (is_member eq listed a) → SameKeys eq (edges_at direct m a) (edges_at edges n a))
+      → ((a : K) → is_member eq listed a ≡ false → edges_at edges n a ≡ edges_at edges m a)
+      → (a : K) → SameKeys eq (edges_at direct m a) (edges_at edges n a)
+  reset_everywhere keys reset others a = elim (is_member eq listed a) as (λ b. is_member eq listed a ≡ b → SameKeys eq (edges_at direct m a) (edges_at edges n a)) [
     | true ↦ λ e. reset a e
-    | false ↦ λ e q. ap (λ ys. is_member eq ys q) (others a e ∙ nowhere (get eq m a) (sym (keys a) ∙ e))
+    | false ↦ λ e q. ap (λ ys. is_member eq ys q) (others a e ∙ nowhere (m a) (sym (keys a) ∙ e))
   ] refl
 
 module _ {K : Type 0} (eq : K → K → Bool) (D E F : K → List K) where

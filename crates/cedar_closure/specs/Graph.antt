@@ -1,9 +1,9 @@
--- A graph that is held as a map from keys to nodes. `eq` says which keys are one, and `edges` to which keys edges lead from a node.
-use Rattle.std.specs.Prelude.{Bool, false, List, [], IsTrue, ◌≡◌, ◌↔◌}
-use Rattle.std.specs.Option.{option_map_or, MatchOption, IsSomeAnd}
+-- A graph by the node that is found at each key. `eq` says which keys are one, and `edges` to which keys edges lead from a node.
+use Rattle.std.specs.Prelude.{Bool, false, ◌||◌, ◌&&◌, List, [], IsTrue, ◌≡◌, ◌↔◌}
+use Rattle.std.specs.Option.{option_map_or, MatchOption, IsSomeAnd, is_some}
+use Rattle.std.specs.declared.option.Option.{Option}
 use Rattle.std.specs.declared.option.Option.TheVariants.{None}
 use Rattle.std.specs.Set.{is_member}
-use Rattle.std.specs.HashMap.{HashMap, get}
 use Rattle.cedar_language.specs.Facts.{Reaches}
 
 module _ {K : Type 0} (eq : K → K → Bool) where
@@ -24,16 +24,21 @@ pub record IsBetween {K : Type 0} (Least Most IsEdge : K → K → Type 0) : Typ
   pub least : (a b : K) → Least a b → IsEdge a b
   pub most : (a b : K) → IsEdge a b → Most a b
 
-module _ {K V S : Type 0} (eq : K → K → Bool) (edges : V → List K) where
+module _ {K V : Type 0} (edges : V → List K) where
   -- where the edges of the node at k lead; nowhere, if there is no node
-  abbrev pub edges_at : HashMap K V S → K → List K
-  edges_at m k = option_map_or edges (get eq m k) []
+  abbrev pub edges_at : (K → Option V) → K → List K
+  edges_at found k = option_map_or edges (found k) []
 
+module _ {K V : Type 0} (eq : K → K → Bool) (edges : V → List K) where
   -- an edge leads from the node at a to b
-  abbrev pub HasEdge : HashMap K V S → K → K → Type 0
-  HasEdge m a b = IsTrue (is_member eq (edges_at m a) b)
+  abbrev pub HasEdge : (K → Option V) → K → K → Type 0
+  HasEdge found a b = IsTrue (is_member eq (edges_at edges found a) b)
 
-module _ {K V S : Type 0} (eq : K → K → Bool) (Same : V → V → Type 0) where
+  -- whether an edge leads from the node at a to b once there is one from the node at `from` to each of the keys
+  abbrev pub has_edge_with : (K → Option V) → K → List K → K → K → Bool
+  has_edge_with found from keys a b = is_member eq (edges_at edges found a) b || (is_some (found a) && (eq a from && is_member eq keys b))
+
+module _ {K V : Type 0} (Same : V → V → Type 0) where
   -- n has a node where m has one, and the two are the same but for edges
-  abbrev pub SameNodes : HashMap K V S → HashMap K V S → Type 0
-  SameNodes m n = (q : K) → MatchOption (get eq m q) (get eq n q ≡ None) (λ v. IsSomeAnd (get eq n q) (Same v))
+  abbrev pub SameNodes : (K → Option V) → (K → Option V) → Type 0
+  SameNodes m n = (q : K) → MatchOption (m q) (n q ≡ None) (λ v. IsSomeAnd (n q) (Same v))

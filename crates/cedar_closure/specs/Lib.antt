@@ -1,8 +1,10 @@
 pub mod Paths
 pub mod Graph
+pub mod GraphLaws
 pub mod Refused
 pub mod Found
 pub mod Numbers
 pub mod Searching
 pub mod Numbering
 pub mod Keys
+pub mod Sources

@@ -1,18 +1,17 @@
 //! Adding the edges that a transitive closure has.
 ghost use Rattle.std.specs.Prelude.{◌≡◌, ◌↔◌, ◌||◌, ◌&&◌, false, ◌++◌, IfOk, OnOk, IfErr, OnErr, IfSome, IfNone, IsTrue, is_some};
 ghost use Rattle.std.specs.Set.{is_member, ClonesAreEqual};
-ghost use Rattle.std.specs.HashMap.{get};
 ghost use Rattle.cedar_closure.specs.Graph.{edges_at, HasEdge, SameKeys, SameNodes, IsBetween, IsClosedBeside};
 ghost use Rattle.cedar_language.specs.Facts.{Reaches};
 ghost use Rattle.cedar_closure.specs.Found.{finds};
 ghost use Rattle.cedar_closure.specs.Refused.{IsTcRefusal};
 
 use crate::errors::{HasCycle, TcError};
+use crate::graphs::TCGraph;
 use crate::nodes::TCNode;
 use crate::numbering::{each_once, keys_at, number_reached};
 use crate::reaching::reached_by_each;
 use std::alloc::{AllocError, Global};
-use std::collections::HashMap;
 use std::hash::Hash;
 
 // A key, and the keys that it reaches.
@@ -23,16 +22,16 @@ struct Reached<K> {
 }
 
 // The keys that each of the listed ones reaches.
-fn reached_from_each<K: Eq + Hash + Clone + Drop, V: TCNode<K>>(
+fn reached_from_each<K: Eq + Hash + Clone + Drop, V: TCNode<K>, G: TCGraph<K, V>>(
     alloc: Global,
-    nodes: &HashMap<K, V>,
+    nodes: &G,
     listed: &[K],
 ) -> Result<Vec<Reached<K>>, AllocError>
     requires { ClonesAreEqual K.eq K.is_clone }
     ensures sound { IfOk result (λ all. (a q : K) → IsTrue (finds K.eq all.items a q) →
-        IsTrue (is_member K.eq listed.now a) × Reaches (HasEdge K.eq V.edges nodes.now) a q) }
+        IsTrue (is_member K.eq listed.now a) × Reaches (HasEdge K.eq V.edges (G.found nodes.now)) a q) }
     ensures whole { IfOk result (λ all. (a q : K) → IsTrue (is_member K.eq listed.now a) →
-        Reaches (HasEdge K.eq V.edges nodes.now) a q → IsTrue (finds K.eq all.items a q)) }
+        Reaches (HasEdge K.eq V.edges (G.found nodes.now)) a q → IsTrue (finds K.eq all.items a q)) }
 {
     let first = each_once(alloc, listed)?;
     let count = first.len();
@@ -60,57 +59,37 @@ fn find_cycle<K: Eq + Hash>(all: &[Reached<K>]) -> Option<&K>
     None
 }
 
-// Adds an edge to each key that a key reaches at its node, where it has one.
-fn add_reached<K: Eq + Hash + Drop, V: TCNode<K>>(
-    nodes: &mut HashMap<K, V>,
-    reached: Reached<K>,
-) -> Result<(), AllocError>
-    ensures added { OnOk result ((a q : K) → is_member K.eq (edges_at K.eq V.edges nodes.new a) q
-        ≡ (is_member K.eq (edges_at K.eq V.edges nodes.old a) q
-        || (is_some (get K.eq nodes.old a) && (K.eq a reached.from && is_member K.eq reached.keys.items q)))) }
-    ensures left { OnErr result (IsBetween (HasEdge K.eq V.edges nodes.old)
-        (λ a q. IsTrue (is_member K.eq (edges_at K.eq V.edges nodes.old a) q
-        || (is_some (get K.eq nodes.old a) && (K.eq a reached.from && is_member K.eq reached.keys.items q))))
-        (HasEdge K.eq V.edges nodes.new)) }
-    ensures same { SameNodes K.eq V.is_same nodes.old nodes.new }
-{
-    let Reached { from, keys } = reached;
-    match nodes.get_mut(&from) {
-        Some(node) => node.add_edges_to(keys),
-        None => Ok(()),
-    }
-}
-
 // Adds what was found at each node.
-fn add_all<K: Eq + Hash + Drop, V: TCNode<K>>(
-    nodes: &mut HashMap<K, V>,
+fn add_all<K: Eq + Drop, V: TCNode<K>, G: TCGraph<K, V>>(
+    nodes: &mut G,
     all: Vec<Reached<K>>,
 ) -> Result<(), AllocError>
-    ensures added { OnOk result ((a q : K) → is_member K.eq (edges_at K.eq V.edges nodes.new a) q
-        ≡ (is_member K.eq (edges_at K.eq V.edges nodes.old a) q
-        || (is_some (get K.eq nodes.old a) && finds K.eq all.items a q))) }
-    ensures left { OnErr result (IsBetween (HasEdge K.eq V.edges nodes.old)
-        (λ a q. IsTrue (is_member K.eq (edges_at K.eq V.edges nodes.old a) q
-        || (is_some (get K.eq nodes.old a) && finds K.eq all.items a q)))
-        (HasEdge K.eq V.edges nodes.new)) }
-    ensures same { SameNodes K.eq V.is_same nodes.old nodes.new }
+    ensures added { OnOk result ((a q : K) → is_member K.eq (edges_at V.edges (G.found nodes.new) a) q
+        ≡ (is_member K.eq (edges_at V.edges (G.found nodes.old) a) q
+        || (is_some (G.found nodes.old a) && finds K.eq all.items a q))) }
+    ensures left { OnErr result (IsBetween (HasEdge K.eq V.edges (G.found nodes.old))
+        (λ a q. IsTrue (is_member K.eq (edges_at V.edges (G.found nodes.old) a) q
+        || (is_some (G.found nodes.old a) && finds K.eq all.items a q)))
+        (HasEdge K.eq V.edges (G.found nodes.new))) }
+    ensures same { SameNodes V.is_same (G.found nodes.old) (G.found nodes.new) }
 {
     for reached in all {
-        add_reached(nodes, reached)?;
+        let Reached { from, keys } = reached;
+        nodes.add_edges_at(&from, keys)?;
     }
     Ok(())
 }
 
-/// The keys of the map.
-pub(crate) fn keys_of<K: Eq + Hash + Clone + Drop, V>(
+/// The keys of the graph.
+pub(crate) fn keys_of<K: Eq + Clone + Drop, V: TCNode<K>, G: TCGraph<K, V>>(
     alloc: Global,
-    nodes: &HashMap<K, V>,
+    nodes: &G,
 ) -> Result<Vec<K>, AllocError>
     requires { ClonesAreEqual K.eq K.is_clone }
-    ensures { IfOk result (λ v. (q : K) → is_member K.eq v.items q ≡ is_some (get K.eq nodes.now q)) }
+    ensures { IfOk result (λ v. (q : K) → is_member K.eq v.items q ≡ is_some (G.found nodes.now q)) }
 {
     let mut listed = Vec::new(alloc);
-    for key in nodes.keys() {
+    for key in nodes.list_keys(alloc)? {
         listed.push(key.clone()?)?;
     }
     Ok(listed)
@@ -119,24 +98,24 @@ pub(crate) fn keys_of<K: Eq + Hash + Clone + Drop, V>(
 /// Gives each node an edge to each key that one or more edges lead to from it, cycles included.
 /// Where `enforce_dag`, a graph with a cycle is refused.
 ///
-/// What a node's edges lead to is closed before it where no cycle is in the way, and taken over whole. The map may have
-/// any keys.
+/// What a node's edges lead to is closed before it where no cycle is in the way, and taken over whole. The graph may
+/// have any keys.
 /// `HasCycle` names a node of a cycle; refused otherwise only where memory runs out.
 /// A refused call leaves the nodes with all their edges, and perhaps some of those that were to be added.
-pub fn compute_tc<K: Eq + Hash + Clone + Drop, V: TCNode<K>>(
+pub fn compute_tc<K: Eq + Hash + Clone + Drop, V: TCNode<K>, G: TCGraph<K, V>>(
     alloc: Global,
-    nodes: &mut HashMap<K, V>,
+    nodes: &mut G,
     enforce_dag: bool,
 ) -> Result<(), TcError<K>>
     requires { ClonesAreEqual K.eq K.is_clone }
     ensures edges { OnOk result ((a b : K) →
-        HasEdge K.eq V.edges nodes.new a b ↔ Reaches (HasEdge K.eq V.edges nodes.old) a b) }
+        HasEdge K.eq V.edges (G.found nodes.new) a b ↔ Reaches (HasEdge K.eq V.edges (G.found nodes.old)) a b) }
     ensures acyclic { OnOk result (IsTrue enforce_dag →
-        (a : K) → ¬ (Reaches (HasEdge K.eq V.edges nodes.old) a a)) }
-    ensures left { OnErr result (IsBetween (HasEdge K.eq V.edges nodes.old)
-        (Reaches (HasEdge K.eq V.edges nodes.old)) (HasEdge K.eq V.edges nodes.new)) }
-    ensures refused { IfErr result (IsTcRefusal enforce_dag (λ k. Reaches (HasEdge K.eq V.edges nodes.old) k k)) }
-    ensures same { SameNodes K.eq V.is_same nodes.old nodes.new }
+        (a : K) → ¬ (Reaches (HasEdge K.eq V.edges (G.found nodes.old)) a a)) }
+    ensures left { OnErr result (IsBetween (HasEdge K.eq V.edges (G.found nodes.old))
+        (Reaches (HasEdge K.eq V.edges (G.found nodes.old))) (HasEdge K.eq V.edges (G.found nodes.new))) }
+    ensures refused { IfErr result (IsTcRefusal enforce_dag (λ k. Reaches (HasEdge K.eq V.edges (G.found nodes.old)) k k)) }
+    ensures same { SameNodes V.is_same (G.found nodes.old) (G.found nodes.new) }
 {
     let listed = keys_of(alloc, nodes)?;
     match repair_tc(alloc, nodes, &listed, enforce_dag) {
@@ -152,28 +131,28 @@ pub fn compute_tc<K: Eq + Hash + Clone + Drop, V: TCNode<K>>(
 /// `HasCycle` names such a key; refused otherwise only where memory runs out.
 /// A refused call leaves the nodes with all their edges, and perhaps some of those that were to be added; the nodes at
 /// other keys it leaves as they were.
-pub fn repair_tc<K: Eq + Hash + Clone + Drop, V: TCNode<K>>(
+pub fn repair_tc<K: Eq + Hash + Clone + Drop, V: TCNode<K>, G: TCGraph<K, V>>(
     alloc: Global,
-    nodes: &mut HashMap<K, V>,
+    nodes: &mut G,
     keys_to_fix: &[K],
     enforce_dag: bool,
 ) -> Result<(), TcError<K>>
     requires { ClonesAreEqual K.eq K.is_clone }
     ensures fixed { OnOk result ((a b : K) → IsTrue (is_member K.eq keys_to_fix.now a) →
-        HasEdge K.eq V.edges nodes.new a b ↔ Reaches (HasEdge K.eq V.edges nodes.old) a b) }
+        HasEdge K.eq V.edges (G.found nodes.new) a b ↔ Reaches (HasEdge K.eq V.edges (G.found nodes.old)) a b) }
     ensures others { OnOk result ((a b : K) → is_member K.eq keys_to_fix.now a ≡ false →
-        HasEdge K.eq V.edges nodes.new a b ↔ HasEdge K.eq V.edges nodes.old a b) }
-    ensures edges { OnOk result (IsClosedBeside K.eq keys_to_fix.now (HasEdge K.eq V.edges nodes.old) →
-        (a b : K) → HasEdge K.eq V.edges nodes.new a b ↔ Reaches (HasEdge K.eq V.edges nodes.old) a b) }
+        HasEdge K.eq V.edges (G.found nodes.new) a b ↔ HasEdge K.eq V.edges (G.found nodes.old) a b) }
+    ensures edges { OnOk result (IsClosedBeside K.eq keys_to_fix.now (HasEdge K.eq V.edges (G.found nodes.old)) →
+        (a b : K) → HasEdge K.eq V.edges (G.found nodes.new) a b ↔ Reaches (HasEdge K.eq V.edges (G.found nodes.old)) a b) }
     ensures acyclic { OnOk result (IsTrue enforce_dag →
-        (a : K) → IsTrue (is_member K.eq keys_to_fix.now a) → ¬ (Reaches (HasEdge K.eq V.edges nodes.old) a a)) }
-    ensures left { OnErr result (IsBetween (HasEdge K.eq V.edges nodes.old)
-        (Reaches (HasEdge K.eq V.edges nodes.old)) (HasEdge K.eq V.edges nodes.new)) }
+        (a : K) → IsTrue (is_member K.eq keys_to_fix.now a) → ¬ (Reaches (HasEdge K.eq V.edges (G.found nodes.old)) a a)) }
+    ensures left { OnErr result (IsBetween (HasEdge K.eq V.edges (G.found nodes.old))
+        (Reaches (HasEdge K.eq V.edges (G.found nodes.old))) (HasEdge K.eq V.edges (G.found nodes.new))) }
     ensures others_left { OnErr result ((a b : K) → is_member K.eq keys_to_fix.now a ≡ false →
-        HasEdge K.eq V.edges nodes.new a b ↔ HasEdge K.eq V.edges nodes.old a b) }
+        HasEdge K.eq V.edges (G.found nodes.new) a b ↔ HasEdge K.eq V.edges (G.found nodes.old) a b) }
     ensures refused { IfErr result (IsTcRefusal enforce_dag
-        (λ k. IsTrue (is_member K.eq keys_to_fix.now k) × Reaches (HasEdge K.eq V.edges nodes.old) k k)) }
-    ensures same { SameNodes K.eq V.is_same nodes.old nodes.new }
+        (λ k. IsTrue (is_member K.eq keys_to_fix.now k) × Reaches (HasEdge K.eq V.edges (G.found nodes.old)) k k)) }
+    ensures same { SameNodes V.is_same (G.found nodes.old) (G.found nodes.new) }
 {
     let all = reached_from_each(alloc, nodes, keys_to_fix)?;
     if enforce_dag {

@@ -6,10 +6,9 @@ ghost use Rattle.cedar_closure.specs.Paths.{IsTransitive};
 ghost use Rattle.cedar_closure.specs.Refused.{IsTcViolation};
 
 use crate::errors::{HasCycle, MissingTcEdge, TcError};
+use crate::graphs::TCGraph;
 use crate::nodes::TCNode;
 use std::alloc::{AllocError, Global};
-use std::collections::HashMap;
-use std::hash::Hash;
 
 // A key to which the parent has an edge and the child has none, if there is one.
 fn find_missing<K: Eq + Clone, V: TCNode<K>>(
@@ -32,21 +31,21 @@ fn find_missing<K: Eq + Clone, V: TCNode<K>>(
 }
 
 // Refuses a node that lacks an edge which a node has to which it has an edge.
-fn enforce_tc_at<K: Eq + Hash + Clone + Drop, V: TCNode<K>>(
+fn enforce_tc_at<K: Eq + Clone + Drop, V: TCNode<K>, G: TCGraph<K, V>>(
     alloc: Global,
-    nodes: &HashMap<K, V>,
+    nodes: &G,
     child: &K,
 ) -> Result<(), TcError<K>>
     requires { ClonesAreEqual K.eq K.is_clone }
-    ensures closed { OnOk result ((b c : K) → HasEdge K.eq V.edges nodes.now child.now b →
-        HasEdge K.eq V.edges nodes.now b c → HasEdge K.eq V.edges nodes.now child.now c) }
-    ensures refused { IfErr result (IsTcViolation (HasEdge K.eq V.edges nodes.now)) }
+    ensures closed { OnOk result ((b c : K) → HasEdge K.eq V.edges (G.found nodes.now) child.now b →
+        HasEdge K.eq V.edges (G.found nodes.now) b c → HasEdge K.eq V.edges (G.found nodes.now) child.now c) }
+    ensures refused { IfErr result (IsTcViolation (HasEdge K.eq V.edges (G.found nodes.now))) }
 {
-    let Some(node) = nodes.get(child) else {
+    let Some(node) = nodes.find_node(child) else {
         return Ok(());
     };
     for parent in node.out_edges(alloc)? {
-        if let Some(above) = nodes.get(parent) {
+        if let Some(above) = nodes.find_node(parent) {
             if let Some(grandparent) = find_missing(alloc, node, above)? {
                 return Err(TcError::MissingTcEdge(MissingTcEdge {
                     child: child.clone()?,
@@ -60,41 +59,44 @@ fn enforce_tc_at<K: Eq + Hash + Clone + Drop, V: TCNode<K>>(
 }
 
 // Refuses a graph in which an edge is missing.
-fn enforce_tc<K: Eq + Hash + Clone + Drop, V: TCNode<K>>(
+fn enforce_tc<K: Eq + Clone + Drop, V: TCNode<K>, G: TCGraph<K, V>>(
     alloc: Global,
-    nodes: &HashMap<K, V>,
+    nodes: &G,
 ) -> Result<(), TcError<K>>
     requires { ClonesAreEqual K.eq K.is_clone }
-    ensures closed { OnOk result (IsTransitive (HasEdge K.eq V.edges nodes.now)) }
-    ensures refused { IfErr result (IsTcViolation (HasEdge K.eq V.edges nodes.now)) }
+    ensures closed { OnOk result (IsTransitive (HasEdge K.eq V.edges (G.found nodes.now))) }
+    ensures refused { IfErr result (IsTcViolation (HasEdge K.eq V.edges (G.found nodes.now))) }
 {
-    for child in nodes.keys() {
+    for child in nodes.list_keys(alloc)? {
         enforce_tc_at(alloc, nodes, child)?;
     }
     Ok(())
 }
 
 // Whether an edge leads from a key to itself.
-fn has_loop<K: Eq + Hash, V: TCNode<K>>(nodes: &HashMap<K, V>, at: &K) -> bool
-    ensures { result ≡ is_member K.eq (edges_at K.eq V.edges nodes.now at.now) at.now }
+fn has_loop<K: Eq + Drop, V: TCNode<K>, G: TCGraph<K, V>>(nodes: &G, at: &K) -> bool
+    ensures { result ≡ is_member K.eq (edges_at V.edges (G.found nodes.now) at.now) at.now }
 {
-    match nodes.get(at) {
+    match nodes.find_node(at) {
         Some(node) => node.has_edge_to(at),
         None => false,
     }
 }
 
 // A key with an edge to itself, if there is one.
-fn find_loop<K: Eq + Hash, V: TCNode<K>>(nodes: &HashMap<K, V>) -> Option<&K>
-    ensures found { IfSome result (λ k. HasEdge K.eq V.edges nodes.now k.now k.now) }
-    ensures none { IfNone result ((a : K) → ¬ (HasEdge K.eq V.edges nodes.now a a)) }
+fn find_loop<K: Eq + Drop, V: TCNode<K>, G: TCGraph<K, V>>(
+    alloc: Global,
+    nodes: &G,
+) -> Result<Option<&K>, AllocError>
+    ensures found { IfOk result (λ o. IfSome o (λ k. HasEdge K.eq V.edges (G.found nodes.now) k.now k.now)) }
+    ensures none { IfOk result (λ o. IfNone o ((a : K) → ¬ (HasEdge K.eq V.edges (G.found nodes.now) a a))) }
 {
-    for key in nodes.keys() {
+    for key in nodes.list_keys(alloc)? {
         if has_loop(nodes, key) {
-            return Some(key);
+            return Ok(Some(key));
         }
     }
-    None
+    Ok(None)
 }
 
 /// Answers whether each node with an edge to a node has all the edges of that node, to keys without a node too,
@@ -102,17 +104,17 @@ fn find_loop<K: Eq + Hash, V: TCNode<K>>(nodes: &HashMap<K, V>) -> Option<&K>
 ///
 /// `MissingTcEdge` names an edge that is missing, `HasCycle` a node with an edge to itself;
 /// refused otherwise only where memory runs out.
-pub fn enforce_tc_and_dag<K: Eq + Hash + Clone + Drop, V: TCNode<K>>(
+pub fn enforce_tc_and_dag<K: Eq + Clone + Drop, V: TCNode<K>, G: TCGraph<K, V>>(
     alloc: Global,
-    nodes: &HashMap<K, V>,
+    nodes: &G,
 ) -> Result<(), TcError<K>>
     requires { ClonesAreEqual K.eq K.is_clone }
-    ensures closed { OnOk result (IsTransitive (HasEdge K.eq V.edges nodes.now)) }
-    ensures acyclic { OnOk result ((a : K) → ¬ (HasEdge K.eq V.edges nodes.now a a)) }
-    ensures refused { IfErr result (IsTcViolation (HasEdge K.eq V.edges nodes.now)) }
+    ensures closed { OnOk result (IsTransitive (HasEdge K.eq V.edges (G.found nodes.now))) }
+    ensures acyclic { OnOk result ((a : K) → ¬ (HasEdge K.eq V.edges (G.found nodes.now) a a)) }
+    ensures refused { IfErr result (IsTcViolation (HasEdge K.eq V.edges (G.found nodes.now))) }
 {
     enforce_tc(alloc, nodes)?;
-    if let Some(with_loop) = find_loop(nodes) {
+    if let Some(with_loop) = find_loop(alloc, nodes)? {
         return Err(TcError::HasCycle(HasCycle {
             vertex_with_loop: with_loop.clone()?,
         }));

@@ -7,10 +7,10 @@ ghost use Rattle.cedar_closure.specs.Graph.{edges_at};
 ghost use Rattle.cedar_closure.specs.Keys.{digest, IsFound};
 ghost use Rattle.cedar_closure.specs.Numbering.{stands_for, is_numbered, AreNumbersOf, IsNumbering};
 
+use crate::graphs::TCGraph;
 use crate::keys::FoundKeys;
 use crate::nodes::TCNode;
 use std::alloc::{AllocError, Global};
-use std::collections::HashMap;
 use std::hash::Hash;
 
 /// Keys by their numbers, and the numbers to which edges lead from each.
@@ -43,21 +43,21 @@ fn numbers_of<K: Eq + Hash + Clone + Drop>(
 }
 
 // The numbers of the keys to which edges lead from the node at a key, where it has one.
-fn numbers_from<K: Eq + Hash + Clone + Drop, V: TCNode<K>>(
+fn numbers_from<K: Eq + Hash + Clone + Drop, V: TCNode<K>, G: TCGraph<K, V>>(
     alloc: Global,
     keys: &mut FoundKeys<K>,
-    nodes: &HashMap<K, V>,
+    nodes: &G,
     at: &K,
 ) -> Result<Vec<usize>, AllocError>
     requires clones { ClonesAreEqual K.eq K.is_clone }
     requires found { IsFound K.eq (λ x. digest (K.hash_input x)) keys.old.keys.items keys.old.numbers }
     ensures found { OnOk result (IsFound K.eq (λ x. digest (K.hash_input x)) keys.new.keys.items keys.new.numbers) }
-    ensures numbers { IfOk result (λ numbers. AreNumbersOf K.eq keys.new.keys.items numbers.items (edges_at K.eq V.edges nodes.now at.now)) }
+    ensures numbers { IfOk result (λ numbers. AreNumbersOf K.eq keys.new.keys.items numbers.items (edges_at V.edges (G.found nodes.now) at.now)) }
     ensures below { IfOk result (λ numbers. (i : ℕ) → IsTrue (is_member nat_eq numbers.items i) → i < length keys.new.keys.items) }
-    ensures union { OnOk result (IsUnion K.eq keys.old.keys.items (edges_at K.eq V.edges nodes.now at.now) keys.new.keys.items) }
+    ensures union { OnOk result (IsUnion K.eq keys.old.keys.items (edges_at V.edges (G.found nodes.now) at.now) keys.new.keys.items) }
     ensures behind { OnOk result ((more : List K) × (keys.new.keys.items ≡ keys.old.keys.items ++ more)) }
 {
-    match nodes.get(at) {
+    match nodes.find_node(at) {
         Some(node) => {
             let targets = node.out_edges(alloc)?;
             numbers_of(alloc, keys, &targets)
@@ -84,15 +84,15 @@ pub(crate) fn each_once<K: Eq + Hash + Clone + Drop>(
 
 /// Numbers all that the keys reach, behind the keys themselves. It looks at the edges of each of them once.
 /// Refused where memory runs out.
-pub(crate) fn number_reached<K: Eq + Hash + Clone + Drop, V: TCNode<K>>(
+pub(crate) fn number_reached<K: Eq + Hash + Clone + Drop, V: TCNode<K>, G: TCGraph<K, V>>(
     alloc: Global,
-    nodes: &HashMap<K, V>,
+    nodes: &G,
     first: FoundKeys<K>,
 ) -> Result<Numbering<K>, AllocError>
     requires clones { ClonesAreEqual K.eq K.is_clone }
     requires found { IsFound K.eq (λ x. digest (K.hash_input x)) first.keys.items first.numbers }
     ensures { IfOk result (λ made.
-        IsNumbering K.eq (edges_at K.eq V.edges nodes.now) first.keys.items made.keys.items made.edges.items) }
+        IsNumbering K.eq (edges_at V.edges (G.found nodes.now)) first.keys.items made.keys.items made.edges.items) }
 {
     let mut keys = first;
     let mut edges = Vec::new(alloc);

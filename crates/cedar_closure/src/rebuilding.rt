@@ -7,44 +7,26 @@ ghost use Rattle.cedar_closure.specs.Refused.{IsTcRefusal};
 
 use crate::closing::{compute_tc, keys_of, repair_tc};
 use crate::errors::TcError;
+use crate::graphs::TCGraph;
 use crate::nodes::TCNode;
 use std::alloc::{AllocError, Global};
-use std::collections::HashMap;
 use std::hash::Hash;
 
-// Leaves one node its direct edges alone.
-fn reset_node<K: Eq + Hash, V: TCNode<K>>(
-    nodes: &mut HashMap<K, V>,
-    at: &K,
-) -> Result<(), AllocError>
-    ensures reset { OnOk result ((a : K) → IsTrue (K.eq at.now a) →
-        SameKeys K.eq (edges_at K.eq V.direct nodes.old a) (edges_at K.eq V.edges nodes.new a)) }
-    ensures err { OnErr result ((a : K) → edges_at K.eq V.edges nodes.new a ≡ edges_at K.eq V.edges nodes.old a) }
-    ensures others { (a : K) → K.eq at.now a ≡ false →
-        edges_at K.eq V.edges nodes.new a ≡ edges_at K.eq V.edges nodes.old a }
-    ensures same { SameNodes K.eq V.is_same nodes.old nodes.new }
-{
-    if let Some(node) = nodes.get_mut(at) {
-        node.reset_edges()?;
-    }
-    Ok(())
-}
-
 // Leaves each listed node its direct edges alone.
-fn reset_all<K: Eq + Hash, V: TCNode<K>>(
-    nodes: &mut HashMap<K, V>,
+fn reset_all<K: Eq + Drop, V: TCNode<K>, G: TCGraph<K, V>>(
+    nodes: &mut G,
     listed: &[K],
 ) -> Result<(), AllocError>
     ensures reset { OnOk result ((a : K) → IsTrue (is_member K.eq listed.now a) →
-        SameKeys K.eq (edges_at K.eq V.direct nodes.old a) (edges_at K.eq V.edges nodes.new a)) }
+        SameKeys K.eq (edges_at V.direct (G.found nodes.old) a) (edges_at V.edges (G.found nodes.new) a)) }
     ensures others { (a : K) → is_member K.eq listed.now a ≡ false →
-        edges_at K.eq V.edges nodes.new a ≡ edges_at K.eq V.edges nodes.old a }
-    ensures left { OnErr result ((a : K) → SameKeys K.eq (edges_at K.eq V.direct nodes.old a) (edges_at K.eq V.edges nodes.new a)
-        ⊎ (edges_at K.eq V.edges nodes.new a ≡ edges_at K.eq V.edges nodes.old a)) }
-    ensures same { SameNodes K.eq V.is_same nodes.old nodes.new }
+        edges_at V.edges (G.found nodes.new) a ≡ edges_at V.edges (G.found nodes.old) a }
+    ensures left { OnErr result ((a : K) → SameKeys K.eq (edges_at V.direct (G.found nodes.old) a) (edges_at V.edges (G.found nodes.new) a)
+        ⊎ (edges_at V.edges (G.found nodes.new) a ≡ edges_at V.edges (G.found nodes.old) a)) }
+    ensures same { SameNodes V.is_same (G.found nodes.old) (G.found nodes.new) }
 {
     for at in listed {
-        reset_node(nodes, at)?;
+        nodes.reset_edges_at(at)?;
     }
     Ok(())
 }
@@ -55,22 +37,22 @@ fn reset_all<K: Eq + Hash, V: TCNode<K>>(
 /// `HasCycle` names a node of a cycle; refused otherwise only where memory runs out.
 /// A refused call leaves the nodes with the direct ones of their edges, and perhaps some of the others and of those
 /// that were to be added.
-pub fn rebuild_tc<K: Eq + Hash + Clone + Drop, V: TCNode<K>>(
+pub fn rebuild_tc<K: Eq + Hash + Clone + Drop, V: TCNode<K>, G: TCGraph<K, V>>(
     alloc: Global,
-    nodes: &mut HashMap<K, V>,
+    nodes: &mut G,
     enforce_dag: bool,
 ) -> Result<(), TcError<K>>
     requires { ClonesAreEqual K.eq K.is_clone }
     ensures edges { OnOk result ((a b : K) →
-        HasEdge K.eq V.edges nodes.new a b ↔ Reaches (HasEdge K.eq V.direct nodes.old) a b) }
+        HasEdge K.eq V.edges (G.found nodes.new) a b ↔ Reaches (HasEdge K.eq V.direct (G.found nodes.old)) a b) }
     ensures acyclic { OnOk result (IsTrue enforce_dag →
-        (a : K) → ¬ (Reaches (HasEdge K.eq V.direct nodes.old) a a)) }
+        (a : K) → ¬ (Reaches (HasEdge K.eq V.direct (G.found nodes.old)) a a)) }
     ensures left { OnErr result (IsBetween
-        (λ a b. HasEdge K.eq V.direct nodes.old a b × HasEdge K.eq V.edges nodes.old a b)
-        (λ a b. HasEdge K.eq V.edges nodes.old a b ⊎ Reaches (HasEdge K.eq V.direct nodes.old) a b)
-        (HasEdge K.eq V.edges nodes.new)) }
-    ensures refused { IfErr result (IsTcRefusal enforce_dag (λ k. Reaches (HasEdge K.eq V.direct nodes.old) k k)) }
-    ensures same { SameNodes K.eq V.is_same nodes.old nodes.new }
+        (λ a b. HasEdge K.eq V.direct (G.found nodes.old) a b × HasEdge K.eq V.edges (G.found nodes.old) a b)
+        (λ a b. HasEdge K.eq V.edges (G.found nodes.old) a b ⊎ Reaches (HasEdge K.eq V.direct (G.found nodes.old)) a b)
+        (HasEdge K.eq V.edges (G.found nodes.new))) }
+    ensures refused { IfErr result (IsTcRefusal enforce_dag (λ k. Reaches (HasEdge K.eq V.direct (G.found nodes.old)) k k)) }
+    ensures same { SameNodes V.is_same (G.found nodes.old) (G.found nodes.new) }
 {
     let listed = keys_of(alloc, nodes)?;
     reset_all(nodes, &listed)?;
@@ -87,27 +69,27 @@ pub fn rebuild_tc<K: Eq + Hash + Clone + Drop, V: TCNode<K>>(
 /// `HasCycle` names such a key; refused otherwise only where memory runs out.
 /// A refused call leaves the nodes with the direct ones of their edges, and perhaps some of the others and of those
 /// that were to be added; the nodes at other keys it leaves as they were.
-pub fn rebuild_tc_at<K: Eq + Hash + Clone + Drop, V: TCNode<K>>(
+pub fn rebuild_tc_at<K: Eq + Hash + Clone + Drop, V: TCNode<K>, G: TCGraph<K, V>>(
     alloc: Global,
-    nodes: &mut HashMap<K, V>,
+    nodes: &mut G,
     keys: &[K],
     enforce_dag: bool,
 ) -> Result<(), TcError<K>>
     requires clones { ClonesAreEqual K.eq K.is_clone }
-    requires beside { IsBuiltBeside K.eq keys.now (HasEdge K.eq V.direct nodes.old) (HasEdge K.eq V.edges nodes.old) }
+    requires beside { IsBuiltBeside K.eq keys.now (HasEdge K.eq V.direct (G.found nodes.old)) (HasEdge K.eq V.edges (G.found nodes.old)) }
     ensures edges { OnOk result ((a b : K) →
-        HasEdge K.eq V.edges nodes.new a b ↔ Reaches (HasEdge K.eq V.direct nodes.old) a b) }
+        HasEdge K.eq V.edges (G.found nodes.new) a b ↔ Reaches (HasEdge K.eq V.direct (G.found nodes.old)) a b) }
     ensures acyclic { OnOk result (IsTrue enforce_dag →
-        (a : K) → IsTrue (is_member K.eq keys.now a) → ¬ (Reaches (HasEdge K.eq V.direct nodes.old) a a)) }
+        (a : K) → IsTrue (is_member K.eq keys.now a) → ¬ (Reaches (HasEdge K.eq V.direct (G.found nodes.old)) a a)) }
     ensures left { OnErr result (IsBetween
-        (λ a b. HasEdge K.eq V.direct nodes.old a b × HasEdge K.eq V.edges nodes.old a b)
-        (λ a b. HasEdge K.eq V.edges nodes.old a b ⊎ Reaches (HasEdge K.eq V.direct nodes.old) a b)
-        (HasEdge K.eq V.edges nodes.new)) }
+        (λ a b. HasEdge K.eq V.direct (G.found nodes.old) a b × HasEdge K.eq V.edges (G.found nodes.old) a b)
+        (λ a b. HasEdge K.eq V.edges (G.found nodes.old) a b ⊎ Reaches (HasEdge K.eq V.direct (G.found nodes.old)) a b)
+        (HasEdge K.eq V.edges (G.found nodes.new))) }
     ensures others_left { OnErr result ((a b : K) → is_member K.eq keys.now a ≡ false →
-        HasEdge K.eq V.edges nodes.new a b ↔ HasEdge K.eq V.edges nodes.old a b) }
+        HasEdge K.eq V.edges (G.found nodes.new) a b ↔ HasEdge K.eq V.edges (G.found nodes.old) a b) }
     ensures refused { IfErr result (IsTcRefusal enforce_dag
-        (λ k. IsTrue (is_member K.eq keys.now k) × Reaches (HasEdge K.eq V.direct nodes.old) k k)) }
-    ensures same { SameNodes K.eq V.is_same nodes.old nodes.new }
+        (λ k. IsTrue (is_member K.eq keys.now k) × Reaches (HasEdge K.eq V.direct (G.found nodes.old)) k k)) }
+    ensures same { SameNodes V.is_same (G.found nodes.old) (G.found nodes.new) }
 {
     reset_all(nodes, keys)?;
     match repair_tc(alloc, nodes, keys, enforce_dag) {

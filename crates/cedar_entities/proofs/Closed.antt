@@ -2,7 +2,6 @@
 use Rattle.std.proofs.Common.{◌≡◌, ◌↔◌, true, false, List, [], Option, None, Some, option_map, refl, sym, ap, subst, ◌∙◌, IsTrue, true≢false}
 use Rattle.std.specs.Option.{option_map_or, MatchOption, IsSome, IsSomeAnd}
 use Rattle.std.specs.FinSet as set
-use Rattle.std.specs.HashMap.{HashMap, get}
 use Rattle.std.specs.Set.{is_member}
 use Rattle.cedar_language.specs.Uid.{Uid}
 use Rattle.cedar_language.specs.Facts.{Reaches, edge, further}
@@ -16,7 +15,7 @@ use Rattle.cedar_entities.specs.Data.{EntityData, IsSameBesideAncestors, ancesto
 use Rattle.cedar_literals.specs.Laws.{same_uid_equiv}
 use Rattle.cedar_entities.proofs.UidLemmas.{contains-items}
 use Rattle.cedar_entities.specs.Held.{held_of, parents_of, IsParent, IsAncestor}
-use Rattle.cedar_entities.specs.Kept.{Lookup, in_map, held_in, IsKept, KeepsAncestors, KeepsBeside, IsByUid}
+use Rattle.cedar_entities.specs.Kept.{Lookup, held_in, IsKept, KeepsAncestors, KeepsBeside, IsByUid}
 use Rattle.cedar_entities.specs.Beside.{among, IsSameBeside}
 use Rattle.cedar_entities.specs.Refusals.{from_closure}
 use Rattle.cedar_entities.specs.Modes.{IsComputed, IsEnforced, IsClosureRefusal}
@@ -47,92 +46,91 @@ there_at None p h k = absurd (true≢false (sym k))
 there_at (Some e) None h k = absurd h
 there_at (Some e) (Some f) h k = refl
 
-module _ {S : Type 0} where
-  to_kept : (m : HashMap Uid EntityData S) (a b : Uid) → HasEdge same_uid kept_edges m a b → IsKept (in_map m) a b
-  to_kept m a b h = sym (kept_edge (get same_uid m a) b) ∙ h
+to_kept : (m : Lookup) (a b : Uid) → HasEdge same_uid kept_edges m a b → IsKept m a b
+to_kept m a b h = sym (kept_edge (m a) b) ∙ h
 
-  from_kept : (m : HashMap Uid EntityData S) (a b : Uid) → IsKept (in_map m) a b → HasEdge same_uid kept_edges m a b
-  from_kept m a b h = kept_edge (get same_uid m a) b ∙ h
+from_kept : (m : Lookup) (a b : Uid) → IsKept m a b → HasEdge same_uid kept_edges m a b
+from_kept m a b h = kept_edge (m a) b ∙ h
 
-  to_parent : (m : HashMap Uid EntityData S) (a b : Uid) → HasEdge same_uid parent_edges m a b → IsParent (held_in (in_map m)) a b
-  to_parent m a b h = sym (parent_edge (get same_uid m a) b) ∙ h
+to_parent : (m : Lookup) (a b : Uid) → HasEdge same_uid parent_edges m a b → IsParent (held_in m) a b
+to_parent m a b h = sym (parent_edge (m a) b) ∙ h
 
-  from_parent : (m : HashMap Uid EntityData S) (a b : Uid) → IsParent (held_in (in_map m)) a b → HasEdge same_uid parent_edges m a b
-  from_parent m a b h = parent_edge (get same_uid m a) b ∙ h
+from_parent : (m : Lookup) (a b : Uid) → IsParent (held_in m) a b → HasEdge same_uid parent_edges m a b
+from_parent m a b h = parent_edge (m a) b ∙ h
 
-  held_same : (m n : HashMap Uid EntityData S) → SameNodes same_uid IsSameBesideAncestors m n → (uid : Uid) → held_in (in_map n) uid ≡ held_in (in_map m) uid
-  held_same m n h uid = same_held (get same_uid m uid) (get same_uid n uid) (h uid)
+held_same : (m n : Lookup) → SameNodes IsSameBesideAncestors m n → (uid : Uid) → held_in n uid ≡ held_in m uid
+held_same m n h uid = same_held (m uid) (n uid) (h uid)
 
-  -- what a rebuilt closure is
-  pub computed : (m n : HashMap Uid EntityData S) → SameNodes same_uid IsSameBesideAncestors m n
-      → ((a b : Uid) → HasEdge same_uid kept_edges n a b ↔ Reaches (HasEdge same_uid parent_edges m) a b)
-      → ((a : Uid) → ¬ (Reaches (HasEdge same_uid parent_edges m) a a)) → IsComputed (in_map m) (in_map n)
-  computed m n same edges acyclic =
-      let held = held_same m n same in
-      record {
-        held = held;
-        keeps = record {
-          ancestors = λ a b. (
-            λ h. ancestors_same (held_in (in_map m)) (held_in (in_map n)) (λ uid. sym (held uid)) (reaches_along (to_parent m) ((edges a b).0 (from_kept n a b h))),
-            λ r. to_kept n a b ((edges a b).1 (reaches_along (from_parent m) (ancestors_same (held_in (in_map n)) (held_in (in_map m)) held r))),
-          );
-          acyclic = λ a r. acyclic a (reaches_along (from_parent m) (ancestors_same (held_in (in_map n)) (held_in (in_map m)) held r));
-        };
-      }
+-- what a rebuilt closure is
+pub computed : (m n : Lookup) → SameNodes IsSameBesideAncestors m n
+    → ((a b : Uid) → HasEdge same_uid kept_edges n a b ↔ Reaches (HasEdge same_uid parent_edges m) a b)
+    → ((a : Uid) → ¬ (Reaches (HasEdge same_uid parent_edges m) a a)) → IsComputed m n
+computed m n same edges acyclic =
+    let held = held_same m n same in
+    record {
+      held = held;
+      keeps = record {
+        ancestors = λ a b. (
+          λ h. ancestors_same (held_in m) (held_in n) (λ uid. sym (held uid)) (reaches_along (to_parent m) ((edges a b).0 (from_kept n a b h))),
+          λ r. to_kept n a b ((edges a b).1 (reaches_along (from_parent m) (ancestors_same (held_in n) (held_in m) held r))),
+        );
+        acyclic = λ a r. acyclic a (reaches_along (from_parent m) (ancestors_same (held_in n) (held_in m) held r));
+      };
+    }
 
-  -- what is kept beside some uids are edges that are built beside them
-  pub built_beside : (m : HashMap Uid EntityData S) (uids : List Uid) → KeepsBeside uids (in_map m) → IsBuiltBeside same_uid uids (HasEdge same_uid parent_edges m) (HasEdge same_uid kept_edges m)
-  built_beside m uids beside a b l =
-      let is = beside.ancestors a b l in
-      (λ h. reaches_along (from_parent m) (is.0 (to_kept m a b h)), λ r. from_kept m a b (is.1 (reaches_along (to_parent m) r)))
+-- what is kept beside some uids are edges that are built beside them
+pub built_beside : (m : Lookup) (uids : List Uid) → KeepsBeside uids m → IsBuiltBeside same_uid uids (HasEdge same_uid parent_edges m) (HasEdge same_uid kept_edges m)
+built_beside m uids beside a b l =
+    let is = beside.ancestors a b l in
+    (λ h. reaches_along (from_parent m) (is.0 (to_kept m a b h)), λ r. from_kept m a b (is.1 (reaches_along (to_parent m) r)))
 
-  -- no uid is on a cycle where those to rebuild aren't, and the others weren't
-  pub acyclic_beside : (m : HashMap Uid EntityData S) (uids : List Uid) → KeepsBeside uids (in_map m) → ((a : Uid) → IsTrue (is_member same_uid uids a) → ¬ (Reaches (HasEdge same_uid parent_edges m) a a)) → (a : Uid) → ¬ (Reaches (HasEdge same_uid parent_edges m) a a)
-  acyclic_beside m uids beside acyclic a r = elim (is_member same_uid uids a) as (λ b. is_member same_uid uids a ≡ b → ⊥) [
-    | true ↦ λ l. acyclic a l r
-    | false ↦ λ l. beside.acyclic a l (reaches_along (to_parent m) r)
-  ] refl
+-- no uid is on a cycle where those to rebuild aren't, and the others weren't
+pub acyclic_beside : (m : Lookup) (uids : List Uid) → KeepsBeside uids m → ((a : Uid) → IsTrue (is_member same_uid uids a) → ¬ (Reaches (HasEdge same_uid parent_edges m) a a)) → (a : Uid) → ¬ (Reaches (HasEdge same_uid parent_edges m) a a)
+acyclic_beside m uids beside acyclic a r = elim (is_member same_uid uids a) as (λ b. is_member same_uid uids a ≡ b → ⊥) [
+  | true ↦ λ l. acyclic a l r
+  | false ↦ λ l. beside.acyclic a l (reaches_along (to_parent m) r)
+] refl
 
-  pub rebuilding_refused : (m : HashMap Uid EntityData S) (uids : List Uid) (e : TcError Uid) → IsTcRefusal true (λ k. IsTrue (is_member same_uid uids k) × Reaches (HasEdge same_uid parent_edges m) k k) e → IsClosureRefusal ComputeNow (in_map m) (from_closure e)
-  rebuilding_refused m uids (closure.MissingTcEdge e) h = h
-  rebuilding_refused m uids (closure.HasCycle e) h = reaches_along (to_parent m) h.1.1
-  rebuilding_refused m uids (closure.Memory e) h = h
+pub rebuilding_refused : (m : Lookup) (uids : List Uid) (e : TcError Uid) → IsTcRefusal true (λ k. IsTrue (is_member same_uid uids k) × Reaches (HasEdge same_uid parent_edges m) k k) e → IsClosureRefusal ComputeNow m (from_closure e)
+rebuilding_refused m uids (closure.MissingTcEdge e) h = h
+rebuilding_refused m uids (closure.HasCycle e) h = reaches_along (to_parent m) h.1.1
+rebuilding_refused m uids (closure.Memory e) h = h
 
-  by_uid_at : (m n : HashMap Uid EntityData S) (uid : Uid) (e : EntityData) → IsByUid (in_map m) → get same_uid n uid ≡ Some e → (o : Option EntityData) → get same_uid m uid ≡ o → MatchOption o (get same_uid n uid ≡ None) (λ v. IsSomeAnd (get same_uid n uid) (IsSameBesideAncestors v)) → IsTrue (same_uid e.uid uid)
-  by_uid_at m n uid e by is None p none = let never : None ≡ Some e = sym none ∙ is in cc
-  by_uid_at m n uid e by is (Some v) p k =
-      let q : IsSameBesideAncestors v e = subst (λ o. IsSomeAnd o (IsSameBesideAncestors v)) is k in
-      ap (λ u. same_uid u uid) q.uid ∙ by uid v p
+by_uid_at : (m n : Lookup) (uid : Uid) (e : EntityData) → IsByUid m → n uid ≡ Some e → (o : Option EntityData) → m uid ≡ o → MatchOption o (n uid ≡ None) (λ v. IsSomeAnd (n uid) (IsSameBesideAncestors v)) → IsTrue (same_uid e.uid uid)
+by_uid_at m n uid e by is None p none = let never : None ≡ Some e = sym none ∙ is in cc
+by_uid_at m n uid e by is (Some v) p k =
+    let q : IsSameBesideAncestors v e = subst (λ o. IsSomeAnd o (IsSameBesideAncestors v)) is k in
+    ap (λ u. same_uid u uid) q.uid ∙ by uid v p
 
-  pub by_uid_same : (m n : HashMap Uid EntityData S) → SameNodes same_uid IsSameBesideAncestors m n → IsByUid (in_map m) → IsByUid (in_map n)
-  by_uid_same m n same by uid e is = by_uid_at m n uid e by is (get same_uid m uid) refl (same uid)
+pub by_uid_same : (m n : Lookup) → SameNodes IsSameBesideAncestors m n → IsByUid m → IsByUid n
+by_uid_same m n same by uid e is = by_uid_at m n uid e by is (m uid) refl (same uid)
 
-  -- where a closure isn't rebuilt, what stands at other uids stays
-  pub left_beside : (m n : HashMap Uid EntityData S) (uids : List Uid) → SameNodes same_uid IsSameBesideAncestors m n
-      → ((a b : Uid) → is_member same_uid uids a ≡ false → HasEdge same_uid kept_edges n a b ↔ HasEdge same_uid kept_edges m a b) → IsSameBeside (among uids) (in_map m) (in_map n)
-  left_beside m n uids same edges = record {
-    held = λ uid l. held_same m n same uid;
-    kept = λ a b l. (λ h. to_kept m a b ((edges a b l).0 (from_kept n a b h)), λ h. to_kept n a b ((edges a b l).1 (from_kept m a b h)));
-    there = λ uid. there_at (get same_uid m uid) (get same_uid n uid) (same uid);
-    by_uid = by_uid_same m n same;
-  }
+-- where a closure isn't rebuilt, what stands at other uids stays
+pub left_beside : (m n : Lookup) (uids : List Uid) → SameNodes IsSameBesideAncestors m n
+    → ((a b : Uid) → is_member same_uid uids a ≡ false → HasEdge same_uid kept_edges n a b ↔ HasEdge same_uid kept_edges m a b) → IsSameBeside (among uids) m n
+left_beside m n uids same edges = record {
+  held = λ uid l. held_same m n same uid;
+  kept = λ a b l. (λ h. to_kept m a b ((edges a b l).0 (from_kept n a b h)), λ h. to_kept n a b ((edges a b l).1 (from_kept m a b h)));
+  there = λ uid. there_at (m uid) (n uid) (same uid);
+  by_uid = by_uid_same m n same;
+}
 
-  pub enforced : (m : HashMap Uid EntityData S) → IsTransitive (HasEdge same_uid kept_edges m) → ((a : Uid) → ¬ (HasEdge same_uid kept_edges m a a)) → IsEnforced (in_map m) (in_map m)
-  enforced m closed acyclic = record {
-    stays = λ uid. refl;
-    transitive = λ a b c h k. to_kept m a c (closed a b c (from_kept m a b h) (from_kept m b c k));
-    acyclic = λ a h. acyclic a (from_kept m a a h);
-  }
+pub enforced : (m : Lookup) → IsTransitive (HasEdge same_uid kept_edges m) → ((a : Uid) → ¬ (HasEdge same_uid kept_edges m a a)) → IsEnforced m m
+enforced m closed acyclic = record {
+  stays = λ uid. refl;
+  transitive = λ a b c h k. to_kept m a c (closed a b c (from_kept m a b h) (from_kept m b c k));
+  acyclic = λ a h. acyclic a (from_kept m a a h);
+}
 
-  pub computing_refused : (m : HashMap Uid EntityData S) (e : TcError Uid) → IsTcRefusal true (λ k. Reaches (HasEdge same_uid parent_edges m) k k) e → IsClosureRefusal ComputeNow (in_map m) (from_closure e)
-  computing_refused m (closure.MissingTcEdge e) h = h
-  computing_refused m (closure.HasCycle e) h = reaches_along (to_parent m) h.1
-  computing_refused m (closure.Memory e) h = h
+pub computing_refused : (m : Lookup) (e : TcError Uid) → IsTcRefusal true (λ k. Reaches (HasEdge same_uid parent_edges m) k k) e → IsClosureRefusal ComputeNow m (from_closure e)
+computing_refused m (closure.MissingTcEdge e) h = h
+computing_refused m (closure.HasCycle e) h = reaches_along (to_parent m) h.1
+computing_refused m (closure.Memory e) h = h
 
-  pub enforcing_refused : (m : HashMap Uid EntityData S) (e : TcError Uid) → IsTcViolation (HasEdge same_uid kept_edges m) e → IsClosureRefusal EnforceAlreadyComputed (in_map m) (from_closure e)
-  enforcing_refused m (closure.MissingTcEdge e) h = (to_kept m e.child e.parent h.0, to_kept m e.parent e.grandparent h.1, λ k. h.2 (from_kept m e.child e.grandparent k))
-  enforcing_refused m (closure.HasCycle e) h = to_kept m e.vertex_with_loop e.vertex_with_loop h
-  enforcing_refused m (closure.Memory e) h = h
+pub enforcing_refused : (m : Lookup) (e : TcError Uid) → IsTcViolation (HasEdge same_uid kept_edges m) e → IsClosureRefusal EnforceAlreadyComputed m (from_closure e)
+enforcing_refused m (closure.MissingTcEdge e) h = (to_kept m e.child e.parent h.0, to_kept m e.parent e.grandparent h.1, λ k. h.2 (from_kept m e.child e.grandparent k))
+enforcing_refused m (closure.HasCycle e) h = to_kept m e.vertex_with_loop e.vertex_with_loop h
+enforcing_refused m (closure.Memory e) h = h
 
 pub clones_are_equal : (x y : Uid) → y ≡ x → IsTrue (same_uid x y)
 clones_are_equal x y e = ap (same_uid x) e ∙ same_uid_equiv.refl x

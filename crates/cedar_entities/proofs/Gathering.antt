@@ -2,22 +2,21 @@
 use Rattle.std.proofs.Common.{◌≡◌, Bool, true, false, ◌||◌, List, [], ◌∷◌, ◌++◌, Option, None, Some, cond, option_map, is_some, refl, sym, ap, subst, ◌∙◌, true≢false}
 use Rattle.std.specs.Option.{option_map_or, IsSome}
 use Rattle.std.specs.FinSet as set
-use Rattle.std.specs.HashMap.{HashMap}
+use Rattle.std.specs.BTreeMap.{BTreeMap, WritesThrough}
 use Rattle.std.specs.List.{All, list_any}
-use Rattle.std.specs.Map.{lookup, set_value, keys_of}
+use Rattle.std.specs.Map.{keys_of}
 use Rattle.std.proofs.lemmas.List.Folds.{list_any-append}
 use Rattle.std.proofs.lemmas.List.Elements.{All-head, All-tail}
-use Rattle.std.proofs.lemmas.Map.{lookup-set_value}
-use Rattle.std.proofs.lemmas.Map.Made.{is_some-lookup}
 use Rattle.cedar_language.specs.Uid.{Uid}
 use Rattle.cedar_language.specs.Facts.{Reaches, edge, further}
-use Rattle.cedar_language.specs.Order.{same_uid}
+use Rattle.cedar_language.specs.Order.{uid_cmp, same_uid}
 use Rattle.cedar_literals.specs.Laws.{same_uid_equiv}
 use Rattle.cedar_entities.specs.Data.{EntityData, UidSet, ancestors_of, without}
 use Rattle.cedar_entities.specs.Held.{held_of, parents_of}
 use Rattle.cedar_entities.specs.Kept.{Lookup, in_map, held_in, kept_at, KeepsAncestors, HaveNoChildren, Covers}
 use Rattle.cedar_entities.proofs.UidLemmas.{uid_is, none_of_nothing, without_again}
-use Rattle.cedar_entities.proofs.Sameness.{IsUnderway, goes_on}
+use Rattle.cedar_entities.proofs.Ordered.{written_at, keys_stand}
+use Rattle.cedar_entities.proofs.Sameness.{IsUnderway, begins, goes_on}
 use Rattle.cedar_entities.proofs.Untouched.{untouched_cut}
 
 or_more : (a b : Bool) → a ≡ true → (a || b) ≡ true
@@ -111,8 +110,8 @@ AreStanding found entries = All (λ (e : Uid × EntityData). found e.0 ≡ Some 
 abbrev pub IsWalking : Lookup → List Uid → List Uid → List (Uid × EntityData) → Type 0
 IsWalking found edited uids left = IsGathering found edited uids (keys_of left) × AreStanding found left
 
-pub walk_begins : {S : Type 0} (m : HashMap Uid EntityData S) (edited uids : List Uid) → ((q : Uid) → list_any (same_uid q) uids ≡ list_any (same_uid q) edited) → AreStanding (in_map m) m.entries → IsWalking (in_map m) edited uids m.entries
-walk_begins m edited uids are standing = (gathering_begins (in_map m) edited uids (keys_of m.entries) are (λ q. sym (is_some-lookup (same_uid q) m.entries)), standing)
+pub walk_begins : (m : BTreeMap Uid EntityData) (edited uids : List Uid) → ((q : Uid) → list_any (same_uid q) uids ≡ list_any (same_uid q) edited) → AreStanding (in_map m) m.entries → IsWalking (in_map m) edited uids m.entries
+walk_begins m edited uids are standing = (gathering_begins (in_map m) edited uids (keys_of m.entries) are (keys_stand m), standing)
 
 module _ (found : Lookup) (edited uids : List Uid) (left more : List (Uid × EntityData)) (k : Uid) (e : EntityData) (step : left ≡ (k, e) ∷ more) (walking : IsWalking found edited uids left) where
   standing : AreStanding found ((k, e) ∷ more)
@@ -141,10 +140,9 @@ IsNoChild found edited uid = list_any (set.contains (parents_of (held_in found u
 abbrev pub IsLooking : Lookup → List Uid → List (Uid × EntityData) → Type 0
 IsLooking found edited left = IsUnderway found (IsNoChild found edited) (keys_of left) × AreStanding found left
 
-pub look_begins : {S : Type 0} (m : HashMap Uid EntityData S) (edited : List Uid) → AreStanding (in_map m) m.entries → IsLooking (in_map m) edited m.entries
+pub look_begins : (m : BTreeMap Uid EntityData) (edited : List Uid) → AreStanding (in_map m) m.entries → IsLooking (in_map m) edited m.entries
 look_begins m edited standing =
-    let held : (q : Uid) → list_any (same_uid q) (keys_of m.entries) ≡ is_some (in_map m q) = λ q. sym (is_some-lookup (same_uid q) m.entries) in
-    (record { holds = λ uid gone has. absurd (true≢false (sym has ∙ sym (held uid) ∙ gone)); here = λ uid there. sym (held uid) ∙ there }, standing)
+    (begins m (IsNoChild (in_map m) edited), standing)
 
 pub looks_on : (found : Lookup) (edited : List Uid) (left more : List (Uid × EntityData)) (k : Uid) (e : EntityData) → left ≡ (k, e) ∷ more → list_any (set.contains e.parents) edited ≡ false → IsLooking found edited left → IsLooking found edited more
 looks_on found edited left more k e step apart looking =
@@ -251,15 +249,9 @@ uids_added all left us none underway q = sym (or_none (list_any (same_uid q) us)
 
 -- ---- one value of a map is cut
 
-module _ {S : Type 0} (m n : HashMap Uid EntityData S) (at : Uid) where
-  pub written_there : (e w : EntityData) → n.entries ≡ set_value (same_uid at) m.entries w → Some e ≡ in_map m at → (uid : Uid) → in_map n uid ≡ cond (same_uid at uid) (Some w) (in_map m uid)
-  written_there e w is here uid =
-      ap (λ es. lookup (same_uid uid) es) is
-      ∙ lookup-set_value same_uid_equiv (same_uid at) (λ x y t. ap (λ u. same_uid u y) (uid_is at x t)) uid w m.entries (ap is_some (sym here))
-
-module _ {S : Type 0} (m n : HashMap Uid EntityData S) (at : Uid) (g : UidSet) where
-  pub cut_there : (e w : EntityData) → n.entries ≡ set_value (same_uid at) m.entries w → Some e ≡ in_map m at → w ≡ without g e → (uid : Uid) → in_map n uid ≡ cond (same_uid at uid) (option_map (without g) (in_map m uid)) (in_map m uid)
-  cut_there e w is here cut uid = written_there m n at e w is here uid ∙ by_test (same_uid at uid) refl
+module _ (m n : BTreeMap Uid EntityData) (at : Uid) (g : UidSet) where
+  pub cut_there : (e w : EntityData) → WritesThrough uid_cmp (uid_cmp at) m w n → Some e ≡ in_map m at → w ≡ without g e → (uid : Uid) → in_map n uid ≡ cond (same_uid at uid) (option_map (without g) (in_map m uid)) (in_map m uid)
+  cut_there e w is here cut uid = written_at m n at e w is here uid ∙ by_test (same_uid at uid) refl
     where
       by_test : (b : Bool) → same_uid at uid ≡ b → cond b (Some w) (in_map m uid) ≡ cond b (option_map (without g) (in_map m uid)) (in_map m uid)
       by_test true t = ap Some cut ∙ ap (option_map (without g)) (here ∙ ap (in_map m) (uid_is at uid t))

@@ -1,4 +1,5 @@
 pub mod UidSets
+pub mod Ordered
 mod Listed
 pub mod Distinct
 pub mod UidLemmas

@@ -1,12 +1,15 @@
 -- What comparisons of maps say.
 use Rattle.std.proofs.Common.{◌≡◌, ◌↔◌, Bool, true, false, ◌||◌, List, ◌∷◌, Option, None, Some, refl, sym, ap, subst, ◌∙◌, IsTrue, true≢false, is_some}
 use Rattle.std.specs.Option.{MatchOption, IsSome, IsSomeAnd}
+use Rattle.std.specs.BTreeMap.{BTreeMap, keys}
 use Rattle.std.specs.Set.{is_member}
 use Rattle.cedar_language.specs.Uid.{Uid}
 use Rattle.cedar_language.specs.Order.{same_uid}
+use Rattle.cedar_literals.specs.Laws.{same_uid_equiv}
 use Rattle.cedar_entities.specs.Data.{EntityData, IsSameEntity}
 use Rattle.cedar_entities.proofs.UidLemmas.{uid_is}
-use Rattle.cedar_entities.specs.Kept.{Lookup, IsSameAt, HoldsAllOf, HoldsUidsOf}
+use Rattle.cedar_entities.proofs.Ordered.{keys_stand}
+use Rattle.cedar_entities.specs.Kept.{Lookup, in_map, IsSameAt, HoldsAllOf, HoldsUidsOf}
 
 or_more : (a b : Bool) → b ≡ true → (a || b) ≡ true
 or_more true b h = refl
@@ -42,10 +45,16 @@ pub record IsUnderway (found : Lookup) (P : Uid → Type 0) (left : List Uid) : 
   pub holds : (uid : Uid) → is_member same_uid left uid ≡ false → IsSome (found uid) → P uid
   pub here : (uid : Uid) → IsTrue (is_member same_uid left uid) → IsSome (found uid)
 
+pub begins : (m : BTreeMap Uid EntityData) (P : Uid → Type 0) → IsUnderway (in_map m) P (keys m)
+begins m P = record { holds = λ uid gone has. absurd (true≢false (sym has ∙ sym (keys_stand m uid) ∙ gone)); here = λ uid there. sym (keys_stand m uid) ∙ there }
+
 module _ (found : Lookup) (P : Uid → Type 0) where
   module _ (left more : List Uid) (k : Uid) (underway : IsUnderway found P left) (step : left ≡ k ∷ more) where
     test : (uid : Uid) → is_member same_uid left uid ≡ (same_uid uid k || is_member same_uid more uid)
     test uid = ap (λ us. is_member same_uid us uid) step
+
+    pub first_stands : IsSome (found k)
+    first_stands = underway.here k (test k ∙ ap (λ b. b || is_member same_uid more k) (same_uid_equiv.refl k))
 
     pub goes_on : P k → IsUnderway found P more
     goes_on is = record {

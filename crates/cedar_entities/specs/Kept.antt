@@ -2,10 +2,10 @@
 use Rattle.std.specs.Prelude.{◌≡◌, ◌↔◌, ◌||◌, Option, None, Some, IsTrue, List, cond, false}
 use Rattle.std.specs.Option.{option_map, option_map_or, MatchOption, IsSome, IsSomeAnd}
 use Rattle.std.specs.FinSet as set
-use Rattle.std.specs.HashMap.{HashMap, get}
+use Rattle.std.specs.BTreeMap.{BTreeMap, get}
 use Rattle.std.specs.List.{AllByRecursion, list_any}
 use Rattle.cedar_language.specs.Uid.{Uid}
-use Rattle.cedar_language.specs.Order.{same_uid}
+use Rattle.cedar_language.specs.Order.{same_uid, uid_cmp}
 use Rattle.cedar_entities.specs.Data.{UidSet, EntityData, IsSameEntity, ancestors_of, without}
 use Rattle.cedar_entities.specs.Held.{Held, held_of, parents_of, IsParent, IsAncestor}
 use Rattle.cedar_entities.specs.Edits.{last_by, first_by, or_first, IsListed}
@@ -14,8 +14,8 @@ use Rattle.cedar_entities.specs.Edits.{last_by, first_by, or_first, IsListed}
 abbrev pub Lookup : Type 0
 Lookup = Uid → Option EntityData
 
-abbrev pub in_map : {S : Type 0} → HashMap Uid EntityData S → Lookup
-in_map m uid = get same_uid m uid
+abbrev pub in_map : BTreeMap Uid EntityData → Lookup
+in_map m uid = get uid_cmp m uid
 
 -- what is held at a uid
 abbrev pub held_in : Lookup → Uid → Option Held

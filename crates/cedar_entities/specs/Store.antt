@@ -1,7 +1,7 @@
 -- A store of entities, and what its edits leave.
 use Rattle.std.specs.Prelude.{◌≡◌, ◌↔◌, ⊤, Bool, true, false, Option, None, Some, IsTrue, List, Result, Ok, Err}
 use Rattle.std.specs.FinSet as set
-use Rattle.std.specs.HashMap.{values}
+use Rattle.std.specs.BTreeMap.{values}
 use Rattle.cedar_language.specs.Uid.{Uid}
 use Rattle.cedar_language.specs.Tree.{Unknown, EntityType}
 use Rattle.cedar_literals.specs.Escapes.{uid_text}
@@ -33,7 +33,7 @@ held_at s = held_in (found_in s)
 abbrev pub IsClosed : Entities → Type 0
 IsClosed s = KeepsAncestors (found_in s)
 
--- the entities that stand there, in no stated order
+-- the entities that stand there, in the order of their uids
 abbrev pub entities_in : Entities → List EntityData
 entities_in s = values s.entities
 

@@ -5,7 +5,7 @@ use crate::errors::EntitiesError;
 use cedar_closure::{enforce_tc_and_dag, rebuild_tc, rebuild_tc_at};
 use cedar_literals::uids::EntityUID;
 use std::alloc::Global;
-use std::collections::HashMap;
+use std::collections::BTreeMap;
 
 /// What is to become of the ancestors that are kept when a store is edited.
 #[derive(Debug, PartialEq, Eq, Clone, Copy)]
@@ -28,7 +28,7 @@ impl TCComputation {
     // Keeps beside the parents what they reach.
     fn compute(
         alloc: Global,
-        entities: &mut HashMap<EntityUID, Entity>,
+        entities: &mut BTreeMap<EntityUID, Entity>,
     ) -> Result<(), EntitiesError>
         ensures computed { OnOk result (IsComputed (in_map entities.old) (in_map entities.new)) }
         ensures by_uid { IsByUid (in_map entities.old) → IsByUid (in_map entities.new) }
@@ -41,7 +41,7 @@ impl TCComputation {
     /// Keeps beside the parents what they reach, where this is done for all but these uids.
     pub(crate) fn compute_at(
         alloc: Global,
-        entities: &mut HashMap<EntityUID, Entity>,
+        entities: &mut BTreeMap<EntityUID, Entity>,
         stale: &[EntityUID],
     ) -> Result<(), EntitiesError>
         requires { KeepsBeside stale.now (in_map entities.old) }
@@ -57,7 +57,7 @@ impl TCComputation {
     // Keeps beside the parents what they reach, for all or for those that are stale.
     fn compute_stale(
         alloc: Global,
-        entities: &mut HashMap<EntityUID, Entity>,
+        entities: &mut BTreeMap<EntityUID, Entity>,
         stale: Option<Vec<EntityUID>>,
     ) -> Result<(), EntitiesError>
         requires { IfSome stale (λ uids. KeepsBeside uids.items (in_map entities.old)) }
@@ -72,7 +72,7 @@ impl TCComputation {
     }
 
     // Refuses ancestors that aren't their own closure.
-    fn enforce(alloc: Global, entities: &HashMap<EntityUID, Entity>) -> Result<(), EntitiesError>
+    fn enforce(alloc: Global, entities: &BTreeMap<EntityUID, Entity>) -> Result<(), EntitiesError>
         ensures enforced { OnOk result (IsEnforced (in_map entities.now) (in_map entities.now)) }
         ensures refused { IfErr result (IsClosureRefusal EnforceAlreadyComputed (in_map entities.now)) }
     {
@@ -85,7 +85,7 @@ impl TCComputation {
     pub(crate) fn close(
         self,
         alloc: Global,
-        entities: &mut HashMap<EntityUID, Entity>,
+        entities: &mut BTreeMap<EntityUID, Entity>,
         stale: Option<Vec<EntityUID>>,
     ) -> Result<bool, EntitiesError>
         requires { IfSome stale (λ uids. KeepsBeside uids.items (in_map entities.old)) }

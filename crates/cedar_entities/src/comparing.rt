@@ -4,12 +4,12 @@ ghost use Rattle.cedar_entities.specs.Kept.{in_map, IsSameAt, HoldsAllOf, HoldsU
 
 use crate::entity::Entity;
 use cedar_literals::uids::EntityUID;
-use std::collections::HashMap;
+use std::collections::BTreeMap;
 
 // Whether the maps have the same entity at a uid, or none.
 fn is_same_at(
-    entities: &HashMap<EntityUID, Entity>,
-    others: &HashMap<EntityUID, Entity>,
+    entities: &BTreeMap<EntityUID, Entity>,
+    others: &BTreeMap<EntityUID, Entity>,
     uid: &EntityUID,
 ) -> bool
     ensures { IsTrue result ↔ IsSameAt (in_map entities.now) (in_map others.now) uid.now }
@@ -23,8 +23,8 @@ fn is_same_at(
 
 /// Whether the second map has all entities of the first, the same.
 pub(crate) fn agree_where_held(
-    entities: &HashMap<EntityUID, Entity>,
-    others: &HashMap<EntityUID, Entity>,
+    entities: &BTreeMap<EntityUID, Entity>,
+    others: &BTreeMap<EntityUID, Entity>,
 ) -> bool
     ensures { IsTrue result ↔ HoldsAllOf (in_map entities.now) (in_map others.now) }
 {
@@ -38,8 +38,8 @@ pub(crate) fn agree_where_held(
 
 /// Whether the first map has an entity at each uid at which the second has one.
 pub(crate) fn has_uids_of(
-    entities: &HashMap<EntityUID, Entity>,
-    others: &HashMap<EntityUID, Entity>,
+    entities: &BTreeMap<EntityUID, Entity>,
+    others: &BTreeMap<EntityUID, Entity>,
 ) -> bool
     ensures { IsTrue result ↔ HoldsUidsOf (in_map entities.now) (in_map others.now) }
 {

@@ -15,12 +15,12 @@ use crate::entity::Entity;
 use crate::errors::{Duplicate, EntitiesError};
 use cedar_literals::uids::EntityUID;
 use std::alloc::{AllocError, Global};
-use std::collections::{HashMap, HashSet};
+use std::collections::{BTreeMap, BTreeSet};
 
 /// Puts the entities into the map in turn: the last version of a uid stays.
 pub(crate) fn put_all(
     alloc: Global,
-    map: &mut HashMap<EntityUID, Entity>,
+    map: &mut BTreeMap<EntityUID, Entity>,
     entities: Vec<Entity>,
 ) -> Result<(), AllocError>
     ensures put { OnOk result ((uid : Uid) → in_map map.new uid ≡ put_over (in_map map.old) entities.items uid) }
@@ -36,7 +36,7 @@ pub(crate) fn put_all(
 // Adds an entity, where none of its uid is there; one that is there has to be the same.
 fn add_one(
     alloc: Global,
-    map: &mut HashMap<EntityUID, Entity>,
+    map: &mut BTreeMap<EntityUID, Entity>,
     entity: Entity,
 ) -> Result<(), EntitiesError>
     ensures added { OnOk result ((uid : Uid) → in_map map.new uid ≡ or_first (in_map map.old uid) (cond (same_uid entity.uid uid) (Some entity) None)) }
@@ -65,7 +65,7 @@ fn add_one(
 /// Adds the entities in turn: what is there stays, and each further version has to be the same.
 pub(crate) fn add_all(
     alloc: Global,
-    map: &mut HashMap<EntityUID, Entity>,
+    map: &mut BTreeMap<EntityUID, Entity>,
     entities: Vec<Entity>,
 ) -> Result<(), EntitiesError>
     ensures added { OnOk result ((uid : Uid) → in_map map.new uid ≡ added_to (in_map map.old) entities.items uid) }
@@ -80,10 +80,10 @@ pub(crate) fn add_all(
 }
 
 /// The uids of the entities.
-pub(crate) fn uids_of(alloc: Global, entities: &[Entity]) -> Result<HashSet<EntityUID>, AllocError>
+pub(crate) fn uids_of(alloc: Global, entities: &[Entity]) -> Result<BTreeSet<EntityUID>, AllocError>
     ensures { IfOk result (λ uids. (q : Uid) → list_any (same_uid q) uids.keys ≡ list_any (λ e. same_uid q e.uid) entities.now) }
 {
-    let mut uids = HashSet::new(alloc);
+    let mut uids = BTreeSet::new(alloc);
     for entity in entities {
         uids.insert(entity.uid().clone(alloc)?)?;
     }
@@ -91,7 +91,7 @@ pub(crate) fn uids_of(alloc: Global, entities: &[Entity]) -> Result<HashSet<Enti
 }
 
 /// Takes the entities of these uids away.
-pub(crate) fn drop_all(map: &mut HashMap<EntityUID, Entity>, uids: &HashSet<EntityUID>)
+pub(crate) fn drop_all(map: &mut BTreeMap<EntityUID, Entity>, uids: &BTreeSet<EntityUID>)
     ensures { (uid : Uid) → in_map map.new uid ≡ cond (set.contains (set.from_list {R = uid_cmp} uids.now.keys) uid) None (in_map map.old uid) }
 {
     for uid in uids {
@@ -100,7 +100,7 @@ pub(crate) fn drop_all(map: &mut HashMap<EntityUID, Entity>, uids: &HashSet<Enti
 }
 
 // Takes the uids away from the ancestors of the entity at one uid.
-fn cut_one(map: &mut HashMap<EntityUID, Entity>, at: &EntityUID, uids: &HashSet<EntityUID>)
+fn cut_one(map: &mut BTreeMap<EntityUID, Entity>, at: &EntityUID, uids: &BTreeSet<EntityUID>)
     ensures beside { IsSameBeside (λ q. same_uid q at.now) (in_map map.old) (in_map map.new) }
     ensures cut { (uid : Uid) → in_map map.new uid
         ≡ cond (same_uid at.now uid) (option_map (without (set.from_list {R = uid_cmp} uids.now.keys)) (in_map map.old uid)) (in_map map.old uid) }
@@ -113,9 +113,9 @@ fn cut_one(map: &mut HashMap<EntityUID, Entity>, at: &EntityUID, uids: &HashSet<
 
 /// Takes the uids away from the ancestors of each entity, none of the others having one of them.
 pub(crate) fn cut_all(
-    map: &mut HashMap<EntityUID, Entity>,
+    map: &mut BTreeMap<EntityUID, Entity>,
     touched: &[EntityUID],
-    uids: &HashSet<EntityUID>,
+    uids: &BTreeSet<EntityUID>,
 )
     requires { Covers (in_map map.old) uids.now.keys touched.now }
     ensures beside { IsSameBeside (among touched.now) (in_map map.old) (in_map map.new) }
@@ -129,9 +129,9 @@ pub(crate) fn cut_all(
 /// Takes the entities of these uids away, and the uids from the ancestors of those that stay: of those touched, none
 /// of the others having one of them.
 pub(crate) fn remove_all(
-    map: &mut HashMap<EntityUID, Entity>,
+    map: &mut BTreeMap<EntityUID, Entity>,
     touched: &[EntityUID],
-    uids: &HashSet<EntityUID>,
+    uids: &BTreeSet<EntityUID>,
 )
     requires { Covers (in_map map.old) uids.now.keys touched.now }
     ensures { (uid : Uid) → in_map map.new uid ≡ removed_from (in_map map.old) (set.from_list {R = uid_cmp} uids.now.keys) uid }

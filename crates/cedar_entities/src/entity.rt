@@ -17,7 +17,7 @@ use crate::uid_lists::EntityUIDs;
 use cedar_literals::uids::EntityUID;
 use cedar_restricted::partial_values::PartialValue;
 use std::alloc::{AllocError, Global};
-use std::collections::{BTreeMap, HashSet, btree_map};
+use std::collections::{BTreeMap, BTreeSet, btree_map};
 use std::hash::{Hash, Hasher};
 use std::marker::Model;
 use std::rc::{Rc, RcStr};
@@ -76,33 +76,34 @@ impl Entity {
             alloc,
             uid,
             BTreeMap::new(alloc),
-            HashSet::new(alloc),
-            HashSet::new(alloc),
+            Vec::new(alloc),
+            Vec::new(alloc),
             BTreeMap::new(alloc),
         )
     }
 
-    /// The entity of these parts; refused for memory alone.
+    /// The entity of these parts, its parents and other ancestors in any order and any number of times; refused for
+    /// memory alone.
     pub fn new_with_attr_partial_value(
         alloc: Global,
         uid: EntityUID,
         attrs: BTreeMap<RcStr, PartialValue>,
-        indirect_ancestors: HashSet<EntityUID>,
-        parents: HashSet<EntityUID>,
+        indirect_ancestors: Vec<EntityUID>,
+        parents: Vec<EntityUID>,
         tags: BTreeMap<RcStr, PartialValue>,
     ) -> Result<Entity, AllocError>
         ensures { IfOk result (λ entity. entity ≡ record {
           uid = uid;
           attributes = attributes_of attrs.entries;
           tags = attributes_of tags.entries;
-          parents = set.from_list parents.keys;
-          indirect = set.from_list indirect_ancestors.keys;
+          parents = set.from_list parents.items;
+          indirect = set.from_list indirect_ancestors.items;
         }) }
     {
         let attrs = Rc::new(alloc, attrs)?;
         let tags = Rc::new(alloc, tags)?;
-        let parents = EntityUIDs::from_set(alloc, parents)?;
-        let indirect_ancestors = EntityUIDs::from_set(alloc, indirect_ancestors)?;
+        let parents = EntityUIDs::from_vec(alloc, parents)?;
+        let indirect_ancestors = EntityUIDs::from_vec(alloc, indirect_ancestors)?;
         Ok(Entity {
             uid,
             attrs,
@@ -199,14 +200,14 @@ impl Entity {
     }
 
     /// Whether one of the uids is one of its ancestors.
-    pub fn is_descendant_of_one(&self, uids: &HashSet<EntityUID>) -> bool
+    pub fn is_descendant_of_one(&self, uids: &BTreeSet<EntityUID>) -> bool
         ensures { result ≡ list_any (set.contains (ancestors_of self.now)) uids.now.keys }
     {
         self.parents.meets(uids) || self.indirect_ancestors.meets(uids)
     }
 
     /// Whether one of the uids is one of its parents.
-    pub fn is_child_of_one(&self, uids: &HashSet<EntityUID>) -> bool
+    pub fn is_child_of_one(&self, uids: &BTreeSet<EntityUID>) -> bool
         ensures { result ≡ list_any (set.contains self.now.parents) uids.now.keys }
     {
         self.parents.meets(uids)
@@ -418,7 +419,7 @@ impl Entity {
     }
 
     /// Takes these uids away from its parents and from the ancestors that are kept beside them.
-    pub fn remove_ancestors(&mut self, uids: &HashSet<EntityUID>)
+    pub fn remove_ancestors(&mut self, uids: &BTreeSet<EntityUID>)
         ensures { self.new ≡ without (set.from_list uids.now.keys) self.old }
     {
         self.parents.remove_all(uids);

@@ -15,7 +15,7 @@ use cedar_extensions::objects::ExtensionFunctionObject;
 use cedar_literals::uids::EntityUID;
 use cedar_restricted::restricted::RestrictedExpr;
 use std::alloc::Global;
-use std::collections::{BTreeMap, HashSet};
+use std::collections::BTreeMap;
 use std::rc::RcStr;
 
 /// What is made of an entity's parts, its attributes and tags being expressions.
@@ -24,7 +24,8 @@ pub trait EvaluateEntity: Sized {
     ghost held: { Self → EntityData };
 
     /// The entity of these parts, its attributes and tags evaluated within the limit `depth`: each has the
-    /// value of its expression, or what is left of it where something in it is unknown.
+    /// value of its expression, or what is left of it where something in it is unknown. Parents and other ancestors
+    /// come in any order and any number of times.
     ///
     /// Refused for the first attribute whose expression has no value, in the order of names, or where all
     /// have one for the first such tag; and for want of memory.
@@ -32,14 +33,14 @@ pub trait EvaluateEntity: Sized {
         alloc: Global,
         uid: EntityUID,
         attrs: BTreeMap<RcStr, RestrictedExpr>,
-        indirect_ancestors: HashSet<EntityUID>,
-        parents: HashSet<EntityUID>,
+        indirect_ancestors: Vec<EntityUID>,
+        parents: Vec<EntityUID>,
         tags: BTreeMap<RcStr, RestrictedExpr>,
         extensions: &Extensions<'_, F>,
         depth: u32,
     ) -> Result<Self, EntityCreationError>
         ensures evaluated { IfOk result (λ made. IsEvaluated (as_table F.answers extensions.now) uid (restricted_entries attrs.entries) (restricted_entries tags.entries)
-            (set.from_list parents.keys) (set.from_list indirect_ancestors.keys) (held made)) }
+            (set.from_list parents.items) (set.from_list indirect_ancestors.items) (held made)) }
         ensures attributes_limit { IfOk result (λ made. AreWithin depth (restricted_entries attrs.entries)) }
         ensures tags_limit { IfOk result (λ made. AreWithin depth (restricted_entries tags.entries)) }
         ensures refused { IfErr result (IsCreationRefusal (as_table F.answers extensions.now) depth uid (restricted_entries attrs.entries) (restricted_entries tags.entries)) };
@@ -52,8 +53,8 @@ impl EvaluateEntity for Entity {
         alloc: Global,
         uid: EntityUID,
         attrs: BTreeMap<RcStr, RestrictedExpr>,
-        indirect_ancestors: HashSet<EntityUID>,
-        parents: HashSet<EntityUID>,
+        indirect_ancestors: Vec<EntityUID>,
+        parents: Vec<EntityUID>,
         tags: BTreeMap<RcStr, RestrictedExpr>,
         extensions: &Extensions<'_, F>,
         depth: u32,

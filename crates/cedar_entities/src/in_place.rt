@@ -15,12 +15,12 @@ use crate::errors::EntitiesError;
 use crate::taking_back::{put_all_back, saved};
 use cedar_literals::uids::EntityUID;
 use std::alloc::Global;
-use std::collections::{HashMap, HashSet};
+use std::collections::{BTreeMap, BTreeSet};
 
 // Puts the entities into the map, and closes again the ancestors of those that are stale then.
 fn put_and_close(
     alloc: Global,
-    map: &mut HashMap<EntityUID, Entity>,
+    map: &mut BTreeMap<EntityUID, Entity>,
     entities: Vec<Entity>,
     stale: &[EntityUID],
 ) -> Result<(), EntitiesError>
@@ -39,7 +39,7 @@ fn put_and_close(
 /// refused call leaves the map as it was.
 pub(crate) fn put_in_place(
     alloc: Global,
-    map: &mut HashMap<EntityUID, Entity>,
+    map: &mut BTreeMap<EntityUID, Entity>,
     entities: Vec<Entity>,
     stale: &[EntityUID],
 ) -> Result<(), EntitiesError>
@@ -63,7 +63,7 @@ pub(crate) fn put_in_place(
 // Adds the entities to the map, and closes again the ancestors of those that are stale then.
 fn add_and_close(
     alloc: Global,
-    map: &mut HashMap<EntityUID, Entity>,
+    map: &mut BTreeMap<EntityUID, Entity>,
     entities: Vec<Entity>,
     stale: &[EntityUID],
 ) -> Result<(), EntitiesError>
@@ -83,7 +83,7 @@ fn add_and_close(
 /// refused call leaves the map as it was.
 pub(crate) fn add_in_place(
     alloc: Global,
-    map: &mut HashMap<EntityUID, Entity>,
+    map: &mut BTreeMap<EntityUID, Entity>,
     entities: Vec<Entity>,
     stale: &[EntityUID],
 ) -> Result<(), EntitiesError>
@@ -108,9 +108,9 @@ pub(crate) fn add_in_place(
 // Takes the uids from the ancestors of the entities touched, and closes these again. Without edges no cycle comes.
 fn cut_and_close(
     alloc: Global,
-    map: &mut HashMap<EntityUID, Entity>,
+    map: &mut BTreeMap<EntityUID, Entity>,
     touched: &[EntityUID],
-    uids: &HashSet<EntityUID>,
+    uids: &BTreeSet<EntityUID>,
 ) -> Result<(), EntitiesError>
     requires closed { KeepsAncestors (in_map map.old) }
     requires covers { Covers (in_map map.old) uids.now.keys touched.now }
@@ -127,9 +127,9 @@ fn cut_and_close(
 /// them again; those touched are known. Refused for memory alone; the map is then as it was.
 pub(crate) fn remove_in_place(
     alloc: Global,
-    map: &mut HashMap<EntityUID, Entity>,
+    map: &mut BTreeMap<EntityUID, Entity>,
     touched: &[EntityUID],
-    uids: &HashSet<EntityUID>,
+    uids: &BTreeSet<EntityUID>,
 ) -> Result<(), EntitiesError>
     requires closed { KeepsAncestors (in_map map.old) }
     requires covers { Covers (in_map map.old) uids.now.keys touched.now }

@@ -1,11 +1,13 @@
 //! The store of entities: look-ups, and edits that close the ancestors again.
-ghost use Rattle.std.specs.Prelude.{◌≡◌, ◌↔◌, [], IsTrue, IfOk, IfErr, IfSome, IfNone, length, Some, None};
+ghost use Rattle.std.specs.Prelude.{◌≡◌, ◌↔◌, [], IsTrue, IfOk, IfErr, IfSome, IfNone, length, map, Some, None};
 ghost use Rattle.std.specs.FinSet as set;
 ghost use Rattle.cedar_language.specs.Uid.{Uid};
 ghost use Rattle.cedar_language.specs.Order.{uid_cmp};
 ghost use Rattle.cedar_language.specs.Tree as tree;
 ghost use Rattle.cedar_trees.specs.Bare.{bare};
 ghost use Rattle.cedar_literals.specs.Escapes.{uid_text};
+ghost use Rattle.cedar_entities.specs.Data.{EntityData};
+ghost use Rattle.cedar_entities.specs.Lists.{AreRising};
 ghost use Rattle.cedar_entities.specs.Beside.{CoversEntities};
 ghost use Rattle.cedar_entities.specs.Kept.{in_map, IsByUid, IsWhole, KeepsBeside, Covers};
 
@@ -20,7 +22,7 @@ use cedar_literals::uids::EntityUID;
 use cedar_trees::expr::Expr;
 use cedar_trees::unknowns::Unknown;
 use std::alloc::{AllocError, Global};
-use std::collections::{HashMap, HashSet, hash_map};
+use std::collections::{BTreeMap, BTreeSet, btree_map};
 use std::rc::RcStr;
 
 /// What is said of an entity that isn't held: that there is none, or that it isn't known.
@@ -33,7 +35,7 @@ enum Mode {
 /// The entities of a request, by their uids. Each stands under its own uid.
 /// (Cedar language reference, "Entities".)
 pub struct Entities {
-    pub(crate) entities: HashMap<EntityUID, Entity>,
+    pub(crate) entities: BTreeMap<EntityUID, Entity>,
     mode: Mode,
     // whether the ancestors kept are known to be those that the parents reach
     pub(crate) is_closed: bool,
@@ -62,8 +64,8 @@ pub enum Dereference<'a, T> {
     Data(&'a T),
 }
 
-/// A walk over the entities of a store, in no stated order.
-pub type EntityIterator<'a> = hash_map::Values<'a, EntityUID, Entity>;
+/// A walk over the entities of a store, in the order of their uids.
+pub type EntityIterator<'a> = btree_map::Values<'a, EntityUID, Entity>;
 
 impl<'a, T> Dereference<'a, T> {
     ghost use Rattle.cedar_entities.specs.Store.{IsData, Holds};
@@ -103,7 +105,7 @@ impl Entities {
         ensures partial { is_partial_store result ≡ false }
     {
         Entities {
-            entities: HashMap::new(alloc),
+            entities: BTreeMap::new(alloc),
             mode: Mode::Concrete,
             is_closed: true,
         }
@@ -133,7 +135,7 @@ impl Entities {
         self.mode == Mode::Partial
     }
 
-    /// The entity of this uid, if one is held. Takes no memory: one look-up by hash.
+    /// The entity of this uid, if one is held. Takes no memory: one look-up.
     ///
     /// Its ancestors are those that the parents held reach, where the store is closed, as it is after each
     /// edit with `ComputeNow`.
@@ -148,7 +150,7 @@ impl Entities {
     /// the store is partial, `Residual` with an unknown that is named as the uid is printed and typed by the
     /// uid's type.
     ///
-    /// Refused where memory runs out, which only the name of an unknown takes: one look-up by hash. `get`
+    /// Refused where memory runs out, which only the name of an unknown takes: one look-up. `get`
     /// answers whether the entity is held and is never refused.
     pub fn entity(
         &self,
@@ -166,9 +168,10 @@ impl Entities {
         }
     }
 
-    /// The entities, in no stated order.
+    /// The entities, in the order of their uids.
     pub fn iter(&self) -> EntityIterator<'_>
-        ensures { result ≡ entities_in self.now }
+        ensures listed { result ≡ entities_in self.now }
+        ensures rising { AreRising (map (λ (e : EntityData). e.uid) (entities_in self.now)) }
     {
         self.entities.values()
     }
@@ -200,7 +203,7 @@ impl Entities {
     // is said which are.
     fn closed(
         alloc: Global,
-        mut entities: HashMap<EntityUID, Entity>,
+        mut entities: BTreeMap<EntityUID, Entity>,
         mode: Mode,
         tc_computation: TCComputation,
         stale: Option<Vec<EntityUID>>,
@@ -222,7 +225,7 @@ impl Entities {
     pub(crate) fn touched(
         &self,
         alloc: Global,
-        uids: &HashSet<EntityUID>,
+        uids: &BTreeSet<EntityUID>,
     ) -> Result<Vec<EntityUID>, AllocError>
         ensures { IfOk result (λ touched. Covers (found_in self.now) uids.now.keys touched.items) }
     {
@@ -266,7 +269,7 @@ impl Entities {
     /// ancestor that is missing or an entity that is its own; and where memory runs out. Nothing is left of the
     /// entities then.
     ///
-    /// Each entity is looked up once by hash. `ComputeNow` then looks, for each entity, once at the ancestors of
+    /// Each entity is looked up once. `ComputeNow` then looks, for each entity, once at the ancestors of
     /// each one that it reaches; `EnforceAlreadyComputed` at those of each of its ancestors.
     pub fn from_entities(
         alloc: Global,
@@ -351,7 +354,7 @@ impl Entities {
     pub fn remove_entities(
         self,
         alloc: Global,
-        uids: &HashSet<EntityUID>,
+        uids: &BTreeSet<EntityUID>,
         tc_computation: TCComputation,
     ) -> Result<Entities, EntitiesError>
         ensures edited { Edits tc_computation (removed_from (found_in self) (set.from_list {R = uid_cmp} uids.now.keys)) result }
@@ -374,15 +377,15 @@ impl Entities {
 impl IntoIterator for Entities {
     type Item = Entity;
 
-    type IntoIter = hash_map::IntoValues<EntityUID, Entity>;
+    type IntoIter = btree_map::IntoValues<EntityUID, Entity>;
 
     ghost use Rattle.std.specs.Prelude.{◌≡◌};
     ghost use Rattle.cedar_entities.specs.Store.{entities_in};
 
     ghost into_iter_gives = { λ store it. it ≡ entities_in store };
 
-    /// The entities, in no stated order.
-    fn into_iter(self) -> hash_map::IntoValues<EntityUID, Entity> {
+    /// The entities, in the order of their uids.
+    fn into_iter(self) -> btree_map::IntoValues<EntityUID, Entity> {
         let Entities {
             entities,
             mode: _,

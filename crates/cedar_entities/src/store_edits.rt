@@ -18,7 +18,7 @@ use crate::store::Entities;
 use crate::touching::few;
 use cedar_literals::uids::EntityUID;
 use std::alloc::Global;
-use std::collections::HashSet;
+use std::collections::BTreeSet;
 
 // ---- puts
 
@@ -136,7 +136,7 @@ impl Entities {
     pub fn remove_in_place(
         &mut self,
         alloc: Global,
-        uids: &HashSet<EntityUID>,
+        uids: &BTreeSet<EntityUID>,
     ) -> Result<(), EntitiesError>
         ensures removed { Leaves (remove (held_at self.old) (set.from_list {R = uid_cmp} uids.now.keys)) (left_by result self.new) }
         ensures only_memory { IsClosed self.old → IfErr result IsMemory }
@@ -154,7 +154,7 @@ impl Entities {
     fn remove_at(
         &mut self,
         alloc: Global,
-        uids: &HashSet<EntityUID>,
+        uids: &BTreeSet<EntityUID>,
         touched: &[EntityUID],
     ) -> Result<(), EntitiesError>
         requires closed { IsClosed self.old }
@@ -171,7 +171,7 @@ impl Entities {
     fn remove_copied(
         &mut self,
         alloc: Global,
-        uids: &HashSet<EntityUID>,
+        uids: &BTreeSet<EntityUID>,
     ) -> Result<(), EntitiesError>
         ensures removed { Leaves (remove (held_at self.old) (set.from_list {R = uid_cmp} uids.now.keys)) (left_by result self.new) }
         ensures only_memory { IsClosed self.old → IfErr result IsMemory }

@@ -10,12 +10,12 @@ ghost use Rattle.cedar_entities.specs.Beside.{among, nowhere, IsSameBeside, AreS
 use crate::entity::Entity;
 use cedar_literals::uids::EntityUID;
 use std::alloc::{AllocError, Global};
-use std::collections::HashMap;
+use std::collections::BTreeMap;
 
 // A copy of what stands at a uid.
 fn copy_at(
     alloc: Global,
-    map: &HashMap<EntityUID, Entity>,
+    map: &BTreeMap<EntityUID, Entity>,
     uid: &EntityUID,
 ) -> Result<Option<Entity>, AllocError>
     ensures { IfOk result (λ entity. entity ≡ in_map map.now uid.now) }
@@ -29,7 +29,7 @@ fn copy_at(
 /// Copies of what stands at these uids, which share attributes and tags.
 pub(crate) fn saved(
     alloc: Global,
-    map: &HashMap<EntityUID, Entity>,
+    map: &BTreeMap<EntityUID, Entity>,
     uids: &[EntityUID],
 ) -> Result<Vec<(EntityUID, Option<Entity>)>, AllocError>
     ensures stood { IfOk result (λ all. AreSaved (in_map map.now) all.items) }
@@ -44,7 +44,7 @@ pub(crate) fn saved(
 }
 
 // Puts back what stood at a uid.
-fn put_back(map: &mut HashMap<EntityUID, Entity>, uid: EntityUID, entity: Option<Entity>)
+fn put_back(map: &mut BTreeMap<EntityUID, Entity>, uid: EntityUID, entity: Option<Entity>)
     ensures { (IsSome entity → IsSome (in_map map.old uid)) → (q : Uid) → in_map map.new q ≡ cond (same_uid uid q) entity (in_map map.old q) }
 {
     match entity {
@@ -61,7 +61,7 @@ fn put_back(map: &mut HashMap<EntityUID, Entity>, uid: EntityUID, entity: Option
 
 /// Puts back what was saved, where at all other uids the same is held as before. Takes no memory.
 pub(crate) fn put_all_back(
-    map: &mut HashMap<EntityUID, Entity>,
+    map: &mut BTreeMap<EntityUID, Entity>,
     all: Vec<(EntityUID, Option<Entity>)>,
 )
     ensures { (before : Lookup) → AreSaved before all.items → IsSameBeside (among_saved all.items) before (in_map map.old) → IsSameBeside nowhere before (in_map map.new) }

@@ -8,10 +8,10 @@ ghost use Rattle.cedar_entities.specs.Kept.{in_map, KeepsAncestors, HaveNoChildr
 use crate::entity::Entity;
 use cedar_literals::uids::EntityUID;
 use std::alloc::{AllocError, Global};
-use std::collections::{HashMap, HashSet};
+use std::collections::{BTreeMap, BTreeSet};
 
 // The uids of a set as a list.
-fn listed(alloc: Global, uids: &HashSet<EntityUID>) -> Result<Vec<EntityUID>, AllocError>
+fn listed(alloc: Global, uids: &BTreeSet<EntityUID>) -> Result<Vec<EntityUID>, AllocError>
     ensures { IfOk result (λ list. (q : Uid) → list_any (same_uid q) list.items ≡ list_any (same_uid q) uids.now.keys) }
 {
     let mut list = Vec::new(alloc);
@@ -25,8 +25,8 @@ fn listed(alloc: Global, uids: &HashSet<EntityUID>) -> Result<Vec<EntityUID>, Al
 /// once, and then as `meets` says for each of its two lists.
 pub(crate) fn touched(
     alloc: Global,
-    map: &HashMap<EntityUID, Entity>,
-    edited: &HashSet<EntityUID>,
+    map: &BTreeMap<EntityUID, Entity>,
+    edited: &BTreeSet<EntityUID>,
 ) -> Result<Vec<EntityUID>, AllocError>
     ensures { IfOk result (λ uids. Covers (in_map map.now) edited.now.keys uids.items) }
 {
@@ -40,7 +40,7 @@ pub(crate) fn touched(
 }
 
 // Whether one of the edited is a parent of an entity.
-fn have_children(map: &HashMap<EntityUID, Entity>, edited: &HashSet<EntityUID>) -> bool
+fn have_children(map: &BTreeMap<EntityUID, Entity>, edited: &BTreeSet<EntityUID>) -> bool
     ensures { result ≡ false → HaveNoChildren (in_map map.now) edited.now.keys }
 {
     for (_, entity) in map.iter() {
@@ -55,8 +55,8 @@ fn have_children(map: &HashMap<EntityUID, Entity>, edited: &HashSet<EntityUID>) 
 /// ancestor, so that for edited ones without children it looks at the parents alone.
 pub(crate) fn touched_in_closed(
     alloc: Global,
-    map: &HashMap<EntityUID, Entity>,
-    edited: &HashSet<EntityUID>,
+    map: &BTreeMap<EntityUID, Entity>,
+    edited: &BTreeSet<EntityUID>,
 ) -> Result<Vec<EntityUID>, AllocError>
     requires { KeepsAncestors (in_map map.now) }
     ensures { IfOk result (λ uids. Covers (in_map map.now) edited.now.keys uids.items) }

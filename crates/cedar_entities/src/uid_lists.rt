@@ -8,7 +8,7 @@ ghost use Rattle.cedar_entities.specs.Lists.{AreRising, AreInTurn};
 use crate::iteration::Uids;
 use cedar_literals::uids::EntityUID;
 use std::alloc::{AllocError, Global};
-use std::collections::HashSet;
+use std::collections::BTreeSet;
 use std::marker::Model;
 use std::mem;
 
@@ -67,22 +67,22 @@ impl EntityUIDs {
         uids.dedup();
         Ok(EntityUIDs::of_rising(alloc, uids))
     }
-
-    /// The uids of a set; refused for memory alone.
-    pub fn from_set(alloc: Global, uids: HashSet<EntityUID>) -> Result<EntityUIDs, AllocError>
-        ensures { IfOk result (λ made. made ≡ set.from_list uids.keys) }
-    {
-        EntityUIDs::from_vec(alloc, uids.into_iter().collect(alloc)?)
-    }
 }
 
 // ---- readers
 
+// Whether the uid is in the set.
+fn is_in(set: &BTreeSet<EntityUID>, uid: &EntityUID) -> bool
+    ensures { result ≡ list_any (same_uid uid.now) set.now.keys }
+{
+    set.contains(uid)
+}
+
 // Whether one of the listed uids is in the set.
-fn stands_among(uids: &[EntityUID], set: &HashSet<EntityUID>) -> bool
+fn stands_among(uids: &[EntityUID], set: &BTreeSet<EntityUID>) -> bool
     ensures { result ≡ list_any (λ u. list_any (same_uid u) set.now.keys) uids.now }
 {
-    uids.iter().any(|uid| set.contains(uid))
+    uids.iter().any(|uid| is_in(set, uid))
 }
 
 impl EntityUIDs {
@@ -103,14 +103,14 @@ impl EntityUIDs {
     }
 
     // Whether one of the uids of the set is one of these.
-    fn has_one_of(&self, uids: &HashSet<EntityUID>) -> bool
+    fn has_one_of(&self, uids: &BTreeSet<EntityUID>) -> bool
         ensures { result ≡ list_any (set.contains self.now) uids.now.keys }
     {
         uids.iter().any(|uid| self.contains(uid))
     }
 
     /// Whether one of the uids of the set is one of these: a look-up for each uid of the smaller one.
-    pub fn meets(&self, uids: &HashSet<EntityUID>) -> bool
+    pub fn meets(&self, uids: &BTreeSet<EntityUID>) -> bool
         ensures { result ≡ list_any (set.contains self.now) uids.now.keys }
     {
         let listed = self.as_slice();
@@ -208,7 +208,7 @@ impl EntityUIDs {
     }
 
     /// Takes the uids of a set away.
-    pub fn remove_all(&mut self, gone: &HashSet<EntityUID>)
+    pub fn remove_all(&mut self, gone: &BTreeSet<EntityUID>)
         ensures { self.new ≡ set.difference self.old (set.from_list gone.now.keys) }
     {
         if self.meets(gone) {
@@ -216,11 +216,11 @@ impl EntityUIDs {
         }
     }
 
-    fn cut(&mut self, gone: &HashSet<EntityUID>)
+    fn cut(&mut self, gone: &BTreeSet<EntityUID>)
         ensures { self.new ≡ set.difference self.old (set.from_list gone.now.keys) }
     {
         let mut left = self.take();
-        left.retain(|uid| !gone.contains(uid));
+        left.retain(|uid| !is_in(gone, uid));
         *self = EntityUIDs::of_rising(self.alloc, left);
     }
 

@@ -22,7 +22,7 @@ use cedar_expressions_rows::{partial_values, substitution};
 use cedar_policy_set::sets::PolicySet;
 use cedar_rows::{Answer, Step, no_case, trees};
 use std::alloc::{AllocError, Global};
-use std::collections::HashMap;
+use std::collections::BTreeMap;
 use std::rc::RcStr;
 
 /// What earlier steps left. The stacks, and what is told, are empty where a line begins.
@@ -33,7 +33,7 @@ pub struct Held {
     requests: Requests,
     exprs: Vec<Expr>,
     values: Vec<Value>,
-    told: HashMap<RcStr, Value>,
+    told: BTreeMap<RcStr, Value>,
     table: Extensions<'static>,
 }
 
@@ -61,7 +61,7 @@ pub fn none(alloc: Global) -> Result<Held, AllocError> {
         requests: requests::none(alloc),
         exprs: Vec::new(alloc),
         values: Vec::new(alloc),
-        told: HashMap::new(alloc),
+        told: BTreeMap::new(alloc),
         table: Extensions::all_available(alloc)?,
     })
 }

@@ -21,7 +21,7 @@ use cedar_rows::{Answer, has_each, maybe, no_case, paired, said, show, taken, te
 use cedar_trees::expr::Expr;
 use cedar_values::values::Value;
 use std::alloc::{AllocError, Global};
-use std::collections::HashMap;
+use std::collections::BTreeMap;
 use std::rc::RcStr;
 
 /// What was made last: entries on a stack, a context, one that was put aside, and a request.
@@ -193,7 +193,7 @@ fn of_context(
     alloc: Global,
     verb: &str,
     depth: Option<u32>,
-    told: &HashMap<RcStr, Value>,
+    told: &BTreeMap<RcStr, Value>,
     table: &Extensions<'_>,
     at: &mut Option<Context>,
 ) -> Answer {
@@ -377,7 +377,7 @@ pub(crate) fn answer(
     one: &str,
     other: &str,
     stack: &mut Vec<Expr>,
-    told: &HashMap<RcStr, Value>,
+    told: &BTreeMap<RcStr, Value>,
     table: &Extensions<'_>,
     state: &mut Requests,
 ) -> Answer {

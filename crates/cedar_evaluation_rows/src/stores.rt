@@ -12,7 +12,7 @@ use cedar_rows::{Answer, index, no_case, push, refused, said, tell, values};
 use cedar_trees::unknowns::Unknown;
 use cedar_values::values::Value;
 use std::alloc::Global;
-use std::collections::{BTreeMap, HashSet};
+use std::collections::BTreeMap;
 use std::mem;
 use std::rc::RcStr;
 
@@ -114,10 +114,10 @@ fn open_part(alloc: Global, name: &str, parts: &mut Parts) -> Answer {
     tell(alloc, parts.len())
 }
 
-fn parents(alloc: Global, ids: &str) -> Result<HashSet<EntityUID>, ParseNameError> {
-    let mut uids = HashSet::new(alloc);
+fn parents(alloc: Global, ids: &str) -> Result<Vec<EntityUID>, ParseNameError> {
+    let mut uids = Vec::new(alloc);
     for id in ids.split_terminator(',') {
-        uids.insert(user(alloc, id)?)?;
+        uids.push(user(alloc, id)?)?;
     }
     Ok(uids)
 }
@@ -126,7 +126,7 @@ fn made(alloc: Global, id: &str, ids: &str, held: &mut Stores) -> Result<Entity,
     let attrs = mem::replace(&mut held.attrs, BTreeMap::new(alloc));
     let tags = mem::replace(&mut held.tags, BTreeMap::new(alloc));
     let (uid, parents) = (user(alloc, id)?, parents(alloc, ids)?);
-    let beside = HashSet::new(alloc);
+    let beside = Vec::new(alloc);
     Ok(Entity::new_with_attr_partial_value(alloc, uid, attrs, beside, parents, tags)?)
 }
 

@@ -9,7 +9,7 @@ use cedar_expressions::ast::Value;
 use cedar_policy_set::sets::PolicySet;
 use cedar_rows::{Answer, no_case, refused};
 use std::alloc::Global;
-use std::collections::HashMap;
+use std::collections::BTreeMap;
 use std::rc::RcStr;
 
 /// What is decided, once the values are told, for a question of which the variable of this name is missing, or
@@ -18,7 +18,7 @@ pub(crate) fn answer(
     alloc: Global,
     missing: &str,
     requests: &Requests,
-    told: &HashMap<RcStr, Value>,
+    told: &BTreeMap<RcStr, Value>,
     set: &PolicySet,
     entities: &Entities,
     table: &Extensions<'_>,

@@ -19,10 +19,10 @@ use Rattle.cedar_operators.specs.Store.{HasFacts}
 use Rattle.cedar_interpreter.specs.Asking.{Inquiry, variable_asked, request_held}
 use Rattle.cedar_policy_set.specs.Entries.{Entry, Entries, static_policy, template, link, is_policy}
 use Rattle.cedar_policy_set.specs.Scopes.{IsEntryFound, Covers}
-use Rattle.cedar_scope_index.specs.Finding.{IsFound, IsListedFor, by_nothing, by_principal, by_action, by_resource, covered, stands_at, is_listed}
+use Rattle.cedar_scope_index.specs.Finding.{IsFound, IsListedFor, by_nothing, by_principal, by_action, by_resource, by_pair, covered, stands_at, is_listed}
 use Rattle.cedar_scope_index.specs.Naming.{named, is_settled, named_action}
 use Rattle.cedar_scope_index.specs.declared.index.ScopeIndex.{ScopeIndex}
-use Rattle.cedar_evaluator.specs.Candidates.{HasFound, IsOutOfScope, is_in_given, is_in_known}
+use Rattle.cedar_evaluator.specs.Candidates.{HasPaired, HasFound, IsOutOfScope, is_in_given, is_in_known}
 use Rattle.cedar_evaluator.specs.Scopes.{IsDecided, IsGivenAs, constraint_met}
 use Rattle.cedar_evaluator.specs.declared.scopes.GivenEntity.{GivenEntity}
 use Rattle.cedar_evaluator.proofs.Scoped.{both_decided, constraint_held, action_held}
@@ -139,6 +139,14 @@ module _ (i : Inquiry) (store : Entities) (p : GivenEntity) (a r : Option GivenE
         listed_or (IsOut i store b s) (is_in_known a) n ps t (λ e. found.actions n e t listed) (out_by_action i store p principal a action b s n bound names)
     among_or_out t b s (by_resource n bound names listed) =
         listed_or (IsOut i store b s) (is_in_known (option_and a r)) n ps t (λ e. found.resources n e t listed) (out_by_resource i store p principal a r action resource b s n bound names)
+    among_or_out t b s (by_pair u v bound names also listed listed_too) = by found.pairs
+      where
+        by : HasPaired x p (option_and a r) ps → (is_listed ps t ≡ true) ⊎ IsOut i store b s
+        by (inl principals) =
+            listed_or (IsOut i store b s) (is_in_given p) u ps t (λ e. principals u e t listed)
+            (λ e facts has. principal_out facts (request_held i b) b s p (by_principal_given i store p principal facts has b s) u names e)
+        by (inr resources) =
+            listed_or (IsOut i store b s) (is_in_known (option_and a r)) v ps t (λ e. resources v e t listed_too) (out_by_resource i store p principal a r action resource b s v bound also)
 
     -- a place that is listed leads to the position
     there_or_out : (q : ℕ) (b : Bindings) (s : Policy) → IsFound x q b s → (is_listed qs q ≡ true) ⊎ IsOut i store b s

@@ -35,13 +35,18 @@ abbrev pub is_in_known : Option GivenEntity → Uid → Bool
 is_in_known None u = true
 is_in_known (Some g) u = is_in_given g u
 
+-- what an index lists for pairs is among these: by the principal that is given, or by what the resource may be, or be in
+abbrev pub HasPaired : ScopeIndex → GivenEntity → Option GivenEntity → List ℕ → Type 0
+HasPaired x principal resource ps = HasListed x.paired_principals (is_in_given principal) ps ⊎ HasListed x.paired_resources (is_in_known resource) ps
+
 -- what an index lists under none, under the principal that is given and what it is in, and under what the action and
--- the resource may be, or be in, is among these
+-- the resource may be, or be in, and what it lists for pairs of these, is among these
 pub record HasFound (x : ScopeIndex) (principal : GivenEntity) (action resource : Option GivenEntity) (ps : List ℕ) : Type 0 where
   pub others : AreAmong (others_of x) ps
   pub principals : HasListed x.principals (is_in_given principal) ps
   pub actions : HasListed x.actions (is_in_known action) ps
   pub resources : HasListed x.resources (is_in_known resource) ps
+  pub pairs : HasPaired x principal resource ps
 
 -- the scope of a policy is false, by all facts of the store
 abbrev pub IsOutOfScope : Inquiry → Entities → Entry → Type 0

@@ -19,7 +19,7 @@ use cedar_policy_set::sets::PolicySet;
 use cedar_requests::Request;
 use cedar_values::values::Value;
 use std::alloc::{AllocError, Global};
-use std::collections::HashMap;
+use std::collections::BTreeMap;
 use std::rc::RcStr;
 
 /// Answers requests by policies and entities; policies may call the functions of its extensions, and no
@@ -82,7 +82,7 @@ impl<'e, 'f, F: ExtensionFunctionObject> Authorizer<'e, 'f, F> {
         &self,
         alloc: Global,
         request: Request,
-        told: &HashMap<RcStr, Value>,
+        told: &BTreeMap<RcStr, Value>,
         policies: &PolicySet,
         entities: &Entities,
     ) -> Result<PartialResponse, AllocError>

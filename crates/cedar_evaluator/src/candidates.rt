@@ -7,7 +7,7 @@ ghost use Rattle.cedar_entities.specs.Data.{ancestors_of};
 ghost use Rattle.cedar_entities.specs.declared.store.Entities.{Entities as Store};
 ghost use Rattle.cedar_interpreter.specs.Asking.{Inquiry};
 ghost use Rattle.cedar_scope_index.specs.Finding.{AreAmong};
-ghost use Rattle.cedar_evaluator.specs.Candidates.{is_in_given, is_in_known, HasListed, HasFound, AreCandidates};
+ghost use Rattle.cedar_evaluator.specs.Candidates.{is_in_given, is_in_known, HasListed, HasPaired, HasFound, AreCandidates};
 ghost use Rattle.cedar_evaluator.specs.Scopes.{AreScopesOf};
 
 use crate::scopes::{GivenEntity, Scopes};
@@ -18,8 +18,8 @@ use cedar_scope_index::positions::Positions;
 use std::alloc::{AllocError, Global};
 
 /// Positions in a set, each below the next, outside of which no policy is in scope of a request. A scope is asked from
-/// the left, so all that is listed by the action or the resource is told where the action isn't given, and all that is
-/// listed by the resource where that isn't. None are told where the set's index doesn't cover it whole, where the
+/// the left, so all that is listed by the action or the resource alone is told where the action isn't given, and all that
+/// is listed by the resource alone where that isn't. None are told where the set's index doesn't cover it whole, where the
 /// request doesn't give the principal, where an entity has more ancestors than the set has entries, or where more than
 /// half of the set would be told. Refused for memory alone.
 pub(crate) fn candidates(
@@ -63,6 +63,7 @@ fn found_by(
     if add_found(&mut found, index.principals(), principal, most)?
         && add_known(&mut found, index.actions(), action, most)?
         && add_known(&mut found, index.resources(), resource, most)?
+        && add_paired(&mut found, index, principal, resource, most)?
     {
         Ok(Some(found))
     } else {
@@ -87,6 +88,24 @@ fn add_known(
             listed.push_all(found)?;
             Ok(true)
         }
+    }
+}
+
+// Adds what is listed for pairs, by the resource where it is given, and else by the principal; false where one has more
+// ancestors than `most`.
+fn add_paired(
+    found: &mut Vec<usize>,
+    index: &ScopeIndex,
+    principal: &GivenEntity<'_>,
+    resource: Option<&GivenEntity<'_>>,
+    most: usize,
+) -> Result<bool, AllocError>
+    ensures kept { OnOk result (AreAmong found.old.items found.new.items) }
+    ensures added { IfOk result (λ whole. IsTrue whole → HasPaired index.now principal.now (option_copied resource.entry) found.new.items) }
+{
+    match resource {
+        Some(given) => add_found(found, index.paired_resources(), given, most),
+        None => add_found(found, index.paired_principals(), principal, most),
     }
 }
 

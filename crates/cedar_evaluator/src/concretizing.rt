@@ -21,9 +21,10 @@ use cedar_literals::uids::{EntityType, EntityUID};
 use cedar_names::shared::Shared;
 use cedar_requests::{Context, EntityUIDEntry, Request};
 use cedar_restricted::partial_values::PartialValue;
+use cedar_substitution::finding::find_told;
 use cedar_values::values::{Value, ValueKind};
 use std::alloc::{AllocError, Global};
-use std::collections::{BTreeMap, HashMap};
+use std::collections::BTreeMap;
 use std::rc::{Rc, RcStr};
 
 /// The request with the values that are told, each for the variable or the unknown of its name. An entity
@@ -37,7 +38,7 @@ use std::rc::{Rc, RcStr};
 pub(crate) fn concretized<F: ExtensionFunctionObject>(
     alloc: Global,
     request: &Request,
-    told: &HashMap<RcStr, Value>,
+    told: &BTreeMap<RcStr, Value>,
     extensions: &Extensions<'_, F>,
     depth: u32,
 ) -> Result<Request, ConcretizationError>
@@ -47,10 +48,15 @@ pub(crate) fn concretized<F: ExtensionFunctionObject>(
         alloc,
         request.principal(),
         "principal",
-        told.get("principal"),
+        find_told(told, "principal"),
     )?;
-    let action = entry_told(alloc, request.action(), "action", told.get("action"))?;
-    let resource = entry_told(alloc, request.resource(), "resource", told.get("resource"))?;
+    let action = entry_told(alloc, request.action(), "action", find_told(told, "action"))?;
+    let resource = entry_told(
+        alloc,
+        request.resource(),
+        "resource",
+        find_told(told, "resource"),
+    )?;
     let context = context_told(alloc, request.context(), told, extensions, depth)?;
     Ok(Request::new_unchecked(principal, action, resource, context))
 }
@@ -107,13 +113,13 @@ fn missing_told(
 fn context_told<F: ExtensionFunctionObject>(
     alloc: Global,
     context: Option<&Context>,
-    told: &HashMap<RcStr, Value>,
+    told: &BTreeMap<RcStr, Value>,
     extensions: &Extensions<'_, F>,
     depth: u32,
 ) -> Result<Option<Context>, ConcretizationError>
     ensures { TellsMaybeContext (as_table F.answers extensions.now) depth told.now.entries (option_map (λ given. context_part given.now) context.entry) result }
 {
-    if let Some(value) = told.get("context") {
+    if let Some(value) = find_told(told, "context") {
         return Ok(Some(given_context(alloc, context, value)?));
     }
     let Some(context) = context else {

@@ -18,7 +18,7 @@ use cedar_policy_set::errors::PolicySetError;
 use cedar_policy_set::sets::PolicySet;
 use cedar_values::values::Value;
 use std::alloc::Global;
-use std::collections::HashMap;
+use std::collections::BTreeMap;
 use std::rc::RcStr;
 
 impl PartialResponse {
@@ -34,7 +34,7 @@ impl PartialResponse {
     pub fn reauthorize<F: ExtensionFunctionObject>(
         &self,
         alloc: Global,
-        told: &HashMap<RcStr, Value>,
+        told: &BTreeMap<RcStr, Value>,
         authorizer: &Authorizer<'_, '_, F>,
         entities: &Entities,
     ) -> Result<PartialResponse, ReauthorizationError>

@@ -12,7 +12,7 @@ use cedar_store::ast::{Entity, EntityUID, PolicySet};
 use cedar_store::entities::{Entities, TCComputation};
 use cedar_store::prelude::{EvaluateEntity, FromIn};
 use std::alloc::Global;
-use std::collections::{BTreeMap, HashSet};
+use std::collections::BTreeMap;
 use std::io;
 use std::rc::RcStr;
 
@@ -72,8 +72,8 @@ fn photo(alloc: Global, extensions: &Extensions<'_>) -> Result<Entity> {
         alloc,
         uid,
         attributes,
-        HashSet::new(alloc),
-        HashSet::new(alloc),
+        Vec::new(alloc),
+        Vec::new(alloc),
         BTreeMap::new(alloc),
         extensions,
         DEPTH,

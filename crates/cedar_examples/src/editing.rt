@@ -5,7 +5,7 @@ use anyhow::Result;
 use cedar_store::ast::{Entity, EntityUID};
 use cedar_store::entities::{Entities, EntitiesError, TCComputation};
 use std::alloc::Global;
-use std::collections::HashSet;
+use std::collections::BTreeSet;
 use std::io;
 
 /// Makes a store, edits it, and prints after each edit in which teams alice is.
@@ -59,7 +59,7 @@ fn put(alloc: Global, store: Entities) -> Result<Entities> {
 
 /// What is removed is nobody's parent any more.
 fn removed(alloc: Global, store: Entities) -> Result<Entities> {
-    let mut uids = HashSet::new(alloc);
+    let mut uids = BTreeSet::new(alloc);
     uids.insert(team(alloc, "web")?)?;
     Ok(store.remove_entities(alloc, &uids, TCComputation::ComputeNow)?)
 }

@@ -17,7 +17,7 @@ use cedar_store::ast::{EntityUID, PolicyID};
 use cedar_store::entities::{Entities, TCComputation};
 use cedar_store::prelude::FromIn;
 use std::alloc::Global;
-use std::collections::HashMap;
+use std::collections::BTreeMap;
 use std::io;
 use std::rc::RcStr;
 
@@ -104,9 +104,9 @@ fn tell(
     Ok(response.reauthorize(alloc, &told, authorizer, entities)?)
 }
 
-fn one_value(alloc: Global, name: &str, literal: Literal) -> Result<HashMap<RcStr, Value>> {
+fn one_value(alloc: Global, name: &str, literal: Literal) -> Result<BTreeMap<RcStr, Value>> {
     let name = RcStr::from_str(alloc, name)?;
-    let mut told = HashMap::new(alloc);
+    let mut told = BTreeMap::new(alloc);
     told.insert(name, Value::from(literal))?;
     Ok(told)
 }

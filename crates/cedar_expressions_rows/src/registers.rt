@@ -7,7 +7,7 @@ use cedar_expressions::ast::{
 use cedar_expressions::evaluator::EvaluationError;
 use cedar_expressions::expr_builder::ExprBuilder as _;
 use std::alloc::Global;
-use std::collections::HashMap;
+use std::collections::BTreeMap;
 use std::rc::RcStr;
 
 /// The stacks of a line, and the registers.
@@ -19,8 +19,8 @@ pub(crate) struct Expressions {
     pub(crate) errors: Vec<EvaluationError>,
     pub(crate) functions: Vec<ExtensionFunction>,
     pub(crate) kept: Vec<Expr>,
-    pub(crate) told_exprs: HashMap<RcStr, Expr>,
-    pub(crate) told_values: HashMap<RcStr, Value>,
+    pub(crate) told_exprs: BTreeMap<RcStr, Expr>,
+    pub(crate) told_values: BTreeMap<RcStr, Value>,
     pub(crate) builder: ExprBuilder,
     pub(crate) extension: Option<Extension>,
     pub(crate) table: Extensions<'static>,
@@ -56,8 +56,8 @@ pub(crate) fn empty(alloc: Global) -> Expressions {
         errors: Vec::new(alloc),
         functions: Vec::new(alloc),
         kept: Vec::new(alloc),
-        told_exprs: HashMap::new(alloc),
-        told_values: HashMap::new(alloc),
+        told_exprs: BTreeMap::new(alloc),
+        told_values: BTreeMap::new(alloc),
         builder: ExprBuilder::new(alloc),
         extension: None,
         table: Extensions::none(alloc),

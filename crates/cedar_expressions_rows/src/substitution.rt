@@ -7,7 +7,7 @@ use cedar_rows::stack::top;
 use cedar_rows::trees::unknown;
 use cedar_rows::{Answer, hold, no_case, push, tell};
 use std::alloc::Global;
-use std::collections::HashMap;
+use std::collections::BTreeMap;
 use std::rc::RcStr;
 
 /// Tells the value on top of this name.
@@ -15,7 +15,7 @@ pub fn tell_value(
     alloc: Global,
     name: &str,
     values: &mut Vec<Value>,
-    told: &mut HashMap<RcStr, Value>,
+    told: &mut BTreeMap<RcStr, Value>,
 ) -> Answer {
     let name = RcStr::from_str(alloc, name)?;
     match values.pop() {
@@ -32,7 +32,7 @@ pub fn tell_expr(
     alloc: Global,
     name: &str,
     stack: &mut Vec<Expr>,
-    told: &mut HashMap<RcStr, Expr>,
+    told: &mut BTreeMap<RcStr, Expr>,
 ) -> Answer {
     let name = RcStr::from_str(alloc, name)?;
     let expr = top(stack);
@@ -44,7 +44,7 @@ pub fn tell_expr(
 fn with_told(
     alloc: Global,
     expr: &Expr,
-    told: &HashMap<RcStr, Expr>,
+    told: &BTreeMap<RcStr, Expr>,
 ) -> Result<Expr, ExpressionConstructionError> {
     Ok(expr.substitute_exprs(alloc, told)?)
 }
@@ -54,7 +54,7 @@ fn again(
     alloc: Global,
     verb: &str,
     expr: &Expr,
-    told: &HashMap<RcStr, Expr>,
+    told: &BTreeMap<RcStr, Expr>,
 ) -> Option<Result<Expr, ExpressionConstructionError>> {
     match verb {
         "into_expr" => Some(expr.into_expr::<ExprBuilder>(alloc)),
@@ -72,7 +72,7 @@ pub fn rebuilt(
     alloc: Global,
     verb: &str,
     stack: &mut Vec<Expr>,
-    told: &HashMap<RcStr, Expr>,
+    told: &BTreeMap<RcStr, Expr>,
 ) -> Answer {
     let expr = top(stack);
     match again(alloc, verb, &expr, told) {
@@ -86,7 +86,7 @@ pub fn rebuilt_chain(
     alloc: Global,
     verb: &str,
     stack: &mut Vec<Expr>,
-    told: &HashMap<RcStr, Expr>,
+    told: &BTreeMap<RcStr, Expr>,
 ) -> Answer {
     let expr = top(stack);
     match again(alloc, verb, &expr, told) {
@@ -100,7 +100,7 @@ pub fn substituted(
     alloc: Global,
     verb: &str,
     stack: &mut Vec<Expr>,
-    told: &HashMap<RcStr, Value>,
+    told: &BTreeMap<RcStr, Value>,
 ) -> Answer {
     let expr = top(stack);
     match verb {
@@ -143,7 +143,7 @@ pub fn one(
     name: &str,
     ty: &str,
     stack: &mut Vec<Expr>,
-    told: &HashMap<RcStr, Value>,
+    told: &BTreeMap<RcStr, Value>,
 ) -> Answer {
     match unknown(alloc, name, ty) {
         Ok(unknown) => of_one(alloc, verb, &unknown, told.get(name), stack),

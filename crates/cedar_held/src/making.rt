@@ -16,14 +16,14 @@ use cedar_literals::uids::EntityUID;
 use cedar_replies::Refusal;
 use cedar_restricted::partial_values::PartialValue;
 use std::alloc::{AllocError, Global};
-use std::collections::{BTreeMap, HashSet};
+use std::collections::{BTreeMap, BTreeSet};
 use std::rc::RcStr;
 
 /// The uids, as a set. It errs for want of memory alone.
-pub fn set_of(alloc: Global, uids: &[EntityUID]) -> Result<HashSet<EntityUID>, AllocError>
+pub fn set_of(alloc: Global, uids: &[EntityUID]) -> Result<BTreeSet<EntityUID>, AllocError>
     ensures { IfOk result (λ made. set_listed made.keys ≡ set_listed uids.now) }
 {
-    let mut made = HashSet::new(alloc);
+    let mut made = BTreeSet::new(alloc);
     for uid in uids {
         made.insert(uid.clone(alloc)?)?;
     }
@@ -46,8 +46,8 @@ fn entity(
     }) }
 {
     let uid = body.uid.clone(alloc)?;
-    let parents = set_of(alloc, &body.parents)?;
-    Entity::new_with_attr_partial_value(alloc, uid, attrs, HashSet::new(alloc), parents, tags)
+    let parents = Vec::from_clones(alloc, &body.parents)?;
+    Entity::new_with_attr_partial_value(alloc, uid, attrs, Vec::new(alloc), parents, tags)
 }
 
 // The entity of a body, or none where some attribute or tag holds an unknown.

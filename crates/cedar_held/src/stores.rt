@@ -19,7 +19,7 @@ use cedar_entities::store::Entities;
 use cedar_literals::uids::EntityUID;
 use cedar_replies::Refusal;
 use std::alloc::Global;
-use std::collections::HashSet;
+use std::collections::BTreeSet;
 
 // What a refused edit of a store is refused as.
 fn refusal(error: EntitiesError) -> Refusal
@@ -64,7 +64,7 @@ pub fn add_to(alloc: Global, store: &mut Entities, versions: Vec<Entity>) -> Res
 pub fn remove_from(
     alloc: Global,
     store: &mut Entities,
-    uids: &HashSet<EntityUID>,
+    uids: &BTreeSet<EntityUID>,
 ) -> Result<(), Refusal>
     requires { IsWhole store.old }
     ensures edited { (old : world.Entities) → Shows (held_at store.old) old → RemovesUids old (set.from_list {R = uid_cmp} uids.now.keys) (left_by result store.new) }

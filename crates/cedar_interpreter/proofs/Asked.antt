@@ -1,7 +1,7 @@
 -- An evaluator holds what its inquiry holds.
-use Rattle.std.proofs.Common.{◌≡◌, ◌∙◌, ℕ, refl, ap, sym, subst, Bor, Global, BuildHasherDefault, FoldHasher}
+use Rattle.std.proofs.Common.{◌≡◌, ◌∙◌, ℕ, refl, ap, sym, subst, Bor, Global}
 use Rattle.std.specs.Prelude.{Option, Some, None, codes}
-use Rattle.std.specs.HashMap.{HashMap}
+use Rattle.std.specs.BTreeMap.{BTreeMap}
 use Rattle.std.specs.declared.rc.RcStr.{RcStr}
 use Rattle.cedar_language.specs.Uid.{Text}
 use Rattle.cedar_language.specs.Tree.{Variable, Principal, Action, Resource, Context}
@@ -71,10 +71,10 @@ is_evaluator answers r entities table depth ev stand nothing es ts ds = record {
 }
 
 -- the same evaluator, that is told values
-abbrev pub telling : {F : Type 0} (ev : Evaluator F) → Bor (HashMap (RcStr Global) Value (BuildHasherDefault FoldHasher)) → AreSeen ev.entities.now ev.variables ev.seen → Evaluator F
+abbrev pub telling : {F : Type 0} (ev : Evaluator F) → Bor (BTreeMap (RcStr Global) Value) → AreSeen ev.entities.now ev.variables ev.seen → Evaluator F
 telling ev told seen = record { variables = ev.variables; entities = ev.entities; seen = ev.seen; extensions = ev.extensions; depth = ev.depth; told = Some told; are_seen = seen }
 
-pub is_told : {F : Type 0} (answers : F → FunctionAnswers) (r : RequestParts) (entities : Entities) (table : Table) (depth : ℕ) (ev : Evaluator F) (told : Bor (HashMap (RcStr Global) Value (BuildHasherDefault FoldHasher))) (seen : AreSeen ev.entities.now ev.variables ev.seen) →
+pub is_told : {F : Type 0} (answers : F → FunctionAnswers) (r : RequestParts) (entities : Entities) (table : Table) (depth : ℕ) (ev : Evaluator F) (told : Bor (BTreeMap (RcStr Global) Value)) (seen : AreSeen ev.entities.now ev.variables ev.seen) →
     IsEvaluatorOf answers (untold r) entities table depth ev → IsEvaluatorOf answers (record { request = r; told = told_for told.now.entries }) entities table depth (telling ev told seen)
 is_told answers r entities table depth ev told seen is = record {
   store = is.store;

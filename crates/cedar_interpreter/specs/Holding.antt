@@ -1,7 +1,7 @@
 -- What an evaluator holds: of the request, and of the entities and functions besides.
 use Rattle.std.specs.Prelude.{◌≡◌, ◌<◌, ◌≤◌, ℕ, Bool, true, false, Option, Some, None, List}
+use Rattle.std.specs.BTreeMap.{BTreeMap}
 use Rattle.std.specs.Borrow.{Bor}
-use Rattle.std.specs.HashMap.{HashMap}
 use Rattle.std.specs.declared.alloc.Global.{Global}
 use Rattle.std.specs.declared.rc.RcStr.{RcStr}
 use Rattle.cedar_language.specs.Uid.{Text, Uid}
@@ -49,7 +49,7 @@ abbrev pub depth_of : {F : Type 0} → Evaluator F → ℕ
 depth_of ev = ev.depth
 
 -- the value that is told for an unknown of this name
-abbrev pub value_told : {S : Type 0} → Option (Bor (HashMap (RcStr Global) Value S)) → Text → Option Value
+abbrev pub value_told : Option (Bor (BTreeMap (RcStr Global) Value)) → Text → Option Value
 value_told None n = None
 value_told (Some told) n = told_for told.now.entries n
 
@@ -62,7 +62,7 @@ held_by ev slots = record {
 }
 
 -- these are the answers to unknowns without a type, by what is told
-abbrev pub AreTold : {S : Type 0} → Option (Bor (HashMap (RcStr Global) Value S)) → LeafAnswers → Type 0
+abbrev pub AreTold : Option (Bor (BTreeMap (RcStr Global) Value)) → LeafAnswers → Type 0
 AreTold told holds = (n : Text) → holds.unknown n None ≡ name_held (value_told told n) n None
 
 -- the facts are those of what is held, and no call in the tree names an unknown

@@ -36,7 +36,7 @@ use cedar_restricted_evaluation::{call, keyed};
 use cedar_trees::expr::{Expr, ExprKind};
 use cedar_values::values::Value;
 use std::alloc::{AllocError, Global};
-use std::collections::{BTreeMap, HashMap};
+use std::collections::BTreeMap;
 use std::rc::{Rc, RcStr};
 
 /// A value as an answer.
@@ -135,7 +135,7 @@ pub(crate) fn apply_to_list<F: ExtensionFunctionObject>(
     expr: &Expr,
     values: Vec<Value>,
     extensions: &Extensions<'_, F>,
-    told: Option<&HashMap<RcStr, Value>>,
+    told: Option<&BTreeMap<RcStr, Value>>,
 ) -> Result<PartialValue, EvaluationError>
     requires list { is_of_list (bare expr.now) ≡ true }
     requires count { length values.items ≡ length (parts_of (bare expr.now)) }

@@ -33,7 +33,7 @@ use cedar_trees::expr::Expr;
 use cedar_trees::unknowns::Unknown;
 use cedar_values::values::Value;
 use std::alloc::{AllocError, Global};
-use std::collections::HashMap;
+use std::collections::BTreeMap;
 use std::rc::RcStr;
 
 impl<'s, 'e, 'f, F: ExtensionFunctionObject> Evaluator<'s, 'e, 'f, F> {
@@ -64,7 +64,7 @@ impl<'s, 'e, 'f, F: ExtensionFunctionObject> Evaluator<'s, 'e, 'f, F> {
 
     /// The evaluator for which unknowns of these names have these values: an unknown with another type
     /// than its value's errs with `TypeError`.
-    pub fn with_told(self, told: &'s HashMap<RcStr, Value>) -> Evaluator<'s, 'e, 'f, F>
+    pub fn with_told(self, told: &'s BTreeMap<RcStr, Value>) -> Evaluator<'s, 'e, 'f, F>
         ensures { (r : RequestParts) (entities : Store) (table : Table) (depth : ℕ) →
             IsEvaluatorOf F.answers (untold r) entities table depth self.entry →
             IsEvaluatorOf F.answers (record { request = r; told = told_for told.now.entries }) entities table depth result }

@@ -8,7 +8,7 @@ use cedar_extensions::objects::NoFunction;
 use cedar_names::shared::Shared;
 use cedar_restricted::partial_values::PartialValue;
 use cedar_values::values::Value;
-use std::collections::HashMap;
+use std::collections::BTreeMap;
 use std::rc::RcStr;
 
 // What stands for the variables of a request: an entity or an unknown for the first three, and for the
@@ -41,6 +41,6 @@ pub struct Evaluator<'s, 'e, 'f, F = NoFunction> {
     pub(crate) seen: Shared<Seen<'s>>,
     pub(crate) extensions: &'e Extensions<'f, F>,
     pub(crate) depth: u32,
-    pub(crate) told: Option<&'s HashMap<RcStr, Value>>,
+    pub(crate) told: Option<&'s BTreeMap<RcStr, Value>>,
     ghost are_seen: { AreSeen entities.now variables seen } by { are_seen_prop entities.now variables seen },
 }

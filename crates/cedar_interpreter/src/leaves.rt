@@ -31,11 +31,12 @@ use cedar_literals::types::StaticallyTyped;
 use cedar_literals::variables::Var;
 use cedar_policy_parts::bindings::SlotEnv;
 use cedar_restricted::partial_values::PartialValue;
+use cedar_substitution::finding::find_told;
 use cedar_trees::expr::{Expr, ExprKind};
 use cedar_trees::unknowns::Unknown;
 use cedar_values::values::Value;
 use std::alloc::{AllocError, Global};
-use std::collections::HashMap;
+use std::collections::BTreeMap;
 use std::rc::{Rc, RcStr};
 
 impl<'s, 'e, 'f, F> Evaluator<'s, 'e, 'f, F> {
@@ -96,7 +97,7 @@ fn copied(alloc: Global, partial: &PartialValue) -> Result<PartialValue, AllocEr
 /// it, or else the unknown itself.
 pub(crate) fn named(
     alloc: Global,
-    told: Option<&HashMap<RcStr, Value>>,
+    told: Option<&BTreeMap<RcStr, Value>>,
     answer: Result<PartialValue, EvaluationError>,
 ) -> Result<PartialValue, EvaluationError>
     ensures { (table : Table) (f : Name) (vs : Values) → Calls table f vs answer →
@@ -126,7 +127,7 @@ fn unknown_in(expr: &Expr) -> Option<&Unknown>
 // value is of another type than the one that the unknown states.
 fn unknown(
     alloc: Global,
-    told: Option<&HashMap<RcStr, Value>>,
+    told: Option<&BTreeMap<RcStr, Value>>,
     unknown: &Unknown,
 ) -> Result<PartialValue, EvaluationError>
     ensures { MeetsAt ⊥ (name_held (value_told told.entry (unknown_name unknown.now)) (unknown_name unknown.now) (unknown_type unknown.now)) result }
@@ -138,11 +139,11 @@ fn unknown(
 }
 
 // The value that is told for an unknown.
-fn value_for<'s>(told: Option<&'s HashMap<RcStr, Value>>, unknown: &Unknown) -> Option<&'s Value>
+fn value_for<'s>(told: Option<&'s BTreeMap<RcStr, Value>>, unknown: &Unknown) -> Option<&'s Value>
     ensures { option_copied result ≡ value_told told.entry (unknown_name unknown.now) }
 {
     match told {
-        Some(told) => told.get(unknown.name.as_str()),
+        Some(told) => find_told(told, unknown.name.as_str()),
         None => None,
     }
 }

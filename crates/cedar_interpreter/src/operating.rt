@@ -33,7 +33,7 @@ use cedar_trees::expr::Expr;
 use cedar_values::values::Value;
 use either::Either;
 use std::alloc::Global;
-use std::collections::HashMap;
+use std::collections::BTreeMap;
 use std::rc::RcStr;
 
 /// The answer of an operator of one operand, by that one's.
@@ -94,7 +94,7 @@ pub(crate) fn operate_on_list<F: ExtensionFunctionObject>(
     expr: &Expr,
     parts: Vec<PartialValue>,
     extensions: &Extensions<'_, F>,
-    told: Option<&HashMap<RcStr, Value>>,
+    told: Option<&BTreeMap<RcStr, Value>>,
 ) -> Result<PartialValue, EvaluationError>
     requires list { is_of_list (bare expr.now) ≡ true }
     requires count { length parts.items ≡ length (parts_of (bare expr.now)) }

@@ -3,8 +3,6 @@ use Rattle.std.proofs.Common.{◌≡◌, ◌≢◌, ℕ, true, false, List, [], 
 use Rattle.std.specs.List.{IsDistinct}
 use Rattle.std.specs.Option.{option_map}
 use Rattle.std.specs.Map.{lookup, keys_of, values_of, remove_entry}
-use Rattle.indexmap.specs.IndexMap.{insert_entry, insert_all}
-use Rattle.indexmap.proofs.MapLemmas.{absent_from_lookup, insert_entry-absent}
 use Rattle.cedar_language.specs.Uid.{Text}
 use Rattle.cedar_language.specs.Order.{same_text}
 use Rattle.cedar_grammar.specs.Policy.{Policy}
@@ -16,7 +14,6 @@ use Rattle.cedar_policy_set.specs.Bounds.{entry_of, bound_id, entries_of, IsName
 use Rattle.cedar_policy_set.specs.Numbers.{Counts, AreBound}
 use Rattle.cedar_policy_set.specs.declared.numbers.Numbers.{Numbers}
 use Rattle.cedar_policy_set.specs.Scopes.{Covers}
-use Rattle.cedar_policy_set.proofs.Appending.{insert_all_apart}
 use Rattle.cedar_policy_set.proofs.Covering.{covers_more}
 use Rattle.cedar_policy_set.proofs.Counting.{counts_more, counts_without}
 use Rattle.cedar_policy_set.proofs.Views.{named_push, named_append, named_without, listed_push, listed_append, listed_without, found_entry, keys_of_entries, entries_append, entries_without}
@@ -32,17 +29,22 @@ unmapped (Some b) h = absurd (true_is_false (ap is_some h))
     true_is_false : true ≡ false → ⊥
     true_is_false e = cc
 
+-- an id that isn't bound isn't in the map
+pub absent : (es : List (Text × Bound)) (seen : Entries) → entries_of es ≡ seen → (id : Text) → bound_at seen id ≡ None → lookup (same_text id) es ≡ None
+absent es seen view id free = unmapped (lookup (same_text id) es) (sym (found_entry es id) ∙ ap (λ xs. bound_at xs id) view ∙ free)
+
+appended_is : (es more : List (Text × Bound)) (seen : Entries) → entries_of es ≡ seen → entries_of (es ++ more) ≡ seen ++ entries_of more
+appended_is es more seen view = entries_append es more ∙ ap (λ xs. xs ++ entries_of more) view
+
+-- and ids that come last in a whole set stand apart in the map
+pub apart : (es more : List (Text × Bound)) (seen : Entries) → entries_of es ≡ seen → IsWhole (seen ++ entries_of more) → IsDistinct same_text (keys_of (es ++ more))
+apart es more seen view whole = subst (IsDistinct same_text) (sym (ap keys_of (appended_is es more seen view)) ∙ keys_of_entries (es ++ more)) whole.distinct
+
 module _ (es new : List (Text × Bound)) (seen : Entries) (view : entries_of es ≡ seen) (sound : IsSound es) where
   -- a new id is bound
-  module _ (id : Text) (b : Bound) (free : bound_at seen id ≡ None) (is : new ≡ insert_entry same_text es id b) where
-    absent : lookup (same_text id) es ≡ None
-    absent = unmapped (lookup (same_text id) es) (sym (found_entry es id) ∙ ap (λ xs. bound_at xs id) view ∙ free)
-
-    pushed : new ≡ es ++ (id, b) ∷ []
-    pushed = is ∙ insert_entry-absent same_text id b es (absent_from_lookup (same_text id) es absent)
-
+  module _ (id : Text) (b : Bound) (free : bound_at seen id ≡ None) (is : new ≡ es ++ (id, b) ∷ []) where
     pub bind_is : entries_of new ≡ seen ++ (id, entry_of b) ∷ []
-    bind_is = ap entries_of pushed ∙ entries_append es ((id, b) ∷ []) ∙ ap (λ xs. xs ++ (id, entry_of b) ∷ []) view
+    bind_is = ap entries_of is ∙ entries_append es ((id, b) ∷ []) ∙ ap (λ xs. xs ++ (id, entry_of b) ∷ []) view
 
     pub counts_bind : (n : Numbers) → AreBound (entries_of es) n → AreBound (entries_of new) n
     counts_bind n h = subst (λ xs. AreBound xs n) (sym bind_is) (counts_more seen ((id, entry_of b) ∷ []) n (subst (λ xs. AreBound xs n) view h))
@@ -53,24 +55,15 @@ module _ (es new : List (Text × Bound)) (seen : Entries) (view : entries_of es 
     pub sound_bind : bound_id b ≡ id → ListsSlots b → HasItsTemplate seen (entry_of b) → IsFull (entry_of b) → IsSound new
     sound_bind named listed its full =
         record {
-          named = subst IsNamed (sym pushed) (named_push es id b sound.named named);
-          listed = subst (λ xs. ListTheirSlots (values_of xs)) (sym pushed) (listed_push es id b sound.listed listed);
+          named = subst IsNamed (sym is) (named_push es id b sound.named named);
+          listed = subst (λ xs. ListTheirSlots (values_of xs)) (sym is) (listed_push es id b sound.listed listed);
           whole = subst IsWhole (sym bind_is) (whole_push seen id (entry_of b) free (subst IsWhole view sound.whole) its full);
         }
 
   -- ids that are new are bound
-  module _ (more : List (Text × Bound)) (whole : IsWhole (seen ++ entries_of more)) (is : new ≡ insert_all same_text es more) where
-    appended_is : entries_of (es ++ more) ≡ seen ++ entries_of more
-    appended_is = entries_append es more ∙ ap (λ xs. xs ++ entries_of more) view
-
-    apart : IsDistinct same_text (keys_of (es ++ more))
-    apart = subst (IsDistinct same_text) (sym (ap keys_of appended_is) ∙ keys_of_entries (es ++ more)) whole.distinct
-
-    joined_is : new ≡ es ++ more
-    joined_is = is ∙ insert_all_apart more es apart
-
+  module _ (more : List (Text × Bound)) (whole : IsWhole (seen ++ entries_of more)) (is : new ≡ es ++ more) where
     pub append_is : entries_of new ≡ seen ++ entries_of more
-    append_is = ap entries_of joined_is ∙ appended_is
+    append_is = ap entries_of is ∙ appended_is es more seen view
 
     pub counts_append : (n : Numbers) → AreBound (entries_of es) n → AreBound (entries_of new) n
     counts_append n h = subst (λ xs. AreBound xs n) (sym append_is) (counts_more seen (entries_of more) n (subst (λ xs. AreBound xs n) view h))
@@ -81,8 +74,8 @@ module _ (es new : List (Text × Bound)) (seen : Entries) (view : entries_of es 
     pub sound_append : IsNamed more → ListTheirSlots (values_of more) → IsSound new
     sound_append named listed =
         record {
-          named = subst IsNamed (sym joined_is) (named_append es more sound.named named);
-          listed = subst (λ xs. ListTheirSlots (values_of xs)) (sym joined_is) (listed_append es more sound.listed listed);
+          named = subst IsNamed (sym is) (named_append es more sound.named named);
+          listed = subst (λ xs. ListTheirSlots (values_of xs)) (sym is) (listed_append es more sound.listed listed);
           whole = subst IsWhole (sym append_is) whole;
         }
 

@@ -1,12 +1,13 @@
 pub mod Additions
-pub mod Appending
 pub mod Counting
 pub mod Covering
 pub mod Distinct
 pub mod Edits
 pub mod Finding
-pub mod SameBound
+pub mod Placed
+pub mod Placing
 pub mod Sameness
+pub mod Telling
 pub mod Uncovering
 pub mod Views
 pub mod Wholes

@@ -1,8 +1,7 @@
 -- What an index of scopes covers of a set stays covered when an entry is taken out and those behind it move up.
-use Rattle.std.proofs.Common.{◌≡◌, ◌⊎◌, inl, inr, ℕ, suc, zero, ◌+◌, ◌-◌, ◌<◌, ◌≤◌, Bool, true, false, not, cond, ltb, lt-ltb, le-ltb, ltb-true, ltb-false, List, [], ◌∷◌, length, refl, sym, ap, subst, ◌∙◌, Option, None, Some, is_some, true≢false, arith}
+use Rattle.std.proofs.Common.{◌≡◌, ◌⊎◌, inl, inr, ℕ, suc, zero, ◌+◌, ◌-◌, ◌<◌, ◌≤◌, Bool, true, false, not, cond, ltb, lt-ltb, le-ltb, ltb-true, ltb-false, List, [], ◌∷◌, length, refl, sym, ap, subst, ◌∙◌, None, Some, arith}
 use Rattle.std.specs.Prelude.{position}
 use Rattle.std.specs.List.{slice_get, position_or_len}
-use Rattle.std.specs.Option.{unwrap_or}
 use Rattle.std.specs.Map.{keys_of, remove_entry}
 use Rattle.cedar_language.specs.Uid.{Text}
 use Rattle.cedar_language.specs.Order.{same_text}
@@ -16,6 +15,8 @@ use Rattle.cedar_policy_set.specs.Entries.{Entry, static_policy, template, link,
 use Rattle.cedar_policy_set.specs.Bounds.{entry_of, entries_of}
 use Rattle.cedar_policy_set.specs.declared.bounds.Bound.{Bound}
 use Rattle.cedar_policy_set.specs.Scopes.{IsEntryFound, Covers}
+use Rattle.cedar_policy_set.proofs.Placed.{nothing_taken}
+use Rattle.cedar_policy_set.proofs.Telling.{stands_at}
 use Rattle.cedar_policy_set.proofs.Views.{keys_of_entries}
 
 below_or_not : (p n : ℕ) → ((p < n) × (ltb p n ≡ true)) ⊎ ((n ≤ p) × (ltb p n ≡ false))
@@ -68,14 +69,6 @@ module _ {X : Type 0} (test : Text → Bool) where
       by true l rest = omega arith
       by false l rest = let less = rest (omega arith) in omega arith
 
--- where the entry stands that a map tells of
-pub told_at : (test : Text → Bool) (ids : List Text) (i : ℕ) → Some i ≡ position test ids → (i ≡ position_or_len test ids) × (position_or_len test ids < length ids)
-told_at test ids i told = by (ltb (position_or_len test ids) (length ids)) refl told
-  where
-    by : (b : Bool) → ltb (position_or_len test ids) (length ids) ≡ b → Some i ≡ cond b (Some (position_or_len test ids)) None → (i ≡ position_or_len test ids) × (position_or_len test ids < length ids)
-    by true e t = (ap (λ o. unwrap_or o 0) t, ltb-true _ _ e)
-    by false e t = absurd (true≢false (ap is_some t))
-
 -- what is found is found where it stands then
 abbrev pub KeepsClosedUp : ScopeIndex → ScopeIndex → ℕ → Type 0
 KeepsClosedUp x y out = (p : ℕ) (b : Bindings) (s : grammar.Policy) → closed_up out p < covered y → IsFound x p b s → IsFound y (closed_up out p) b s
@@ -114,22 +107,6 @@ module _ (x y : ScopeIndex) (out : ℕ) (kept : KeepsClosedUp x y out) where
 
 -- ---- of a map
 
--- without an entry there
-untouched : {X : Type 0} (test : Text → Bool) (es : List (Text × X)) → length es ≤ out_at test es → remove_entry test es ≡ es
-untouched test [] none = refl
-untouched test (e ∷ es) none = by (test e.0) none (untouched test es)
-  where
-    by : (b : Bool) → length (e ∷ es) ≤ cond (not b) (1 + out_at test es) 0 → (length es ≤ out_at test es → remove_entry test es ≡ es) → cond b es (e ∷ remove_entry test es) ≡ e ∷ es
-    by true l rest = absurd (let never : ⊥ = omega arith in never)
-    by false l rest = ap (λ fs. e ∷ fs) (rest (omega arith))
-
-nowhere : (test : Text → Bool) (ids : List Text) → None ≡ position test ids → length ids ≤ position_or_len test ids
-nowhere test ids told = by (ltb (position_or_len test ids) (length ids)) refl told
-  where
-    by : (b : Bool) → ltb (position_or_len test ids) (length ids) ≡ b → None ≡ cond b (Some (position_or_len test ids)) None → length ids ≤ position_or_len test ids
-    by true e t = absurd (true≢false (sym (ap is_some t)))
-    by false e t = ltb-false _ _ e
-
 as_long : (es : List (Text × Bound)) → length (keys_of es) ≡ length (entries_of es)
 as_long [] = refl
 as_long (e ∷ es) = ap suc (as_long es)
@@ -141,11 +118,9 @@ module _ (es : List (Text × Bound)) (id : Text) (x : ScopeIndex) (covers : Cove
   -- the entry of an id is taken out
   pub covers_taken : (i : ℕ) (y : ScopeIndex) → Some i ≡ position (same_text id) (keys_of es) → covered y ≤ covered x → (i < covered x → covered y < covered x) → KeepsClosedUp x y i → Covers (without id (entries_of es)) y
   covers_taken i y told no_more fewer kept =
-      let (is, within) = told_at (same_text id) (keys_of es) i told in
+      let (is, within) = stands_at (same_text id) (keys_of es) i told in
       covers_without x y i kept (same_text id) (entries_of es) (is ∙ at_is) (omega (arith, within, at_is, as_long es)) no_more fewer covers
 
   -- no entry has it
   pub covers_absent : None ≡ position (same_text id) (keys_of es) → Covers (without id (entries_of es)) x
-  covers_absent told =
-      let none = nowhere (same_text id) (keys_of es) told in
-      subst (λ fs. Covers fs x) (sym (untouched (same_text id) (entries_of es) (omega (arith, none, at_is, as_long es)))) covers
+  covers_absent told = subst (λ fs. Covers fs x) (sym (nothing_taken (same_text id) (entries_of es) (told ∙ ap (position (same_text id)) (sym (keys_of_entries es))))) covers

@@ -1,4 +1,5 @@
 pub mod Entries
+pub mod Places
 pub mod EntryNodes
 pub mod Bounds
 pub mod Numbers

@@ -13,13 +13,13 @@ ghost use Rattle.cedar_policy_set.specs.Refused.{IsOccupied, taken, in_the_way, 
 
 use crate::bounds::{Bound, is_link};
 use crate::errors::PolicySetError;
+use crate::policy_map::PolicyMap;
 use crate::sets::PolicySet;
 use cedar_policies::linking::TemplateLinks;
 use cedar_policies::policies::Policy;
 use cedar_policies::static_policies::StaticPolicy;
 use cedar_policies::templates::Template;
 use cedar_policy_parts::PolicyID;
-use indexmap::IndexMap;
 use std::alloc::{AllocError, Global};
 use std::rc::Rc;
 
@@ -140,24 +140,24 @@ impl PolicySet {
 }
 
 // A policy under its id.
-fn alone(alloc: Global, policy: Policy) -> Result<IndexMap<PolicyID, Bound>, AllocError>
-    ensures named { IfOk result (λ more. IsNamed more.entries) }
-    ensures listed { IfOk result (λ more. ListTheirSlots (values_of more.entries)) }
-    ensures policy { IfOk result (λ more. entries_of more.entries ≡ policy_seen policy ∷ []) }
+fn alone(alloc: Global, policy: Policy) -> Result<PolicyMap<Bound>, AllocError>
+    ensures named { IfOk result (λ more. IsNamed more) }
+    ensures listed { IfOk result (λ more. ListTheirSlots (values_of more)) }
+    ensures policy { IfOk result (λ more. entries_of more ≡ policy_seen policy ∷ []) }
 {
-    let mut more = IndexMap::new(alloc);
+    let mut more = PolicyMap::new(alloc);
     Bound::Policy(policy).insert_into(&mut more)?;
     Ok(more)
 }
 
 // A link under its id, after its template under its own.
-fn with_its_template(alloc: Global, link: Policy) -> Result<IndexMap<PolicyID, Bound>, AllocError>
+fn with_its_template(alloc: Global, link: Policy) -> Result<PolicyMap<Bound>, AllocError>
     requires { same_text (policy_id link) (template_id (policy_template link)) ≡ false }
-    ensures named { IfOk result (λ more. IsNamed more.entries) }
-    ensures listed { IfOk result (λ more. ListTheirSlots (values_of more.entries)) }
-    ensures both { IfOk result (λ more. entries_of more.entries ≡ (template_id (policy_template link), a_template (policy_syntax link)) ∷ policy_seen link ∷ []) }
+    ensures named { IfOk result (λ more. IsNamed more) }
+    ensures listed { IfOk result (λ more. ListTheirSlots (values_of more)) }
+    ensures both { IfOk result (λ more. entries_of more ≡ (template_id (policy_template link), a_template (policy_syntax link)) ∷ policy_seen link ∷ []) }
 {
-    let mut more = IndexMap::new(alloc);
+    let mut more = PolicyMap::new(alloc);
     let template = listed(alloc, link.template_arc())?;
     Bound::Template(template).insert_into(&mut more)?;
     Bound::Policy(link).insert_into(&mut more)?;

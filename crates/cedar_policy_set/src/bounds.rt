@@ -8,10 +8,10 @@ ghost use Rattle.cedar_policy_set.specs.Entries.{template as a_template, IsFull,
 ghost use Rattle.cedar_policy_set.specs.EntryNodes.{same_entry};
 ghost use Rattle.cedar_policy_set.specs.Bounds.{policy_entry, link_entry, policy_seen, template_seen};
 
+use crate::policy_map::PolicyMap;
 use cedar_policies::policies::Policy;
 use cedar_policies::templates::Template;
 use cedar_policy_parts::PolicyID;
-use indexmap::IndexMap;
 use std::alloc::AllocError;
 use std::rc::Rc;
 
@@ -71,16 +71,13 @@ impl Bound {
     }
 
     /// Puts it under its id, which isn't there yet, after what is there. Refused for memory alone.
-    pub fn insert_into(self, entries: &mut IndexMap<PolicyID, Bound>) -> Result<(), AllocError>
-        requires { lookup (same_text (bound_id self)) entries.old.entries ≡ None }
-        ensures inserted { OnOk result (entries.new.entries ≡ entries.old.entries ++ (bound_id self, self) ∷ []) }
-        ensures err { OnErr result (entries.new.entries ≡ entries.old.entries) }
+    pub fn insert_into(self, entries: &mut PolicyMap<Bound>) -> Result<(), AllocError>
+        requires { lookup (same_text (bound_id self)) entries.old ≡ None }
+        ensures inserted { OnOk result (entries.new ≡ entries.old ++ (bound_id self, self) ∷ []) }
+        ensures err { OnErr result (entries.new ≡ entries.old) }
     {
         let id = self.own_id()?;
-        match entries.insert(id, self) {
-            Ok(_) => Ok(()),
-            Err(_) => Err(AllocError),
-        }
+        entries.push(id, self)
     }
 
     // The id, to stand before it.

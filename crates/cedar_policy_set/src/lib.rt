@@ -3,12 +3,16 @@
 
 mod adding;
 pub mod bounds;
+mod comparing;
 mod displays;
 pub mod errors;
 pub mod laws;
 mod linking;
 pub mod listing;
+pub mod map_values;
 pub mod numbers;
+mod places;
+pub mod policy_map;
 mod reading;
 mod removing;
 mod scopes;

@@ -5,16 +5,16 @@ ghost use Rattle.cedar_policy_set.specs.Refused.{IsListingRefusal, has_template_
 
 use crate::bounds::Bound;
 use crate::errors::PolicySetGetLinksError;
+use crate::map_values::{IntoValues, Values};
 use crate::sets::PolicySet;
 use cedar_policies::policies::Policy;
 use cedar_policies::templates::Template;
 use cedar_policy_parts::PolicyID;
-use indexmap::map::{IntoValues, Values};
 
 /// The static policies and links of a set.
 #[derive(Drop)]
 pub struct Policies<'a> {
-    bound: Values<'a, PolicyID, Bound>,
+    bound: Values<'a, Bound>,
 }
 
 impl<'a> Iterator for Policies<'a> {
@@ -41,7 +41,7 @@ impl<'a> Iterator for Policies<'a> {
 /// The static policies of a set.
 #[derive(Drop)]
 pub struct StaticPolicies<'a> {
-    bound: Values<'a, PolicyID, Bound>,
+    bound: Values<'a, Bound>,
 }
 
 impl<'a> Iterator for StaticPolicies<'a> {
@@ -68,7 +68,7 @@ impl<'a> Iterator for StaticPolicies<'a> {
 /// The templates of a set, those of its static policies among them.
 #[derive(Drop)]
 pub struct AllTemplates<'a> {
-    bound: Values<'a, PolicyID, Bound>,
+    bound: Values<'a, Bound>,
 }
 
 impl<'a> Iterator for AllTemplates<'a> {
@@ -95,7 +95,7 @@ impl<'a> Iterator for AllTemplates<'a> {
 /// The templates of a set that have slots.
 #[derive(Drop)]
 pub struct Templates<'a> {
-    bound: Values<'a, PolicyID, Bound>,
+    bound: Values<'a, Bound>,
 }
 
 impl<'a> Iterator for Templates<'a> {
@@ -122,7 +122,7 @@ impl<'a> Iterator for Templates<'a> {
 /// The ids of the links of a template; of a static policy, which is its own template, its id.
 #[derive(Drop)]
 pub struct LinkedPolicies<'a> {
-    bound: Values<'a, PolicyID, Bound>,
+    bound: Values<'a, Bound>,
     template: &'a PolicyID,
 }
 
@@ -149,7 +149,7 @@ impl<'a> Iterator for LinkedPolicies<'a> {
 /// The static policies and links of a set that is given up.
 #[derive(Drop)]
 pub struct IntoPolicies {
-    bound: IntoValues<PolicyID, Bound>,
+    bound: IntoValues<Bound>,
 }
 
 impl Iterator for IntoPolicies {

@@ -6,8 +6,8 @@ ghost use Rattle.cedar_policy_set.specs.Bounds.{entries_of};
 ghost use Rattle.cedar_policy_set.specs.Numbers.{BindsNumbers};
 
 use crate::bounds::Bound;
+use crate::policy_map::PolicyMap;
 use cedar_policy_parts::PolicyID;
-use indexmap::IndexMap;
 use std::alloc::{AllocError, Global};
 use std::collections::BTreeSet;
 
@@ -69,18 +69,18 @@ impl Numbers {
     }
 
     // Ids were bound, whose numbers count as far as no lower one is free.
-    pub(crate) fn advance(&mut self, bound: &IndexMap<PolicyID, Bound>)
-        requires { AreBound (entries_of bound.now.entries) self.old }
-        ensures { AreBound (entries_of bound.now.entries) self.new }
+    pub(crate) fn advance(&mut self, bound: &PolicyMap<Bound>)
+        requires { AreBound (entries_of bound.now) self.old }
+        ensures { AreBound (entries_of bound.now) self.new }
     {
         while self.refill(bound) {}
         self.below = counted(bound, self.below);
     }
 
     // Whether the least of the freed numbers is seen to be bound again, and so counts.
-    fn refill(&mut self, bound: &IndexMap<PolicyID, Bound>) -> bool
-        requires { AreBound (entries_of bound.now.entries) self.old }
-        ensures bound { AreBound (entries_of bound.now.entries) self.new }
+    fn refill(&mut self, bound: &PolicyMap<Bound>) -> bool
+        requires { AreBound (entries_of bound.now) self.old }
+        ensures bound { AreBound (entries_of bound.now) self.new }
         ensures fewer { IsTrue result → length self.new.freed.keys < length self.old.freed.keys }
     {
         match self.freed.first() {
@@ -102,8 +102,8 @@ pub fn numbered_id(alloc: Global, number: u64) -> Result<PolicyID, AllocError>
 }
 
 // The first number from this one on whose id isn't bound; an earlier one where there is no memory to look.
-fn counted(bound: &IndexMap<PolicyID, Bound>, from: u64) -> u64
-    ensures { BindsNumbers (entries_of bound.now.entries) from result }
+fn counted(bound: &PolicyMap<Bound>, from: u64) -> u64
+    ensures { BindsNumbers (entries_of bound.now) from result }
 {
     for number in from..u64::MAX {
         if !binds(bound, number) {
@@ -114,8 +114,8 @@ fn counted(bound: &IndexMap<PolicyID, Bound>, from: u64) -> u64
 }
 
 // Whether this number's id is seen to be bound, for which there may be no memory.
-fn binds(bound: &IndexMap<PolicyID, Bound>, number: u64) -> bool
-    ensures { IsTrue result → is_bound (entries_of bound.now.entries) (numbered number) ≡ true }
+fn binds(bound: &PolicyMap<Bound>, number: u64) -> bool
+    ensures { IsTrue result → is_bound (entries_of bound.now) (numbered number) ≡ true }
 {
     match numbered_id(*bound.allocator(), number) {
         Ok(id) => bound.contains_key(&id),

@@ -7,11 +7,11 @@ ghost use Rattle.cedar_policy_set.specs.Entries.{without};
 ghost use Rattle.cedar_policy_set.specs.Scopes.{IsEntryFound, Covers, policy_stood};
 
 use crate::bounds::Bound;
+use crate::policy_map::PolicyMap;
 use crate::sets::PolicySet;
 use cedar_policies::policies::Policy;
 use cedar_policy_parts::PolicyID;
 use cedar_scope_index::index::ScopeIndex;
-use indexmap::IndexMap;
 use std::alloc::{AllocError, Global};
 
 impl PolicySet {
@@ -41,14 +41,10 @@ impl PolicySet {
 }
 
 // Covers what isn't covered yet.
-fn cover(
-    alloc: Global,
-    scopes: &mut ScopeIndex,
-    bound: &IndexMap<PolicyID, Bound>,
-) -> Result<(), AllocError>
-    requires { Covers (entries_of bound.now.entries) scopes.old }
-    ensures covers { Covers (entries_of bound.now.entries) scopes.new }
-    ensures whole { OnOk result (covered scopes.new ≡ length bound.now.entries) }
+fn cover(alloc: Global, scopes: &mut ScopeIndex, bound: &PolicyMap<Bound>) -> Result<(), AllocError>
+    requires { Covers (entries_of bound.now) scopes.old }
+    ensures covers { Covers (entries_of bound.now) scopes.new }
+    ensures whole { OnOk result (covered scopes.new ≡ length bound.now) }
 {
     let _len = bound.len();
     while let Some((_, next)) = bound.get_index(scopes.len()) {
@@ -58,9 +54,9 @@ fn cover(
 }
 
 // What is known of the positions is what will be, once the entry of this id is taken out.
-pub(crate) fn uncover(scopes: &mut ScopeIndex, bound: &IndexMap<PolicyID, Bound>, id: &PolicyID)
-    requires { Covers (entries_of bound.now.entries) scopes.old }
-    ensures { Covers (without id.now (entries_of bound.now.entries)) scopes.new }
+pub(crate) fn uncover(scopes: &mut ScopeIndex, bound: &PolicyMap<Bound>, id: &PolicyID)
+    requires { Covers (entries_of bound.now) scopes.old }
+    ensures { Covers (without id.now (entries_of bound.now)) scopes.new }
 {
     // The length is what says that a position fits.
     let _len = bound.len();

@@ -6,12 +6,13 @@ ghost use Rattle.cedar_language.specs.Uid.{Text};
 ghost use Rattle.cedar_grammar.specs.Policy.{Policy as PolicySyntax};
 
 use crate::bounds::Bound;
+use crate::comparing::bind_alike;
+use crate::map_values::{IntoValues, Values};
 use crate::numbers::Numbers;
+use crate::policy_map::PolicyMap;
 use crate::scopes::uncover;
 use cedar_policy_parts::PolicyID;
 use cedar_scope_index::index::ScopeIndex;
-use indexmap::IndexMap;
-use indexmap::map::{IntoValues, Values};
 use std::alloc::{AllocError, Global};
 use std::fmt;
 use std::marker::Model;
@@ -21,7 +22,7 @@ use std::marker::Model;
 /// lists its slots. Contracts see the ids, each with what it is bound to. (Cedar language reference,
 /// "Policies" and "Policy templates".)
 pub struct PolicySet {
-    pub(crate) bound: IndexMap<PolicyID, Bound>,
+    pub(crate) bound: PolicyMap<Bound>,
     numbers: Numbers,
     // covers a beginning of what is bound
     pub(crate) scopes: ScopeIndex,
@@ -60,9 +61,9 @@ impl Model for PolicySet {
     ghost use Rattle.cedar_policy_set.specs.Bounds.{entries_of};
     ghost use Rattle.cedar_policy_set.specs.Scopes.{IsKept};
 
-    ghost view = { λ s. entries_of s.bound.entries };
+    ghost view = { λ s. entries_of s.bound };
 
-    ghost invariant = { λ s. IsKept s.bound.entries s.numbers s.scopes };
+    ghost invariant = { λ s. IsKept s.bound s.numbers s.scopes };
 }
 
 /// Both bind the same ids to the same things, in whatever order; places don't count.
@@ -75,7 +76,7 @@ impl PartialEq for PolicySet {
     ghost laws = { partial_equiv_from_equiv same_sets_equiv };
 
     fn eq(&self, other: &PolicySet) -> bool {
-        self.bound == other.bound
+        bind_alike(self, self, other) && bind_alike(other, self, other)
     }
 }
 
@@ -95,7 +96,7 @@ impl PolicySet {
         ensures { result ≡ [] }
     {
         PolicySet {
-            bound: IndexMap::new(alloc),
+            bound: PolicyMap::new(alloc),
             numbers: Numbers::new(alloc),
             scopes: ScopeIndex::new(alloc),
         }
@@ -104,9 +105,9 @@ impl PolicySet {
     /// The set that binds just these, in their order; takes no memory. The caller sees to it that they are
     /// such a set: each stands under its own id, each link names a template among them and gives exactly its
     /// slots, and each template lists its slots.
-    pub fn from_raw_components(bound: IndexMap<PolicyID, Bound>) -> PolicySet
-        requires { IsSound bound.entries }
-        ensures { result ≡ entries_of bound.entries }
+    pub fn from_raw_components(bound: PolicyMap<Bound>) -> PolicySet
+        requires { IsSound bound }
+        ensures { result ≡ entries_of bound }
     {
         let alloc = *bound.allocator();
         PolicySet {
@@ -157,7 +158,7 @@ impl PolicySet {
     }
 
     /// What the ids are bound to, lent, in the order in which they came.
-    pub fn values(&self) -> Values<'_, PolicyID, Bound>
+    pub fn values(&self) -> Values<'_, Bound>
         ensures entries { seen result ≡ self.now }
         ensures listed { ListTheirSlots result }
     {
@@ -165,7 +166,7 @@ impl PolicySet {
     }
 
     /// What the ids are bound to, given up, in the order in which they came.
-    pub fn into_values(self) -> IntoValues<PolicyID, Bound>
+    pub fn into_values(self) -> IntoValues<Bound>
         ensures { seen result ≡ self }
     {
         let PolicySet {
@@ -186,7 +187,7 @@ impl PolicySet {
         ensures bound { OnOk result (self.new ≡ self.old ++ (id, entry_of bound) ∷ []) }
         ensures err { OnErr result (self.new ≡ self.old) }
     {
-        self.bound.insert(id, bound)?;
+        self.bound.push(id, bound)?;
         Ok(())
     }
 
@@ -194,11 +195,11 @@ impl PolicySet {
     /// id, that no id is bound already, that each link names a template that is bound then and gives exactly
     /// its slots, and that each template lists its slots. Refused for memory alone; a refused call changes
     /// nothing.
-    pub fn append(&mut self, more: IndexMap<PolicyID, Bound>) -> Result<(), AllocError>
-        requires named { IsNamed more.entries }
-        requires listed { ListTheirSlots (values_of more.entries) }
-        requires whole { IsWhole (self.old ++ entries_of more.entries) }
-        ensures appended { OnOk result (self.new ≡ self.old ++ entries_of more.entries) }
+    pub fn append(&mut self, more: PolicyMap<Bound>) -> Result<(), AllocError>
+        requires named { IsNamed more }
+        requires listed { ListTheirSlots (values_of more) }
+        requires whole { IsWhole (self.old ++ entries_of more) }
+        ensures appended { OnOk result (self.new ≡ self.old ++ entries_of more) }
         ensures err { OnErr result (self.new ≡ self.old) }
     {
         self.bind_all(more)?;
@@ -208,14 +209,14 @@ impl PolicySet {
     }
 
     // Binds these as `append` does, without a look at which numbers are bound then.
-    pub(crate) fn bind_all(&mut self, mut more: IndexMap<PolicyID, Bound>) -> Result<(), AllocError>
-        requires named { IsNamed more.entries }
-        requires listed { ListTheirSlots (values_of more.entries) }
-        requires whole { IsWhole (self.old ++ entries_of more.entries) }
-        ensures appended { OnOk result (self.new ≡ self.old ++ entries_of more.entries) }
+    pub(crate) fn bind_all(&mut self, more: PolicyMap<Bound>) -> Result<(), AllocError>
+        requires named { IsNamed more }
+        requires listed { ListTheirSlots (values_of more) }
+        requires whole { IsWhole (self.old ++ entries_of more) }
+        ensures appended { OnOk result (self.new ≡ self.old ++ entries_of more) }
         ensures err { OnErr result (self.new ≡ self.old) }
     {
-        self.bound.append(&mut more)?;
+        self.bound.append(more)?;
         Ok(())
     }
 

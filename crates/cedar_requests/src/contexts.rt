@@ -11,7 +11,7 @@ use cedar_restricted::restricted::RestrictedExpr;
 use cedar_trees::expr::Expr;
 use cedar_values::values::Value;
 use std::alloc::{AllocError, Global};
-use std::collections::{BTreeMap, HashMap};
+use std::collections::BTreeMap;
 use std::rc::{Rc, RcStr};
 
 /// What else is known of a request: a record, of values, or of what is left of them where something is
@@ -117,7 +117,7 @@ impl Context {
     pub fn substitute<F: ExtensionFunctionObject>(
         self,
         alloc: Global,
-        told: &HashMap<RcStr, Value>,
+        told: &BTreeMap<RcStr, Value>,
         extensions: &Extensions<'_, F>,
         depth: u32,
     ) -> Result<Context, EvaluationError>

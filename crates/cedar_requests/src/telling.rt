@@ -18,19 +18,20 @@ use cedar_literals::types::StaticallyTyped;
 use cedar_restricted::borrowed::BorrowedRestrictedExpr;
 use cedar_restricted::partial_value_laws::written_values_are_restricted;
 use cedar_shapes::iteration::Unknowns;
+use cedar_substitution::finding::find_told;
 use cedar_substitution::told_values::Substitute;
 use cedar_trees::expr::Expr;
 use cedar_trees::unknowns::Unknown;
 use cedar_values::values::Value;
 use std::alloc::{AllocError, Global};
-use std::collections::HashMap;
+use std::collections::BTreeMap;
 use std::rc::RcStr;
 
 /// The context that a record gives once values are told.
 pub(crate) fn record_told<F: ExtensionFunctionObject>(
     alloc: Global,
     expr: &Expr,
-    told: &HashMap<RcStr, Value>,
+    told: &BTreeMap<RcStr, Value>,
     extensions: &Extensions<'_, F>,
     depth: u32,
 ) -> Result<Context, EvaluationError>
@@ -52,13 +53,13 @@ pub(crate) fn record_told<F: ExtensionFunctionObject>(
 fn mistyped(
     alloc: Global,
     expr: &Expr,
-    told: &HashMap<RcStr, Value>,
+    told: &BTreeMap<RcStr, Value>,
 ) -> Result<Option<EvaluationError>, AllocError>
     ensures { IfOk result (λ error. IsMistypingOf (mistyped_in told.now.entries (bare expr.now)) error) }
 {
     let mut leftmost = None;
     for unknown in Unknowns::new(alloc, expr)? {
-        let error = mistyped_one(alloc, unknown, told.get(unknown.name.as_str()))?;
+        let error = mistyped_one(alloc, unknown, find_told(told, unknown.name.as_str()))?;
         leftmost = error.or(leftmost);
     }
     Ok(leftmost)

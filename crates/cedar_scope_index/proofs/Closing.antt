@@ -1,5 +1,5 @@
 -- Where a place is taken out, those before it stay where they stand, and those behind it move up.
-use Rattle.std.proofs.Common.{◌≡◌, ◌⊎◌, inl, inr, ℕ, suc, zero, ◌+◌, ◌-◌, ◌<◌, ◌≤◌, Bool, true, false, cond, List, [], ◌∷◌, length, ltb, lt-ltb, le-ltb, ltb-true, ltb-false, refl, sym, ap, subst, ◌∙◌, arith}
+use Rattle.std.proofs.Common.{◌≡◌, ◌⊎◌, inl, inr, ℕ, suc, zero, ◌+◌, ◌-◌, ◌<◌, ◌≤◌, Bool, true, false, cond, List, [], ◌∷◌, length, ltb, lt-ltb, le-ltb, ltb-true, ltb-false, refl, sym, ap, subst, arith}
 use Rattle.std.specs.Prelude.{insert, is_ok, if◌then◌else◌, Result, Ok, Err}
 use Rattle.std.specs.List.Sorted.{IsNonDecreasing}
 use Rattle.std.proofs.lemmas.List.Sums.{sum_by-cons}

@@ -9,7 +9,7 @@ use Rattle.cedar_grammar.specs.Policy.{Policy}
 use Rattle.cedar_grammar.specs.Bindings.{Bindings}
 use Rattle.cedar_scope_index.specs.declared.positions.Positions.{Positions}
 use Rattle.cedar_scope_index.specs.declared.index.ScopeIndex.{ScopeIndex}
-use Rattle.cedar_scope_index.specs.Finding.{positions_at, others_of, is_listed, IsListedFor, by_nothing, by_principal, by_action, by_resource, IsFound, KeepsFound}
+use Rattle.cedar_scope_index.specs.Finding.{positions_at, others_of, is_listed, IsListedFor, by_nothing, by_principal, by_action, by_resource, by_pair, IsFound, KeepsFound}
 use Rattle.cedar_scope_index.specs.Places.{position_of, closed_up}
 
 -- what the one lists, the other lists under the same entity
@@ -21,12 +21,26 @@ pub record Grows (x y : ScopeIndex) : Type 0 where
   pub principals : Holds x.principals y.principals
   pub actions : Holds x.actions y.actions
   pub resources : Holds x.resources y.resources
+  pub paired_principals : Holds x.paired_principals y.paired_principals
+  pub paired_resources : Holds x.paired_resources y.paired_resources
 
 pub grown : (x y : ScopeIndex) → Grows x y → (t : ℕ) (b : Bindings) (s : Policy) → IsListedFor x t b s → IsListedFor y t b s
 grown x y g t b s (by_nothing l) = by_nothing (g.others t l)
 grown x y g t b s (by_principal u n l) = by_principal u n (g.principals u t l)
 grown x y g t b s (by_action u settled n l) = by_action u settled n (g.actions u t l)
 grown x y g t b s (by_resource u settled n l) = by_resource u settled n (g.resources u t l)
+grown x y g t b s (by_pair u v settled n m l k) = by_pair u v settled n m (g.paired_principals u t l) (g.paired_resources v t k)
+
+-- how far it goes is no matter
+pub grows_counted : (x : ScopeIndex) (n : ℕ) → Grows x (record x { len = n })
+grows_counted x n = record {
+  others = λ p h. h;
+  principals = λ u p h. h;
+  actions = λ u p h. h;
+  resources = λ u p h. h;
+  paired_principals = λ u p h. h;
+  paired_resources = λ u p h. h;
+}
 
 -- where no place is taken out, what is found stays so
 pub keeps : (x y : ScopeIndex) → y.gaps ≡ x.gaps → Grows x y → KeepsFound x y
@@ -38,14 +52,14 @@ keeps x y same g p b s found = record {
 
 -- how far an index goes is no matter
 pub counted : (x : ScopeIndex) (n : ℕ) → KeepsFound x (record x { len = n })
-counted x n = keeps x (record x { len = n }) refl (record { others = λ p h. h; principals = λ u p h. h; actions = λ u p h. h; resources = λ u p h. h })
+counted x n = keeps x (record x { len = n }) refl (grows_counted x n)
 
 -- what is listed at a place is found where that place stands
 pub found_there : (x : ScopeIndex) (n t p : ℕ) (b : Bindings) (s : Policy) → position_of x.gaps.taken.items t ≡ p → IsListedFor x t b s → IsFound (record x { len = n }) p b s
 found_there x n t p b s stands listed = record {
   place = t;
   stands = stands;
-  listed = grown x (record x { len = n }) (record { others = λ q h. h; principals = λ u q h. h; actions = λ u q h. h; resources = λ u q h. h }) t b s listed;
+  listed = grown x (record x { len = n }) (grows_counted x n) t b s listed;
 }
 
 -- ---- a position is taken out
@@ -79,6 +93,16 @@ last_listed ps p = list_any-append (nat_eq p) ps (p ∷ []) ∙ or_right (is_lis
 pub still : {E : Type 0} (r : Result (Unit {0}) E) (ps qs : List ℕ) (q : ℕ) → OnOk r (qs ≡ ps ++ q ∷ []) → OnErr r (qs ≡ ps) → (p : ℕ) → is_listed ps p ≡ true → is_listed qs p ≡ true
 still (Ok a) ps qs q more same p h = ap (λ xs. is_listed xs p) more ∙ still_listed ps q p h
 still (Err e) ps qs q more same p h = ap (λ xs. is_listed xs p) same ∙ h
+
+-- what holds anyway
+pub on_ok_always : {A E P : Type 0} (r : Result A E) → P → OnOk r P
+on_ok_always (Ok a) p = p
+on_ok_always (Err e) p = tt
+
+-- two facts of what was done
+pub on_ok_both : {A E P Q R : Type 0} (r : Result A E) → (P → Q → R) → OnOk r P → OnOk r Q → OnOk r R
+on_ok_both (Ok a) f p q = f p q
+on_ok_both (Err e) f p q = tt
 
 -- ---- one more under an entity
 

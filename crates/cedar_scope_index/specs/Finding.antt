@@ -38,12 +38,14 @@ AreAmong ps qs = (p : ℕ) → is_listed ps p ≡ true → is_listed qs p ≡ tr
 
 -- A place is listed for a policy with these entities in the places of its slots: among the others, or under an entity
 -- that its scope names. By the action or the resource it is found only where no slot of the principal is open, since that
--- one is asked first.
+-- one is asked first. A pair is listed under both.
 pub data IsListedFor (x : ScopeIndex) (t : ℕ) (b : Bindings) (s : Policy) : Type 0 where
   by_nothing : is_listed (others_of x) t ≡ true → IsListedFor x t b s
   by_principal : (u : Uid) → named b.principal s.principal ≡ Some u → is_listed (positions_at x.principals u) t ≡ true → IsListedFor x t b s
   by_action : (u : Uid) → is_settled b.principal s.principal ≡ true → named_action s.action ≡ Some u → is_listed (positions_at x.actions u) t ≡ true → IsListedFor x t b s
   by_resource : (u : Uid) → is_settled b.principal s.principal ≡ true → named b.resource s.resource ≡ Some u → is_listed (positions_at x.resources u) t ≡ true → IsListedFor x t b s
+  by_pair : (u v : Uid) → is_settled b.principal s.principal ≡ true → named b.principal s.principal ≡ Some u → named b.resource s.resource ≡ Some v
+      → is_listed (positions_at x.paired_principals u) t ≡ true → is_listed (positions_at x.paired_resources v) t ≡ true → IsListedFor x t b s
 
 -- what stands at a position is found: its place is listed
 pub record IsFound (x : ScopeIndex) (p : ℕ) (b : Bindings) (s : Policy) : Type 0 where

@@ -7,7 +7,7 @@ use Rattle.cedar_scope_index.specs.Naming.{named, is_settled, named_action}
 use Rattle.cedar_scope_index.specs.declared.keys.Asked.{Asked}
 use Rattle.cedar_scope_index.specs.declared.keys.Asked.TheVariants.{Equal, Within, Unnamed, Open}
 use Rattle.cedar_scope_index.specs.declared.keys.Key.{Key}
-use Rattle.cedar_scope_index.specs.declared.keys.Key.TheVariants.{Principal, Action, Resource, Nothing}
+use Rattle.cedar_scope_index.specs.declared.keys.Key.TheVariants.{Principal, Action, Resource, Pair, Nothing}
 
 -- an entity that a constraint names, whose slot is not open
 abbrev pub Names : Option Uid → Constraint → Uid → Type 0
@@ -19,9 +19,10 @@ IsAskedAs bound c (Within u) = Names bound c u.now
 IsAskedAs bound c Unnamed = is_settled bound c ≡ true
 IsAskedAs bound c Open = ⊤
 
--- the scope of a policy names the entity there
+-- the scope of a policy names the entity there, or both
 abbrev pub IsKey : Bindings → Policy → Key → Type 0
 IsKey b s (Principal u) = named b.principal s.principal ≡ Some u.now
 IsKey b s (Action u) = (is_settled b.principal s.principal ≡ true) × (named_action s.action ≡ Some u.now)
 IsKey b s (Resource u) = (is_settled b.principal s.principal ≡ true) × (named b.resource s.resource ≡ Some u.now)
+IsKey b s (Pair u v) = (is_settled b.principal s.principal ≡ true) × (named b.principal s.principal ≡ Some u.now) × (named b.resource s.resource ≡ Some v.now)
 IsKey b s Nothing = ⊤

@@ -1,7 +1,7 @@
 -- The entities that the scope of a policy names. (Cedar language reference, "Policy scope".)
 use Rattle.std.specs.Prelude.{Bool, true, List, [], ◌∷◌, Option, Some, None, is_some}
 use Rattle.cedar_language.specs.Uid.{Uid}
-use Rattle.cedar_grammar.specs.Policy.{Target, the_entity, the_slot, Constraint, anything, equals, within, of_type, of_type_within, ActionConstraint}
+use Rattle.cedar_grammar.specs.Policy.{Constraint, anything, equals, within, of_type, of_type_within, ActionConstraint}
 use Rattle.cedar_policy_parts.specs.Actions.{uids_of}
 use Rattle.cedar_policy_parts.specs.References.{target_bound}
 

@@ -1,5 +1,5 @@
 -- At which positions places stand, where those that were taken out close up.
-use Rattle.std.specs.Prelude.{◌≡◌, ℕ, ◌+◌, ◌-◌, ◌<◌, ◌≤◌, List, length, count_by, nat_lt, if◌then◌else◌}
+use Rattle.std.specs.Prelude.{ℕ, ◌+◌, ◌-◌, ◌<◌, ◌≤◌, List, length, count_by, nat_lt, if◌then◌else◌}
 use Rattle.std.specs.List.{slice_index}
 
 -- how many of these are below a place

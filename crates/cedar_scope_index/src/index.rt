@@ -3,13 +3,14 @@ ghost use Rattle.std.specs.Prelude.{◌≡◌, ◌+◌, ◌<◌, ◌≤◌, ◌^
 ghost use Rattle.cedar_grammar.specs.Policy.{Policy as PolicySyntax};
 ghost use Rattle.cedar_grammar.specs.Bindings.{Bindings};
 ghost use Rattle.cedar_policies.specs.Policies.{bindings_of, policy_syntax};
-ghost use Rattle.cedar_scope_index.specs.Finding.{IsFound, IsListedFor, KeepsFound, covered, stands_at, is_listed, others_of};
+ghost use Rattle.cedar_scope_index.specs.Finding.{IsFound, IsListedFor, KeepsFound, covered, stands_at, is_listed, others_of, positions_at};
 ghost use Rattle.cedar_scope_index.specs.Keys.{IsKey};
 ghost use Rattle.cedar_scope_index.specs.Places.{closed_up};
 
 use crate::gaps::Gaps;
 use crate::keys::{Key, key_of};
 use crate::positions::Positions;
+use cedar_literals::uids::EntityUID;
 use cedar_policies::policies::Policy;
 use std::alloc::{AllocError, Global};
 
@@ -20,6 +21,8 @@ pub struct ScopeIndex {
     principals: Positions,
     actions: Positions,
     resources: Positions,
+    paired_principals: Positions,
+    paired_resources: Positions,
     others: Vec<usize>,
     gaps: Gaps,
     len: usize,
@@ -32,6 +35,8 @@ impl Drop for ScopeIndex {
             principals: _principals,
             actions: _actions,
             resources: _resources,
+            paired_principals: _paired_principals,
+            paired_resources: _paired_resources,
             others: _others,
             gaps: _gaps,
             len: _len,
@@ -48,6 +53,8 @@ impl ScopeIndex {
             principals: Positions::new(alloc),
             actions: Positions::new(alloc),
             resources: Positions::new(alloc),
+            paired_principals: Positions::new(alloc),
+            paired_resources: Positions::new(alloc),
             others: Vec::new(alloc),
             gaps: Gaps::new(alloc),
             len: 0,
@@ -80,6 +87,20 @@ impl ScopeIndex {
         ensures { result.now ≡ self.now.resources }
     {
         &self.resources
+    }
+
+    /// Those of policies that are found by the principal or by the resource, by the principal that their scopes name.
+    pub fn paired_principals(&self) -> &Positions
+        ensures { result.now ≡ self.now.paired_principals }
+    {
+        &self.paired_principals
+    }
+
+    /// The same, by the resource that their scopes name.
+    pub fn paired_resources(&self) -> &Positions
+        ensures { result.now ≡ self.now.paired_resources }
+    {
+        &self.paired_resources
     }
 
     /// Those of policies that are found by no entity.
@@ -152,8 +173,27 @@ impl ScopeIndex {
             Key::Principal(uid) => self.principals.list(alloc, uid, place),
             Key::Action(uid) => self.actions.list(alloc, uid, place),
             Key::Resource(uid) => self.resources.list(alloc, uid, place),
+            Key::Pair(principal, resource) => self.list_pair(alloc, principal, resource, place),
             Key::Nothing => list_last(&mut self.others, place),
         }
+    }
+
+    // Lists a place both under a principal and under a resource. Where memory lacks it may stand under the first alone.
+    fn list_pair(
+        &mut self,
+        alloc: Global,
+        principal: &EntityUID,
+        resource: &EntityUID,
+        place: usize,
+    ) -> Result<(), AllocError>
+        ensures principal { OnOk result (is_listed (positions_at self.new.paired_principals principal.now) place ≡ true) }
+        ensures resource { OnOk result (is_listed (positions_at self.new.paired_resources resource.now) place ≡ true) }
+        ensures kept { KeepsFound self.old self.new }
+        ensures gaps { self.new.gaps ≡ self.old.gaps }
+        ensures covered { covered self.new ≡ covered self.old }
+    {
+        self.paired_principals.list(alloc, principal, place)?;
+        self.paired_resources.list(alloc, resource, place)
     }
 }
 

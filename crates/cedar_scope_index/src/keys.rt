@@ -26,12 +26,14 @@ pub(crate) enum Asked<'p> {
     Open,
 }
 
-// The entity by which a policy is found, and where its scope names it.
+// The entity by which a policy is found, and where its scope names it; or two of them.
 #[derive(Drop)]
 pub(crate) enum Key<'p> {
     Principal(&'p EntityUID),
     Action(&'p EntityUID),
     Resource(&'p EntityUID),
+    // both, of which either will do
+    Pair(&'p EntityUID, &'p EntityUID),
     Nothing,
 }
 
@@ -66,7 +68,8 @@ fn the_action(constraint: &ActionConstraint) -> Option<&EntityUID>
     }
 }
 
-// What says most comes first: what one variable is, then what one is in, then the action.
+// What says most comes first: what one variable is, then what one is in, then the action. A policy for all in a group
+// and one resource has two keys, so that it is found by the principal where the resource isn't known.
 pub(crate) fn key_of(policy: &Policy) -> Key<'_>
     ensures { IsKey (bindings_of policy.now) (policy_syntax policy.now) result }
 {
@@ -83,7 +86,7 @@ pub(crate) fn key_of(policy: &Policy) -> Key<'_>
     match (principal, resource) {
         (Asked::Open, _) => Key::Nothing,
         (Asked::Equal(uid), _) => Key::Principal(uid),
-        (Asked::Within(_), Asked::Equal(uid)) => Key::Resource(uid),
+        (Asked::Within(group), Asked::Equal(resource)) => Key::Pair(group, resource),
         (Asked::Within(uid), _) => Key::Principal(uid),
         (Asked::Unnamed, Asked::Equal(uid) | Asked::Within(uid)) => Key::Resource(uid),
         (Asked::Unnamed, Asked::Unnamed | Asked::Open) => {

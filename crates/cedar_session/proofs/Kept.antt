@@ -1,10 +1,10 @@
 -- What is kept of the open question, for the policies and entities held; and what it is answered once more is told.
-use Rattle.std.proofs.Common.{BuildHasherDefault, FoldHasher, ◌≡◌, ◌⊎◌, inl, inr, ◌<◌, ◌∙◌, sym, ap, subst, refl, ◌≤◌, ℕ, Bool, true, false, true≢false, Option, Some, None, IsSome, is_some, Ok, Err, List, [], ◌∷◌, arith}
+use Rattle.std.proofs.Common.{◌≡◌, ◌⊎◌, inl, inr, ◌<◌, ◌∙◌, sym, ap, subst, refl, ◌≤◌, ℕ, Bool, true, false, true≢false, Option, Some, None, IsSome, is_some, Ok, Err, List, [], ◌∷◌, arith}
 use mathlib.Core.Bool.{Bool-set}
 use Rattle.std.proofs.Math.Logic.{∥∥₁_elim, ∥∥₁_map}
+use Rattle.std.specs.BTreeMap.{BTreeMap}
 use Rattle.std.specs.Option.{unwrap_or, option_map}
 use Rattle.std.specs.Prelude.{Result}
-use Rattle.std.specs.HashMap.{HashMap}
 use Rattle.std.specs.declared.alloc.Global.{Global}
 use Rattle.std.specs.declared.rc.RcStr.{RcStr}
 use Rattle.cedar_language.specs.Height.{height}
@@ -93,7 +93,7 @@ evaluates held q (p ∷ ps) listed false is some = inl (p.0, subst IsSome (sym (
 evaluates held q [] listed false is some = absurd (some (nothing_evaluates held q listed is))
 
 abbrev Map : Type 0
-Map = HashMap (RcStr Global) Value (BuildHasherDefault FoldHasher)
+Map = BTreeMap (RcStr Global) Value
 
 -- the store holds the entities of the world, by the functions and the limit of the session
 pub record IsStoreOf (by : Setting) (table : Table) (entities : Entities) (s : Store) : Type 0 where

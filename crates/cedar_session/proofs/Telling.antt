@@ -70,9 +70,9 @@ module _ (by : Setting) (old : World) (text : uid.Text) (once : BodiesAreOne by)
     tell_first : (fs : Fields) → tell_body tree ≡ Some fs → (r : commands.Refusal) → 5 < rank r → TellCases by old asked fs r → ((s : commands.Refusal) → rank s < rank r → TellCases by old asked fs s → ⊥) → First by old text tell_body (TellCases by old asked) r
     tell_first fs says r late holds before = stands_first by old text tell_body (TellCases by old asked) (λ b x. x) once tree reads low restricted fs says r late holds before
 
-    pub untold : (S : Type 0) (r : Refusal) → TellsBody {S = S} by asked.question asked.told by.depth tree (Err r) → Step by old Tell text (Refused (refusal_of r)) old
-    untold S Shape h = (refuses commands.Shape (misshapen by old text tell_body (TellCases by old asked) (λ b x. x) once tree reads low restricted h), refl)
-    untold S Evaluation h = (refuses commands.Evaluation (tell_first h.0 h.1 commands.Evaluation (omega arith) h.2 before), refl)
+    pub untold : (r : Refusal) → TellsBody by asked.question asked.told by.depth tree (Err r) → Step by old Tell text (Refused (refusal_of r)) old
+    untold Shape h = (refuses commands.Shape (misshapen by old text tell_body (TellCases by old asked) (λ b x. x) once tree reads low restricted h), refl)
+    untold Evaluation h = (refuses commands.Evaluation (tell_first h.0 h.1 commands.Evaluation (omega arith) h.2 before), refl)
       where
         before : (s : commands.Refusal) → rank s < 6 → TellCases by old asked h.0 s → ⊥
         before commands.Evaluation lt x = not_below 6 lt
@@ -81,7 +81,7 @@ module _ (by : Setting) (old : World) (text : uid.Text) (once : BodiesAreOne by)
         before commands.AlreadyTold lt x = omega arith
         before commands.WrongKind lt x = omega arith
         before s lt x = x
-    untold S NotAValue h = (refuses commands.NotAValue (tell_first h.0 h.1 commands.NotAValue (omega arith) h.2.1 before), refl)
+    untold NotAValue h = (refuses commands.NotAValue (tell_first h.0 h.1 commands.NotAValue (omega arith) h.2.1 before), refl)
       where
         before : (s : commands.Refusal) → rank s < 7 → TellCases by old asked h.0 s → ⊥
         before commands.Evaluation lt x = not_both _ h.2.0 x
@@ -90,7 +90,7 @@ module _ (by : Setting) (old : World) (text : uid.Text) (once : BodiesAreOne by)
         before commands.AlreadyTold lt x = omega arith
         before commands.WrongKind lt x = omega arith
         before s lt x = x
-    untold S NoSuchUnknown h = (refuses commands.NoSuchUnknown (tell_first h.0 h.1 commands.NoSuchUnknown (omega arith) h.2.1 before), refl)
+    untold NoSuchUnknown h = (refuses commands.NoSuchUnknown (tell_first h.0 h.1 commands.NoSuchUnknown (omega arith) h.2.1 before), refl)
       where
         before : (s : commands.Refusal) → rank s < 20 → TellCases by old asked h.0 s → ⊥
         before commands.Evaluation lt x = not_both _ h.2.0.fine x
@@ -99,7 +99,7 @@ module _ (by : Setting) (old : World) (text : uid.Text) (once : BodiesAreOne by)
         before commands.AlreadyTold lt x = omega arith
         before commands.WrongKind lt x = omega arith
         before s lt x = x
-    untold S AlreadyTold h = (refuses commands.AlreadyTold (tell_first h.0 h.1 commands.AlreadyTold (omega arith) h.2.1 before), refl)
+    untold AlreadyTold h = (refuses commands.AlreadyTold (tell_first h.0 h.1 commands.AlreadyTold (omega arith) h.2.1 before), refl)
       where
         before : (s : commands.Refusal) → rank s < 21 → TellCases by old asked h.0 s → ⊥
         before commands.Evaluation lt x = not_both _ h.2.0.fine.fine x
@@ -108,7 +108,7 @@ module _ (by : Setting) (old : World) (text : uid.Text) (once : BodiesAreOne by)
         before commands.AlreadyTold lt x = not_below 21 lt
         before commands.WrongKind lt x = omega arith
         before s lt x = x
-    untold S WrongKind h = (refuses commands.WrongKind (tell_first h.0 h.1 commands.WrongKind (omega arith) h.2.1 before), refl)
+    untold WrongKind h = (refuses commands.WrongKind (tell_first h.0 h.1 commands.WrongKind (omega arith) h.2.1 before), refl)
       where
         before : (s : commands.Refusal) → rank s < 22 → TellCases by old asked h.0 s → ⊥
         before commands.Evaluation lt x = not_both _ h.2.0.named.fine.fine x
@@ -117,9 +117,9 @@ module _ (by : Setting) (old : World) (text : uid.Text) (once : BodiesAreOne by)
         before commands.AlreadyTold lt x = not_both _ h.2.0.new x
         before commands.WrongKind lt x = not_below 22 lt
         before s lt x = x
-    untold S Depth h = absurd (too_low h)
-    untold S Memory h = lacks_memory
-    untold S r h = absurd h
+    untold Depth h = absurd (too_low h)
+    untold Memory h = lacks_memory
+    untold r h = absurd h
 
     -- ---- values that nothing refuses but, perhaps, the context
 

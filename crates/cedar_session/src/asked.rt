@@ -7,7 +7,7 @@ use cedar_evaluator::partial_response::PartialResponse;
 use cedar_replies::Answer;
 use cedar_restricted::restricted::RestrictedExpr;
 use cedar_values::values::Value;
-use std::collections::HashMap;
+use std::collections::BTreeMap;
 use std::rc::RcStr;
 
 // A question that was asked, as its body states it, the first response to it, the values told since, and
@@ -15,7 +15,7 @@ use std::rc::RcStr;
 pub(crate) struct Asked {
     pub(crate) body: RestrictedExpr,
     pub(crate) first: PartialResponse,
-    pub(crate) told: HashMap<RcStr, Value>,
+    pub(crate) told: BTreeMap<RcStr, Value>,
     pub(crate) answer: Answer,
 }
 
@@ -38,7 +38,7 @@ pub(crate) fn close(asked: &mut Option<Asked>)
 }
 
 // Keeps what is told by now, and its answer.
-pub(crate) fn go_on(asked: &mut Option<Asked>, told: HashMap<RcStr, Value>, answer: Answer)
+pub(crate) fn go_on(asked: &mut Option<Asked>, told: BTreeMap<RcStr, Value>, answer: Answer)
     ensures { asked.new ≡ option_map (λ (a : Question). record a { told = told; answer = answer }) asked.old }
 {
     if let Some(asked) = asked {

@@ -20,7 +20,7 @@ use cedar_held::{HeldEntities, HeldPolicies, link_body};
 use cedar_policy_parts::PolicyID;
 use cedar_replies::{Answer, Refusal, Reply};
 use std::alloc::Global;
-use std::collections::HashMap;
+use std::collections::BTreeMap;
 
 /// Policies, templates and links, the entities that are held, and at most one open question.
 ///
@@ -351,7 +351,7 @@ impl<'e, 'f, F: ExtensionFunctionObject> Session<'e, 'f, F> {
         self.asked = Some(Asked {
             body,
             first,
-            told: HashMap::new(self.allocator),
+            told: BTreeMap::new(self.allocator),
             answer: kept,
         });
         Ok(answer)

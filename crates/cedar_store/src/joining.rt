@@ -11,10 +11,9 @@ ghost use Rattle.cedar_store.specs.Merged.{is_more, joining};
 use crate::renaming::{Renaming, conflicts, copied, given_id, renamed_id};
 use cedar_policies::policies::Policy;
 use cedar_policies::templates::Template;
-use cedar_policy_parts::PolicyID;
 use cedar_policy_set::bounds::Bound;
+use cedar_policy_set::policy_map::PolicyMap;
 use cedar_policy_set::sets::PolicySet;
-use indexmap::IndexMap;
 use std::alloc::{AllocError, Global};
 use std::rc::Rc;
 
@@ -24,15 +23,15 @@ pub(crate) fn joining(
     mine: &PolicySet,
     theirs: &PolicySet,
     renaming: &Renaming,
-) -> Result<IndexMap<PolicyID, Bound>, AllocError>
+) -> Result<PolicyMap<Bound>, AllocError>
     requires { IsRenaming mine.now theirs.now renaming.now.entries }
-    ensures named { IfOk result (λ more. IsNamed more.entries) }
-    ensures listed { IfOk result (λ more. ListTheirSlots (values_of more.entries)) }
-    ensures more { IfOk result (λ more. entries_of more.entries ≡ joining mine.now renaming.now.entries theirs.now) }
+    ensures named { IfOk result (λ more. IsNamed more) }
+    ensures listed { IfOk result (λ more. ListTheirSlots (values_of more)) }
+    ensures more { IfOk result (λ more. entries_of more ≡ joining mine.now renaming.now.entries theirs.now) }
 {
     // The contract of `len` is what says that a set is whole.
     let _theirs = theirs.len();
-    let mut more = IndexMap::new(alloc);
+    let mut more = PolicyMap::new(alloc);
     for bound in theirs.values() {
         if is_more(mine, bound) {
             renamed(alloc, renaming, bound)?.insert_into(&mut more)?;

@@ -1,7 +1,8 @@
 // Entities on a stack: how they are made, and what is asked of the topmost one.
 use crate::expressions::Stack;
 use crate::words::{
-    Answer, Case, done, listed, no_case, number, push, said, show, sorted, text, told, uid, uids,
+    Answer, Case, done, listed, no_case, number, push, said, show, sorted, text, told, uid,
+    uid_set, uids,
 };
 use cedar_extensions::extensions::Extensions;
 use cedar_extensions::validation_errors::ExprValidationError;
@@ -168,7 +169,7 @@ pub(crate) fn edit(alloc: Global, case: &Case<'_>, entities: &mut Vec<Entity>) -
             text(alloc, "ok")
         }
         "remove-ancestors" => {
-            entity.remove_ancestors(&uids(alloc, case.one)?);
+            entity.remove_ancestors(&uid_set(alloc, case.one)?);
             text(alloc, "ok")
         }
         "copy" => {

@@ -27,6 +27,14 @@ fn under_uid(alloc: Global, index: &ScopeIndex, uid: &EntityUID) -> Answer {
     Ok(format!(in alloc; "{principals}/{actions}/{resources}")?)
 }
 
+/// Those that stand under the entity of this word, and under one more.
+fn paired(alloc: Global, index: &ScopeIndex, word: &str) -> Answer {
+    let uid = uid(alloc, word)?;
+    let principals = listed(alloc, index.paired_principals().at(&uid))?;
+    let resources = listed(alloc, index.paired_resources().at(&uid))?;
+    Ok(format!(in alloc; "{principals}/{resources}")?)
+}
+
 fn whether_empty(positions: &Positions) -> &'static str {
     if positions.is_empty() { "none" } else { "some" }
 }
@@ -52,6 +60,7 @@ pub(crate) fn answer(alloc: Global, case: &Case<'_>, set: &mut PolicySet) -> Ans
         "others" => listed(alloc, set.scopes().others()),
         "parts" => by_parts(alloc, set.scopes()),
         "under" => under(alloc, set.scopes(), case.one),
+        "paired" => paired(alloc, set.scopes(), case.one),
         "at" => match case.one.parse::<usize>() {
             Ok(position) => policy_id(alloc, set.policy_at(position)),
             Err(_) => no_case(alloc),

@@ -1,5 +1,5 @@
 // Stores of entities, their edits and what these are refused for.
-use crate::words::{Answer, Case, done, no_case, put, said, sorted, text, told, uid, uids};
+use crate::words::{Answer, Case, done, no_case, put, said, sorted, text, told, uid, uid_set};
 use cedar_extensions::extensions::Extensions;
 use cedar_store::ast::Entity;
 use cedar_store::entities::{
@@ -99,7 +99,7 @@ pub(crate) fn edit(alloc: Global, case: &Case<'_>, held: &mut Stores) -> Answer 
     let at = &mut held.store;
     match case.verb {
         "remove" => {
-            let gone = uids(alloc, case.one)?;
+            let gone = uid_set(alloc, case.one)?;
             let store = taken(alloc, at);
             let edited = store.remove_entities(alloc, &gone, TCComputation::ComputeNow);
             kept(alloc, at, edited)

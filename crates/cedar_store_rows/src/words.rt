@@ -3,7 +3,7 @@
 use cedar_literals::uids::EntityUID;
 use cedar_names::errors::ParseNameError;
 use std::alloc::{AllocError, Global};
-use std::collections::HashSet;
+use std::collections::BTreeSet;
 use std::fmt::Display;
 
 /// An answer, or why a word isn't a name.
@@ -140,18 +140,23 @@ pub fn uid(alloc: Global, word: &str) -> Result<EntityUID, ParseNameError> {
     EntityUID::with_eid_and_type(alloc, entity_type, id)
 }
 
-fn put_uid(alloc: Global, word: &str, all: &mut HashSet<EntityUID>) -> Result<(), ParseNameError> {
-    all.insert(uid(alloc, word)?)?;
+fn put_uid(alloc: Global, word: &str, all: &mut Vec<EntityUID>) -> Result<(), ParseNameError> {
+    all.push(uid(alloc, word)?)?;
     Ok(())
 }
 
 /// Those of the words between commas.
-pub fn uids(alloc: Global, words: &str) -> Result<HashSet<EntityUID>, ParseNameError> {
-    let mut all = HashSet::new(alloc);
+pub fn uids(alloc: Global, words: &str) -> Result<Vec<EntityUID>, ParseNameError> {
+    let mut all = Vec::new(alloc);
     for word in words.split(',') {
         if !word.is_empty() {
             put_uid(alloc, word, &mut all)?;
         }
     }
     Ok(all)
+}
+
+/// The same, each once.
+pub fn uid_set(alloc: Global, words: &str) -> Result<BTreeSet<EntityUID>, ParseNameError> {
+    Ok(uids(alloc, words)?.into_iter().collect(alloc)?)
 }

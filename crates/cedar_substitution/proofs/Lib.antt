@@ -1,4 +1,5 @@
 mod Again
+pub mod Lookups
 mod Telling
 mod Typing
 mod Regular

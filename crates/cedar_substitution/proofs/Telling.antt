@@ -16,9 +16,7 @@ use Rattle.cedar_trees.specs.Bare.{bare}
 use Rattle.cedar_trees.specs.declared.expr.Expr.{Expr}
 use Rattle.cedar_substitution.specs.Told.{told_for, tree_or, told_tree}
 use Rattle.cedar_substitution.specs.Typed.{StandsFor, Tells}
-
-abbrev pub same_key : RcStr Global → RcStr Global → Bool
-same_key k l = bytes_eq (rc_str_bytes k) (rc_str_bytes l)
+use Rattle.cedar_substitution.proofs.Lookups.{same_key}
 
 texts_differ : (k n l : Text) → bytes_eq k n ≡ false → bytes_eq k l ≡ true → bytes_eq n l ≡ false
 texts_differ k n l differs same = ap (bytes_eq n) (sym ((bytes_decides k l).0 same)) ∙ nat_list_eq_equiv.symm n k ∙ differs

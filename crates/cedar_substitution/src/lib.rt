@@ -3,6 +3,7 @@
 
 mod access;
 pub mod errors;
+pub mod finding;
 pub mod functions;
 pub mod into_expr;
 pub mod laws;

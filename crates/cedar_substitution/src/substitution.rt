@@ -1,5 +1,6 @@
 // Expressions with others in the places of their unknowns.
 
+use crate::finding::find_told;
 use crate::into_expr::IntoExpr;
 use crate::rebuilding::{Replacement, rebuilt};
 use cedar_builders::expr_builder::ExprBuilder;
@@ -8,7 +9,7 @@ use cedar_trees::errors::ExpressionConstructionError;
 use cedar_trees::expr::Expr;
 use cedar_trees::unknowns::Unknown;
 use std::alloc::{AllocError, Global};
-use std::collections::HashMap;
+use std::collections::BTreeMap;
 use std::rc::RcStr;
 
 /// Expressions whose unknowns can be told, as expressions.
@@ -29,7 +30,7 @@ pub trait SubstituteExprs {
     fn substitute_exprs_into_expr<B: ExprBuilder>(
         &self,
         alloc: Global,
-        told: &HashMap<RcStr, Expr>,
+        told: &BTreeMap<RcStr, Expr>,
     ) -> Result<B::Expr, B::BuildError>
         ensures built { Gives B.meaning B.refusal result (made B.operations (with_built B.operations (told_tree told.now.entries)) (tree self.now)) }
         ensures rising { BuildsRising B.operations B.refusal (RecordsRiseWith (told_tree told.now.entries) (tree self.now)) result };
@@ -39,7 +40,7 @@ pub trait SubstituteExprs {
     fn substitute_exprs(
         &self,
         alloc: Global,
-        told: &HashMap<RcStr, Expr>,
+        told: &BTreeMap<RcStr, Expr>,
     ) -> Result<Expr, AllocError>
         ensures { IfOk result (λ expr. Substitutes (told_tree told.now.entries) (tree self.now) (bare expr)) }
     {
@@ -61,7 +62,7 @@ impl<T> SubstituteExprs for Expr<T> {
     fn substitute_exprs_into_expr<B: ExprBuilder>(
         &self,
         alloc: Global,
-        told: &HashMap<RcStr, Expr>,
+        told: &BTreeMap<RcStr, Expr>,
     ) -> Result<B::Expr, B::BuildError> {
         rebuilt::<T, B, Told<'_>>(alloc, &Told { told }, self)
     }
@@ -70,7 +71,7 @@ impl<T> SubstituteExprs for Expr<T> {
 // What is told for unknowns, by their names.
 #[derive(Drop)]
 struct Told<'a> {
-    told: &'a HashMap<RcStr, Expr>,
+    told: &'a BTreeMap<RcStr, Expr>,
 }
 
 impl<'a> Replacement for Told<'a> {
@@ -85,7 +86,7 @@ impl<'a> Replacement for Told<'a> {
         unknown: &Unknown,
         builder: B,
     ) -> Result<B::Expr, B::BuildError> {
-        match self.told.get(unknown.name.as_str()) {
+        match find_told(self.told, unknown.name.as_str()) {
             Some(expr) => expr.try_into_expr::<B>(alloc),
             None => builder.unknown(unknown.clone()?),
         }

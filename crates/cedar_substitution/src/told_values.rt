@@ -7,6 +7,7 @@ ghost use Rattle.cedar_substitution.specs.Told.{told_tree};
 ghost use Rattle.cedar_substitution.specs.Typed.{Tells, types_apart as types_of, mistyped as mistyped_value, mistyped_in};
 
 use crate::errors::SubstitutionError;
+use crate::finding::find_told;
 use crate::substitution::SubstituteExprs;
 use cedar_builders::expr_builder::ExprBuilder;
 use cedar_literals::types::{StaticallyTyped, Type};
@@ -16,7 +17,7 @@ use cedar_trees::expr::Expr;
 use cedar_trees::unknowns::Unknown;
 use cedar_values::values::Value;
 use std::alloc::{AllocError, Global};
-use std::collections::HashMap;
+use std::collections::BTreeMap;
 use std::rc::RcStr;
 
 /// Expressions whose unknowns can be told, as values.
@@ -31,7 +32,7 @@ pub trait Substitute {
 
     /// The expression with what writes the value told for a name in the place of each unknown of that
     /// name, whatever type is stated of it, and without data; refused for memory alone.
-    fn substitute(&self, alloc: Global, told: &HashMap<RcStr, Value>) -> Result<Expr, AllocError>
+    fn substitute(&self, alloc: Global, told: &BTreeMap<RcStr, Value>) -> Result<Expr, AllocError>
         ensures { IfOk result (λ expr. SubstitutesValues told.now.entries (tree self.now) (bare expr)) };
 
     /// The same; refused with TypeError where some unknown whose type is stated is told a value of
@@ -40,7 +41,7 @@ pub trait Substitute {
     fn substitute_typed(
         &self,
         alloc: Global,
-        told: &HashMap<RcStr, Value>,
+        told: &BTreeMap<RcStr, Value>,
     ) -> Result<Expr, SubstitutionError>
         ensures { SubstitutesTyped told.now.entries (tree self.now) result };
 
@@ -50,7 +51,7 @@ pub trait Substitute {
     fn substitute_into_expr<B: ExprBuilder>(
         &self,
         alloc: Global,
-        told: &HashMap<RcStr, Value>,
+        told: &BTreeMap<RcStr, Value>,
     ) -> Result<B::Expr, B::BuildError>
         ensures built { GivesValues B.operations B.meaning B.refusal told.now.entries (tree self.now) result }
         ensures memory { IfErr result (λ error. CallsAreTaken B.operations → B.refusal error ≡ None) };
@@ -61,7 +62,7 @@ impl<T> Substitute for Expr<T> {
 
     ghost tree = { bare };
 
-    fn substitute(&self, alloc: Global, told: &HashMap<RcStr, Value>) -> Result<Expr, AllocError> {
+    fn substitute(&self, alloc: Global, told: &BTreeMap<RcStr, Value>) -> Result<Expr, AllocError> {
         let exprs = expressed(alloc, told)?;
         self.substitute_exprs(alloc, &exprs)
     }
@@ -69,7 +70,7 @@ impl<T> Substitute for Expr<T> {
     fn substitute_typed(
         &self,
         alloc: Global,
-        told: &HashMap<RcStr, Value>,
+        told: &BTreeMap<RcStr, Value>,
     ) -> Result<Expr, SubstitutionError> {
         match mistyped(alloc, self, told)? {
             None => Ok(self.substitute(alloc, told)?),
@@ -80,7 +81,7 @@ impl<T> Substitute for Expr<T> {
     fn substitute_into_expr<B: ExprBuilder>(
         &self,
         alloc: Global,
-        told: &HashMap<RcStr, Value>,
+        told: &BTreeMap<RcStr, Value>,
     ) -> Result<B::Expr, B::BuildError> {
         let exprs = expressed(alloc, told)?;
         self.substitute_exprs_into_expr::<B>(alloc, &exprs)
@@ -90,11 +91,11 @@ impl<T> Substitute for Expr<T> {
 // What writes the values, under the same names.
 fn expressed(
     alloc: Global,
-    told: &HashMap<RcStr, Value>,
-) -> Result<HashMap<RcStr, Expr>, AllocError>
+    told: &BTreeMap<RcStr, Value>,
+) -> Result<BTreeMap<RcStr, Expr>, AllocError>
     ensures { IfOk result (λ exprs. Tells told.now.entries (told_tree exprs.entries)) }
 {
-    let mut exprs = HashMap::new(alloc);
+    let mut exprs = BTreeMap::new(alloc);
     for (name, value) in told {
         let expr = value.to_expr(alloc)?;
         exprs.insert(name.clone()?, expr)?;
@@ -107,13 +108,13 @@ fn expressed(
 fn mistyped<T>(
     alloc: Global,
     expr: &Expr<T>,
-    told: &HashMap<RcStr, Value>,
+    told: &BTreeMap<RcStr, Value>,
 ) -> Result<Option<(Type, Type)>, AllocError>
     ensures { IfOk result (λ types. option_map types_of types ≡ mistyped_in told.now.entries (bare expr.now)) }
 {
     let mut leftmost = None;
     for unknown in Unknowns::new(alloc, expr)? {
-        let types = types_apart(alloc, unknown, told.get(unknown.name.as_str()))?;
+        let types = types_apart(alloc, unknown, find_told(told, unknown.name.as_str()))?;
         leftmost = types.or(leftmost);
     }
     Ok(leftmost)

@@ -34,26 +34,26 @@ all_evaluated-requires g c = record_restricted (bare c.as_ref.result.now) (field
 pub returns-in_err-values : goal.returns-in_err-values
 returns-in_err-values g c = λ by q serves a.
     let p = err_from_is_err_and c.from_residual.result c.from_residual.ensures.1 in
-    rw (p.1, p.2) (refused _ c.args.told.now (as_table g.F.ExtensionFunctionObject.answers c.args.extensions.now) c.args.depth (restricted_tree c.args.body.now) (restricted_tree c.args.question.now) (fields_in c.in-Some.entries.now) (is_record g (goal.at.returns-in_err-values g c).In-Some)
+    rw (p.1, p.2) (refused c.args.told.now (as_table g.F.ExtensionFunctionObject.answers c.args.extensions.now) c.args.depth (restricted_tree c.args.body.now) (restricted_tree c.args.question.now) (fields_in c.in-Some.entries.now) (is_record g (goal.at.returns-in_err-values g c).In-Some)
     c.in_err-values.field-0.0 c.in_err-values.ensures by q serves a)
 
 pub returns-in_default-2 : goal.returns-in_default-2
 returns-in_default-2 g c =
     let none : AreEvaluated (as_table g.F.ExtensionFunctionObject.answers c.args.extensions.now) c.args.depth (fields_in c.in-Some.entries.now) (Ok None) = rw c.in_default-2.is at c.in_ok-values.ensures in
-    not_values _ c.args.told.now (as_table g.F.ExtensionFunctionObject.answers c.args.extensions.now) c.args.depth (restricted_tree c.args.body.now) (restricted_tree c.args.question.now) (fields_in c.in-Some.entries.now) (is_record g (goal.at.returns-in_default-2 g c).In-Some) none
+    not_values c.args.told.now (as_table g.F.ExtensionFunctionObject.answers c.args.extensions.now) c.args.depth (restricted_tree c.args.body.now) (restricted_tree c.args.question.now) (fields_in c.in-Some.entries.now) (is_record g (goal.at.returns-in_default-2 g c).In-Some) none
 
 pub names_no_unknown-requires : goal.names_no_unknown-requires
 names_no_unknown-requires g c = given_restricted (bare c.as_ref-2.result.now) c.as_ref-2.ensures.restricted c.in-Some-3.asked.context (is_lent g (goal.at.names_no_unknown-requires g c).In-Some-3)
 
 pub returns-then-names_no_unknown : goal.returns-then-names_no_unknown
 returns-then-names_no_unknown g c =
-    no_unknown _ c.args.told.now (as_table g.F.ExtensionFunctionObject.answers c.args.extensions.now) c.args.depth (restricted_tree c.args.body.now) (restricted_tree c.args.question.now) (fields_in c.in-Some.entries.now) (is_record g (goal.at.returns-then-names_no_unknown g c).In-Some)
+    no_unknown c.args.told.now (as_table g.F.ExtensionFunctionObject.answers c.args.extensions.now) c.args.depth (restricted_tree c.args.body.now) (restricted_tree c.args.question.now) (fields_in c.in-Some.entries.now) (is_record g (goal.at.returns-then-names_no_unknown g c).In-Some)
     c.in-Some-2.values (evaluated_is g (goal.at.returns-then-names_no_unknown g c).In-Some-2) c.in-Some-3.asked (is_stated g (goal.at.returns-then-names_no_unknown g c).In-Some-3)
     (sym c.names_no_unknown.ensures ∙ c.if-names_no_unknown.true)
 
 pub returns-then-names_told : goal.returns-then-names_told
 returns-then-names_told g c =
-    told_again _ c.args.told.now (as_table g.F.ExtensionFunctionObject.answers c.args.extensions.now) c.args.depth (restricted_tree c.args.body.now) (restricted_tree c.args.question.now) (fields_in c.in-Some.entries.now) (is_record g (goal.at.returns-then-names_told g c).In-Some)
+    told_again c.args.told.now (as_table g.F.ExtensionFunctionObject.answers c.args.extensions.now) c.args.depth (restricted_tree c.args.body.now) (restricted_tree c.args.question.now) (fields_in c.in-Some.entries.now) (is_record g (goal.at.returns-then-names_told g c).In-Some)
     c.in-Some-2.values (evaluated_is g (goal.at.returns-then-names_told g c).In-Some-2) c.in-Some-3.asked (is_stated g (goal.at.returns-then-names_told g c).In-Some-3)
     (sym c.names_no_unknown.ensures ∙ c.if-names_no_unknown.false) (sym c.names_told.ensures ∙ c.if-names_told.true)
 
@@ -62,13 +62,13 @@ holds_misfit-requires g c = given_restricted (bare c.as_ref-2.result.now) c.as_r
 
 pub returns-then-holds_misfit : goal.returns-then-holds_misfit
 returns-then-holds_misfit g c =
-    misfit _ c.args.told.now (as_table g.F.ExtensionFunctionObject.answers c.args.extensions.now) c.args.depth (restricted_tree c.args.body.now) (restricted_tree c.args.question.now) (fields_in c.in-Some.entries.now) (is_record g (goal.at.returns-then-holds_misfit g c).In-Some)
+    misfit c.args.told.now (as_table g.F.ExtensionFunctionObject.answers c.args.extensions.now) c.args.depth (restricted_tree c.args.body.now) (restricted_tree c.args.question.now) (fields_in c.in-Some.entries.now) (is_record g (goal.at.returns-then-holds_misfit g c).In-Some)
     c.in-Some-2.values (evaluated_is g (goal.at.returns-then-holds_misfit g c).In-Some-2) c.in-Some-3.asked (is_stated g (goal.at.returns-then-holds_misfit g c).In-Some-3)
     (sym c.names_no_unknown.ensures ∙ c.if-names_no_unknown.false) (sym c.names_told.ensures ∙ c.if-names_told.false) (sym c.holds_misfit.ensures ∙ c.if-holds_misfit.true)
 
 pub returns : goal.returns
 returns g c =
-    all_told _ c.args.told.now (as_table g.F.ExtensionFunctionObject.answers c.args.extensions.now) c.args.depth (restricted_tree c.args.body.now) (restricted_tree c.args.question.now) (fields_in c.in-Some.entries.now) (is_record g (goal.at.returns g c).In-Some)
+    all_told c.args.told.now (as_table g.F.ExtensionFunctionObject.answers c.args.extensions.now) c.args.depth (restricted_tree c.args.body.now) (restricted_tree c.args.question.now) (fields_in c.in-Some.entries.now) (is_record g (goal.at.returns g c).In-Some)
     c.in-Some-2.values (evaluated_is g (goal.at.returns g c).In-Some-2) c.in-Some-3.asked (is_stated g (goal.at.returns g c).In-Some-3)
     (sym c.names_no_unknown.ensures ∙ c.if-names_no_unknown.false) (sym c.names_told.ensures ∙ c.if-names_told.false) (sym c.holds_misfit.ensures ∙ c.if-holds_misfit.false)
     c.in_ok-with_values.field-0 c.in_ok-with_values.ensures

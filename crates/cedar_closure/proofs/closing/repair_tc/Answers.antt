@@ -1,7 +1,6 @@
 -- What was found is what the keys reach (Finding), and clones of a key stand for it.
 use Rattle.std.proofs.Common.{IsTrue, refl, sym, ◌∙◌, subst}
 use Rattle.std.specs.Option.{is_some}
-use Rattle.std.specs.HashMap.{get}
 use Rattle.cedar_closure.specs.Found.{finds}
 use Rattle.cedar_closure.specs.Graph.{edges_at}
 use Rattle.cedar_closure.proofs.Members.{member_alike}
@@ -15,8 +14,8 @@ returns-in-Some-clause-refused g c =
     let eq = g.K.PartialEq.eq in
     let laws = g.met.K.Eq.laws in
     let edges = g.V.TCNode.edges in
-    let next = edges_at eq edges c.args.nodes.now in
-    let same = edges_alike laws edges c.args.nodes.now in
+    let next = edges_at edges (g.G.TCGraph.found c.args.nodes.now) in
+    let same = edges_alike edges (g.G.TCGraph.found c.args.nodes.now) eq (g.met.G.TCGraph.alike c.args.nodes.now) in
     let x = c.in-Some.on_cycle.now in
     let k = c.in_ok-clone.field-0 in
     let clone : IsTrue (eq x k) = c.requires x k c.in_ok-clone.ensures.cases in
@@ -33,40 +32,40 @@ pub returns-clause-fixed : goal.returns-clause-fixed
 returns-clause-fixed g c =
     let eq = g.K.PartialEq.eq in
     let edges = g.V.TCNode.edges in
-    let m = c.args.nodes.now in
-    fixes eq (edges_at eq edges m) (edges_at eq edges c.add_all.new.nodes) (λ a. is_some (get eq m a)) c.args.keys_to_fix.now c.in_ok-all.all.items
-    c.in_ok-add_all.ensures.added (edge_from_node g.met.K.Eq.laws edges m) c.in_ok-all.ensures.sound c.in_ok-all.ensures.whole
+    let m = g.G.TCGraph.found c.args.nodes.now in
+    fixes eq (edges_at edges m) (edges_at edges (g.G.TCGraph.found c.add_all.new.nodes)) (λ a. is_some (m a)) c.args.keys_to_fix.now c.in_ok-all.all.items
+    c.in_ok-add_all.ensures.added (edge_from_node edges m eq) c.in_ok-all.ensures.sound c.in_ok-all.ensures.whole
 
 pub returns-clause-edges : goal.returns-clause-edges
 returns-clause-edges g c =
     let eq = g.K.PartialEq.eq in
     let edges = g.V.TCNode.edges in
-    let m = c.args.nodes.now in
-    closes eq (edges_at eq edges m) (edges_at eq edges c.add_all.new.nodes) (λ a. is_some (get eq m a)) c.args.keys_to_fix.now c.in_ok-all.all.items
-    c.in_ok-add_all.ensures.added (edge_from_node g.met.K.Eq.laws edges m) c.in_ok-all.ensures.sound c.in_ok-all.ensures.whole
+    let m = g.G.TCGraph.found c.args.nodes.now in
+    closes eq (edges_at edges m) (edges_at edges (g.G.TCGraph.found c.add_all.new.nodes)) (λ a. is_some (m a)) c.args.keys_to_fix.now c.in_ok-all.all.items
+    c.in_ok-add_all.ensures.added (edge_from_node edges m eq) c.in_ok-all.ensures.sound c.in_ok-all.ensures.whole
 
 pub returns-in_err-all-clause-left : goal.returns-in_err-all-clause-left
 returns-in_err-all-clause-left g c =
-    let next = edges_at g.K.PartialEq.eq g.V.TCNode.edges c.args.nodes.now in
+    let next = edges_at g.V.TCNode.edges (g.G.TCGraph.found c.args.nodes.now) in
     on_err c.from_residual.result (unchanged g.K.PartialEq.eq next next (λ a. refl))
 
 pub returns-in_err-clone-clause-left : goal.returns-in_err-clone-clause-left
 returns-in_err-clone-clause-left g c =
-    let next = edges_at g.K.PartialEq.eq g.V.TCNode.edges c.args.nodes.now in
+    let next = edges_at g.V.TCNode.edges (g.G.TCGraph.found c.args.nodes.now) in
     on_err c.from_residual-in_err-clone.result (unchanged g.K.PartialEq.eq next next (λ a. refl))
 
 pub returns-in-Some-clause-left : goal.returns-in-Some-clause-left
 returns-in-Some-clause-left g c =
-    let next = edges_at g.K.PartialEq.eq g.V.TCNode.edges c.args.nodes.now in
+    let next = edges_at g.V.TCNode.edges (g.G.TCGraph.found c.args.nodes.now) in
     unchanged g.K.PartialEq.eq next next (λ a. refl)
 
 pub returns-in_err-add_all-clause-left : goal.returns-in_err-add_all-clause-left
 returns-in_err-add_all-clause-left g c =
     let eq = g.K.PartialEq.eq in
     let edges = g.V.TCNode.edges in
-    let m = c.args.nodes.now in
+    let m = g.G.TCGraph.found c.args.nodes.now in
     on_err c.from_residual-in_err-add_all.result
-    (only_found eq (edges_at eq edges m) (edges_at eq edges c.add_all.new.nodes) (λ a. is_some (get eq m a)) c.args.keys_to_fix.now c.in_ok-all.all.items c.in_ok-all.ensures.sound c.in_err-add_all.ensures.left)
+    (only_found eq (edges_at edges m) (edges_at edges (g.G.TCGraph.found c.add_all.new.nodes)) (λ a. is_some (m a)) c.args.keys_to_fix.now c.in_ok-all.all.items c.in_ok-all.ensures.sound c.in_err-add_all.ensures.left)
 
 pub returns-in_err-all-clause-others_left : goal.returns-in_err-all-clause-others_left
 returns-in_err-all-clause-others_left g c = on_err c.from_residual.result (λ a b none. (λ h. h, λ h. h))
@@ -81,6 +80,6 @@ pub returns-in_err-add_all-clause-others_left : goal.returns-in_err-add_all-clau
 returns-in_err-add_all-clause-others_left g c =
     let eq = g.K.PartialEq.eq in
     let edges = g.V.TCNode.edges in
-    let m = c.args.nodes.now in
+    let m = g.G.TCGraph.found c.args.nodes.now in
     on_err c.from_residual-in_err-add_all.result
-    (others_stay eq (edges_at eq edges m) (edges_at eq edges c.add_all.new.nodes) (λ a. is_some (get eq m a)) c.args.keys_to_fix.now c.in_ok-all.all.items c.in_ok-all.ensures.sound c.in_err-add_all.ensures.left)
+    (others_stay eq (edges_at edges m) (edges_at edges (g.G.TCGraph.found c.add_all.new.nodes)) (λ a. is_some (m a)) c.args.keys_to_fix.now c.in_ok-all.all.items c.in_ok-all.ensures.sound c.in_err-add_all.ensures.left)

@@ -7,8 +7,8 @@ use Rattle.cedar_closure.proofs.enforcing.enforce_tc_at.Given as goal
 abbrev pub invariant-loop-parent : goal.invariant-loop-parent
 invariant-loop-parent g l =
     let eq = g.K.PartialEq.eq in
-    let E = HasEdge eq g.V.TCNode.edges l.nodes in
+    let E = HasEdge eq g.V.TCNode.edges (g.G.TCGraph.found l.nodes) in
     record {
-      left : (b c : g.row.K.Denot) → E l.child b → E b c → IsTrue (is_member eq (edges_at eq g.V.TCNode.edges l.nodes l.child) c || is_member eq (map deref l.parent-iterator.rest.items) b);
+      left : (b c : g.row.K.Denot) → E l.child b → E b c → IsTrue (is_member eq (edges_at g.V.TCNode.edges (g.G.TCGraph.found l.nodes) l.child) c || is_member eq (map deref l.parent-iterator.rest.items) b);
       known : (b : g.row.K.Denot) → IsTrue (is_member eq (map deref l.parent-iterator.rest.items) b) → E l.child b;
     }

@@ -4,7 +4,7 @@ use Rattle.std.proofs.lemmas.Map.Made.{length-le_from_is_member}
 use Rattle.std.proofs.lemmas.List.{length_push}
 use Rattle.cedar_closure.specs.Graph.{edges_at}
 use Rattle.cedar_closure.specs.Numbering.{IsNumbering}
-use Rattle.cedar_closure.proofs.NodeLemmas.{all_targets, edges_alike, member-all_targets}
+use Rattle.cedar_closure.proofs.NodeLemmas.{all_targets, edge_from_node, edges_alike, member-all_targets}
 use Rattle.cedar_closure.proofs.NumberSets.{behind_then}
 use Rattle.cedar_closure.proofs.Numbered.{edges_step, targets_below, bound_step, longer, nothing_behind, no_edges, no_targets, front_is_member}
 use Rattle.cedar_closure.proofs.numbering.number_reached.Goals as goal
@@ -16,11 +16,11 @@ loop-numbered-init g c =
     record {
       found = c.requires.found;
       behind = nothing_behind c.args.first.keys.items;
-      follows = no_edges eq c.args.first.keys.items (edges_at eq edges c.args.nodes.now) c.new-edges.result.items c.new-edges.ensures.items;
+      follows = no_edges eq c.args.first.keys.items (edges_at edges (g.G.TCGraph.found c.args.nodes.now)) c.new-edges.result.items c.new-edges.ensures.items;
       below = no_targets c.new-edges.result.items (length c.args.first.keys.items) c.new-edges.ensures.items;
       counted = ap length c.new-edges.ensures.items;
       short = omega arith;
-      bound = front_is_member eq c.args.first.keys.items (all_targets edges c.args.nodes.now.entries);
+      bound = front_is_member eq c.args.first.keys.items (all_targets (edges_at edges (g.G.TCGraph.found c.args.nodes.now)) (g.G.TCGraph.keys c.args.nodes.now));
     }
 
 pub loop-numbered-preserved : goal.loop-numbered-preserved
@@ -28,8 +28,10 @@ loop-numbered-preserved g c =
     let eq = g.K.PartialEq.eq in
     let laws = g.met.K.Eq.laws in
     let node = g.V.TCNode.edges in
-    let m = c.args.nodes.now in
-    let next = edges_at eq node m in
+    let m = g.G.TCGraph.found c.args.nodes.now in
+    let next = edges_at node m in
+    let same = edges_alike node m eq (g.met.G.TCGraph.alike c.args.nodes.now) in
+    let nodes = g.G.TCGraph.keys c.args.nodes.now in
     let inv = c.loop-numbered.invariant in
     let old = c.loop-numbered.keys.keys.items in
     let new = c.numbers_from.new.keys.keys.items in
@@ -46,17 +48,17 @@ loop-numbered-preserved g c =
     record {
       found = made.found;
       behind = behind_then c.args.first.keys.items old new inv.behind made.behind;
-      follows = edges_step laws next (edges_alike laws node m) old made.behind.0 new edges after row x at made.behind.1 pushed here clone made.numbers inv.below inv.follows;
+      follows = edges_step laws next same old made.behind.0 new edges after row x at made.behind.1 pushed here clone made.numbers inv.below inv.follows;
       below = targets_below edges after row (length old) (length new) pushed grows made.below inv.below;
       counted = ap length pushed ∙ length_push edges row ∙ ap (λ n. n + 1) inv.counted;
       short = omega arith;
-      bound = bound_step eq c.args.first.keys.items (all_targets node m.entries) old (next at) new made.union (λ q h. member-all_targets node eq (eq at) m.entries q h) inv.bound;
+      bound = bound_step eq c.args.first.keys.items (all_targets next nodes) old (next at) new made.union (λ q h. member-all_targets next eq same nodes at q (g.met.G.TCGraph.has_node c.args.nodes.now at ∙ edge_from_node node m eq at q h) h) inv.bound;
     }
 
 pub loop-numbered-smaller : goal.loop-numbered-smaller
 loop-numbered-smaller g c =
-    let all = c.args.first.keys.items ++ all_targets g.V.TCNode.edges c.args.nodes.now.entries in
-    let bound : length c.loop-numbered.keys.keys.items ≤ length (c.args.first.keys.items ++ all_targets g.V.TCNode.edges c.args.nodes.now.entries) =
+    let all = c.args.first.keys.items ++ all_targets (edges_at g.V.TCNode.edges (g.G.TCGraph.found c.args.nodes.now)) (g.G.TCGraph.keys c.args.nodes.now) in
+    let bound : length c.loop-numbered.keys.keys.items ≤ length (c.args.first.keys.items ++ all_targets (edges_at g.V.TCNode.edges (g.G.TCGraph.found c.args.nodes.now)) (g.G.TCGraph.keys c.args.nodes.now)) =
     length-le_from_is_member g.met.K.Eq.laws c.loop-numbered.keys.keys.items all c.loop-numbered.invariant.found.distinct c.loop-numbered.invariant.bound in
     let below : c.loop-numbered.numbered < length c.loop-numbered.keys.keys.items = omega arith in
     omega arith
@@ -64,7 +66,7 @@ loop-numbered-smaller g c =
 pub returns : goal.returns
 returns g c =
     let eq = g.K.PartialEq.eq in
-    let next = edges_at eq g.V.TCNode.edges c.args.nodes.now in
+    let next = edges_at g.V.TCNode.edges (g.G.TCGraph.found c.args.nodes.now) in
     let inv = c.loop-numbered.invariant in
     let past : length c.loop-numbered.keys.keys.items ≤ c.loop-numbered.numbered = omega arith in
     let short : c.loop-numbered.numbered ≤ length c.loop-numbered.keys.keys.items = inv.short in

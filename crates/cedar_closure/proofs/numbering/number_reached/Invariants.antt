@@ -14,12 +14,12 @@ invariant-loop-numbered g l =
     record {
       found : IsFound eq (λ x. digest (g.K.Hash.hash_input x)) l.keys.keys.items l.keys.numbers;
       behind : (more : List g.row.K.Denot) × (l.keys.keys.items ≡ l.fn.first.keys.items ++ more);
-      follows : AreEdgesOf eq l.keys.keys.items (edges_at eq edges l.nodes) l.edges.items;
+      follows : AreEdgesOf eq l.keys.keys.items (edges_at edges (g.G.TCGraph.found l.nodes)) l.edges.items;
       below : (a b : ℕ) → HasTarget l.edges.items a b → b < length l.keys.keys.items;
       counted : length l.edges.items ≡ l.numbered;
       short : l.numbered ≤ length l.keys.keys.items;
-      bound : (q : g.row.K.Denot) → IsTrue (is_member eq l.keys.keys.items q) → IsTrue (is_member eq (l.fn.first.keys.items ++ all_targets edges l.nodes.entries) q);
+      bound : (q : g.row.K.Denot) → IsTrue (is_member eq l.keys.keys.items q) → IsTrue (is_member eq (l.fn.first.keys.items ++ all_targets (edges_at edges (g.G.TCGraph.found l.nodes)) (g.G.TCGraph.keys l.nodes)) q);
     }
 
 abbrev pub decreases-loop-numbered : goal.decreases-loop-numbered
-decreases-loop-numbered g l = length (l.fn.first.keys.items ++ all_targets g.V.TCNode.edges l.nodes.entries) - l.numbered
+decreases-loop-numbered g l = length (l.fn.first.keys.items ++ all_targets (edges_at g.V.TCNode.edges (g.G.TCGraph.found l.nodes)) (g.G.TCGraph.keys l.nodes)) - l.numbered

@@ -7,8 +7,8 @@ abbrev pub invariant-loop-at : goal.invariant-loop-at
 invariant-loop-at g l =
     let eq = g.K.PartialEq.eq in
     record {
-      reset : (a : g.row.K.Denot) → IsTrue (is_member eq l.listed a) → is_member eq (drop l.at-index l.listed) a ≡ false → SameKeys eq (edges_at eq g.V.TCNode.direct l.fn.nodes a) (edges_at eq g.V.TCNode.edges l.nodes a);
-      others : (a : g.row.K.Denot) → is_member eq l.listed a ≡ false → edges_at eq g.V.TCNode.edges l.nodes a ≡ edges_at eq g.V.TCNode.edges l.fn.nodes a;
-      either : (a : g.row.K.Denot) → SameKeys eq (edges_at eq g.V.TCNode.direct l.fn.nodes a) (edges_at eq g.V.TCNode.edges l.nodes a) ⊎ (edges_at eq g.V.TCNode.edges l.nodes a ≡ edges_at eq g.V.TCNode.edges l.fn.nodes a);
-      same : SameNodes eq g.V.TCNode.is_same l.fn.nodes l.nodes;
+      reset : (a : g.row.K.Denot) → IsTrue (is_member eq l.listed a) → is_member eq (drop l.at-index l.listed) a ≡ false → SameKeys eq (edges_at g.V.TCNode.direct (g.G.TCGraph.found l.fn.nodes) a) (edges_at g.V.TCNode.edges (g.G.TCGraph.found l.nodes) a);
+      others : (a : g.row.K.Denot) → is_member eq l.listed a ≡ false → edges_at g.V.TCNode.edges (g.G.TCGraph.found l.nodes) a ≡ edges_at g.V.TCNode.edges (g.G.TCGraph.found l.fn.nodes) a;
+      either : (a : g.row.K.Denot) → SameKeys eq (edges_at g.V.TCNode.direct (g.G.TCGraph.found l.fn.nodes) a) (edges_at g.V.TCNode.edges (g.G.TCGraph.found l.nodes) a) ⊎ (edges_at g.V.TCNode.edges (g.G.TCGraph.found l.nodes) a ≡ edges_at g.V.TCNode.edges (g.G.TCGraph.found l.fn.nodes) a);
+      same : SameNodes g.V.TCNode.is_same (g.G.TCGraph.found l.fn.nodes) (g.G.TCGraph.found l.nodes);
     }

@@ -5,13 +5,14 @@ use Rattle.cedar_language.specs.Order.{same_uid}
 use Rattle.cedar_entities.specs.Data.{EntityData}
 use Rattle.cedar_entities.specs.Kept.{in_map}
 use Rattle.cedar_entities.proofs.Beside.{beside_written, beside_same}
-use Rattle.cedar_entities.proofs.Gathering.{written_there, cut_there, cut_nowhere}
+use Rattle.cedar_entities.proofs.Gathering.{cut_there, cut_nowhere}
+use Rattle.cedar_entities.proofs.Ordered.{written_at}
 use Rattle.cedar_entities.proofs.edits.cut_one.Goals as goal
 
 pub returns-in-Some-clause-cut : goal.returns-in-Some-clause-cut
 returns-in-Some-clause-cut c =
     let w = c.remove_ancestors.new.self in
-    cut_there c.args.map.now (c.get_mut.follows.lender w) c.args.at.now (set.from_list c.args.uids.now.keys) c.in-Some.entity.now w (c.get_mut.follows.holds w).0 c.in-Some.ensures.value c.remove_ancestors.ensures
+    cut_there c.args.map.now (c.get_mut.follows.lender w) c.args.at.now (set.from_list c.args.uids.now.keys) c.in-Some.entity.now w (c.get_mut.follows.holds w) c.in-Some.ensures.value c.remove_ancestors.ensures
 
 pub returns-in-Some-clause-beside : goal.returns-in-Some-clause-beside
 returns-in-Some-clause-beside c =
@@ -20,7 +21,7 @@ returns-in-Some-clause-beside c =
     let n = c.get_mut.follows.lender w in
     beside_written (in_map m) (in_map n) c.args.at.now c.in-Some.entity.now w c.in-Some.ensures.value
     (ap (λ (e : EntityData). e.uid) c.remove_ancestors.ensures)
-    (written_there m n c.args.at.now c.in-Some.entity.now w (c.get_mut.follows.holds w).0 c.in-Some.ensures.value)
+    (written_at m n c.args.at.now c.in-Some.entity.now w (c.get_mut.follows.holds w) c.in-Some.ensures.value)
 
 pub returns-in-None-clause-cut : goal.returns-in-None-clause-cut
 returns-in-None-clause-cut c = cut_nowhere c.args.map.now c.get_mut.follows.lender-at-none c.args.at.now (set.from_list c.args.uids.now.keys) c.get_mut.follows.holds-at-none c.in-None.ensures.value

@@ -3,6 +3,7 @@ use Rattle.std.proofs.Common.{◌≡◌, ◌<◌, ◌≤◌, ◌+◌, ◌∷◌,
 use Rattle.std.proofs.Math.ListN.{drop_of_length-le}
 use Rattle.std.proofs.lemmas.List.{drop_more}
 use Rattle.cedar_entities.proofs.Gathering.{uid_added, uids_added}
+use Rattle.cedar_entities.proofs.Ordered.{inserted}
 use Rattle.cedar_entities.proofs.edits.uids_of.Goals as goal
 
 pub loop-entity-preserved : goal.loop-entity-preserved
@@ -12,7 +13,7 @@ loop-entity-preserved c =
     let x = c.entity-item.result in
     let here : c.loop-entity.entity-index < length c.args.entities.now = omega arith in
     let step : drop i es ≡ x ∷ drop (i + 1) es = drop_more es i x here ∙ ap (λ y. y ∷ drop (i + 1) es) (sym c.entity-item.is) in
-    uid_added es (drop i es) (drop (i + 1) es) x c.loop-entity.uids.keys c.insert.new.self.keys c.in_ok-clone.field-0 step (c.in_ok-clone.ensures ∙ c.uid.ensures) c.in_ok-insert.ensures.updates.0 c.loop-entity.invariant
+    uid_added es (drop i es) (drop (i + 1) es) x c.loop-entity.uids.keys c.insert.new.self.keys c.in_ok-clone.field-0 step (c.in_ok-clone.ensures ∙ c.uid.ensures) (inserted c.loop-entity.uids c.insert.new.self c.in_ok-clone.field-0 c.in_ok-insert.ensures.updates) c.loop-entity.invariant
 
 pub returns : goal.returns
 returns c =

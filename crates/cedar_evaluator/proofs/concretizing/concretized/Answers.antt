@@ -18,7 +18,7 @@ returns-in_err-principal g c =
     let r = request_parts c.args.request.now in
     let told = told_for c.args.told.now.entries in
     let p = err_from_is_err_and c.from_residual.result c.from_residual.ensures.1 in
-    let principal_is : option_copied c.get.result ≡ told (codes "principal") = search rules in
+    let principal_is : option_copied c.find_told.result ≡ told (codes "principal") = search rules in
     rw (p.1, p.2)
     (refused_at (as_table g.F.ExtensionFunctionObject.answers c.args.extensions.now) c.args.depth c.args.told.now.entries r Principal (next_principal (as_table g.F.ExtensionFunctionObject.answers c.args.extensions.now) c.args.depth c.args.told.now.entries r) c.in_err-principal.field-0.0
     (told_part (codes "principal") _ r.principal _ (told (codes "principal")) (Err c.in_err-principal.field-0.0) c.principal.ensures principal_is c.in_err-principal.ensures))
@@ -28,8 +28,8 @@ returns-in_err-action g c =
     let r = request_parts c.args.request.now in
     let told = told_for c.args.told.now.entries in
     let p = err_from_is_err_and c.from_residual-in_err-action.result c.from_residual-in_err-action.ensures.1 in
-    let principal_is : option_copied c.get.result ≡ told (codes "principal") = search rules in
-    let action_is : option_copied c.get-2.result ≡ told (codes "action") = search rules in
+    let principal_is : option_copied c.find_told.result ≡ told (codes "principal") = search rules in
+    let action_is : option_copied c.find_told-2.result ≡ told (codes "action") = search rules in
     let principal = told_part (codes "principal") _ r.principal _ (told (codes "principal")) (Ok c.in_ok-principal.principal) c.principal.ensures principal_is c.in_ok-principal.ensures in
     rw (p.1, p.2)
     (refused_at (as_table g.F.ExtensionFunctionObject.answers c.args.extensions.now) c.args.depth c.args.told.now.entries r Action (next_action (as_table g.F.ExtensionFunctionObject.answers c.args.extensions.now) c.args.depth c.args.told.now.entries r principal.0) c.in_err-action.field-0.0
@@ -40,9 +40,9 @@ returns-in_err-resource g c =
     let r = request_parts c.args.request.now in
     let told = told_for c.args.told.now.entries in
     let p = err_from_is_err_and c.from_residual-in_err-resource.result c.from_residual-in_err-resource.ensures.1 in
-    let principal_is : option_copied c.get.result ≡ told (codes "principal") = search rules in
-    let action_is : option_copied c.get-2.result ≡ told (codes "action") = search rules in
-    let resource_is : option_copied c.get-3.result ≡ told (codes "resource") = search rules in
+    let principal_is : option_copied c.find_told.result ≡ told (codes "principal") = search rules in
+    let action_is : option_copied c.find_told-2.result ≡ told (codes "action") = search rules in
+    let resource_is : option_copied c.find_told-3.result ≡ told (codes "resource") = search rules in
     let principal = told_part (codes "principal") _ r.principal _ (told (codes "principal")) (Ok c.in_ok-principal.principal) c.principal.ensures principal_is c.in_ok-principal.ensures in
     let action = told_part (codes "action") _ r.action _ (told (codes "action")) (Ok c.in_ok-action.action) c.action.ensures action_is c.in_ok-action.ensures in
     rw (p.1, p.2)
@@ -54,9 +54,9 @@ returns-in_err-context g c =
     let r = request_parts c.args.request.now in
     let told = told_for c.args.told.now.entries in
     let p = err_from_is_err_and c.from_residual-in_err-context.result c.from_residual-in_err-context.ensures.1 in
-    let principal_is : option_copied c.get.result ≡ told (codes "principal") = search rules in
-    let action_is : option_copied c.get-2.result ≡ told (codes "action") = search rules in
-    let resource_is : option_copied c.get-3.result ≡ told (codes "resource") = search rules in
+    let principal_is : option_copied c.find_told.result ≡ told (codes "principal") = search rules in
+    let action_is : option_copied c.find_told-2.result ≡ told (codes "action") = search rules in
+    let resource_is : option_copied c.find_told-3.result ≡ told (codes "resource") = search rules in
     let principal = told_part (codes "principal") _ r.principal _ (told (codes "principal")) (Ok c.in_ok-principal.principal) c.principal.ensures principal_is c.in_ok-principal.ensures in
     let action = told_part (codes "action") _ r.action _ (told (codes "action")) (Ok c.in_ok-action.action) c.action.ensures action_is c.in_ok-action.ensures in
     let resource = told_part (codes "resource") _ r.resource _ (told (codes "resource")) (Ok c.in_ok-resource.resource) c.resource.ensures resource_is c.in_ok-resource.ensures in

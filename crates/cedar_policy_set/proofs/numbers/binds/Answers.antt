@@ -6,4 +6,4 @@ use Rattle.cedar_policy_set.proofs.Views.{found_some}
 use Rattle.cedar_policy_set.proofs.numbers.binds.Goals as goal
 
 pub returns-in-Ok : goal.returns-in-Ok
-returns-in-Ok c = λ seen. ap (is_bound (entries_of c.args.bound.now.entries)) (sym c.in-Ok.ensures) ∙ found_some c.args.bound.now.entries c.in-Ok.id ∙ sym c.contains_key.ensures ∙ seen
+returns-in-Ok c = λ seen. ap (is_bound (entries_of c.args.bound.now)) (sym c.in-Ok.ensures) ∙ found_some c.args.bound.now c.in-Ok.id ∙ sym c.contains_key.ensures ∙ seen

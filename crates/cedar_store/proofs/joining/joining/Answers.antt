@@ -16,7 +16,7 @@ insert_into-requires c =
     let mine = c.args.mine.now in
     let theirs = c.args.theirs.now in
     let r = c.args.renaming.now.entries in
-    let more = c.loop-bound.more.entries in
+    let more = c.loop-bound.more in
     let e : Text × Entry = (bound_id c.in-Some.bound.now, entry_of c.in-Some.bound.now) in
     ap (λ k. lookup (same_text k) more) c.in_ok-renamed.ensures.id
     ∙ join_new mine theirs r e _ more (sym c.is_more.ensures ∙ c.if-is_more.true) (subst (λ es. IsJoining mine theirs r es more) (ap seen c.in-Some.ensures.steps) c.loop-bound.invariant.joins)

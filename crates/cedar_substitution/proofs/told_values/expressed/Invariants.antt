@@ -1,6 +1,7 @@
 use Rattle.std.specs.List.{IsDistinct}
 use Rattle.std.specs.Map.{keys_of}
-use Rattle.cedar_substitution.proofs.Telling.{same_key, AreGathered}
+use Rattle.cedar_substitution.proofs.Lookups.{same_key}
+use Rattle.cedar_substitution.proofs.Telling.{AreGathered}
 use Rattle.cedar_substitution.proofs.told_values.expressed.Given as goal
 
 abbrev pub invariant-loop-name : goal.invariant-loop-name

@@ -9,5 +9,5 @@ use Rattle.cedar_substitution.proofs.told_values.mistyped.Goals as goal
 
 pub loop-unknown-preserved : goal.loop-unknown-preserved
 loop-unknown-preserved g c =
-    let told : option_copied c.get.result ≡ told_for c.args.told.now.entries (unknown_name c.in-Some.unknown.now) = search rules in
+    let told : option_copied c.find_told.result ≡ told_for c.args.told.now.entries (unknown_name c.in-Some.unknown.now) = search rules in
     leftmost_step c.args.told.now.entries _ _ _ (unknown_name c.in-Some.unknown.now, unknown_type c.in-Some.unknown.now) c.in_ok-types.types c.loop-unknown.leftmost _ c.loop-unknown.invariant c.in-Some.ensures.steps (c.in_ok-types.ensures ∙ ap (mistyped (unknown_type c.in-Some.unknown.now)) told) c.or-leftmost.ensures

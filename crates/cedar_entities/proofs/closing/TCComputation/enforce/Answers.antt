@@ -12,9 +12,9 @@ pub enforce_tc_and_dag-requires : goal.enforce_tc_and_dag-requires
 enforce_tc_and_dag-requires c = clones_are_equal
 
 pub returns-clause-enforced : goal.returns-clause-enforced
-returns-clause-enforced c = enforced c.args.entities.now c.in_ok-enforce_tc_and_dag.ensures.closed c.in_ok-enforce_tc_and_dag.ensures.acyclic
+returns-clause-enforced c = enforced (in_map c.args.entities.now) c.in_ok-enforce_tc_and_dag.ensures.closed c.in_ok-enforce_tc_and_dag.ensures.acyclic
 
 pub returns-in_err-enforce_tc_and_dag-clause-refused : goal.returns-in_err-enforce_tc_and_dag-clause-refused
 returns-in_err-enforce_tc_and_dag-clause-refused c =
     let Refused = IsClosureRefusal EnforceAlreadyComputed (in_map c.args.entities.now) in
-    at_err (λ r. IfErr r Refused) _ c.from_residual.result c.from_residual.ensures.1 (λ e is. subst Refused (sym is) (enforcing_refused c.args.entities.now c.in_err-enforce_tc_and_dag.field-0.0 c.in_err-enforce_tc_and_dag.ensures.refused))
+    at_err (λ r. IfErr r Refused) _ c.from_residual.result c.from_residual.ensures.1 (λ e is. subst Refused (sym is) (enforcing_refused (in_map c.args.entities.now) c.in_err-enforce_tc_and_dag.field-0.0 c.in_err-enforce_tc_and_dag.ensures.refused))

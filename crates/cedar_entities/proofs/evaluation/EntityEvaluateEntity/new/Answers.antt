@@ -22,4 +22,4 @@ returns-in_err-tags-clause-refused g c =
 pub returns-clause-evaluated : goal.returns-clause-evaluated
 returns-clause-evaluated g c =
     evaluated (as_table g.F.ExtensionFunctionObject.answers c.args.extensions.now) c.args.uid (restricted_entries c.args.attrs.entries) (restricted_entries c.args.tags.entries) c.in_ok-attrs.attrs.entries c.in_ok-tags.tags.entries
-    (set.from_list c.args.parents.keys) (set.from_list c.args.indirect_ancestors.keys) c.in_ok-new_with_attr_partial_value.field-0 c.in_ok-new_with_attr_partial_value.ensures c.in_ok-attrs.ensures.given c.in_ok-tags.ensures.given
+    (set.from_list c.args.parents.items) (set.from_list c.args.indirect_ancestors.items) c.in_ok-new_with_attr_partial_value.field-0 c.in_ok-new_with_attr_partial_value.ensures c.in_ok-attrs.ensures.given c.in_ok-tags.ensures.given

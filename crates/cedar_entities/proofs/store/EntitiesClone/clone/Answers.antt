@@ -2,7 +2,8 @@
 use Rattle.std.proofs.Common.{◌≡◌, refl, sym, ap, subst, ◌∙◌}
 use Rattle.std.specs.Map.{lookup}
 use Rattle.std.proofs.lemmas.Map.Entries.{entries_from_clone}
-use Rattle.cedar_language.specs.Order.{same_uid}
+use Rattle.std.specs.BTreeMap.{is_at}
+use Rattle.cedar_language.specs.Order.{uid_cmp}
 use Rattle.cedar_entities.specs.Kept.{IsWhole}
 use Rattle.cedar_entities.proofs.store.EntitiesClone.clone.Goals as goal
 
@@ -12,8 +13,8 @@ invariant_of-result c =
     let n = c.in_ok-clone.field-0 in
     let same : n.entries ≡ m.entries = entries_from_clone _ _ (λ x y e. e) (λ v w e. e) m.entries n.entries c.in_ok-clone.ensures.cases in
     record {
-      by_uid = λ uid e h. c.args.self.now.by_uid uid e (sym (ap (lookup (same_uid uid)) same) ∙ h);
-      closed = λ known. subst IsWhole (λ i uid. lookup (same_uid uid) (sym same i)) (c.args.self.now.closed known);
+      by_uid = λ uid e h. c.args.self.now.by_uid uid e (sym (ap (lookup (is_at (uid_cmp uid))) same) ∙ h);
+      closed = λ known. subst IsWhole (λ i uid. lookup (is_at (uid_cmp uid)) (sym same i)) (c.args.self.now.closed known);
     }
 
 pub returns : goal.returns
@@ -21,4 +22,4 @@ returns c =
     let m = c.args.self.now.entities in
     let n = c.in_ok-clone.field-0 in
     let same : n.entries ≡ m.entries = entries_from_clone _ _ (λ x y e. e) (λ v w e. e) m.entries n.entries c.in_ok-clone.ensures.cases in
-    record { cases = record { found = λ uid. ap (lookup (same_uid uid)) same; partial = refl } }
+    record { cases = record { found = λ uid. ap (lookup (is_at (uid_cmp uid))) same; partial = refl } }

@@ -5,7 +5,7 @@ use Rattle.cedar_policy_set.specs.Numbers.{AreBound}
 use Rattle.cedar_policy_set.proofs.numbers.Numbers.advance.Given as goal
 
 abbrev pub invariant-loop : goal.invariant-loop
-invariant-loop l = AreBound (entries_of l.bound.entries) l.self
+invariant-loop l = AreBound (entries_of l.bound) l.self
 
 abbrev pub decreases-loop : goal.decreases-loop
 decreases-loop l = length l.self.freed.keys

@@ -5,4 +5,4 @@ use Rattle.cedar_policy_set.proofs.Views.{seen_values}
 use Rattle.cedar_policy_set.proofs.sets.PolicySet.into_values.Goals as goal
 
 pub returns : goal.returns
-returns c = ap seen c.into_values.ensures.rest ∙ seen_values _ c.self.invariant.sound.named ∙ c.self.view_is
+returns c = ap seen c.into_values.ensures ∙ seen_values _ c.self.invariant.sound.named ∙ c.self.view_is

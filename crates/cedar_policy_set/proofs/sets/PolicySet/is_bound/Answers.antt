@@ -5,4 +5,4 @@ use Rattle.cedar_policy_set.proofs.Views.{found_some}
 use Rattle.cedar_policy_set.proofs.sets.PolicySet.is_bound.Goals as goal
 
 pub returns : goal.returns
-returns c = c.contains_key.ensures ∙ sym (found_some c.self.inside.bound.entries c.args.id.now) ∙ ap (λ es. is_bound es c.args.id.now) c.self.view_is
+returns c = c.contains_key.ensures ∙ sym (found_some c.self.inside.bound c.args.id.now) ∙ ap (λ es. is_bound es c.args.id.now) c.self.view_is

@@ -19,7 +19,7 @@ pub returns-clause-removed : goal.returns-clause-removed
 returns-clause-removed c = without_is _ _ _ c.self.view_is c.self.invariant.sound _ c.shift_remove.ensures.entries
 
 pub returns-clause-entry : goal.returns-clause-entry
-returns-clause-entry c = ap (option_map entry_of) c.shift_remove.ensures.value ∙ sym (found_entry c.self.inside.bound.entries c.args.id.now) ∙ ap (λ es. bound_at es c.args.id.now) c.self.view_is
+returns-clause-entry c = ap (option_map entry_of) c.shift_remove.ensures.value ∙ sym (found_entry c.self.inside.bound c.args.id.now) ∙ ap (λ es. bound_at es c.args.id.now) c.self.view_is
 
 pub returns-clause-id : goal.returns-clause-id
-returns-clause-id c = taken_named c.self.inside.bound.entries c.self.invariant.sound.named c.args.id.now c.shift_remove.result c.shift_remove.ensures.value
+returns-clause-id c = taken_named c.self.inside.bound c.self.invariant.sound.named c.args.id.now c.shift_remove.result c.shift_remove.ensures.value

@@ -5,7 +5,7 @@ use Rattle.cedar_policy_set.proofs.Views.{seen_values}
 use Rattle.cedar_policy_set.proofs.sets.PolicySet.values.Goals as goal
 
 pub returns-clause-entries : goal.returns-clause-entries
-returns-clause-entries c = ap seen c.values.ensures.rest ∙ seen_values _ c.self.invariant.sound.named ∙ c.self.view_is
+returns-clause-entries c = ap seen c.values.ensures ∙ seen_values _ c.self.invariant.sound.named ∙ c.self.view_is
 
 pub returns-clause-listed : goal.returns-clause-listed
-returns-clause-listed c = subst ListTheirSlots (sym c.values.ensures.rest) c.self.invariant.sound.listed
+returns-clause-listed c = subst ListTheirSlots (sym c.values.ensures) c.self.invariant.sound.listed

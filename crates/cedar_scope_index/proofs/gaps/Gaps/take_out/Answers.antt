@@ -1,9 +1,7 @@
 -- A place that stands at a position is taken out: the others rise, are taken out once, and close up (Closing).
-use Rattle.std.proofs.Common.{◌≡◌, ◌≤◌, ◌<◌, ◌⊎◌, Result, Ok, Err, List, ℕ, length, get_or, sym, subst, ◌∙◌, ap, arith}
-use Rattle.std.specs.Prelude.{insert, is_ok, if◌then◌else◌}
+use Rattle.std.proofs.Common.{◌∙◌, ap}
 use Rattle.std.specs.List.Sorted.{IsNonDecreasing}
-use Rattle.std.proofs.lemmas.List.Sorted.{IsNonDecreasingBy-insert}
-use Rattle.cedar_scope_index.specs.Places.{AreTakenOnce, AreBefore, position_of, closed_up}
+use Rattle.cedar_scope_index.specs.Places.{AreTakenOnce, position_of}
 use Rattle.cedar_scope_index.proofs.Closing.{StandsAt, once_more, closes, still_rising, after_insert}
 use Rattle.cedar_scope_index.proofs.gaps.Gaps.take_out.Goals as goal
 

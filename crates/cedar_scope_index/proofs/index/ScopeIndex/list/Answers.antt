@@ -1,9 +1,9 @@
 -- One more position is listed under the entity of the key, or among the others (Growing).
 use Rattle.std.proofs.Common.{refl, ap, subst, ◌∙◌}
 use Rattle.std.proofs.lemmas.Result.{on_ok_weaker}
-use Rattle.cedar_scope_index.specs.Finding.{is_listed, by_nothing, by_principal, by_action, by_resource}
+use Rattle.cedar_scope_index.specs.Finding.{is_listed, by_nothing, by_principal, by_action, by_resource, by_pair}
 use Rattle.cedar_scope_index.specs.Keys.{IsKey}
-use Rattle.cedar_scope_index.proofs.Growing.{keeps, holds, listed_there, last_listed, still}
+use Rattle.cedar_scope_index.proofs.Growing.{keeps, holds, on_ok_both, listed_there, last_listed, still}
 use Rattle.cedar_scope_index.proofs.index.ScopeIndex.list.Goals as goal
 
 pub returns-in-Principal-clause-found : goal.returns-in-Principal-clause-found
@@ -19,6 +19,8 @@ returns-in-Principal-clause-kept c =
       principals = holds c.list.result c.args.self.now.principals c.list.new.self c.in-Principal.uid.now c.args.place c.list.ensures.listed c.list.ensures.err;
       actions = λ u p h. h;
       resources = λ u p h. h;
+      paired_principals = λ u p h. h;
+      paired_resources = λ u p h. h;
     })
 
 pub returns-in-Action-clause-found : goal.returns-in-Action-clause-found
@@ -36,6 +38,8 @@ returns-in-Action-clause-kept c =
       principals = λ u p h. h;
       actions = holds c.list-in-Action.result c.args.self.now.actions c.list-in-Action.new.self c.in-Action.uid.now c.args.place c.list-in-Action.ensures.listed c.list-in-Action.ensures.err;
       resources = λ u p h. h;
+      paired_principals = λ u p h. h;
+      paired_resources = λ u p h. h;
     })
 
 pub returns-in-Resource-clause-found : goal.returns-in-Resource-clause-found
@@ -53,7 +57,17 @@ returns-in-Resource-clause-kept c =
       principals = λ u p h. h;
       actions = λ u p h. h;
       resources = holds c.list-in-Resource.result c.args.self.now.resources c.list-in-Resource.new.self c.in-Resource.uid.now c.args.place c.list-in-Resource.ensures.listed c.list-in-Resource.ensures.err;
+      paired_principals = λ u p h. h;
+      paired_resources = λ u p h. h;
     })
+
+pub returns-in-Pair-clause-found : goal.returns-in-Pair-clause-found
+returns-in-Pair-clause-found c =
+    on_ok_both c.list_pair.result
+    (λ principal resource b s key.
+    let named = subst (IsKey b s) c.in-Pair.is key in
+    by_pair c.in-Pair.principal.now c.in-Pair.resource.now named.0 named.1 named.2 principal resource)
+    c.list_pair.ensures.principal c.list_pair.ensures.resource
 
 pub returns-in-Nothing-clause-found : goal.returns-in-Nothing-clause-found
 returns-in-Nothing-clause-found c =
@@ -68,4 +82,6 @@ returns-in-Nothing-clause-kept c =
       principals = λ u p h. h;
       actions = λ u p h. h;
       resources = λ u p h. h;
+      paired_principals = λ u p h. h;
+      paired_resources = λ u p h. h;
     })

@@ -4,7 +4,7 @@ use Rattle.std.specs.BTreeMap.{is_at}
 use Rattle.std.specs.Cmp.Lexicographic.{nat_list_eq_equiv}
 use Rattle.std.specs.Map.{lookup}
 use Rattle.std.specs.Option.{option_map_or}
-use Rattle.cedar_language.specs.Uid.{Text, Uid}
+use Rattle.cedar_language.specs.Uid.{Text}
 use Rattle.cedar_language.specs.Order.{text_cmp}
 use Rattle.cedar_scope_index.specs.Lists.{ListsSome}
 use Rattle.cedar_scope_index.proofs.Listing.{at_same}

@@ -1,5 +1,5 @@
 -- Rests on how the body was read, on what it tells, and on the answer to the open question once more is told.
-use Rattle.std.proofs.Common.{BuildHasherDefault, FoldHasher, refl, ap}
+use Rattle.std.proofs.Common.{refl, ap}
 use Rattle.std.proofs.lemmas.Result.{err_from_is_err_and}
 use Rattle.std.specs.Option.{option_map}
 use Rattle.cedar_extensions.specs.Table.{as_table}
@@ -27,7 +27,7 @@ returns-in_err-told-clause-step g c =
     let stated = states by self.policies self.entities c.in-Some.asked self.asked c.in-Some.is self.steady in
     let p = err_from_is_err_and c.from_residual-in_err-told.result c.from_residual-in_err-told.ensures.1 in
     rw (p.1, p.2) (untold by (world_of self) c.args.text.now (c.texts_are_one.ensures.bodies by) (asked_of c.in-Some.asked) (ap (option_map asked_of) c.in-Some.is) tree read.0 read.1 c.in_ok-body.body.restricted
-    (BuildHasherDefault FoldHasher) c.in_err-told.field-0.0 (c.in_err-told.ensures by _ served stated))
+    c.in_err-told.field-0.0 (c.in_err-told.ensures by _ served stated))
 
 pub returns-in_err-answer-clause-step : goal.returns-in_err-answer-clause-step
 returns-in_err-answer-clause-step g c =

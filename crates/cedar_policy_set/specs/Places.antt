@@ -1,0 +1,20 @@
+-- Where ids stand in an order.
+use Rattle.std.specs.Prelude.{◌≡◌, ◌<◌, List, [], ◌∷◌, length, if◌then◌else◌}
+use Rattle.std.specs.BTreeMap.{get}
+use Rattle.std.specs.List.{AllPairs, IsDistinct, zip}
+use Rattle.std.specs.Map.{lookup}
+use Rattle.cedar_language.specs.Uid.{Text}
+use Rattle.cedar_language.specs.Order.{same_text, text_cmp}
+use Rattle.cedar_policy_set.specs.declared.places.Places.{Places}
+
+-- no id stands twice, each position has a number that is above those before it, and at each id its own is held
+pub record Tells (places : Places) (ids : List Text) : Type 0 where
+  pub distinct : IsDistinct same_text ids
+  pub as_many : length places.numbers.items ≡ length ids
+  pub rising : AllPairs ◌<◌ places.numbers.items
+  pub held : (id : Text) → get text_cmp places.of_ids id ≡ lookup (same_text id) (zip ids places.numbers.items)
+
+-- the entries with this at an id: in the place of what stands there, or last
+abbrev pub put : {V : Type 0} → List (Text × V) → Text → V → List (Text × V)
+put [] id v = (id, v) ∷ []
+put (e ∷ es) id v = if same_text id e.0 then (e.0, v) ∷ es else e ∷ put es id v
