@@ -19,4 +19,5 @@ mod ReadUnknowns
 mod LinkingEarly
 pub mod Alike
 mod DataErrors
+mod Waiting
 pub mod Scopes

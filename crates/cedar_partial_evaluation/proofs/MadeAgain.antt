@@ -1,5 +1,5 @@
 -- Answers that are values are made again by their trees.
-use Rattle.std.proofs.Common.{◌≡◌, Bool, true, false, cond, Option, Some, None, List, [], ◌∷◌, refl}
+use Rattle.std.proofs.Common.{◌≡◌, ℕ, Bool, true, false, cond, Option, Some, None, List, [], ◌∷◌, refl, ap}
 use Rattle.cedar_language.specs.Uid.{Text, Name, Uid}
 use Rattle.cedar_language.specs.Tree.{Literal, Boolean, Long, String, Entity, Variable, Principal, Action, Resource, Context, SlotId, Operator, Not, Neg, IsEmpty, Equal, Less, LessEq, Add, Sub, Mul, In, Contains, ContainsAll, ContainsAny, GetTag, HasTag, GetAttr, HasAttr, HasPath, Like, MakeSet, MakeRecord, Call, Tree, Lit, Var, Slot, Unknown, If, And, Or, Apply, Trees, no_trees, a_tree, EntityType}
 use Rattle.cedar_language.specs.Tree as tree
@@ -7,7 +7,8 @@ use Rattle.cedar_language.specs.Value.{Value, Plain, SetOf, RecordOf, ExtensionO
 use Rattle.cedar_language.specs.Order.{same_text, rising, put, placed, value_cmp}
 use Rattle.cedar_language.specs.Facts.{Held, Function, Facts}
 use Rattle.cedar_language.specs.Operators.{found, applied, truth, or_fails}
-use Rattle.cedar_partial_evaluation.specs.MadeAgain.{IsMadeAgain, AreMadeAgain, HoldsMade}
+use Rattle.cedar_partial_evaluation.specs.MadeAgain.{tree_of, trees_of, long_values, IsMadeAgain, AreMadeAgain, HoldsMade}
+use Rattle.cedar_language.specs.Constructing.{longs_of}
 use Rattle.cedar_partial_evaluation.specs.Partial.{Answer, Evaluated, ResidualTree, Failed, Answers, AllEvaluated, SomeResiduals, SomeFailed, answer_of, last_answer, and_answer, or_answer, if_answer, and_next, are_projectable, LeafAnswers, built_answer, projected_in, all_projected_in, found_tree, entry_answer, attribute_answer, has_entry_answer, has_answer, is_answer, stated_type, types_differ, equal_answer, residual_answer, apply_answer, partial_in, all_partial_in}
 use Rattle.cedar_partial_evaluation.specs.Fair.{IsMadeAnswer, AreMadeLeaves}
 use Rattle.std.proofs.Common.{Ordering, ℤ, ◌+ℤ◌, ◌-ℤ◌, ◌*ℤ◌, neg_ℤ}
@@ -15,7 +16,7 @@ use Rattle.cedar_language.specs.Operators as op
 use Rattle.cedar_language.specs.Tree.{PatternElem}
 use Rattle.cedar_language.specs.Value.{IntegerOverflow}
 use Rattle.std.specs.declared.cmp.Ordering.TheVariants as ordering
-use Rattle.cedar_language.proofs.Rising.{rising_rises}
+use Rattle.cedar_language.proofs.Rising.{rising_rises, rising_same}
 
 module _ (facts : Facts) where
   placed_made : (o : Ordering) (v w : Value) (ws vs : Values) → IsMadeAgain facts v → IsMadeAgain facts w → AreMadeAgain facts ws → AreMadeAgain facts vs → AreMadeAgain facts (placed o v w ws vs)
@@ -308,3 +309,21 @@ module _ (facts : Facts) where
         pub all_made : (ts : Trees) → AreMadeAnswers (all_partial_in facts holds ts)
         all_made no_trees = tt
         all_made (a_tree t ts) = next_made (partial_in facts holds t) (all_partial_in facts holds ts) (made t) (all_made ts)
+
+-- ---- a value's tree evaluated again, whatever is held of leaves
+
+longs_again : (facts : Facts) (holds : LeafAnswers) (bs : List ℕ) → all_partial_in facts holds (longs_of bs) ≡ AllEvaluated (long_values bs)
+longs_again facts holds [] = refl
+longs_again facts holds (b ∷ bs) = rw (longs_again facts holds bs) refl
+
+mutual
+  pub value_again : (facts : Facts) (holds : LeafAnswers) (v : Value) → IsMadeAgain facts v → partial_in facts holds (tree_of facts v) ≡ Evaluated v
+  value_again facts holds (Plain l) h = refl
+  value_again facts holds (SetOf vs) h = rw (values_again facts holds vs h.1) (ap (λ ws. Evaluated (SetOf ws)) (rising_same vs h.0))
+  value_again facts holds (RecordOf ks vs) h = rw (values_again facts holds vs h) refl
+  value_again facts holds (ExtensionOf e) h = rw (longs_again facts holds e.key) (ap answer_of h)
+
+  pub values_again : (facts : Facts) (holds : LeafAnswers) (vs : Values) → AreMadeAgain facts vs →
+      all_partial_in facts holds (trees_of facts vs) ≡ AllEvaluated vs
+  values_again facts holds no_values h = refl
+  values_again facts holds (a_value v vs) h = rw (value_again facts holds v h.0, values_again facts holds vs h.1) refl

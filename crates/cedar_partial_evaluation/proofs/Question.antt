@@ -10,8 +10,8 @@ use Rattle.cedar_language.specs.Facts.{Facts}
 use Rattle.cedar_language.specs.Operators.{found, applied}
 use Rattle.cedar_language.specs.Meaning.{Slots, slot_outcome}
 use Rattle.cedar_partial_evaluation.specs.Settling.{Settling, Open, Errs, Is, kindless, AllAre, and_more, apply_settled, Below, LeafSettlings, or_entry, stated_in, type_of_entity, type_known, or_type, settled_in, all_settled_in, types_in}
-use Rattle.cedar_partial_evaluation.specs.MadeAgain.{tree_of, trees_of, IsMadeAgain, AreMadeAgain, HoldsMade}
-use Rattle.cedar_partial_evaluation.specs.Partial.{Answer, Evaluated, ResidualTree, Failed, Answers, AllEvaluated, SomeResiduals, SomeFailed, answer_of, best_effort, and_next, is_projectable, are_projectable, LeafAnswers, projected_in, all_projected_in, found_tree, entry_answer, has_entry_answer, apply_answer, partial_in, all_partial_in}
+use Rattle.cedar_partial_evaluation.specs.MadeAgain.{tree_of, trees_of, IsMadeAgain, HoldsMade}
+use Rattle.cedar_partial_evaluation.specs.Partial.{Answer, Evaluated, ResidualTree, Failed, Answers, AllEvaluated, SomeResiduals, SomeFailed, answer_of, best_effort, and_next, is_projectable, are_projectable, LeafAnswers, projected_in, found_tree, entry_answer, has_entry_answer, apply_answer, partial_in, all_partial_in}
 use Rattle.cedar_partial_evaluation.specs.Fair.{IsOfType, read, IsStated, IsMadeAnswer, AreMadeLeaves}
 use Rattle.std.specs.Prelude.{codes}
 use Rattle.std.specs.Cmp.Lexicographic.{pointwise_decides, bytes_decides}
@@ -22,8 +22,8 @@ use Rattle.cedar_partial_evaluation.specs.Prompt.{Meets, Shows, without_kind}
 use Rattle.cedar_partial_evaluation.specs.Question.{Part, Given, Missing, Entries, NoContext, WithEntries, Question, Told, entity_type, value_settled, value_held, name_settled, name_held, is_untold, untold_type, part_type, variable_type, settled_names, held_names, is_simple_name, is_simple, are_simple, only_value, entry_settled, has_settled, in_context, has_in_context, part_settled, context_settled, variable_settled, settled_of, part_held, context_held, variable_held, held_of, Extends, AreMadeTold, IsAccepted, TellingCarries}
 use Rattle.cedar_partial_evaluation.specs.Unknowns.{fits, types_differ}
 use Rattle.cedar_partial_evaluation.specs.Filling.{filled}
-use Rattle.cedar_language.proofs.Rising.{rising_same}
-use Rattle.cedar_partial_evaluation.proofs.MadeAgain.{made}
+use Rattle.cedar_partial_evaluation.proofs.MadeAgain.{made, value_again}
+use Rattle.cedar_partial_evaluation.proofs.Alike.{projected_is}
 use Rattle.cedar_partial_evaluation.proofs.Sound.{and_true, tree_of_is, type_meant}
 use Rattle.cedar_partial_evaluation.proofs.Seam.{BelowAll, below_refl, below_is, below_trans, and_mono, or_mono, if_mono, more_mono, apply_mono, raised_in, residuals_settle, plain_carried}
 use Rattle.cedar_partial_evaluation.proofs.Prompt.{is_prompt}
@@ -615,22 +615,10 @@ slot_shows : (o : Option Uid) → Meets (λ k. k ≡ UnlinkedSlot) (kindless (sl
 slot_shows (Some u) = refl
 slot_shows None = (UnlinkedSlot, refl, refl)
 
-abbrev known_set : Values → Answer
-known_set vs = Evaluated (SetOf vs)
-
--- a plain value evaluated again is itself
-mutual
-  value_again : (facts : Facts) (holds : LeafAnswers) (v : Value) → IsMadeAgain facts v → is_projectable (tree_of facts v) ≡ true → projected_in facts holds (tree_of facts v) ≡ Evaluated v
-  value_again facts holds (Plain l) m h = refl
-  value_again facts holds (SetOf vs) m h = rw (values_again facts holds vs m.1 h) (ap known_set (rising_same vs m.0))
-  value_again facts holds (RecordOf ks vs) m h = rw (values_again facts holds vs m h) refl
-  value_again facts holds (ExtensionOf e) m h = cc
-
-  values_again : (facts : Facts) (holds : LeafAnswers) (vs : Values) → AreMadeAgain facts vs → are_projectable (trees_of facts vs) ≡ true → all_projected_in facts holds (trees_of facts vs) ≡ AllEvaluated vs
-  values_again facts holds no_values m h = refl
-  values_again facts holds (a_value v vs) m h =
-      let (hv, hvs) = and_true (is_projectable (tree_of facts v)) (are_projectable (trees_of facts vs)) h in
-      rw (value_again facts holds v m.0 hv, values_again facts holds vs m.1 hvs) refl
+-- a plain value projected is itself
+plain_again : (facts : Facts) (holds : LeafAnswers) (v : Value) → IsMadeAgain facts v → is_projectable (tree_of facts v) ≡ true →
+    projected_in facts holds (tree_of facts v) ≡ Evaluated v
+plain_again facts holds v m h = projected_is facts holds (tree_of facts v) h ∙ value_again facts holds v m
 
 module _ (facts : Facts) (good : HoldsMade facts) (q : Question) (slots : Slots) (told : Told) (are_made : AreMadeTold facts told) (ok : IsAccepted facts told q.context) where
   as_told : Extends told told
@@ -674,7 +662,7 @@ module _ (facts : Facts) (good : HoldsMade facts) (q : Question) (slots : Slots)
     entry_left t Errs h s = tt
     entry_left t (Is v) h s =
         let now : partial_in facts (held_names told) t ≡ Evaluated v = known_now t v s in
-        rw now (value_again facts (held_of facts q slots told) v (rw now at (made facts good (held_names told) (names_made facts told are_made) t)) (rw now at (simple_plain facts good q slots told told as_told are_made t h)))
+        rw now (plain_again facts (held_of facts q slots told) v (rw now at (made facts good (held_names told) (names_made facts told are_made) t)) (rw now at (simple_plain facts good q slots told told as_told are_made t h)))
 
     left_shows : (ks : List Text) (ts rs : Trees) (b : Bool) (o : Option Tree) → all_partial_in facts (held_names told) ts ≡ SomeResiduals rs →
         are_simple facts told ts ≡ b → found_tree ks ts a ≡ o →

@@ -1,7 +1,6 @@
 -- How the parts of a scope evaluate: an entity, a conjunction, a list of entities.
 use Rattle.std.proofs.Common.{◌≡◌, ◌↔◌, Bool, true, false, ◌||◌, Option, Some, None, IsTrue, List, [], ◌∷◌, map, refl, sym, ◌∙◌, ap, subst}
 use Rattle.std.specs.List.{list_any}
-use Rattle.std.specs.FinMap as finite
 use Rattle.std.specs.declared.cmp.Ordering.{Ordering}
 use Rattle.std.specs.declared.cmp.Ordering.TheVariants as ordering
 use Rattle.std.specs.Cmp.{both_ways}

@@ -3,24 +3,23 @@ use Rattle.std.proofs.Common.{◌≡◌, true, Option, Some, None, List, refl, s
 use Rattle.std.specs.FinMap as finite
 use Rattle.cedar_language.specs.Uid.{Text, Name}
 use Rattle.cedar_language.specs.Tree.{MakeSet, MakeRecord, Call, Tree, Lit, Unknown, Apply, Trees, no_trees, a_tree, ValueType}
-use Rattle.cedar_language.specs.Value.{Value, Values, no_values, a_value, Kind, Outcome, Gives, Fails}
+use Rattle.cedar_language.specs.Value.{Value, Kind, Outcome, Gives, Fails}
 use Rattle.cedar_language.specs.Facts.{Facts}
 use Rattle.cedar_language.specs.Operators.{applied}
 use Rattle.cedar_partial_evaluation.specs.Settling.{Settling, Open, Errs, Is, Below, LeafSettlings, settled_in}
-use Rattle.cedar_partial_evaluation.specs.MadeAgain.{tree_of, trees_of, IsMadeAgain, AreMadeAgain, HoldsMade}
+use Rattle.cedar_partial_evaluation.specs.MadeAgain.{IsMadeAgain, HoldsMade}
 use Rattle.cedar_partial_evaluation.specs.Partial.{Answer, Evaluated, ResidualTree, Failed, Answers, AllEvaluated, SomeResiduals, SomeFailed, answer_of, best_effort, and_next, apply_answer, partial_in, all_partial_in}
 use Rattle.cedar_partial_evaluation.specs.Fair.{read, IsMadeAnswer}
 use Rattle.cedar_partial_evaluation.specs.Prompt.{Meets}
-use Rattle.cedar_partial_evaluation.specs.Question.{Told, value_held, name_held, settled_names, held_names, settled_of, held_of, Extends, AreMadeTold, is_restricted, are_restricted}
+use Rattle.cedar_partial_evaluation.specs.Question.{Told, value_held, name_held, held_names, settled_of, held_of, Extends, AreMadeTold, is_restricted, are_restricted}
 use Rattle.cedar_partial_evaluation.specs.Unknowns.{fits}
 use Rattle.cedar_partial_evaluation.specs.Filling.{request_filled, filled}
 use Rattle.cedar_language.specs.Meaning.{meaning}
 use Rattle.cedar_partial_evaluation.specs.Telling.{ToldAreRead, SettledIsMeant, LaterAnswersAreFair, LaterAnswersArePrompt, ContextsStay}
-use Rattle.cedar_partial_evaluation.proofs.Sound.{and_true, tree_of_is}
-use Rattle.cedar_partial_evaluation.proofs.MadeAgain.{AreMadeAnswers, made, all_made}
+use Rattle.cedar_partial_evaluation.proofs.Sound.{and_true}
+use Rattle.cedar_partial_evaluation.proofs.MadeAgain.{AreMadeAnswers, made, all_made, value_again, values_again}
 use Rattle.cedar_partial_evaluation.proofs.Seam.{below_is, below_trans, residuals_settle}
-use Rattle.cedar_partial_evaluation.proofs.Prompt.{is_prompt}
-use Rattle.cedar_partial_evaluation.proofs.Question.{meets_below, telling_carries, held_made, names_made, names_shown}
+use Rattle.cedar_partial_evaluation.proofs.Question.{meets_below, telling_carries, held_made, names_made}
 use Rattle.cedar_partial_evaluation.proofs.Filling.{below_closed, means_filled, reads_below, answers_are_fair, answers_prompt}
 
 meets_read : (facts : Facts) (around : LeafSettlings) (errs_as : Kind → Type 0) (x : Settling) (p : Answer) → Meets errs_as x p → Below x (read facts around p)
@@ -55,19 +54,10 @@ later_answers_are_prompt facts good q slots told later e are_made then_made now 
     (meets_below _ _ _ (answers_prompt facts good q slots later then_made then r))
 
 module _ (facts : Facts) (good : HoldsMade facts) (told later : Told) (extends : Extends told later) (are_made : AreMadeTold facts told) (then_made : AreMadeTold facts later) where
-  value_again : (v : Value) → IsMadeAgain facts v → partial_in facts (held_names later) (tree_of facts v) ≡ Evaluated v
-  value_again v m =
-      rw (tree_of_is facts (settled_names later) v m) at
-      (is_prompt facts good (settled_names later) (held_names later) (names_shown facts later) (names_made facts later then_made) (tree_of facts v))
-
-  values_again : (vs : Values) → AreMadeAgain facts vs → all_partial_in facts (held_names later) (trees_of facts vs) ≡ AllEvaluated vs
-  values_again no_values m = refl
-  values_again (a_value v vs) m = rw (value_again v m.0, values_again vs m.1) refl
-
   -- a value that doesn't fit is refused again
   told_again : (n : Text) (ty : Option ValueType) (v : Value) (b : Bool) → fits ty v ≡ b → finite.get later n ≡ Some v → IsMadeAgain facts v →
       partial_in facts (held_names later) (best_effort facts (value_held b v) (Unknown n ty)) ≡ value_held b v
-  told_again n ty v true fit l m = value_again v m
+  told_again n ty v true fit l m = value_again facts (held_names later) v m
   told_again n ty v false fit l m = rw (l, fit) refl
 
   name_again : (n : Text) (ty : Option ValueType) (o : Option Value) → finite.get told n ≡ o →
@@ -86,15 +76,15 @@ module _ (facts : Facts) (good : HoldsMade facts) (told later : Told) (extends :
 
   next_again : (t : Tree) (ts : Trees) (p : Answer) (ps : Answers) → IsMadeAnswer facts p → AreMadeAnswers facts good ps → StandsAgain t p → StandAgain ts ps → StandAgain (a_tree t ts) (and_next facts p ps)
   next_again t ts (Failed k) ps m n h i = tt
-  next_again t ts (Evaluated v) (AllEvaluated vs) m n h i = let e : partial_in facts (held_names later) t ≡ Evaluated v = sym h ∙ value_again v m in rw (e, i) refl
+  next_again t ts (Evaluated v) (AllEvaluated vs) m n h i = let e : partial_in facts (held_names later) t ≡ Evaluated v = sym h ∙ value_again facts (held_names later) v m in rw (e, i) refl
   next_again t ts (Evaluated v) (SomeResiduals rs) m n h i = rw (h, i) refl
   next_again t ts (Evaluated v) (SomeFailed k) m n h i = tt
-  next_again t ts (ResidualTree r) (AllEvaluated vs) m n h i = rw (h, values_again vs n, i) refl
+  next_again t ts (ResidualTree r) (AllEvaluated vs) m n h i = rw (h, values_again facts (held_names later) vs n, i) refl
   next_again t ts (ResidualTree r) (SomeResiduals rs) m n h i = rw (h, i) refl
   next_again t ts (ResidualTree r) (SomeFailed k) m n h i = tt
 
   outcome_again : (t : Tree) (o : Outcome) → IsMadeAnswer facts (answer_of o) → partial_in facts (held_names later) t ≡ answer_of o → StandsAgain t (answer_of o)
-  outcome_again t (Gives v) m h = value_again v m ∙ sym h
+  outcome_again t (Gives v) m h = value_again facts (held_names later) v m ∙ sym h
   outcome_again t (Fails k) m h = refl
 
   set_again : (ts : Trees) (ps : Answers) → IsMadeAnswer facts (apply_answer facts (held_names told) MakeSet ps) → StandAgain ts ps → StandsAgain (Apply MakeSet ts) (apply_answer facts (held_names told) MakeSet ps)

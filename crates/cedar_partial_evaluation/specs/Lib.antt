@@ -21,3 +21,4 @@ pub mod LinkingEarly
 pub mod Alike
 pub mod DataErrors
 pub mod EarlyRows
+pub mod Waiting

@@ -21,6 +21,7 @@ ghost use Rattle.cedar_partial_evaluation.specs.Reauthorizing.{ReauthorizingIsFa
 ghost use Rattle.cedar_partial_evaluation.specs.Settling.{MeaningIsSettled};
 ghost use Rattle.cedar_partial_evaluation.specs.UnboundSeam.{UnboundResidualsSettle, UnboundAnswersArePrompt};
 ghost use Rattle.cedar_partial_evaluation.specs.Unbound.{UnboundAnswersAreFair};
+ghost use Rattle.cedar_partial_evaluation.specs.Waiting.{WhatIsLeftWaits, WaitingIsAnsweredAlike};
 
 /// Where everything is known, what is settled of a tree is what it means.
 pub fn meaning_is_settled()
@@ -170,6 +171,16 @@ pub fn errors_are_named()
 /// Once all is told, the answer to policies that are taken up again has the decision and the reasons of the known question.
 pub fn reauthorizing_is_exact()
     ensures { ReauthorizingIsExact }
+{}
+
+/// What is left of a tree stays left until a name that stands in it has a value.
+pub fn what_is_left_waits()
+    ensures { WhatIsLeftWaits }
+{}
+
+/// Policies that are taken up again are answered alike until a name that stands in what is left of one has a value.
+pub fn waiting_is_answered_alike()
+    ensures { WaitingIsAnsweredAlike }
 {}
 
 /// Where no unknown stands in a tree, any values give each of its unknowns one.

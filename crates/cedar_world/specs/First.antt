@@ -8,22 +8,17 @@ use Rattle.cedar_language.specs.Authorization.{Known}
 use Rattle.cedar_partial_evaluation.specs.MadeAgain.{HoldsMade}
 use Rattle.cedar_partial_evaluation.specs.Mentions.{mentions_only}
 use Rattle.cedar_partial_evaluation.specs.Question.{IsAccepted}
+pub use Rattle.cedar_partial_evaluation.specs.Waiting.{IsData}
 use Rattle.cedar_world.specs.Answer.{Answer}
 use Rattle.cedar_grammar.specs.Syntax.{PolicySyntax, condition}
 use Rattle.cedar_world.specs.World.{World, in_force_at}
-use Rattle.cedar_world.specs.Asking.{Entries, NoContext, WithEntries, Question}
+use Rattle.cedar_world.specs.Asking.{Question}
 use Rattle.cedar_world.specs.Question.{IsKnown}
-use Rattle.cedar_world.specs.Bodies.{are_restricted}
 use Rattle.cedar_world.specs.Setting.{Setting}
 use Rattle.cedar_world.specs.Fillings.{IsFilling}
 use Rattle.cedar_world.specs.Step.{IsFirstAnswer}
 use Rattle.cedar_world.specs.Standing.{StandsSoFar, StandsEarly, Judges, Says}
 use Rattle.cedar_world.specs.WorldFacts.{AreFactsOf}
-
--- a given context is data alone: literals, unknown names, lists, records and calls
-abbrev pub IsData : Entries → Type 0
-IsData NoContext = Unit {0}
-IsData (WithEntries ks ts) = are_restricted ts ≡ true
 
 -- where nothing is unknown, the context means a value
 abbrev pub HasRequest : Setting → Question → Type 0
