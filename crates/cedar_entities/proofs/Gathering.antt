@@ -8,31 +8,18 @@ use Rattle.std.specs.Map.{keys_of}
 use Rattle.std.proofs.lemmas.List.Folds.{list_any-append}
 use Rattle.std.proofs.lemmas.List.Elements.{All-head, All-tail}
 use Rattle.cedar_language.specs.Uid.{Uid}
-use Rattle.cedar_language.specs.Facts.{Reaches, edge, further}
 use Rattle.cedar_language.specs.Order.{uid_cmp, same_uid}
 use Rattle.cedar_literals.specs.Laws.{same_uid_equiv}
 use Rattle.cedar_entities.specs.Data.{EntityData, UidSet, ancestors_of, without}
-use Rattle.cedar_entities.specs.Held.{held_of, parents_of}
-use Rattle.cedar_entities.specs.Kept.{Lookup, in_map, held_in, kept_at, KeepsAncestors, HaveNoChildren, Covers}
+use Rattle.cedar_entities.specs.Kept.{Lookup, in_map, kept_at, Covers}
 use Rattle.cedar_entities.proofs.UidLemmas.{uid_is, none_of_nothing, without_again}
 use Rattle.cedar_entities.proofs.Ordered.{written_at, keys_stand}
-use Rattle.cedar_entities.proofs.Sameness.{IsUnderway, begins, goes_on}
+use Rattle.cedar_entities.proofs.Sameness.{IsUnderway, goes_on}
 use Rattle.cedar_entities.proofs.Untouched.{untouched_cut}
-
-or_more : (a b : Bool) → a ≡ true → (a || b) ≡ true
-or_more a b h = ap (λ c. c || b) h
 
 or_else : (a b : Bool) → b ≡ true → (a || b) ≡ true
 or_else true b h = refl
 or_else false b h = h
-
--- a listed uid that passes a test
-one_listed : (p : Uid → Bool) (x : Uid) (us : List Uid) → list_any (same_uid x) us ≡ true → p x ≡ true → list_any p us ≡ true
-one_listed p x [] h k = absurd (true≢false (sym h))
-one_listed p x (u ∷ us) h k = elim (same_uid x u) as (λ b. same_uid x u ≡ b → (b || list_any (same_uid x) us) ≡ true → (p u || list_any p us) ≡ true) [
-  | true ↦ λ e r. or_more (p u) (list_any p us) (ap p (sym (uid_is x u e)) ∙ k)
-  | false ↦ λ e r. or_else (p u) (list_any p us) (one_listed p x us r k)
-] refl h
 
 -- ---- gathering
 
@@ -129,59 +116,6 @@ module _ (found : Lookup) (edited uids : List Uid) (left more : List (Uid × Ent
 
 pub walked : (found : Lookup) (edited uids : List Uid) (left : List (Uid × EntityData)) → left ≡ [] → IsWalking found edited uids left → Covers found edited uids
 walked found edited uids left none walking = gathered found edited uids (keys_of left) (ap keys_of none) walking.0
-
--- ---- parents
-
--- none of the edited is a parent of what stands at the uid
-abbrev pub IsNoChild : Lookup → List Uid → Uid → Type 0
-IsNoChild found edited uid = list_any (set.contains (parents_of (held_in found uid))) edited ≡ false
-
--- this holds at the uids walked over
-abbrev pub IsLooking : Lookup → List Uid → List (Uid × EntityData) → Type 0
-IsLooking found edited left = IsUnderway found (IsNoChild found edited) (keys_of left) × AreStanding found left
-
-pub look_begins : (m : BTreeMap Uid EntityData) (edited : List Uid) → AreStanding (in_map m) m.entries → IsLooking (in_map m) edited m.entries
-look_begins m edited standing =
-    (begins m (IsNoChild (in_map m) edited), standing)
-
-pub looks_on : (found : Lookup) (edited : List Uid) (left more : List (Uid × EntityData)) (k : Uid) (e : EntityData) → left ≡ (k, e) ∷ more → list_any (set.contains e.parents) edited ≡ false → IsLooking found edited left → IsLooking found edited more
-looks_on found edited left more k e step apart looking =
-    let all : AreStanding found ((k, e) ∷ more) = subst (AreStanding found) step looking.1 in
-    let here : found k ≡ Some e = All-head (λ (x : Uid × EntityData). found x.0 ≡ Some x.1) (k, e) more all in (
-      goes_on found (IsNoChild found edited) (keys_of left) (keys_of more) k looking.0 (ap keys_of step) (ap (λ o. list_any (set.contains (parents_of (option_map held_of o))) edited) here ∙ apart),
-      All-tail (λ (x : Uid × EntityData). found x.0 ≡ Some x.1) (k, e) more all,
-    )
-
-pub looked : (found : Lookup) (edited : List Uid) (left : List (Uid × EntityData)) → left ≡ [] → IsLooking found edited left → HaveNoChildren found edited
-looked found edited left none looking uid = by_test (is_some (found uid)) refl
-  where
-    nothing : (o : Option EntityData) → is_some o ≡ false → list_any (set.contains (parents_of (option_map held_of o))) edited ≡ false
-    nothing None h = none_of_nothing edited
-    nothing (Some e) h = absurd (true≢false h)
-
-    by_test : (b : Bool) → is_some (found uid) ≡ b → IsNoChild found edited uid
-    by_test true e = looking.0.holds uid (ap (λ es. list_any (same_uid uid) (keys_of es)) none) e
-    by_test false e = nothing (found uid) e
-
-last_parent : {R : Uid → Uid → Type 0} {a b : Uid} → Reaches R a b → (m : Uid) × R m b
-last_parent (edge {a = a} h) = (a, h)
-last_parent (further h r) = last_parent r
-
--- what is nobody's parent is nobody's ancestor
-pub covered : (found : Lookup) (edited uids : List Uid) → KeepsAncestors found → HaveNoChildren found edited → ((q : Uid) → list_any (same_uid q) uids ≡ list_any (same_uid q) edited) → Covers found edited uids
-covered found edited uids keeps childless are uid n = record { stays = sym (are uid) ∙ n; apart = none edited (λ q l. l) }
-  where
-    never : (q : Uid) → list_any (same_uid q) edited ≡ true → (b : Bool) → set.contains (kept_at found uid) q ≡ b → b ≡ false
-    never q l true k =
-        let last = last_parent ((keeps.ancestors uid q).0 k) in
-        absurd (true≢false (sym (one_listed (set.contains (parents_of (held_in found last.0))) q edited l last.1) ∙ childless last.0))
-    never q l false k = refl
-
-    none : (us : List Uid) → ((q : Uid) → list_any (same_uid q) us ≡ true → list_any (same_uid q) edited ≡ true) → list_any (set.contains (kept_at found uid)) us ≡ false
-    none [] on = refl
-    none (u ∷ us) on =
-        ap (λ b. b || list_any (set.contains (kept_at found uid)) us) (never u (on u (or_more (same_uid u u) (list_any (same_uid u) us) (same_uid_equiv.refl u))) (set.contains (kept_at found uid) u) refl)
-        ∙ none us (λ q h. on q (or_else (same_uid q u) (list_any (same_uid q) us) h))
 
 -- ---- cutting
 

@@ -19,6 +19,7 @@ mod Joined
 pub mod Untouched
 mod Beside
 pub mod Gathering
+mod Known
 pub mod Whole
 mod Dropping
 mod InPlace

@@ -52,10 +52,6 @@ pub record IsUntouched (found : Lookup) (edited : List Uid) (uid : Uid) : Type 0
 abbrev pub Covers : Lookup → List Uid → List Uid → Type 0
 Covers found edited uids = (uid : Uid) → list_any (same_uid uid) uids ≡ false → IsUntouched found edited uid
 
--- none of the edited is a parent of what stands at a uid
-abbrev pub HaveNoChildren : Lookup → List Uid → Type 0
-HaveNoChildren found edited = (uid : Uid) → list_any (set.contains (parents_of (held_in found uid))) edited ≡ false
-
 -- at all uids but these the ancestors that are kept are those that the parents held reach, and none reaches itself
 pub record KeepsBeside (uids : List Uid) (found : Lookup) : Type 0 where
   pub ancestors : (a b : Uid) → list_any (same_uid a) uids ≡ false → IsKept found a b ↔ IsAncestor (held_in found) a b

@@ -9,6 +9,7 @@ pub mod Kept
 pub mod Beside
 pub mod Refusals
 pub mod Modes
+pub mod Children
 pub mod Store
 pub mod InPlace
 pub mod Evaluated

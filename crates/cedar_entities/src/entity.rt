@@ -206,13 +206,6 @@ impl Entity {
         self.parents.meets(uids) || self.indirect_ancestors.meets(uids)
     }
 
-    /// Whether one of the uids is one of its parents.
-    pub fn is_child_of_one(&self, uids: &BTreeSet<EntityUID>) -> bool
-        ensures { result ≡ list_any (set.contains self.now.parents) uids.now.keys }
-    {
-        self.parents.meets(uids)
-    }
-
     /// Its parents, each below the next.
     pub fn parents(&self) -> Uids<'_>
         ensures listed { IsListOf result self.now.parents }

@@ -5,14 +5,17 @@ ghost use Rattle.cedar_language.specs.Order.{uid_cmp};
 ghost use Rattle.cedar_entities.specs.Kept.{in_map, put_over, added_to, removed_from, AreVersions, KeepsAncestors, IsByUid, Covers};
 ghost use Rattle.cedar_entities.specs.Modes.{IsComputed, IsClosureRefusal};
 ghost use Rattle.cedar_entities.specs.Refusals.{IsMemory, IsAdditionRefusal};
+ghost use Rattle.cedar_entities.specs.Children.{KnowsIfAny};
 ghost use Rattle.cedar_entities.specs.Beside.{among, nowhere, IsSameBeside, CoversEntities, cut_from};
 ghost use Rattle.cedar_entities.specs.declared.closing.TCComputation.TheVariants.{ComputeNow};
 
+use crate::children::learn;
 use crate::closing::TCComputation;
 use crate::edits::{add_all, cut_all, drop_all, put_all};
 use crate::entity::Entity;
 use crate::errors::EntitiesError;
 use crate::taking_back::{put_all_back, saved};
+use cedar_closure::Sources;
 use cedar_literals::uids::EntityUID;
 use std::alloc::Global;
 use std::collections::{BTreeMap, BTreeSet};
@@ -36,21 +39,25 @@ fn put_and_close(
 }
 
 /// Puts the entities into a map whose ancestors are closed, and closes them again; those stale then are known. A
-/// refused call leaves the map as it was.
+/// refused call leaves the map as it was. Either way the children of what the map holds are known, where they were.
 pub(crate) fn put_in_place(
     alloc: Global,
     map: &mut BTreeMap<EntityUID, Entity>,
+    children: &mut Option<Sources<EntityUID>>,
     entities: Vec<Entity>,
     stale: &[EntityUID],
 ) -> Result<(), EntitiesError>
     requires closed { KeepsAncestors (in_map map.old) }
     requires covers { CoversEntities (in_map map.old) entities.items stale.now }
+    requires known { KnowsIfAny (in_map map.old) children.old }
     ensures edited { OnOk result (IsComputed (put_over (in_map map.old) entities.items) (in_map map.new)) }
     ensures refused { IfErr result (IsClosureRefusal ComputeNow (put_over (in_map map.old) entities.items)) }
     ensures left { OnErr result (IsSameBeside nowhere (in_map map.old) (in_map map.new)) }
     ensures by_uid { IsByUid (in_map map.old) → IsByUid (in_map map.new) }
+    ensures known { KnowsIfAny (in_map map.new) children.new }
 {
     let before = saved(alloc, map, stale)?;
+    learn(alloc, children, &entities)?;
     match put_and_close(alloc, map, entities, stale) {
         Ok(()) => Ok(()),
         Err(error) => {
@@ -80,22 +87,26 @@ fn add_and_close(
 }
 
 /// Adds the entities to a map whose ancestors are closed, and closes them again; those stale then are known. A
-/// refused call leaves the map as it was.
+/// refused call leaves the map as it was. Either way the children of what the map holds are known, where they were.
 pub(crate) fn add_in_place(
     alloc: Global,
     map: &mut BTreeMap<EntityUID, Entity>,
+    children: &mut Option<Sources<EntityUID>>,
     entities: Vec<Entity>,
     stale: &[EntityUID],
 ) -> Result<(), EntitiesError>
     requires closed { KeepsAncestors (in_map map.old) }
     requires covers { CoversEntities (in_map map.old) entities.items stale.now }
+    requires known { KnowsIfAny (in_map map.old) children.old }
     ensures edited { OnOk result (IsComputed (added_to (in_map map.old) entities.items) (in_map map.new)) }
     ensures versions { OnOk result (AreVersions (added_to (in_map map.old) entities.items) entities.items) }
     ensures refused { IfErr result (IsAdditionRefusal (in_map map.old) entities.items) }
     ensures left { OnErr result (IsSameBeside nowhere (in_map map.old) (in_map map.new)) }
     ensures by_uid { IsByUid (in_map map.old) → IsByUid (in_map map.new) }
+    ensures known { KnowsIfAny (in_map map.new) children.new }
 {
     let before = saved(alloc, map, stale)?;
+    learn(alloc, children, &entities)?;
     match add_and_close(alloc, map, entities, stale) {
         Ok(()) => Ok(()),
         Err(error) => {

@@ -3,6 +3,7 @@
 #![tactic(auto)]
 
 pub mod attributes;
+mod children;
 pub mod closing;
 mod comparing;
 mod edits;

@@ -9,14 +9,17 @@ ghost use Rattle.cedar_literals.specs.Escapes.{uid_text};
 ghost use Rattle.cedar_entities.specs.Data.{EntityData};
 ghost use Rattle.cedar_entities.specs.Lists.{AreRising};
 ghost use Rattle.cedar_entities.specs.Beside.{CoversEntities};
-ghost use Rattle.cedar_entities.specs.Kept.{in_map, IsByUid, IsWhole, KeepsBeside, Covers};
+ghost use Rattle.cedar_entities.specs.Children.{KnowsChildren};
+ghost use Rattle.cedar_entities.specs.Kept.{in_map, IsByUid, IsWhole, KeepsBeside};
+ghost use Rattle.std.proofs.Props.{props};
 
 use crate::closing::TCComputation;
 use crate::comparing::{agree_where_held, has_uids_of};
 use crate::edits::{add_all, put_all, remove_all, uids_of};
 use crate::entity::Entity;
 use crate::errors::EntitiesError;
-use crate::touching::{are_few, few, touched, touched_in_closed};
+use crate::touching::{are_few, few, touched};
+use cedar_closure::Sources;
 use cedar_literals::types::Type;
 use cedar_literals::uids::EntityUID;
 use cedar_trees::expr::Expr;
@@ -39,8 +42,11 @@ pub struct Entities {
     mode: Mode,
     // whether the ancestors kept are known to be those that the parents reach
     pub(crate) is_closed: bool,
+    // the children of each uid, once an edit in place wanted them
+    pub(crate) children: Option<Sources<EntityUID>>,
     pub ghost by_uid: { IsByUid (in_map entities) },
     pub ghost closed: { IsTrue is_closed → IsWhole (in_map entities) },
+    pub ghost known: { IfSome children (KnowsChildren (in_map entities)) } by { Prim.hlevel props },
 }
 
 impl Drop for Entities {
@@ -49,6 +55,7 @@ impl Drop for Entities {
             entities: _,
             mode: _,
             is_closed: _,
+            children: _,
         } = self;
     }
 }
@@ -108,6 +115,7 @@ impl Entities {
             entities: BTreeMap::new(alloc),
             mode: Mode::Concrete,
             is_closed: true,
+            children: None,
         }
     }
 
@@ -120,11 +128,13 @@ impl Entities {
             entities,
             mode: _,
             is_closed,
+            children,
         } = self;
         Entities {
             entities,
             mode: Mode::Partial,
             is_closed,
+            children,
         }
     }
 
@@ -218,27 +228,13 @@ impl Entities {
             entities,
             mode,
             is_closed,
+            children: None,
         })
-    }
-
-    // The uids of the entities that an edit of these uids touches.
-    pub(crate) fn touched(
-        &self,
-        alloc: Global,
-        uids: &BTreeSet<EntityUID>,
-    ) -> Result<Vec<EntityUID>, AllocError>
-        ensures { IfOk result (λ touched. Covers (found_in self.now) uids.now.keys touched.items) }
-    {
-        if self.is_closed {
-            touched_in_closed(alloc, &self.entities, uids)
-        } else {
-            touched(alloc, &self.entities, uids)
-        }
     }
 
     // The uids of the entities that an edit of these entities touches, where they are few and the ancestors of all
     // others are known to be whole: where ancestors are to be computed, those of these entities alone are then stale.
-    pub(crate) fn stale(
+    fn stale(
         &self,
         alloc: Global,
         entities: &[Entity],
@@ -253,7 +249,7 @@ impl Entities {
             return Ok(None);
         }
         let edited = uids_of(alloc, entities)?;
-        let uids = touched_in_closed(alloc, &self.entities, &edited)?;
+        let uids = touched(alloc, &self.entities, &edited)?;
         Ok(few(self.is_closed, uids, self.len()))
     }
 
@@ -311,6 +307,7 @@ impl Entities {
             entities: mut map,
             mode,
             is_closed: _,
+            children: _,
         } = self;
         add_all(alloc, &mut map, entities)?;
         Entities::closed(alloc, map, mode, tc_computation, stale)
@@ -337,6 +334,7 @@ impl Entities {
             entities: mut map,
             mode,
             is_closed: _,
+            children: _,
         } = self;
         put_all(alloc, &mut map, entities)?;
         Entities::closed(alloc, map, mode, tc_computation, stale)
@@ -362,11 +360,12 @@ impl Entities {
         ensures only_memory { tc_computation ≡ ComputeNow → IsClosed self → IfErr result IsMemory }
         ensures partial { IfOk result (λ store. is_partial_store store ≡ is_partial_store self) }
     {
-        let touched = self.touched(alloc, uids)?;
+        let touched = touched(alloc, &self.entities, uids)?;
         let Entities {
             entities: mut map,
             mode,
             is_closed,
+            children: _,
         } = self;
         remove_all(&mut map, &touched, uids);
         let stale = few(is_closed, touched, map.len());
@@ -390,6 +389,7 @@ impl IntoIterator for Entities {
             entities,
             mode: _,
             is_closed: _,
+            children: _,
         } = self;
         entities.into_values()
     }
@@ -420,6 +420,7 @@ impl Clone for Entities {
             entities: self.entities.clone()?,
             mode: self.mode,
             is_closed: self.is_closed,
+            children: None,
         })
     }
 }

@@ -1,5 +1,5 @@
 //! Edits of a store in place: a refused one leaves the store as it was.
-ghost use Rattle.std.specs.Prelude.{◌≡◌, OnErr, IfErr};
+ghost use Rattle.std.specs.Prelude.{◌≡◌, OnErr, IfOk, IfErr, IfSome};
 ghost use Rattle.std.specs.FinSet as set;
 ghost use Rattle.cedar_language.specs.Order.{uid_cmp};
 ghost use Rattle.cedar_entities.specs.Edits.{put, remove, ArePlain};
@@ -10,15 +10,56 @@ ghost use Rattle.cedar_entities.specs.Refusals.{IsMemory};
 ghost use Rattle.cedar_entities.specs.Store.{found_in, held_at, IsClosed, is_partial_store, Leaves, AddsAs, Adds};
 ghost use Rattle.cedar_entities.specs.declared.closing.TCComputation.TheVariants.{ComputeNow};
 
+use crate::children::{edges_of, forget, make_known};
 use crate::closing::TCComputation;
+use crate::edits::uids_of;
 use crate::entity::Entity;
 use crate::errors::EntitiesError;
 use crate::in_place::{add_in_place, put_in_place, remove_in_place};
 use crate::store::Entities;
-use crate::touching::few;
+use crate::touching::{are_few, touched_below};
 use cedar_literals::uids::EntityUID;
-use std::alloc::Global;
+use std::alloc::{AllocError, Global};
 use std::collections::BTreeSet;
+
+// ---- what an edit touches
+
+impl Entities {
+    // Whether an edit of so many uids may touch few, the ancestors kept being whole.
+    fn takes_few(&self, edited: usize) -> bool {
+        self.is_closed && are_few(edited, self.len())
+    }
+
+    // The uids of the entities that an edit of these uids touches, where they are few, children are known and the
+    // ancestors kept are whole.
+    fn touched_few(
+        &self,
+        alloc: Global,
+        uids: &BTreeSet<EntityUID>,
+    ) -> Result<Option<Vec<EntityUID>>, AllocError>
+        ensures { IfOk result (λ few. IfSome few (λ touched. IsClosed self.now × Covers (found_in self.now) uids.now.keys touched.items)) }
+    {
+        if !self.is_closed {
+            return Ok(None);
+        }
+        match &self.children {
+            Some(index) => touched_below(alloc, &self.entities, index, uids),
+            None => Ok(None),
+        }
+    }
+
+    // The same of an edit of these entities: the ancestors of all others stay whole.
+    fn touched_by(
+        &self,
+        alloc: Global,
+        entities: &[Entity],
+    ) -> Result<Option<Vec<EntityUID>>, AllocError>
+        ensures { IfOk result (λ few. IfSome few (λ touched. IsClosed self.now × CoversEntities (found_in self.now) entities.now touched.items)) }
+    {
+        let uids = uids_of(alloc, entities)?;
+        self.touched_few(alloc, &uids)
+    }
+}
 
 // ---- puts
 
@@ -26,9 +67,10 @@ impl Entities {
     /// Puts these entities in the place of those of the same uids, as `upsert_entities` does with `ComputeNow`, but
     /// in the store itself: a refused call leaves what was held, with its ancestors.
     ///
-    /// Refused `TransitiveClosureError` for a cycle of parents, and where memory runs out. It looks once at each
-    /// entity, and closes again those that it touches; where these aren't few, or the store isn't known to be
-    /// closed, it edits a copy.
+    /// Refused `TransitiveClosureError` for a cycle of parents, and where memory runs out. It closes again the listed
+    /// entities and those below them, without a look at others, but that the first edit in place of a store looks
+    /// once at each entity for its parents. Where those touched aren't few, or the store isn't known to be closed, it
+    /// edits a copy, and the next edit in place is a first one.
     pub fn upsert_in_place(
         &mut self,
         alloc: Global,
@@ -38,7 +80,11 @@ impl Entities {
         ensures left { OnErr result (IsLeft self.old self.new) }
         ensures partial { is_partial_store self.new ≡ is_partial_store self.old }
     {
-        match self.stale(alloc, &entities, TCComputation::ComputeNow)? {
+        if !self.takes_few(entities.len()) {
+            return self.upsert_copied(alloc, entities);
+        }
+        make_known(alloc, &self.entities, &mut self.children)?;
+        match self.touched_by(alloc, &entities)? {
             Some(stale) => self.upsert_at(alloc, entities, &stale),
             None => self.upsert_copied(alloc, entities),
         }
@@ -57,7 +103,16 @@ impl Entities {
         ensures left { OnErr result (IsLeft self.old self.new) }
         ensures partial { is_partial_store self.new ≡ is_partial_store self.old }
     {
-        put_in_place(alloc, &mut self.entities, entities, stale)
+        let edges = edges_of(alloc, &self.entities, &entities, stale)?;
+        let edited = put_in_place(
+            alloc,
+            &mut self.entities,
+            &mut self.children,
+            entities,
+            stale,
+        );
+        forget(&mut self.children, &self.entities, &edges);
+        edited
     }
 
     // The same, on a copy that takes the store's place.
@@ -89,7 +144,11 @@ impl Entities {
         ensures left { OnErr result (IsLeft self.old self.new) }
         ensures partial { is_partial_store self.new ≡ is_partial_store self.old }
     {
-        match self.stale(alloc, &entities, TCComputation::ComputeNow)? {
+        if !self.takes_few(entities.len()) {
+            return self.add_copied(alloc, entities);
+        }
+        make_known(alloc, &self.entities, &mut self.children)?;
+        match self.touched_by(alloc, &entities)? {
             Some(stale) => self.add_at(alloc, entities, &stale),
             None => self.add_copied(alloc, entities),
         }
@@ -109,7 +168,16 @@ impl Entities {
         ensures left { OnErr result (IsLeft self.old self.new) }
         ensures partial { is_partial_store self.new ≡ is_partial_store self.old }
     {
-        add_in_place(alloc, &mut self.entities, entities, stale)
+        let edges = edges_of(alloc, &self.entities, &entities, stale)?;
+        let edited = add_in_place(
+            alloc,
+            &mut self.entities,
+            &mut self.children,
+            entities,
+            stale,
+        );
+        forget(&mut self.children, &self.entities, &edges);
+        edited
     }
 
     // The same, on a copy that takes the store's place.
@@ -143,8 +211,11 @@ impl Entities {
         ensures left { OnErr result (IsLeft self.old self.new) }
         ensures partial { is_partial_store self.new ≡ is_partial_store self.old }
     {
-        let touched = self.touched(alloc, uids)?;
-        match few(self.is_closed, touched, self.len()) {
+        if !self.takes_few(uids.len()) {
+            return self.remove_copied(alloc, uids);
+        }
+        make_known(alloc, &self.entities, &mut self.children)?;
+        match self.touched_few(alloc, uids)? {
             Some(touched) => self.remove_at(alloc, uids, &touched),
             None => self.remove_copied(alloc, uids),
         }
@@ -164,7 +235,10 @@ impl Entities {
         ensures left { OnErr result (IsLeft self.old self.new) }
         ensures partial { is_partial_store self.new ≡ is_partial_store self.old }
     {
-        remove_in_place(alloc, &mut self.entities, touched, uids)
+        let edges = edges_of(alloc, &self.entities, &[], touched)?;
+        let edited = remove_in_place(alloc, &mut self.entities, touched, uids);
+        forget(&mut self.children, &self.entities, &edges);
+        edited
     }
 
     // The same, on a copy that takes the store's place.

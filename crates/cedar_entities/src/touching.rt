@@ -1,11 +1,13 @@
 //! Which entities an edit touches: those edited, and those that have one of these among their ancestors.
-ghost use Rattle.std.specs.Prelude.{◌≡◌, false, IfOk, IfSome, IsTrue};
+ghost use Rattle.std.specs.Prelude.{◌≡◌, IfOk, IfSome, IsTrue};
 ghost use Rattle.std.specs.List.{list_any};
 ghost use Rattle.cedar_language.specs.Uid.{Uid};
 ghost use Rattle.cedar_language.specs.Order.{same_uid};
-ghost use Rattle.cedar_entities.specs.Kept.{in_map, KeepsAncestors, HaveNoChildren, Covers};
+ghost use Rattle.cedar_entities.specs.Children.{KnowsChildren};
+ghost use Rattle.cedar_entities.specs.Kept.{in_map, KeepsAncestors, Covers};
 
 use crate::entity::Entity;
+use cedar_closure::Sources;
 use cedar_literals::uids::EntityUID;
 use std::alloc::{AllocError, Global};
 use std::collections::{BTreeMap, BTreeSet};
@@ -39,39 +41,31 @@ pub(crate) fn touched(
     Ok(uids)
 }
 
-// Whether one of the edited is a parent of an entity.
-fn have_children(map: &BTreeMap<EntityUID, Entity>, edited: &BTreeSet<EntityUID>) -> bool
-    ensures { result ≡ false → HaveNoChildren (in_map map.now) edited.now.keys }
-{
-    for (_, entity) in map.iter() {
-        if entity.is_child_of_one(edited) {
-            return true;
-        }
-    }
-    false
-}
-
-/// The same as `touched`, where ancestors are those that the parents reach: what is nobody's parent is nobody's
-/// ancestor, so that for edited ones without children it looks at the parents alone.
-pub(crate) fn touched_in_closed(
+/// The same, where they are few: the edited and those below them, found by the children that are known, without a look
+/// at others.
+pub(crate) fn touched_below(
     alloc: Global,
     map: &BTreeMap<EntityUID, Entity>,
+    index: &Sources<EntityUID>,
     edited: &BTreeSet<EntityUID>,
-) -> Result<Vec<EntityUID>, AllocError>
-    requires { KeepsAncestors (in_map map.now) }
-    ensures { IfOk result (λ uids. Covers (in_map map.now) edited.now.keys uids.items) }
+) -> Result<Option<Vec<EntityUID>>, AllocError>
+    requires closed { KeepsAncestors (in_map map.now) }
+    requires children { KnowsChildren (in_map map.now) index.now }
+    ensures { IfOk result (λ few. IfSome few (λ uids. Covers (in_map map.now) edited.now.keys uids.items)) }
 {
-    if have_children(map, edited) {
-        touched(alloc, map, edited)
-    } else {
-        listed(alloc, edited)
-    }
+    let edited = listed(alloc, edited)?;
+    index.that_lead_to(alloc, &edited, most_of_few(map.len()))
+}
+
+// How many of so many entities are few at most.
+fn most_of_few(entities: usize) -> usize {
+    (entities / 16).max(8)
 }
 
 /// Whether an edit that touches so many entities is one of few among these: then their ancestors alone are closed
 /// again.
 pub(crate) fn are_few(touched: usize, entities: usize) -> bool {
-    touched <= 8 || touched <= entities / 16
+    touched <= most_of_few(entities)
 }
 
 /// The uids, where the ancestors kept of all others are whole and the uids are few.

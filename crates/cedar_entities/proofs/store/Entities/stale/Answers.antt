@@ -1,5 +1,5 @@
 -- The uids touched are few, and the ancestors of all others are known to be whole.
-use Rattle.std.proofs.Common.{rules, sym, subst}
+use Rattle.std.proofs.Common.{sym, subst}
 use Rattle.cedar_entities.specs.Kept.{Covers}
 use Rattle.cedar_entities.specs.Store.{found_in}
 use Rattle.cedar_entities.proofs.Whole.{kept_of_whole}
@@ -13,6 +13,3 @@ returns c =
       kept_of_whole found (c.args.self.now.closed h.0),
       (c.in_ok-edited.edited.keys, c.in_ok-edited.ensures, subst (Covers found c.in_ok-edited.edited.keys) (sym h.1) c.in_ok-uids.ensures),
     )) c.few.result c.few.ensures
-
-pub touched_in_closed-requires : goal.touched_in_closed-requires
-touched_in_closed-requires c = kept_of_whole (found_in c.args.self.now) (c.args.self.now.closed (search rules))

@@ -15,6 +15,7 @@ invariant_of-result c =
     record {
       by_uid = λ uid e h. c.args.self.now.by_uid uid e (sym (ap (lookup (is_at (uid_cmp uid))) same) ∙ h);
       closed = λ known. subst IsWhole (λ i uid. lookup (is_at (uid_cmp uid)) (sym same i)) (c.args.self.now.closed known);
+      known = tt;
     }
 
 pub returns : goal.returns
