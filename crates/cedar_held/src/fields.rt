@@ -42,11 +42,17 @@ pub fn has_only(entries: &BTreeMap<RcStr, Expr>, keys: &[&str]) -> bool
     true
 }
 
-// What stands beside a key.
+// What stands beside a key. Bodies that are read so have few keys, of which telling whether two are the same costs less
+// than their order.
 pub fn field<'e>(entries: &'e BTreeMap<RcStr, Expr>, key: &str) -> Option<&'e Expr>
     ensures { option_map (λ value. bare value.now) result ≡ world.found key.now (fields_in entries.now) }
 {
-    entries.get(key)
+    for (name, value) in entries {
+        if is_same(key, name.as_str()) {
+            return Some(value);
+        }
+    }
+    None
 }
 
 // The text beside a key; none where none stands there.
