@@ -19,8 +19,8 @@ names_of rests = flat_map (λ t. filter_map name_standing (positions t)) rests
 -- those in what is left of policies, first of the permits
 abbrev pub names_left : PartialResponse → List Text
 names_left response =
-    names_of (map (λ e. bare e.1.0.value) response.residual_permits.entries)
-    ++ names_of (map (λ e. bare e.1.0.value) response.residual_forbids.entries)
+    names_of (map (λ e. bare e.1.0.value) response.residual_permits)
+    ++ names_of (map (λ e. bare e.1.0.value) response.residual_forbids)
 
 -- a name for which what is left of some policy waits, and that isn't told
 abbrev pub is_to_tell : Option Asked → PartialResponse → Text → Bool

@@ -15,11 +15,11 @@ is_in id group = is_some (lookup (same_text id) group)
 module _ (response : PartialResponse) (id : Text) where
   -- it is among those of its effect that are satisfied
   abbrev pub is_satisfied : Bool
-  is_satisfied = is_in id response.satisfied_permits.entries || is_in id response.satisfied_forbids.entries
+  is_satisfied = is_in id response.satisfied_permits || is_in id response.satisfied_forbids
 
   -- something of its condition is left
   abbrev pub is_open : Bool
-  is_open = is_in id response.residual_permits.entries || is_in id response.residual_forbids.entries
+  is_open = is_in id response.residual_permits || is_in id response.residual_forbids
 
   abbrev pub has_erred : Bool
   has_erred = is_in id (map error_seen response.errors.items)

@@ -19,11 +19,11 @@ use crate::standing::{Standing, tell_standing};
 use cedar_held::worlds::policy_sets_are_worlds;
 use cedar_policies::policies::Policy;
 use cedar_policy_parts::annotations::Annotations;
+use cedar_policy_set::policy_map::PolicyMap;
 use cedar_session::{
     Answer, Decision, Extensions, PartialResponse, PolicyID, Reply, Session, Verb, line_in_memory,
 };
 use cedar_trees::expr::Expr;
-use indexmap::IndexMap;
 use std::alloc::{AllocError, Global};
 use std::rc::Rc;
 
@@ -232,9 +232,9 @@ fn push_all_standing<'r>(
 fn push_group<'r>(
     alloc: Global,
     names: &mut Vec<&'r str>,
-    group: &'r IndexMap<PolicyID, (Rc<Expr>, Rc<Annotations>)>,
+    group: &'r PolicyMap<(Rc<Expr>, Rc<Annotations>)>,
 ) -> Result<(), AllocError>
-    ensures { OnOk result (map (λ n. n.now) names.new.items ≡ map (λ n. n.now) names.old.items ++ names_of (map (λ e. bare e.1.0.value) group.now.entries)) }
+    ensures { OnOk result (map (λ n. n.now) names.new.items ≡ map (λ n. n.now) names.old.items ++ names_of (map (λ e. bare e.1.0.value) group.now)) }
 {
     for (_id, kept) in group.iter() {
         push_standing(alloc, names, &kept.0)?;

@@ -18,7 +18,6 @@ use cedar_names::places::Loc;
 use cedar_policies::policies::Policy;
 use cedar_session::{PartialResponse, PolicyID};
 use cedar_trees::expr::Expr;
-use indexmap::IndexMap;
 use std::alloc::{AllocError, Global};
 
 /// How a policy stands.
@@ -64,13 +63,7 @@ impl<'r> Standing<'r> {
 fn is_satisfied(response: &PartialResponse, id: &PolicyID) -> bool
     ensures { result ≡ is_satisfied response.now id.now }
 {
-    is_in(&response.satisfied_permits, id) || is_in(&response.satisfied_forbids, id)
-}
-
-fn is_in<V>(group: &IndexMap<PolicyID, V>, id: &PolicyID) -> bool
-    ensures { result ≡ is_in id.now group.now.entries }
-{
-    group.get(id).is_some()
+    response.satisfied_permits.contains_key(id) || response.satisfied_forbids.contains_key(id)
 }
 
 /// What is left of the policy of this id, if it is open.

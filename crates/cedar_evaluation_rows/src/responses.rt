@@ -3,6 +3,7 @@ use crate::evaluators::question;
 use crate::policies::{answered, read_response, responded};
 use cedar_evaluator::errors::AuthorizationError;
 use cedar_evaluator::partial_response::{ErrorState, PartialResponse};
+use cedar_evaluator::reasons::Reasons;
 use cedar_evaluator::response::Response;
 use cedar_expressions::ast::Expr;
 use cedar_expressions::evaluator::EvaluationError;
@@ -10,7 +11,6 @@ use cedar_policy_parts::annotations::Annotations;
 use cedar_policy_parts::{Decision, PolicyID};
 use cedar_rows::stack::top;
 use cedar_rows::{Answer, no_case, tell};
-use indexmap::IndexSet;
 use std::alloc::{AllocError, Global};
 use std::mem;
 use std::rc::Rc;
@@ -132,8 +132,8 @@ fn concrete(alloc: Global, response: Result<Response, AllocError>) -> Answer {
     answered(alloc, &response?)
 }
 
-fn reasons(alloc: Global, ids: &str) -> Result<IndexSet<PolicyID>, AllocError> {
-    let mut reasons = IndexSet::new(alloc);
+fn reasons(alloc: Global, ids: &str) -> Result<Reasons, AllocError> {
+    let mut reasons = Reasons::new(alloc);
     for id in ids.split_terminator(',') {
         reasons.insert(PolicyID::from_string(alloc, id)?)?;
     }

@@ -1,44 +1,39 @@
--- The ids of each group are some of those that are kept, so that none stands twice where none of these does.
-use Rattle.std.proofs.Common.{◌≡◌, Bool, true, false, Option, Some, None, List, [], ◌∷◌, map, refl, sym, ◌∙◌, ap, subst}
-use Rattle.std.specs.List.{IsDistinct, AllByRecursion, filter_map, cons_option}
-use Rattle.std.specs.Map.{keys_of}
+-- The ids of each group are some of those that are kept, so that one that isn't among these stands in no group.
+use Rattle.std.proofs.Common.{◌≡◌, Bool, true, false, ◌||◌, Option, Some, None, List, [], ◌∷◌, map, refl, sym, ◌∙◌, ap, true≢false}
+use Rattle.std.specs.List.{filter_map, cons_option}
+use Rattle.std.specs.Map.{lookup, keys_of}
+use Rattle.std.specs.Set.{is_member}
 use Rattle.std.proofs.lemmas.List.{map-id}
-use Rattle.std.proofs.lemmas.Map.Keys.{IsDistinct-head, IsDistinct-tail, IsDistinct-cons}
+use Rattle.std.proofs.lemmas.Map.Made.{is_some-lookup}
 use Rattle.cedar_language.specs.Answering.{Effect, Permit, Forbid}
 use Rattle.cedar_language.specs.Order.{same_text}
 use Rattle.cedar_language.specs.Tree.{Tree}
 use Rattle.cedar_language.specs.Uid.{Text}
+use Rattle.cedar_policy_set.proofs.Finding.{none_from}
 use Rattle.cedar_evaluator.specs.Evaluations.{Found, Satisfied, Unsatisfied, Erred, Open, Kept}
+use Rattle.cedar_evaluator.specs.Grouping.{ids_of}
 use Rattle.cedar_evaluator.specs.Responses.{if_effect, satisfied_id, false_id, open_id, satisfied_of, false_of, open_of}
-
-abbrev pub ids_of : List Kept → List Text
-ids_of ks = map (λ (k : Kept). k.id) ks
 
 -- ---- any group
 
-module _ {X : Type 0} (part : Kept → Option X) (name : X → Text) (named : (k : Kept) (x : X) → part k ≡ Some x → name x ≡ k.id) where
-  abbrev AreOther : Text → List Text → Type 0
-  AreOther t ts = AllByRecursion (λ u. same_text t u ≡ false) ts
+either_false : (a b : Bool) → (a || b) ≡ false → (a ≡ false) × (b ≡ false)
+either_false true b h = absurd (true≢false h)
+either_false false b h = (refl, h)
 
-  one_other : (t : Text) (k : Kept) (rest : List X) (o : Option X) → part k ≡ o → same_text t k.id ≡ false → AreOther t (map name rest) → AreOther t (map name (cons_option o rest))
-  one_other t k rest None is here others = others
-  one_other t k rest (Some x) is here others = (ap (same_text t) (named k x is) ∙ here, others)
+-- entries have nothing at an id that isn't among theirs
+pub nothing_at : {V : Type 0} (es : List (Text × V)) (ids : List Text) (id : Text) → keys_of es ≡ ids → is_member same_text ids id ≡ false → lookup (same_text id) es ≡ None
+nothing_at es ids id are free = none_from (lookup (same_text id) es) (is_some-lookup (same_text id) es ∙ ap (λ l. is_member same_text l id) are ∙ free)
 
-  are_other : (t : Text) (ks : List Kept) → AreOther t (ids_of ks) → AreOther t (map name (filter_map part ks))
-  are_other t [] h = tt
-  are_other t (k ∷ ks) h = one_other t k (filter_map part ks) (part k) refl h.0 (are_other t ks h.1)
+module _ (id : Text) {X : Type 0} (part : Kept → Option X) (name : X → Text) (named : (k : Kept) (x : X) → part k ≡ Some x → name x ≡ k.id) where
+  one_free : (k : Kept) (rest : List X) (o : Option X) → part k ≡ o → same_text id k.id ≡ false → is_member same_text (map name rest) id ≡ false → is_member same_text (map name (cons_option o rest)) id ≡ false
+  one_free k rest None is here others = others
+  one_free k rest (Some x) is here others = λ i. (ap (same_text id) (named k x is) ∙ here) i || others i
 
-  one_apart : (k : Kept) (rest : List X) (o : Option X) → part k ≡ o → AreOther k.id (map name rest) → IsDistinct same_text (map name rest) → IsDistinct same_text (map name (cons_option o rest))
-  one_apart k rest None is others apart = apart
-  one_apart k rest (Some x) is others apart =
-      IsDistinct-cons same_text (name x) (map name rest) (subst (λ t. AreOther t (map name rest)) (sym (named k x is)) others) apart
-
-  pub parts_apart : (ks : List Kept) → IsDistinct same_text (ids_of ks) → IsDistinct same_text (map name (filter_map part ks))
-  parts_apart [] apart = apart
-  parts_apart (k ∷ ks) apart =
-      one_apart k (filter_map part ks) (part k) refl
-      (are_other k.id ks (IsDistinct-head same_text k.id (ids_of ks) apart))
-      (parts_apart ks (IsDistinct-tail same_text k.id (ids_of ks) apart))
+  part_free : (ks : List Kept) → is_member same_text (ids_of ks) id ≡ false → is_member same_text (map name (filter_map part ks)) id ≡ false
+  part_free [] free = refl
+  part_free (k ∷ ks) free =
+      let (here, others) = either_false (same_text id k.id) (is_member same_text (ids_of ks) id) free in
+      one_free k (filter_map part ks) (part k) refl here (part_free ks others)
 
 -- ---- each group
 
@@ -48,7 +43,7 @@ of_effect Permit Forbid o x h = absurd (cc h)
 of_effect Forbid Permit o x h = absurd (cc h)
 of_effect Forbid Forbid o x h = h
 
-some_same : {A : Type 0} (x y : A) → Some x ≡ Some y → y ≡ x
+pub some_same : {A : Type 0} (x y : A) → Some x ≡ Some y → y ≡ x
 some_same x y e = cc
 
 satisfied_named : (id : Text) (f : Found) (x : Text) → satisfied_id id f ≡ Some x → x ≡ id
@@ -69,16 +64,16 @@ open_named id Unsatisfied x h = absurd (cc h)
 open_named id (Erred e) x h = absurd (cc h)
 open_named id (Open t) x h = ap (λ (y : Text × Tree). y.0) (some_same (id, t) x h)
 
-module _ (e : Effect) (ks : List Kept) (apart : IsDistinct same_text (ids_of ks)) where
-  pub satisfied_apart : IsDistinct same_text (satisfied_of e ks)
-  satisfied_apart =
-      subst (IsDistinct same_text) (map-id (satisfied_of e ks))
-      (parts_apart (λ (k : Kept). if_effect e k.effect (satisfied_id k.id k.found)) (λ t. t) (λ k x h. satisfied_named k.id k.found x (of_effect e k.effect (satisfied_id k.id k.found) x h)) ks apart)
+module _ (e : Effect) (ks : List Kept) (id : Text) (free : is_member same_text (ids_of ks) id ≡ false) where
+  pub satisfied_free : is_member same_text (satisfied_of e ks) id ≡ false
+  satisfied_free =
+      ap (λ l. is_member same_text l id) (sym (map-id (satisfied_of e ks)))
+      ∙ part_free id (λ (k : Kept). if_effect e k.effect (satisfied_id k.id k.found)) (λ t. t) (λ k x h. satisfied_named k.id k.found x (of_effect e k.effect (satisfied_id k.id k.found) x h)) ks free
 
-  pub false_apart : IsDistinct same_text (keys_of (false_of e ks))
-  false_apart =
-      parts_apart (λ (k : Kept). if_effect e k.effect (false_id k.id k.found)) (λ x. x.0) (λ k x h. false_named k.id k.found x (of_effect e k.effect (false_id k.id k.found) x h)) ks apart
+  pub false_free : is_member same_text (keys_of (false_of e ks)) id ≡ false
+  false_free =
+      part_free id (λ (k : Kept). if_effect e k.effect (false_id k.id k.found)) (λ x. x.0) (λ k x h. false_named k.id k.found x (of_effect e k.effect (false_id k.id k.found) x h)) ks free
 
-  pub open_apart : IsDistinct same_text (keys_of (open_of e ks))
-  open_apart =
-      parts_apart (λ (k : Kept). if_effect e k.effect (open_id k.id k.found)) (λ x. x.0) (λ k x h. open_named k.id k.found x (of_effect e k.effect (open_id k.id k.found) x h)) ks apart
+  pub open_free : is_member same_text (keys_of (open_of e ks)) id ≡ false
+  open_free =
+      part_free id (λ (k : Kept). if_effect e k.effect (open_id k.id k.found)) (λ x. x.0) (λ k x h. open_named k.id k.found x (of_effect e k.effect (open_id k.id k.found) x h)) ks free

@@ -141,7 +141,7 @@ module _ (ks : List Kept) (whole : Response) (concrete : IsConcrete (holding_of 
   reasons_by false = sym (permit_ids ks)
 
   module _ (closed : AreClosed ks) where
-    reasons_are : whole.diagnostics.reason.keys ≡ ids_with (is_reason js) js
+    reasons_are : whole.diagnostics.reason ≡ ids_with (is_reason js) js
     reasons_are =
         concrete.reasons ∙ must_held h
         ∙ (λ i. cond (has_any (satisfied_of Forbid ks) || has_any (none_open Forbid ks closed i)) (satisfied_of Forbid ks) (satisfied_of Permit ks))

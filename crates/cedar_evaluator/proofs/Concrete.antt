@@ -3,7 +3,6 @@ use Rattle.std.proofs.Common.{◌≡◌, Bool, true, false, cond, List, [], ◌�
 use Rattle.std.specs.Prelude.{◌↔◌, IsTrue}
 use Rattle.std.specs.List.{IsDistinct}
 use Rattle.std.proofs.lemmas.List.{append_assoc, map-append}
-use Rattle.indexmap.specs.IndexSet.{insert_key}
 use Rattle.cedar_language.specs.Answering.{Decision, Allow, Deny, known_decision}
 use Rattle.cedar_language.specs.Order.{same_text}
 use Rattle.cedar_language.specs.Uid.{Text}
@@ -18,6 +17,7 @@ use Rattle.cedar_evaluator.specs.Concrete.{cause_seen, left_of, all_causes, has_
 use Rattle.cedar_evaluator.specs.Deciding.{has_any}
 use Rattle.cedar_evaluator.specs.Given.{Noted}
 use Rattle.cedar_evaluator.specs.Holding.{error_seen, holding_in}
+use Rattle.cedar_evaluator.specs.Reasons.{put_id}
 use Rattle.cedar_evaluator.specs.Responses.{judged_held}
 use Rattle.cedar_evaluator.specs.declared.errors.AuthorizationError.{AuthorizationError}
 use Rattle.cedar_evaluator.specs.declared.errors.AuthorizationError.TheVariants.{PolicyEvaluationError}
@@ -42,19 +42,19 @@ any_seen g (x ∷ xs) = refl
 by_groups : Bool → Bool → Decision
 by_groups f p = cond f Deny (cond p Allow Deny)
 
-pub known_in : (r : PartialResponse) (f p : Bool) → has_any r.satisfied_forbids.entries ≡ f → has_any r.satisfied_permits.entries ≡ p
+pub known_in : (r : PartialResponse) (f p : Bool) → has_any r.satisfied_forbids ≡ f → has_any r.satisfied_permits ≡ p
     → cond f Deny (cond p Allow Deny) ≡ known_decision (judged_held (holding_in r))
 known_in r f p forbids permits =
-    sym (λ i. cond ((has_satisfied_forbid (holding_in r) ∙ any_seen (λ e. e.0) r.satisfied_forbids.entries ∙ forbids) i) Deny
-    (cond ((has_satisfied_permit (holding_in r) ∙ any_seen (λ e. e.0) r.satisfied_permits.entries ∙ permits) i) Allow Deny))
+    sym (λ i. cond ((has_satisfied_forbid (holding_in r) ∙ any_seen (λ e. e.0) r.satisfied_forbids ∙ forbids) i) Deny
+    (cond ((has_satisfied_permit (holding_in r) ∙ any_seen (λ e. e.0) r.satisfied_permits ∙ permits) i) Allow Deny))
 
 -- ---- ids that are put into a set
 
-apart_put : (done rest : List Text) (id : Text) → IsDistinct same_text (done ++ id ∷ rest) → insert_key same_text done id ≡ done ++ id ∷ []
+apart_put : (done rest : List Text) (id : Text) → IsDistinct same_text (done ++ id ∷ rest) → put_id done id ≡ done ++ id ∷ []
 apart_put done rest id apart = ap (λ b. cond b done (done ++ id ∷ [])) (distinct_apart done id rest apart)
 
 -- an id of such a list is put behind those before it
-pub put_next : (all done rest : List Text) (id : Text) → IsDistinct same_text all → done ++ id ∷ rest ≡ all → insert_key same_text done id ++ rest ≡ all
+pub put_next : (all done rest : List Text) (id : Text) → IsDistinct same_text all → done ++ id ∷ rest ≡ all → put_id done id ++ rest ≡ all
 put_next all done rest id apart is =
     ap (λ l. l ++ rest) (apart_put done rest id (subst (IsDistinct same_text) (sym is) apart)) ∙ append_assoc done (id ∷ []) rest ∙ is
 
@@ -76,11 +76,11 @@ seen_open (e ∷ es) = ap (λ l. has_no_value (e.0, bare e.1.0.value) ∷ l) (se
 -- what was met tells each error
 pub errors_told : (r : PartialResponse) (errors : List AuthorizationError) → map cause_seen errors ≡ all_causes r → map error_seen errors ≡ all_errors (holding_in r)
 errors_told r errors is =
-    let forbids = map left_of r.residual_forbids.entries in
-    let permits = map left_of r.residual_permits.entries in
+    let forbids = map left_of r.residual_forbids in
+    let permits = map left_of r.residual_permits in
     let told = map cause_seen r.errors.items in
     seen_told errors
     ∙ ap (map failed) is
     ∙ map-append failed (forbids ++ permits) told
     ∙ ap (λ l. l ++ map failed told) (map-append failed forbids permits)
-    ∙ (λ i. seen_open r.residual_forbids.entries i ++ seen_open r.residual_permits.entries i ++ sym (seen_told r.errors.items) i)
+    ∙ (λ i. seen_open r.residual_forbids i ++ seen_open r.residual_permits i ++ sym (seen_told r.errors.items) i)

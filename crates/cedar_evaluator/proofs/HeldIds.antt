@@ -14,12 +14,11 @@ use Rattle.cedar_language.specs.Uid.{Text}
 use Rattle.cedar_policy_set.specs.Entries.{Entries}
 use Rattle.cedar_trees.specs.Bare.{bare}
 use Rattle.cedar_evaluator.specs.Evaluations.{Found, Satisfied, Unsatisfied, Erred, Open, Kept}
-use Rattle.cedar_evaluator.specs.Grouping.{held_with}
+use Rattle.cedar_evaluator.specs.Grouping.{held_with, ids_of}
 use Rattle.cedar_evaluator.specs.Holding.{has_erred, holding_in}
 use Rattle.cedar_evaluator.specs.Residuals.{left_satisfied, left_false, left_open, residuals_with, is_any}
 use Rattle.cedar_evaluator.specs.Responses.{Holding, if_effect, satisfied_id, false_id, open_id, holding_of}
 use Rattle.cedar_evaluator.specs.declared.partial_response.PartialResponse.{PartialResponse}
-use Rattle.cedar_evaluator.proofs.Apart.{ids_of}
 use Rattle.cedar_evaluator.proofs.Residuals.{satisfied_permits_left, false_permits_left, open_permits_left, satisfied_forbids_left, false_forbids_left, open_forbids_left, left_all}
 
 abbrev held_ids : Holding → List Text
@@ -45,12 +44,12 @@ module _ (r : PartialResponse) where
       ap keys_of (left_all r)
       ∙ keys_six (satisfied_permits_left r) (false_permits_left r) (open_permits_left r) (satisfied_forbids_left r) (false_forbids_left r) (open_forbids_left r)
       ∙ (λ i.
-      keys_of-map_values (λ v. (left_satisfied Permit ([], v)).1) r.satisfied_permits.entries i
-      ++ same_keys (λ v. (left_false Permit ([], v)).1) (λ v. has_erred v.0) r.false_permits.entries i
-      ++ same_keys (λ v. (left_open Permit ([], v)).1) (λ v. bare v.0.value) r.residual_permits.entries i
-      ++ keys_of-map_values (λ v. (left_satisfied Forbid ([], v)).1) r.satisfied_forbids.entries i
-      ++ same_keys (λ v. (left_false Forbid ([], v)).1) (λ v. has_erred v.0) r.false_forbids.entries i
-      ++ same_keys (λ v. (left_open Forbid ([], v)).1) (λ v. bare v.0.value) r.residual_forbids.entries i)
+      keys_of-map_values (λ v. (left_satisfied Permit ([], v)).1) r.satisfied_permits i
+      ++ same_keys (λ v. (left_false Permit ([], v)).1) (λ v. has_erred v.0) r.false_permits i
+      ++ same_keys (λ v. (left_open Permit ([], v)).1) (λ v. bare v.0.value) r.residual_permits i
+      ++ keys_of-map_values (λ v. (left_satisfied Forbid ([], v)).1) r.satisfied_forbids i
+      ++ same_keys (λ v. (left_false Forbid ([], v)).1) (λ v. has_erred v.0) r.false_forbids i
+      ++ same_keys (λ v. (left_open Forbid ([], v)).1) (λ v. bare v.0.value) r.residual_forbids i)
 
 -- ---- they are those that are kept
 
@@ -106,6 +105,10 @@ all_held (k ∷ ks) =
 drop_front : (xs ys : List Text) → IsDistinct same_text (xs ++ ys) → IsDistinct same_text ys
 drop_front [] ys apart = apart
 drop_front (x ∷ xs) ys apart = drop_front xs ys (IsDistinct-tail same_text x (xs ++ ys) apart)
+
+-- of what is apart a first part is
+pub front_apart : (xs ys : List Text) → IsDistinct same_text (xs ++ ys) → IsDistinct same_text xs
+front_apart xs ys apart = drop_front ys xs (IsDistinct-IsPermutation same_text nat_list_eq_equiv.symm _ _ (IsPermutation-append_comm xs ys) apart)
 
 drop_middle : (xs ys zs : List Text) → IsDistinct same_text (xs ++ ys ++ zs) → IsDistinct same_text (xs ++ zs)
 drop_middle xs ys zs apart =

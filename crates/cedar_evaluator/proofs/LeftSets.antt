@@ -46,12 +46,12 @@ left_static r =
     (both_static _ (satisfied_forbids_left r)
     (both_static _ (open_permits_left r)
     (both_static (satisfied_permits_left r) (false_permits_left r)
-    (each_static (left_satisfied Permit) (λ e. tt) r.satisfied_permits.entries)
-    (each_static (left_false Permit) (λ e. tt) r.false_permits.entries))
-    (each_static (left_open Permit) (λ e. tt) r.residual_permits.entries))
-    (each_static (left_satisfied Forbid) (λ e. tt) r.satisfied_forbids.entries))
-    (each_static (left_false Forbid) (λ e. tt) r.false_forbids.entries))
-    (each_static (left_open Forbid) (λ e. tt) r.residual_forbids.entries))
+    (each_static (left_satisfied Permit) (λ e. tt) r.satisfied_permits)
+    (each_static (left_false Permit) (λ e. tt) r.false_permits))
+    (each_static (left_open Permit) (λ e. tt) r.residual_permits))
+    (each_static (left_satisfied Forbid) (λ e. tt) r.satisfied_forbids))
+    (each_static (left_false Forbid) (λ e. tt) r.false_forbids))
+    (each_static (left_open Forbid) (λ e. tt) r.residual_forbids))
 
 -- ---- they are policies, and are added one after another
 

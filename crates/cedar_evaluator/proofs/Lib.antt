@@ -2,7 +2,7 @@ mod Answered
 mod Evaluated
 mod Apart
 mod Entered
-mod Gathered
+mod Adding
 mod Keeping
 mod Kept
 mod Responding

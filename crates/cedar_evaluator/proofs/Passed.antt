@@ -1,10 +1,12 @@
 -- Policies that are out of scope aren't satisfied: without those that aren't, what is kept of all is what is kept of the others.
 use Rattle.std.proofs.Common.{◌≡◌, ℕ, ◌+◌, ◌<◌, length, get_or, take, false, Option, Some, None, List, [], ◌∷◌, ◌++◌, refl, sym, ◌∙◌, ap}
-use Rattle.std.specs.List.{cons_option, filter_map, slice_get}
+use Rattle.std.specs.List.{IsDistinct, cons_option, filter_map, slice_get}
+use Rattle.std.specs.Map.{keys_of}
 use Rattle.std.proofs.lemmas.List.{append-nil, take_more}
 use Rattle.std.proofs.lemmas.List.Elements.{filter_map-append}
 use Rattle.cedar_language.specs.Uid.{Text}
 use Rattle.cedar_language.specs.Answering.{Effect, Permit, Forbid}
+use Rattle.cedar_language.specs.Order.{same_text}
 use Rattle.cedar_entities.specs.declared.store.Entities.{Entities}
 use Rattle.cedar_extensions.specs.Table.{Table}
 use Rattle.cedar_grammar.specs.Policy.{scope_tree}
@@ -19,7 +21,7 @@ use Rattle.cedar_evaluator.specs.Responses.{Annotated, Holding, if_effect, satis
 use Rattle.cedar_evaluator.specs.declared.groups.Groups.{Groups}
 use Rattle.cedar_evaluator.proofs.ReadConditions.{out_of_scope_read}
 use Rattle.cedar_evaluator.proofs.Scoped.{out_of_scope}
-use Rattle.cedar_evaluator.proofs.Thinned.{Thinned, nothing, kept, left_out, thinned}
+use Rattle.cedar_evaluator.proofs.Thinned.{Thinned, nothing, kept, left_out, thinned, thin_apart}
 
 -- ---- what is kept of one more policy
 
@@ -88,6 +90,10 @@ module _ (i : Inquiry) (store : Entities) (table : Table) (depth : ℕ) where
   kept_of_all (left_out e out rest) ks each =
       let others = kept_of_all rest ks each in
       record { all = unsatisfied e ∷ others.all; each = (out_kept e out, others.each); same = none_kept e.0 (syntax_in e.1).effect (syntax_in e.1).annotations others.all ∙ others.same }
+
+  -- no id stands twice among the candidates where none does among all
+  pub candidates_apart : (es : Entries) (ps : List ℕ) → AreCandidates i store es ps → IsDistinct same_text (keys_of (policies_of es)) → IsDistinct same_text (keys_of (policies_at es ps))
+  candidates_apart es ps candidates = thin_apart (thinned (IsOutOfScope i store) es ps candidates.rising candidates.whole)
 
   -- where nothing is asked of policies that aren't satisfied, the candidates are enough
   pub candidates_keep : (es : Entries) (ps : List ℕ) (g : Groups) → AreCandidates i store es ps → Keeps false i store table depth (policies_at es ps) g → Keeps false i store table depth (policies_of es) g

@@ -20,38 +20,38 @@ keys_seen g [] = refl
 keys_seen g (e ∷ es) = ap (λ l. e.0 ∷ l) (keys_seen g es)
 
 module _ (r : PartialResponse) where
-  any_permit : has_any (holding_in r).satisfied_permits ≡ has_any r.satisfied_permits.entries
-  any_permit = any_seen (λ e. e.0) r.satisfied_permits.entries
+  any_permit : has_any (holding_in r).satisfied_permits ≡ has_any r.satisfied_permits
+  any_permit = any_seen (λ e. e.0) r.satisfied_permits
 
-  any_forbid : has_any (holding_in r).satisfied_forbids ≡ has_any r.satisfied_forbids.entries
-  any_forbid = any_seen (λ e. e.0) r.satisfied_forbids.entries
+  any_forbid : has_any (holding_in r).satisfied_forbids ≡ has_any r.satisfied_forbids
+  any_forbid = any_seen (λ e. e.0) r.satisfied_forbids
 
-  any_open_permit : has_any (holding_in r).open_permits ≡ has_any r.residual_permits.entries
-  any_open_permit = any_seen (λ e. (e.0, bare e.1.0.value)) r.residual_permits.entries
+  any_open_permit : has_any (holding_in r).open_permits ≡ has_any r.residual_permits
+  any_open_permit = any_seen (λ e. (e.0, bare e.1.0.value)) r.residual_permits
 
-  any_open_forbid : has_any (holding_in r).open_forbids ≡ has_any r.residual_forbids.entries
-  any_open_forbid = any_seen (λ e. (e.0, bare e.1.0.value)) r.residual_forbids.entries
+  any_open_forbid : has_any (holding_in r).open_forbids ≡ has_any r.residual_forbids
+  any_open_forbid = any_seen (λ e. (e.0, bare e.1.0.value)) r.residual_forbids
 
-  open_permit_ids : map (λ e. e.0) (holding_in r).open_permits ≡ keys_of r.residual_permits.entries
-  open_permit_ids = keys_seen (λ v. bare v.0.value) r.residual_permits.entries
+  open_permit_ids : map (λ e. e.0) (holding_in r).open_permits ≡ keys_of r.residual_permits
+  open_permit_ids = keys_seen (λ v. bare v.0.value) r.residual_permits
 
-  open_forbid_ids : map (λ e. e.0) (holding_in r).open_forbids ≡ keys_of r.residual_forbids.entries
-  open_forbid_ids = keys_seen (λ v. bare v.0.value) r.residual_forbids.entries
+  open_forbid_ids : map (λ e. e.0) (holding_in r).open_forbids ≡ keys_of r.residual_forbids
+  open_forbid_ids = keys_seen (λ v. bare v.0.value) r.residual_forbids
 
   pub decided_in : decision (judged_held (holding_in r))
-      ≡ decision_by (has_any r.satisfied_forbids.entries) (has_any r.satisfied_permits.entries) (has_any r.residual_permits.entries) (has_any r.residual_forbids.entries)
+      ≡ decision_by (has_any r.satisfied_forbids) (has_any r.satisfied_permits) (has_any r.residual_permits) (has_any r.residual_forbids)
   decided_in = decided_held (holding_in r) ∙ (λ i. decision_by (any_forbid i) (any_permit i) (any_open_permit i) (any_open_forbid i))
 
-  pub must_in : (b : Bool) → b ≡ (has_any r.satisfied_forbids.entries || has_any r.residual_forbids.entries)
-      → ids_with (in_must (judged_held (holding_in r))) (judged_held (holding_in r)) ≡ cond b (keys_of r.satisfied_forbids.entries) (keys_of r.satisfied_permits.entries)
+  pub must_in : (b : Bool) → b ≡ (has_any r.satisfied_forbids || has_any r.residual_forbids)
+      → ids_with (in_must (judged_held (holding_in r))) (judged_held (holding_in r)) ≡ cond b (keys_of r.satisfied_forbids) (keys_of r.satisfied_permits)
   must_in b is =
       must_held (holding_in r)
-      ∙ (λ i. cond (any_forbid i || any_open_forbid i) (keys_of r.satisfied_forbids.entries) (keys_of r.satisfied_permits.entries))
-      ∙ ap (λ t. cond t (keys_of r.satisfied_forbids.entries) (keys_of r.satisfied_permits.entries)) (sym is)
+      ∙ (λ i. cond (any_forbid i || any_open_forbid i) (keys_of r.satisfied_forbids) (keys_of r.satisfied_permits))
+      ∙ ap (λ t. cond t (keys_of r.satisfied_forbids) (keys_of r.satisfied_permits)) (sym is)
 
-  pub may_in : (b : Bool) → b ≡ has_any r.satisfied_forbids.entries
+  pub may_in : (b : Bool) → b ≡ has_any r.satisfied_forbids
       → ids_with (in_may (judged_held (holding_in r))) (judged_held (holding_in r))
-      ≡ cond b (keys_of r.satisfied_forbids.entries ++ keys_of r.residual_forbids.entries) (keys_of r.satisfied_permits.entries ++ keys_of r.residual_permits.entries ++ keys_of r.residual_forbids.entries)
+      ≡ cond b (keys_of r.satisfied_forbids ++ keys_of r.residual_forbids) (keys_of r.satisfied_permits ++ keys_of r.residual_permits ++ keys_of r.residual_forbids)
   may_in b is =
       may_held (holding_in r)
-      ∙ (λ i. cond ((any_forbid ∙ sym is) i) (keys_of r.satisfied_forbids.entries ++ open_forbid_ids i) (keys_of r.satisfied_permits.entries ++ open_permit_ids i ++ open_forbid_ids i))
+      ∙ (λ i. cond ((any_forbid ∙ sym is) i) (keys_of r.satisfied_forbids ++ open_forbid_ids i) (keys_of r.satisfied_permits ++ open_permit_ids i ++ open_forbid_ids i))

@@ -57,22 +57,22 @@ record Goes (f : Judged → Bool) (sp fp op sf ff of : Bool) : Type 0 where
 
 module _ (r : PartialResponse) where
   abbrev pub satisfied_permits_left : Entries
-  satisfied_permits_left = map (left_satisfied Permit) r.satisfied_permits.entries
+  satisfied_permits_left = map (left_satisfied Permit) r.satisfied_permits
 
   abbrev pub false_permits_left : Entries
-  false_permits_left = map (left_false Permit) r.false_permits.entries
+  false_permits_left = map (left_false Permit) r.false_permits
 
   abbrev pub open_permits_left : Entries
-  open_permits_left = map (left_open Permit) r.residual_permits.entries
+  open_permits_left = map (left_open Permit) r.residual_permits
 
   abbrev pub satisfied_forbids_left : Entries
-  satisfied_forbids_left = map (left_satisfied Forbid) r.satisfied_forbids.entries
+  satisfied_forbids_left = map (left_satisfied Forbid) r.satisfied_forbids
 
   abbrev pub false_forbids_left : Entries
-  false_forbids_left = map (left_false Forbid) r.false_forbids.entries
+  false_forbids_left = map (left_false Forbid) r.false_forbids
 
   abbrev pub open_forbids_left : Entries
-  open_forbids_left = map (left_open Forbid) r.residual_forbids.entries
+  open_forbids_left = map (left_open Forbid) r.residual_forbids
 
   module _ (f : Judged → Bool) (sp fp op sf ff of : Bool) (goes : Goes f sp fp op sf ff of) where
     left_groups : residuals_with f r
@@ -81,15 +81,15 @@ module _ (r : PartialResponse) where
         let passes = λ (p : Judged × (Text × Entry)). f p.0 in
         let left = λ (p : Judged × (Text × Entry)). p.1 in
         picked_six passes left
-        (map (judged_satisfied Permit) r.satisfied_permits.entries) (map (judged_false Permit) r.false_permits.entries) (map (judged_open Permit) r.residual_permits.entries)
-        (map (judged_satisfied Forbid) r.satisfied_forbids.entries) (map (judged_false Forbid) r.false_forbids.entries) (map (judged_open Forbid) r.residual_forbids.entries)
+        (map (judged_satisfied Permit) r.satisfied_permits) (map (judged_false Permit) r.false_permits) (map (judged_open Permit) r.residual_permits)
+        (map (judged_satisfied Forbid) r.satisfied_forbids) (map (judged_false Forbid) r.false_forbids) (map (judged_open Forbid) r.residual_forbids)
         ∙ (λ i.
-        picked_group passes left (judged_satisfied Permit) sp (λ e. goes.satisfied_permits e.0) r.satisfied_permits.entries i
-        ++ picked_group passes left (judged_false Permit) fp (λ e. goes.false_permits e.0) r.false_permits.entries i
-        ++ picked_group passes left (judged_open Permit) op (λ e. goes.open_permits e.0) r.residual_permits.entries i
-        ++ picked_group passes left (judged_satisfied Forbid) sf (λ e. goes.satisfied_forbids e.0) r.satisfied_forbids.entries i
-        ++ picked_group passes left (judged_false Forbid) ff (λ e. goes.false_forbids e.0) r.false_forbids.entries i
-        ++ picked_group passes left (judged_open Forbid) of (λ e. goes.open_forbids e.0) r.residual_forbids.entries i)
+        picked_group passes left (judged_satisfied Permit) sp (λ e. goes.satisfied_permits e.0) r.satisfied_permits i
+        ++ picked_group passes left (judged_false Permit) fp (λ e. goes.false_permits e.0) r.false_permits i
+        ++ picked_group passes left (judged_open Permit) op (λ e. goes.open_permits e.0) r.residual_permits i
+        ++ picked_group passes left (judged_satisfied Forbid) sf (λ e. goes.satisfied_forbids e.0) r.satisfied_forbids i
+        ++ picked_group passes left (judged_false Forbid) ff (λ e. goes.false_forbids e.0) r.false_forbids i
+        ++ picked_group passes left (judged_open Forbid) of (λ e. goes.open_forbids e.0) r.residual_forbids i)
 
   pub left_all : residuals_with is_any r ≡ satisfied_permits_left ++ false_permits_left ++ open_permits_left ++ satisfied_forbids_left ++ false_forbids_left ++ open_forbids_left
   left_all = left_groups is_any true true true true true true (record { satisfied_permits = λ id. refl; false_permits = λ id. refl; open_permits = λ id. refl; satisfied_forbids = λ id. refl; false_forbids = λ id. refl; open_forbids = λ id. refl })
@@ -110,13 +110,13 @@ module _ (r : PartialResponse) where
 
   -- ---- the reasons
 
-  any_forbid : has_any (holding_in r).satisfied_forbids ≡ has_any r.satisfied_forbids.entries
-  any_forbid = any_seen (λ e. e.0) r.satisfied_forbids.entries
+  any_forbid : has_any (holding_in r).satisfied_forbids ≡ has_any r.satisfied_forbids
+  any_forbid = any_seen (λ e. e.0) r.satisfied_forbids
 
-  any_open_forbid : has_any (holding_in r).open_forbids ≡ has_any r.residual_forbids.entries
-  any_open_forbid = any_seen (λ e. (e.0, bare e.1.0.value)) r.residual_forbids.entries
+  any_open_forbid : has_any (holding_in r).open_forbids ≡ has_any r.residual_forbids
+  any_open_forbid = any_seen (λ e. (e.0, bare e.1.0.value)) r.residual_forbids
 
-  pub left_must : (f o : Bool) → has_any r.satisfied_forbids.entries ≡ f → has_any r.residual_forbids.entries ≡ o
+  pub left_must : (f o : Bool) → has_any r.satisfied_forbids ≡ f → has_any r.residual_forbids ≡ o
       → residuals_with (in_must (judged_held (holding_in r))) r ≡ cond (f || o) satisfied_forbids_left satisfied_permits_left
   left_must f o forbids opens =
       (λ i. residuals_with (λ j. cond ((has_satisfied_forbid (holding_in r) ∙ any_forbid ∙ forbids) i || (has_residual_forbid (holding_in r) ∙ any_open_forbid ∙ opens) i) (satisfied_forbid j) (satisfied_permit j)) r)
@@ -128,7 +128,7 @@ module _ (r : PartialResponse) where
           left_groups satisfied_permit true false false false false false (record { satisfied_permits = λ id. refl; false_permits = λ id. refl; open_permits = λ id. refl; satisfied_forbids = λ id. refl; false_forbids = λ id. refl; open_forbids = λ id. refl })
           ∙ append-nil _ ∙ append-nil _ ∙ append-nil _ ∙ append-nil _ ∙ append-nil satisfied_permits_left
 
-  pub left_may : (f : Bool) → has_any r.satisfied_forbids.entries ≡ f
+  pub left_may : (f : Bool) → has_any r.satisfied_forbids ≡ f
       → residuals_with (in_may (judged_held (holding_in r))) r ≡ cond f satisfied_forbids_left (satisfied_permits_left ++ open_permits_left) ++ open_forbids_left
   left_may f forbids =
       (λ i. residuals_with (λ j. cond ((has_satisfied_forbid (holding_in r) ∙ any_forbid ∙ forbids) i) (satisfied_forbid j || residual_forbid j) (satisfied_permit j || residual_permit j || residual_forbid j)) r)
@@ -149,7 +149,7 @@ module _ (r : PartialResponse) where
   keys_seen g [] = refl
   keys_seen g (e ∷ es) = ap (λ l. e.0 ∷ l) (keys_seen g es)
 
-  pub open_ids : ids_with is_residual (judged_held (holding_in r)) ≡ keys_of r.residual_permits.entries ++ keys_of r.residual_forbids.entries
+  pub open_ids : ids_with is_residual (judged_held (holding_in r)) ≡ keys_of r.residual_permits ++ keys_of r.residual_forbids
   open_ids =
       let h = holding_in r in
       let false_seen = λ (e : Effect) (x : Text × Bool). stands e Unsatisfied x.0 in
@@ -161,8 +161,8 @@ module _ (r : PartialResponse) where
       ∙ (λ i.
       picked_group is_residual id_of (stands Permit Satisfied) false (λ id. refl) h.satisfied_permits i
       ++ picked_group is_residual id_of (false_seen Permit) false (λ e. refl) h.false_permits i
-      ++ (picked_group is_residual id_of (open_seen Permit) true (λ e. refl) h.open_permits ∙ keys_seen (λ v. bare v.0.value) r.residual_permits.entries) i
+      ++ (picked_group is_residual id_of (open_seen Permit) true (λ e. refl) h.open_permits ∙ keys_seen (λ v. bare v.0.value) r.residual_permits) i
       ++ picked_group is_residual id_of (stands Forbid Satisfied) false (λ id. refl) h.satisfied_forbids i
       ++ picked_group is_residual id_of (false_seen Forbid) false (λ e. refl) h.false_forbids i
-      ++ (picked_group is_residual id_of (open_seen Forbid) true (λ e. refl) h.open_forbids ∙ keys_seen (λ v. bare v.0.value) r.residual_forbids.entries) i)
-      ∙ ap (λ l. l ++ keys_of r.residual_forbids.entries) (append-nil _ ∙ append-nil (keys_of r.residual_permits.entries))
+      ++ (picked_group is_residual id_of (open_seen Forbid) true (λ e. refl) h.open_forbids ∙ keys_seen (λ v. bare v.0.value) r.residual_forbids) i)
+      ∙ ap (λ l. l ++ keys_of r.residual_forbids) (append-nil _ ∙ append-nil (keys_of r.residual_permits))

@@ -123,22 +123,22 @@ module _ (ks : List Kept) where
 
   module _ (first : PartialResponse) (holds : HoldsKept ks (holding_in first)) where
     abbrev sp : List (Judged × (Text × Entry))
-    sp = map (judged_satisfied Permit) first.satisfied_permits.entries
+    sp = map (judged_satisfied Permit) first.satisfied_permits
 
     abbrev fp : List (Judged × (Text × Entry))
-    fp = map (judged_false Permit) first.false_permits.entries
+    fp = map (judged_false Permit) first.false_permits
 
     abbrev op : List (Judged × (Text × Entry))
-    op = map (judged_open Permit) first.residual_permits.entries
+    op = map (judged_open Permit) first.residual_permits
 
     abbrev sf : List (Judged × (Text × Entry))
-    sf = map (judged_satisfied Forbid) first.satisfied_forbids.entries
+    sf = map (judged_satisfied Forbid) first.satisfied_forbids
 
     abbrev ff : List (Judged × (Text × Entry))
-    ff = map (judged_false Forbid) first.false_forbids.entries
+    ff = map (judged_false Forbid) first.false_forbids
 
     abbrev of : List (Judged × (Text × Entry))
-    of = map (judged_open Forbid) first.residual_forbids.entries
+    of = map (judged_open Forbid) first.residual_forbids
 
     abbrev two : List (Judged × (Text × Entry))
     two = sp ++ fp
@@ -155,16 +155,16 @@ module _ (ks : List Kept) where
     left_in : (p : Judged × (Text × Entry)) → IsAmong p (judged_residuals first) → IsLeft p.1
     left_in p a =
         elim (among_either p five of a) [
-          | inr h ↦ open_left Forbid first.residual_forbids.entries holds.open_forbids p h
+          | inr h ↦ open_left Forbid first.residual_forbids holds.open_forbids p h
           | inl h ↦ elim (among_either p four ff h) [
-            | inr h ↦ false_left Forbid first.false_forbids.entries holds.false_forbids p h
+            | inr h ↦ false_left Forbid first.false_forbids holds.false_forbids p h
             | inl h ↦ elim (among_either p three sf h) [
-              | inr h ↦ satisfied_left Forbid first.satisfied_forbids.entries holds.satisfied_forbids p h
+              | inr h ↦ satisfied_left Forbid first.satisfied_forbids holds.satisfied_forbids p h
               | inl h ↦ elim (among_either p two op h) [
-                | inr h ↦ open_left Permit first.residual_permits.entries holds.open_permits p h
+                | inr h ↦ open_left Permit first.residual_permits holds.open_permits p h
                 | inl h ↦ elim (among_either p sp fp h) [
-                  | inr h ↦ false_left Permit first.false_permits.entries holds.false_permits p h
-                  | inl h ↦ satisfied_left Permit first.satisfied_permits.entries holds.satisfied_permits p h
+                  | inr h ↦ false_left Permit first.false_permits holds.false_permits p h
+                  | inl h ↦ satisfied_left Permit first.satisfied_permits holds.satisfied_permits p h
                 ]
               ]
             ]
@@ -209,11 +209,11 @@ module _ (ks : List Kept) where
     has_left k e Unsatisfied out a same is = cc
     has_left k e (Erred f) out a same is = cc
     has_left k Permit Satisfied out a same is =
-        permit_left k (in_left k two op (in_left k sp fp (has_satisfied Permit first.satisfied_permits.entries holds.satisfied_permits k a same is)))
-    has_left k Permit (Open t) out a same is = permit_left k (in_right k two op (has_open Permit first.residual_permits.entries holds.open_permits k t a same is))
+        permit_left k (in_left k two op (in_left k sp fp (has_satisfied Permit first.satisfied_permits holds.satisfied_permits k a same is)))
+    has_left k Permit (Open t) out a same is = permit_left k (in_right k two op (has_open Permit first.residual_permits holds.open_permits k t a same is))
     has_left k Forbid Satisfied out a same is =
-        in_left k five of (in_left k four ff (in_right k three sf (has_satisfied Forbid first.satisfied_forbids.entries holds.satisfied_forbids k a same is)))
-    has_left k Forbid (Open t) out a same is = in_right k five of (has_open Forbid first.residual_forbids.entries holds.open_forbids k t a same is)
+        in_left k five of (in_left k four ff (in_right k three sf (has_satisfied Forbid first.satisfied_forbids holds.satisfied_forbids k a same is)))
+    has_left k Forbid (Open t) out a same is = in_right k five of (has_open Forbid first.residual_forbids holds.open_forbids k t a same is)
 
     -- something is left of each policy that was kept and is satisfied or open
     pub left_of : (k : Kept) → is_out k.found ≡ false → IsAmong k ks → (e : Text × Entry) × IsAmong e (residuals_with is_any first) × IsLeftOf k e

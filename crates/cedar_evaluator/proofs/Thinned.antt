@@ -1,13 +1,15 @@
 -- The policies that stand at positions which rise, where all others may be left out.
 use Rattle.std.proofs.Common.{◌≡◌, ◌⊎◌, inl, inr, ℕ, zero, suc, ◌<◌, Bool, true, false, ◌||◌, Some, None, List, [], ◌∷◌, map, refl, sym, ◌∙◌, ap, subst, arith, if◌then◌else◌, true≢false}
 use Rattle.std.specs.Prelude.{nat_eq}
-use Rattle.std.specs.List.{cons_option, slice_get, AllByRecursion}
+use Rattle.std.specs.List.{cons_option, slice_get, AllByRecursion, IsDistinct}
+use Rattle.std.specs.Map.{keys_of}
 use Rattle.std.specs.List.Sorted.{IsStrictlyIncreasing, IsStrictlySortedBy}
 use Rattle.std.specs.Ordering.{nat_cmp}
 use Rattle.std.specs.declared.cmp.Ordering.TheVariants.{Less}
 use Rattle.std.proofs.Math.Dec.{eqb-suc-suc, eqb-suc-zero, eqb-zero-suc}
 use Rattle.std.proofs.lemmas.Cmp.{ranked}
-use Rattle.std.proofs.lemmas.Map.Keys.{sorted_from_strictly_increasing}
+use Rattle.std.proofs.lemmas.Map.Keys.{sorted_from_strictly_increasing, IsDistinct-head, IsDistinct-tail, IsDistinct-cons}
+use Rattle.cedar_language.specs.Order.{same_text}
 use Rattle.cedar_language.specs.Uid.{Text}
 use Rattle.cedar_policy_set.specs.Entries.{Entry, Entries, is_policy, policies_of}
 use Rattle.cedar_policy_set.specs.Scopes.{policy_stood}
@@ -19,6 +21,19 @@ pub data Thinned (Out : Entry → Type 0) : Entries → Entries → Type 0 where
   nothing : Thinned Out [] []
   kept : (e : Text × Entry) {es fs : Entries} → Thinned Out es fs → Thinned Out (e ∷ es) (e ∷ fs)
   left_out : (e : Text × Entry) {es fs : Entries} → Out e.1 → Thinned Out es fs → Thinned Out (e ∷ es) fs
+
+-- ---- no id stands twice in it where none does in the first
+
+all_thinned : {Out : Entry → Type 0} {es fs : Entries} (P : Text → Type 0) → Thinned Out es fs → AllByRecursion P (keys_of es) → AllByRecursion P (keys_of fs)
+all_thinned P nothing all = all
+all_thinned P (kept e rest) all = (all.0, all_thinned P rest all.1)
+all_thinned P (left_out e out rest) all = all_thinned P rest all.1
+
+pub thin_apart : {Out : Entry → Type 0} {es fs : Entries} → Thinned Out es fs → IsDistinct same_text (keys_of es) → IsDistinct same_text (keys_of fs)
+thin_apart nothing apart = apart
+thin_apart (kept e {es = es} {fs = fs} rest) apart =
+    IsDistinct-cons same_text e.0 (keys_of fs) (all_thinned (λ id. same_text e.0 id ≡ false) rest (IsDistinct-head same_text e.0 (keys_of es) apart)) (thin_apart rest (IsDistinct-tail same_text e.0 (keys_of es) apart))
+thin_apart (left_out e {es = es} out rest) apart = thin_apart rest (IsDistinct-tail same_text e.0 (keys_of es) apart)
 
 -- ---- all but the first
 

@@ -39,7 +39,7 @@ left_of e = without_value (e.0, bare e.1.0.value)
 
 -- of each open forbid, then of each open permit, then those that were told
 abbrev pub all_causes : PartialResponse → List (Text × Cause)
-all_causes r = map left_of r.residual_forbids.entries ++ map left_of r.residual_permits.entries ++ map cause_seen r.errors.items
+all_causes r = map left_of r.residual_forbids ++ map left_of r.residual_permits ++ map cause_seen r.errors.items
 
 abbrev pub has_no_value : Text × Tree → Text × Failure
 has_no_value e = (e.0, OfKind NonValue)
@@ -52,7 +52,7 @@ all_errors h = map has_no_value h.open_forbids ++ map has_no_value h.open_permit
 -- A satisfied forbid denies, and else a satisfied permit allows; the reasons are those that hold whatever the open policies come to.
 pub record IsConcrete (h : Holding) (whole : Response) : Type 0 where
   pub decision : decision_of whole.decision ≡ known_decision (judged_held h)
-  pub reasons : whole.diagnostics.reason.keys ≡ ids_with (in_must (judged_held h)) (judged_held h)
+  pub reasons : whole.diagnostics.reason ≡ ids_with (in_must (judged_held h)) (judged_held h)
   pub errors : map error_seen whole.diagnostics.errors.items ≡ all_errors h
 
 -- so it is made of a response; each error is that of an open policy, with what is left of its condition, or one that was told

@@ -2,10 +2,9 @@
 use Rattle.std.specs.Prelude.{◌≡◌, List, [], ◌∷◌}
 use Rattle.std.specs.declared.alloc.Global.{Global}
 use Rattle.std.specs.declared.rc.Rc.{Rc}
-use Rattle.indexmap.specs.IndexMap.{insert_entry}
 use Rattle.cedar_grammar.specs.Build.{Keyed}
-use Rattle.cedar_language.specs.Order.{same_text}
 use Rattle.cedar_language.specs.Uid.{Text}
+use Rattle.cedar_policy_set.specs.Places.{put}
 use Rattle.cedar_requests.specs.declared.requests.Request.{Request}
 use Rattle.cedar_trees.specs.declared.expr.Expr.{Expr}
 use Rattle.cedar_evaluator.specs.declared.errors.AuthorizationError.{AuthorizationError}
@@ -15,7 +14,7 @@ use Rattle.cedar_evaluator.specs.declared.partial_response.PartialResponse.{Part
 -- the entries put in one after another: of an id that stands twice its first place is kept, with what stands last
 abbrev pub put_in : {V : Type 0} → List (Text × V) → List (Text × V) → List (Text × V)
 put_in done [] = done
-put_in done (e ∷ es) = put_in (insert_entry same_text done e.0 e.1) es
+put_in done (e ∷ es) = put_in (put done e.0 e.1) es
 
 abbrev pub gathered : {V : Type 0} → List (Text × V) → List (Text × V)
 gathered es = put_in [] es
@@ -35,11 +34,11 @@ pub record AreGiven
     (errors : List AuthorizationError)
     (request : Rc Request Global)
     (response : PartialResponse) : Type 0 where
-  pub satisfied_permits_are : response.satisfied_permits.entries ≡ gathered satisfied_permits
-  pub false_permits_are : response.false_permits.entries ≡ gathered false_permits
-  pub residual_permits_are : response.residual_permits.entries ≡ gathered residual_permits
-  pub satisfied_forbids_are : response.satisfied_forbids.entries ≡ gathered satisfied_forbids
-  pub false_forbids_are : response.false_forbids.entries ≡ gathered false_forbids
-  pub residual_forbids_are : response.residual_forbids.entries ≡ gathered residual_forbids
+  pub satisfied_permits_are : response.satisfied_permits ≡ gathered satisfied_permits
+  pub false_permits_are : response.false_permits ≡ gathered false_permits
+  pub residual_permits_are : response.residual_permits ≡ gathered residual_permits
+  pub satisfied_forbids_are : response.satisfied_forbids ≡ gathered satisfied_forbids
+  pub false_forbids_are : response.false_forbids ≡ gathered false_forbids
+  pub residual_forbids_are : response.residual_forbids ≡ gathered residual_forbids
   pub errors_are : response.errors.items ≡ errors
   pub request_is : response.request ≡ request

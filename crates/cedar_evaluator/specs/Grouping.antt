@@ -2,9 +2,11 @@
 use Rattle.std.specs.Prelude.{◌≡◌, ℕ, Bool, true, false, Option, Some, None, List, [], ◌∷◌, ◌++◌, map, Result, Ok, Err}
 use Rattle.std.specs.List.{IsDistinct}
 use Rattle.std.specs.Map.{keys_of}
+use Rattle.std.specs.Set.{is_member}
 use Rattle.either.specs.declared.Either.{Either}
 use Rattle.cedar_language.specs.Answering.{Permit, Forbid}
 use Rattle.cedar_language.specs.Order.{same_text}
+use Rattle.cedar_language.specs.Uid.{Text}
 use Rattle.cedar_entities.specs.declared.store.Entities.{Entities}
 use Rattle.cedar_extensions.specs.Answering.{FunctionAnswers}
 use Rattle.cedar_extensions.specs.Failures.{Failure, OfKind, LimitMet, MemoryRanOut, failure_of}
@@ -21,7 +23,7 @@ use Rattle.cedar_trees.specs.declared.expr.Expr.{Expr}
 use Rattle.cedar_evaluator.specs.Evaluating.{found_by}
 use Rattle.cedar_evaluator.specs.Evaluations.{Found, Erred, Kept, AreKept}
 use Rattle.cedar_evaluator.specs.Holding.{has_erred, error_seen, noted, noted_behind}
-use Rattle.cedar_evaluator.specs.Responses.{Annotated, Holding, if_effect, satisfied_id, false_id, open_id, error_id, annotated, holding_of, without_false}
+use Rattle.cedar_evaluator.specs.Responses.{Annotated, Holding, if_effect, satisfied_id, false_id, open_id, error_id, annotated, errors_of, holding_of, without_false}
 use Rattle.cedar_evaluator.specs.Scopes.{AreScopesOf}
 use Rattle.cedar_evaluator.specs.declared.groups.Groups.{Groups}
 use Rattle.cedar_evaluator.specs.declared.scopes.Scopes.{Scopes}
@@ -29,23 +31,23 @@ use Rattle.cedar_evaluator.specs.declared.scopes.Scopes.{Scopes}
 -- the annotations of the policies of each group, in their order
 abbrev pub annotated_so_far : Groups → Annotated
 annotated_so_far g = record {
-  satisfied_permits = map noted g.satisfied_permits.items;
-  false_permits = map noted_behind g.false_permits.items;
-  open_permits = map noted_behind g.residual_permits.items;
-  satisfied_forbids = map noted g.satisfied_forbids.items;
-  false_forbids = map noted_behind g.false_forbids.items;
-  open_forbids = map noted_behind g.residual_forbids.items;
+  satisfied_permits = map noted g.satisfied_permits;
+  false_permits = map noted_behind g.false_permits;
+  open_permits = map noted_behind g.residual_permits;
+  satisfied_forbids = map noted g.satisfied_forbids;
+  false_forbids = map noted_behind g.false_forbids;
+  open_forbids = map noted_behind g.residual_forbids;
 }
 
 -- the policies of each group with their annotations, and the errors, in their order
 abbrev pub held_in : Groups → Holding
 held_in g = record {
-  satisfied_permits = keys_of g.satisfied_permits.items;
-  false_permits = map (λ e. (e.0, has_erred e.1.0)) g.false_permits.items;
-  open_permits = map (λ e. (e.0, bare e.1.0.value)) g.residual_permits.items;
-  satisfied_forbids = keys_of g.satisfied_forbids.items;
-  false_forbids = map (λ e. (e.0, has_erred e.1.0)) g.false_forbids.items;
-  open_forbids = map (λ e. (e.0, bare e.1.0.value)) g.residual_forbids.items;
+  satisfied_permits = keys_of g.satisfied_permits;
+  false_permits = map (λ e. (e.0, has_erred e.1.0)) g.false_permits;
+  open_permits = map (λ e. (e.0, bare e.1.0.value)) g.residual_permits;
+  satisfied_forbids = keys_of g.satisfied_forbids;
+  false_forbids = map (λ e. (e.0, has_erred e.1.0)) g.false_forbids;
+  open_forbids = map (λ e. (e.0, bare e.1.0.value)) g.residual_forbids;
   errors = map error_seen g.errors.items;
   annotated = annotated_so_far g;
 }
@@ -84,9 +86,13 @@ abbrev pub found_in : Result (Either Bool (Expr (Unit {0}))) EvaluationError →
 found_in (Ok e) = found_by e
 found_in (Err e) = Erred (failure_of e)
 
--- what is kept of a policy of which this was answered
+-- what is kept of a policy of which this was found
+abbrev pub kept_as : Policy → Found → Kept
+kept_as p found = record { id = policy_id p; effect = (policy_syntax p).effect; annotations = (policy_syntax p).annotations; found = found }
+
+-- or answered
 abbrev pub kept_of : Policy → Result (Either Bool (Expr (Unit {0}))) EvaluationError → Kept
-kept_of p answer = record { id = policy_id p; effect = (policy_syntax p).effect; annotations = (policy_syntax p).annotations; found = found_in answer }
+kept_of p answer = kept_as p (found_in answer)
 
 -- want of memory
 abbrev pub is_want : Failure → Bool
@@ -103,27 +109,34 @@ abbrev pub held_with : Bool → Holding → Holding
 held_with true h = h
 held_with false h = without_false h
 
+-- the ids of what is kept
+abbrev pub ids_of : List Kept → List Text
+ids_of ks = map (λ (k : Kept). k.id) ks
+
+-- one more policy is kept, of an id that isn't among those before it, with those that aren't satisfied or without them
+abbrev pub Adds : Bool → Kept → Groups → Groups → Type 0
+Adds with_false k before after =
+    (ks : List Kept) → is_member same_text (ids_of ks) k.id ≡ false → held_in before ≡ held_with with_false (holding_of ks) → held_in after ≡ held_with with_false (holding_of (ks ++ k ∷ []))
+
+-- the same where its error, if it errs, is kept already
+abbrev pub AddsFalse : Bool → Kept → Groups → Groups → Type 0
+AddsFalse with_false k before after =
+    (ks : List Kept) → is_member same_text (ids_of ks) k.id ≡ false → held_in before ≡ record (held_with with_false (holding_of ks)) { errors = errors_of (ks ++ k ∷ []) }
+    → held_in after ≡ held_with with_false (holding_of (ks ++ k ∷ []))
+
 -- of each policy what was found of it is kept, and nothing else
 pub record Keeps (with_false : Bool) (i : Inquiry) (store : Entities) (table : Table) (depth : ℕ) (es : Entries) (g : Groups) : Type 0 where
   pub kept : List Kept
   pub each : AreKept i store table depth es kept
   pub holds : held_in g ≡ held_with with_false (holding_of kept)
 
--- by an evaluator and what is decided of scopes, for each inquiry that these answer for
+-- where no id stands twice, by an evaluator and what is decided of scopes, for each inquiry that these answer for
 abbrev pub KeepsBy : {F : Type 0} → (F → FunctionAnswers) → Bool → Evaluator F → Scopes → Entries → Groups → Type 0
-KeepsBy answers with_false ev scopes es g = (i : Inquiry) (store : Entities) (table : Table) (depth : ℕ) → IsEvaluatorOf answers i store table depth ev → AreScopesOf i store scopes → Keeps with_false i store table depth es g
+KeepsBy answers with_false ev scopes es g =
+    IsDistinct same_text (keys_of es) → (i : Inquiry) (store : Entities) (table : Table) (depth : ℕ) → IsEvaluatorOf answers i store table depth ev → AreScopesOf i store scopes → Keeps with_false i store table depth es g
 
--- groups that kept what was found of some policies keep then what was found of one more besides
+-- groups that kept what was found of some policies keep then what was found of one more besides, of another id
 abbrev pub KeepsOneMore : {F : Type 0} → (F → FunctionAnswers) → Bool → Evaluator F → Scopes → Policy → Groups → Groups → Type 0
 KeepsOneMore answers with_false ev scopes p before after =
     (i : Inquiry) (store : Entities) (table : Table) (depth : ℕ) → IsEvaluatorOf answers i store table depth ev → AreScopesOf i store scopes →
-    (es : Entries) → Keeps with_false i store table depth es before → Keeps with_false i store table depth (es ++ policy_seen p ∷ []) after
-
--- of no group an id stands twice
-pub record AreApart (g : Groups) : Type 0 where
-  pub satisfied_permits : IsDistinct same_text (keys_of g.satisfied_permits.items)
-  pub false_permits : IsDistinct same_text (keys_of g.false_permits.items)
-  pub residual_permits : IsDistinct same_text (keys_of g.residual_permits.items)
-  pub satisfied_forbids : IsDistinct same_text (keys_of g.satisfied_forbids.items)
-  pub false_forbids : IsDistinct same_text (keys_of g.false_forbids.items)
-  pub residual_forbids : IsDistinct same_text (keys_of g.residual_forbids.items)
+    (es : Entries) → IsDistinct same_text (keys_of (es ++ policy_seen p ∷ [])) → Keeps with_false i store table depth es before → Keeps with_false i store table depth (es ++ policy_seen p ∷ []) after

@@ -38,23 +38,23 @@ noted_behind e = (e.0, e.1.1.value)
 -- the annotations of the policies of each group, in their order
 abbrev pub annotated_in : PartialResponse → Annotated
 annotated_in r = record {
-  satisfied_permits = map noted r.satisfied_permits.entries;
-  false_permits = map noted_behind r.false_permits.entries;
-  open_permits = map noted_behind r.residual_permits.entries;
-  satisfied_forbids = map noted r.satisfied_forbids.entries;
-  false_forbids = map noted_behind r.false_forbids.entries;
-  open_forbids = map noted_behind r.residual_forbids.entries;
+  satisfied_permits = map noted r.satisfied_permits;
+  false_permits = map noted_behind r.false_permits;
+  open_permits = map noted_behind r.residual_permits;
+  satisfied_forbids = map noted r.satisfied_forbids;
+  false_forbids = map noted_behind r.false_forbids;
+  open_forbids = map noted_behind r.residual_forbids;
 }
 
 -- the policies of each group with their annotations, and the errors, in their order
 abbrev pub holding_in : PartialResponse → Holding
 holding_in r = record {
-  satisfied_permits = keys_of r.satisfied_permits.entries;
-  false_permits = map (λ e. (e.0, has_erred e.1.0)) r.false_permits.entries;
-  open_permits = map (λ e. (e.0, bare e.1.0.value)) r.residual_permits.entries;
-  satisfied_forbids = keys_of r.satisfied_forbids.entries;
-  false_forbids = map (λ e. (e.0, has_erred e.1.0)) r.false_forbids.entries;
-  open_forbids = map (λ e. (e.0, bare e.1.0.value)) r.residual_forbids.entries;
+  satisfied_permits = keys_of r.satisfied_permits;
+  false_permits = map (λ e. (e.0, has_erred e.1.0)) r.false_permits;
+  open_permits = map (λ e. (e.0, bare e.1.0.value)) r.residual_permits;
+  satisfied_forbids = keys_of r.satisfied_forbids;
+  false_forbids = map (λ e. (e.0, has_erred e.1.0)) r.false_forbids;
+  open_forbids = map (λ e. (e.0, bare e.1.0.value)) r.residual_forbids;
   errors = map error_seen r.errors.items;
   annotated = annotated_in r;
 }

@@ -62,7 +62,7 @@ error_of id _ = None
 -- the decision of the rules, their reasons in the order of the policies, and the errors of those that err
 pub record IsByRules (js : List Judged) (whole : Response) : Type 0 where
   pub decision : decision_of whole.decision ≡ known_decision js
-  pub reasons : whole.diagnostics.reason.keys ≡ ids_with (is_reason js) js
+  pub reasons : whole.diagnostics.reason ≡ ids_with (is_reason js) js
   pub errors : map error_seen whole.diagnostics.errors.items ≡ filter_map (λ (j : Judged). error_of j.id j.standing) js
 
 -- Where each static policy and link of the set is known, and no policy met the limit, the response is the answer of the rules to each

@@ -11,6 +11,7 @@ pub mod Known
 pub mod Residuals
 pub mod Refusals
 pub mod Concretizing
+pub mod Reasons
 pub mod Reauthorizing
 pub mod Scopes
 pub mod Candidates

@@ -62,12 +62,12 @@ judged_open effect e = (stands effect answering.Residual e.0, left_open effect e
 -- in the order of `judged_held`
 abbrev pub judged_residuals : PartialResponse → List (Judged × (Text × Entry))
 judged_residuals r =
-    map (judged_satisfied Permit) r.satisfied_permits.entries
-    ++ map (judged_false Permit) r.false_permits.entries
-    ++ map (judged_open Permit) r.residual_permits.entries
-    ++ map (judged_satisfied Forbid) r.satisfied_forbids.entries
-    ++ map (judged_false Forbid) r.false_forbids.entries
-    ++ map (judged_open Forbid) r.residual_forbids.entries
+    map (judged_satisfied Permit) r.satisfied_permits
+    ++ map (judged_false Permit) r.false_permits
+    ++ map (judged_open Permit) r.residual_permits
+    ++ map (judged_satisfied Forbid) r.satisfied_forbids
+    ++ map (judged_false Forbid) r.false_forbids
+    ++ map (judged_open Forbid) r.residual_forbids
 
 -- what is left of those that pass a test
 abbrev pub residuals_with : (Judged → Bool) → PartialResponse → Entries
@@ -91,8 +91,8 @@ of_effect effect residuals satisfied others = map (left_open effect) residuals +
 abbrev pub residual_at : PartialResponse → Text → Option Entry
 residual_at r id =
     lookup (same_text id)
-    (of_effect Permit r.residual_permits.entries r.satisfied_permits.entries r.false_permits.entries
-    ++ of_effect Forbid r.residual_forbids.entries r.satisfied_forbids.entries r.false_forbids.entries)
+    (of_effect Permit r.residual_permits r.satisfied_permits r.false_permits
+    ++ of_effect Forbid r.residual_forbids r.satisfied_forbids r.false_forbids)
 
 -- the policy that is found, if one is, is what is bound to the id
 pub record IsFound (id : Text) (bound : Option Entry) (found : Option Policy) : Type 0 where

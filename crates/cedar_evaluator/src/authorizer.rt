@@ -1,12 +1,14 @@
 //! The authorizer: what answers requests by the policies of a set and the entities of a store. Begin with
 //! `Authorizer::new`, and then `is_authorized`, or `is_authorized_core` where parts of the request may be
 //! unknown; `is_authorized_without_false` where nothing is asked of the policies that aren't satisfied.
-ghost use Rattle.std.specs.Prelude.{◌≡◌, IfOk};
+ghost use Rattle.std.specs.Prelude.{◌≡◌, [], IfOk};
 ghost use Rattle.cedar_extensions.specs.Table.{as_table};
 ghost use Rattle.cedar_interpreter.specs.Asking.{untold};
 ghost use Rattle.cedar_requests.specs.Holding.{request_parts};
 ghost use Rattle.cedar_substitution.specs.Told.{told_for};
 ghost use Rattle.cedar_evaluator.specs.Authorizing.{table_of, limit_of, IsAsked, Responds, RespondsWithoutFalse, RespondsBy};
+ghost use Rattle.cedar_evaluator.specs.Grouping.{held_in};
+ghost use Rattle.cedar_evaluator.specs.Responses.{holding_of};
 
 use crate::groups::Groups;
 use crate::partial_response::PartialResponse;
@@ -74,7 +76,8 @@ impl<'e, 'f, F: ExtensionFunctionObject> Authorizer<'e, 'f, F> {
         ensures { IfOk result (λ response. Responds (untold (request_parts request)) entities.now (table_of F.answers self.now) (limit_of self.now) policies.now response) }
     {
         let (evaluator, scopes) = self.asked(alloc, &request, entities)?;
-        responded(alloc, &evaluator, &scopes, request, policies, true)
+        let groups = Groups::new(alloc);
+        responded(alloc, &evaluator, &scopes, request, policies, groups)
     }
 
     /// The same where these values are told for unknowns.
@@ -90,7 +93,8 @@ impl<'e, 'f, F: ExtensionFunctionObject> Authorizer<'e, 'f, F> {
     {
         let (evaluator, scopes) = self.asked(alloc, &request, entities)?;
         let evaluator = evaluator.with_told(told);
-        responded(alloc, &evaluator, &scopes, request, policies, true)
+        let groups = Groups::new(alloc);
+        responded(alloc, &evaluator, &scopes, request, policies, groups)
     }
 
     /// What [`Authorizer::is_authorized_core`] answers, but without the policies that aren't satisfied:
@@ -107,23 +111,25 @@ impl<'e, 'f, F: ExtensionFunctionObject> Authorizer<'e, 'f, F> {
         ensures { IfOk result (λ response. RespondsWithoutFalse (untold (request_parts request)) entities.now (table_of F.answers self.now) (limit_of self.now) policies.now response) }
     {
         let (evaluator, scopes) = self.asked(alloc, &request, entities)?;
-        responded(alloc, &evaluator, &scopes, request, policies, false)
+        let groups = Groups::without_false(alloc);
+        responded(alloc, &evaluator, &scopes, request, policies, groups)
     }
 }
 
-// What the policies of a set come to for a request, by its evaluator and what it decides of scopes, with
-// those that aren't satisfied or without them; refused for memory alone.
+// What the policies of a set come to for a request, by its evaluator and what it decides of scopes, as groups
+// of none yet keep it; refused for memory alone.
 fn responded<F: ExtensionFunctionObject>(
     alloc: Global,
     evaluator: &Evaluator<'_, '_, '_, F>,
     scopes: &Scopes<'_>,
     request: Request,
     policies: &PolicySet,
-    with_false: bool,
+    mut groups: Groups,
 ) -> Result<PartialResponse, AllocError>
-    ensures { IfOk result (RespondsBy F.answers with_false evaluator.now scopes.now (request_parts request) policies.now) }
+    requires { held_in groups ≡ holding_of [] }
+    ensures { IfOk result (RespondsBy F.answers groups.with_false evaluator.now scopes.now (request_parts request) policies.now) }
 {
     let _count = policies.len();
-    let groups = Groups::of_policies(alloc, evaluator, scopes, policies, with_false)?;
+    groups.gather(alloc, evaluator, scopes, policies)?;
     groups.into_response(alloc, request)
 }

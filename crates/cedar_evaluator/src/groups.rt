@@ -1,20 +1,20 @@
 // Policies in groups, by their effects and by what was found of them.
-ghost use Rattle.std.specs.Prelude.{◌≡◌, false, [], ◌∷◌, ◌++◌, IfOk, OnOk};
+ghost use Rattle.std.specs.Prelude.{◌≡◌, true, false, [], IfOk, OnOk};
 ghost use Rattle.cedar_extensions.specs.Failures.{failure_of};
-ghost use Rattle.cedar_policies.specs.Policies.{policy_id};
-ghost use Rattle.cedar_policy_parts.specs.Effects.{effect_of};
+ghost use Rattle.cedar_policies.specs.Policies.{policy_id, policy_syntax};
 ghost use Rattle.cedar_policy_set.specs.Entries.{policies_of};
+ghost use Rattle.cedar_policy_set.specs.Places.{put};
 ghost use Rattle.cedar_requests.specs.Holding.{request_parts};
 ghost use Rattle.cedar_trees.specs.Bare.{bare};
 ghost use Rattle.cedar_evaluator.specs.Candidates.{policies_at};
-ghost use Rattle.cedar_evaluator.specs.Evaluations.{Satisfied, Unsatisfied, Erred, Open};
-ghost use Rattle.cedar_evaluator.specs.Grouping.{held_in, with_kept, kept_of, is_want, IsKeepable, KeepsBy, KeepsOneMore, AreApart};
-ghost use Rattle.cedar_evaluator.specs.Holding.{holding_in, request_asked};
-ghost use Rattle.cedar_evaluator.specs.Responses.{Holding, holding_of, without_false};
+ghost use Rattle.cedar_evaluator.specs.Evaluations.{Found, Satisfied, Erred, Open};
+ghost use Rattle.cedar_evaluator.specs.Grouping.{held_in, kept_as, kept_of, is_want, IsKeepable, Adds, AddsFalse, KeepsBy, KeepsOneMore};
+ghost use Rattle.cedar_evaluator.specs.Holding.{has_erred, holding_in, noted, request_asked};
+ghost use Rattle.cedar_evaluator.specs.Responses.{false_id, holding_of};
 
 use crate::candidates::candidates;
 use crate::errors::AuthorizationError;
-use crate::judging::{evaluated, evaluated_in_full, told};
+use crate::judging::{evaluated_in_full, told};
 use crate::partial_response::{ErrorState, PartialResponse};
 use crate::scopes::Scopes;
 use cedar_extensions::evaluation_error::EvaluationError;
@@ -24,6 +24,7 @@ use cedar_interpreter::Evaluator;
 use cedar_policies::policies::Policy;
 use cedar_policy_parts::annotations::Annotations;
 use cedar_policy_parts::{Effect, PolicyID};
+use cedar_policy_set::policy_map::PolicyMap;
 use cedar_policy_set::sets::PolicySet;
 use cedar_requests::Request;
 use cedar_trees::expr::Expr;
@@ -34,12 +35,14 @@ use std::rc::Rc;
 // The policies so far, of each effect those that are satisfied, those that aren't, and those that are open,
 // and the errors.
 pub(crate) struct Groups {
-    satisfied_permits: Vec<(PolicyID, Rc<Annotations>)>,
-    false_permits: Vec<(PolicyID, (ErrorState, Rc<Annotations>))>,
-    residual_permits: Vec<(PolicyID, (Rc<Expr>, Rc<Annotations>))>,
-    satisfied_forbids: Vec<(PolicyID, Rc<Annotations>)>,
-    false_forbids: Vec<(PolicyID, (ErrorState, Rc<Annotations>))>,
-    residual_forbids: Vec<(PolicyID, (Rc<Expr>, Rc<Annotations>))>,
+    // Whether policies that aren't satisfied are kept.
+    with_false: bool,
+    satisfied_permits: PolicyMap<Rc<Annotations>>,
+    false_permits: PolicyMap<(ErrorState, Rc<Annotations>)>,
+    residual_permits: PolicyMap<(Rc<Expr>, Rc<Annotations>)>,
+    satisfied_forbids: PolicyMap<Rc<Annotations>>,
+    false_forbids: PolicyMap<(ErrorState, Rc<Annotations>)>,
+    residual_forbids: PolicyMap<(Rc<Expr>, Rc<Annotations>)>,
     errors: Vec<AuthorizationError>,
 }
 
@@ -47,6 +50,7 @@ pub(crate) struct Groups {
 impl Drop for Groups {
     fn drop(self) {
         let Groups {
+            with_false: _,
             satisfied_permits: _satisfied_permits,
             false_permits: _false_permits,
             residual_permits: _residual_permits,
@@ -81,121 +85,124 @@ fn is_want_of_memory(error: &EvaluationError) -> bool
     }
 }
 
-fn copied(id: &PolicyID) -> Result<PolicyID, AllocError>
-    ensures { IfOk result (λ copy. copy ≡ id.now) }
+// The id and the annotations of a policy, as a group keeps them. Refused for memory alone.
+fn noted(policy: &Policy) -> Result<(PolicyID, Rc<Annotations>), AllocError>
+    ensures { IfOk result (λ kept. noted kept ≡ (policy_id policy.now, (policy_syntax policy.now).annotations)) }
 {
-    Ok(id.clone()?)
+    let id = policy.id().clone()?;
+    let annotations = policy.annotations_arc().clone()?;
+    Ok((id, annotations))
+}
+
+// Puts in a group what is kept of a policy.
+fn put<V: Drop>(group: &mut PolicyMap<V>, id: PolicyID, kept: V) -> Result<(), AllocError>
+    ensures { OnOk result (group.new ≡ put group.old id kept) }
+{
+    group.insert(id, kept)?;
+    Ok(())
 }
 
 impl Groups {
-    // No policies yet.
-    fn new(alloc: Global) -> Groups
-        ensures { held_in result ≡ holding_of [] }
+    /// No policies yet; those that aren't satisfied will be kept.
+    pub(crate) fn new(alloc: Global) -> Groups
+        ensures none { held_in result ≡ holding_of [] }
+        ensures with_false { result.with_false ≡ true }
     {
         Groups {
-            satisfied_permits: Vec::new(alloc),
-            false_permits: Vec::new(alloc),
-            residual_permits: Vec::new(alloc),
-            satisfied_forbids: Vec::new(alloc),
-            false_forbids: Vec::new(alloc),
-            residual_forbids: Vec::new(alloc),
+            with_false: true,
+            satisfied_permits: PolicyMap::new(alloc),
+            false_permits: PolicyMap::new(alloc),
+            residual_permits: PolicyMap::new(alloc),
+            satisfied_forbids: PolicyMap::new(alloc),
+            false_forbids: PolicyMap::new(alloc),
+            residual_forbids: PolicyMap::new(alloc),
             errors: Vec::new(alloc),
         }
     }
 
-    /// What each policy of a set, a static policy or a link, comes to, in their order, with those that
-    /// aren't satisfied or without them; refused for memory alone.
-    pub(crate) fn of_policies<F: ExtensionFunctionObject>(
+    /// No policies yet; those that aren't satisfied won't be kept, and of one that errs the error alone.
+    pub(crate) fn without_false(alloc: Global) -> Groups
+        ensures none { held_in result ≡ holding_of [] }
+        ensures with_false { result.with_false ≡ false }
+    {
+        let mut groups = Groups::new(alloc);
+        groups.with_false = false;
+        groups
+    }
+
+    /// Keeps what each policy of a set, a static policy or a link, comes to, in their order; refused for memory
+    /// alone.
+    pub(crate) fn gather<F: ExtensionFunctionObject>(
+        &mut self,
         alloc: Global,
         evaluator: &Evaluator<'_, '_, '_, F>,
         scopes: &Scopes<'_>,
         policies: &PolicySet,
-        with_false: bool,
-    ) -> Result<Groups, AllocError>
-        ensures { IfOk result (KeepsBy F.answers with_false evaluator.now scopes.now (policies_of policies.now)) }
+    ) -> Result<(), AllocError>
+        requires { held_in self.old ≡ holding_of [] }
+        ensures { OnOk result (KeepsBy F.answers self.old.with_false evaluator.now scopes.now (policies_of policies.now) self.new) }
     {
-        if with_false {
-            return Groups::of_all(alloc, evaluator, scopes, policies, with_false);
+        if self.with_false {
+            return self.gather_all(alloc, evaluator, scopes, policies);
         }
         match candidates(alloc, scopes, policies)? {
-            Some(positions) => Groups::of_those_at(alloc, evaluator, scopes, policies, &positions),
-            None => Groups::of_all(alloc, evaluator, scopes, policies, with_false),
+            Some(positions) => self.gather_at(alloc, evaluator, scopes, policies, &positions),
+            None => self.gather_all(alloc, evaluator, scopes, policies),
         }
     }
 
     // The same, by a look at each policy.
-    fn of_all<F: ExtensionFunctionObject>(
+    fn gather_all<F: ExtensionFunctionObject>(
+        &mut self,
         alloc: Global,
         evaluator: &Evaluator<'_, '_, '_, F>,
         scopes: &Scopes<'_>,
         policies: &PolicySet,
-        with_false: bool,
-    ) -> Result<Groups, AllocError>
-        ensures { IfOk result (KeepsBy F.answers with_false evaluator.now scopes.now (policies_of policies.now)) }
+    ) -> Result<(), AllocError>
+        requires { held_in self.old ≡ holding_of [] }
+        ensures { OnOk result (KeepsBy F.answers self.old.with_false evaluator.now scopes.now (policies_of policies.now) self.new) }
     {
-        let mut groups = Groups::new(alloc);
         for policy in policies.policies() {
-            groups.evaluate(alloc, evaluator, scopes, policy, with_false)?;
+            self.evaluate(alloc, evaluator, scopes, policy)?;
         }
-        Ok(groups)
+        Ok(())
     }
 
-    // What the policies at these positions come to, without those that aren't satisfied.
-    fn of_those_at<F: ExtensionFunctionObject>(
+    // The same of the policies at these positions.
+    fn gather_at<F: ExtensionFunctionObject>(
+        &mut self,
         alloc: Global,
         evaluator: &Evaluator<'_, '_, '_, F>,
         scopes: &Scopes<'_>,
         policies: &PolicySet,
         positions: &[usize],
-    ) -> Result<Groups, AllocError>
-        ensures { IfOk result (KeepsBy F.answers false evaluator.now scopes.now (policies_at policies.now positions.now)) }
+    ) -> Result<(), AllocError>
+        requires { held_in self.old ≡ holding_of [] }
+        ensures { OnOk result (KeepsBy F.answers self.old.with_false evaluator.now scopes.now (policies_at policies.now positions.now) self.new) }
     {
-        let mut groups = Groups::new(alloc);
         for position in positions {
             if let Some(policy) = policies.policy_at(*position) {
-                groups.evaluate_without_false(alloc, evaluator, scopes, policy)?;
+                self.evaluate(alloc, evaluator, scopes, policy)?;
             }
         }
-        Ok(groups)
+        Ok(())
     }
 
-    // Evaluates one more policy, and keeps what it comes to.
+    // Evaluates one more policy, and keeps what it comes to. Of most policies it is told whether they are
+    // satisfied, and then no answer of an evaluation is made and taken apart.
     fn evaluate<F: ExtensionFunctionObject>(
         &mut self,
         alloc: Global,
         evaluator: &Evaluator<'_, '_, '_, F>,
         scopes: &Scopes<'_>,
         policy: &Policy,
-        with_false: bool,
     ) -> Result<(), AllocError>
-        ensures { OnOk result (KeepsOneMore F.answers with_false evaluator.now scopes.now policy.now self.old self.new) }
-    {
-        if with_false {
-            let answer = evaluated(alloc, evaluator, scopes, policy);
-            self.keep(alloc, policy, answer)
-        } else {
-            self.evaluate_without_false(alloc, evaluator, scopes, policy)
-        }
-    }
-
-    // The same, but nothing is kept of a policy that isn't satisfied. Of most policies it is told whether they
-    // are, and then no answer of an evaluation is made and taken apart.
-    fn evaluate_without_false<F: ExtensionFunctionObject>(
-        &mut self,
-        alloc: Global,
-        evaluator: &Evaluator<'_, '_, '_, F>,
-        scopes: &Scopes<'_>,
-        policy: &Policy,
-    ) -> Result<(), AllocError>
-        ensures { OnOk result (KeepsOneMore F.answers false evaluator.now scopes.now policy.now self.old self.new) }
+        ensures keeps { OnOk result (KeepsOneMore F.answers self.old.with_false evaluator.now scopes.now policy.now self.old self.new) }
+        ensures same { self.new.with_false ≡ self.old.with_false }
     {
         match told(evaluator, scopes, policy) {
-            Some(false) => Ok(()),
-            Some(true) => {
-                let id = copied(policy.id())?;
-                let annotations = policy.annotations_arc().clone()?;
-                self.keep_satisfied(policy.effect(), id, annotations)
-            }
+            Some(true) => self.keep_satisfied(policy),
+            Some(false) => self.keep_false(policy, ErrorState::NoError),
             None => self.evaluate_in_full(alloc, evaluator, scopes, policy),
         }
     }
@@ -209,10 +216,11 @@ impl Groups {
         scopes: &Scopes<'_>,
         policy: &Policy,
     ) -> Result<(), AllocError>
-        ensures { OnOk result (KeepsOneMore F.answers false evaluator.now scopes.now policy.now self.old self.new) }
+        ensures keeps { OnOk result (KeepsOneMore F.answers self.old.with_false evaluator.now scopes.now policy.now self.old self.new) }
+        ensures same { self.new.with_false ≡ self.old.with_false }
     {
         let answer = evaluated_in_full(alloc, evaluator, scopes, policy);
-        self.keep_without_false(alloc, policy, answer)
+        self.keep(alloc, policy, answer)
     }
 
     // Keeps what one more policy comes to; want of memory is handed on.
@@ -222,126 +230,70 @@ impl Groups {
         policy: &Policy,
         answer: Result<Either<bool, Expr>, EvaluationError>,
     ) -> Result<(), AllocError>
-        ensures held { OnOk result (held_in self.new ≡ with_kept (kept_of policy.now answer) (held_in self.old)) }
+        ensures held { OnOk result (Adds self.old.with_false (kept_of policy.now answer) self.old self.new) }
         ensures keepable { OnOk result (IsKeepable answer) }
+        ensures same { self.new.with_false ≡ self.old.with_false }
     {
-        let effect = policy.effect();
-        let id = copied(policy.id())?;
-        let annotations = policy.annotations_arc().clone()?;
         match answer {
-            Ok(Either::Left(satisfied)) => {
-                if satisfied {
-                    self.keep_satisfied(effect, id, annotations)
-                } else {
-                    self.keep_unsatisfied(effect, id, annotations)
-                }
-            }
-            Ok(Either::Right(rest)) => {
-                self.keep_open(effect, id, Rc::new(alloc, rest)?, annotations)
-            }
-            Err(error) => {
-                if is_want_of_memory(&error) {
-                    return Err(AllocError);
-                }
-                self.keep_erring(effect, id, error, annotations)
-            }
+            Ok(Either::Left(true)) => self.keep_satisfied(policy),
+            Ok(Either::Left(false)) => self.keep_false(policy, ErrorState::NoError),
+            Ok(Either::Right(rest)) => self.keep_open(policy, Rc::new(alloc, rest)?),
+            Err(error) => self.keep_erring(policy, error),
         }
     }
 
-    // The same, but nothing is kept of a policy that isn't satisfied, and of one that errs the error alone.
-    fn keep_without_false(
-        &mut self,
-        alloc: Global,
-        policy: &Policy,
-        answer: Result<Either<bool, Expr>, EvaluationError>,
-    ) -> Result<(), AllocError>
-        ensures held { OnOk result ((h : Holding) → held_in self.old ≡ without_false h → held_in self.new ≡ without_false (with_kept (kept_of policy.now answer) h)) }
-        ensures keepable { OnOk result (IsKeepable answer) }
+    fn keep_satisfied(&mut self, policy: &Policy) -> Result<(), AllocError>
+        ensures held { OnOk result (Adds self.old.with_false (kept_as policy.now Satisfied) self.old self.new) }
+        ensures same { self.new.with_false ≡ self.old.with_false }
     {
-        match answer {
-            Ok(Either::Left(false)) => Ok(()),
-            Ok(Either::Left(true)) => self.keep(alloc, policy, Ok(Either::Left(true))),
-            Ok(Either::Right(rest)) => self.keep(alloc, policy, Ok(Either::Right(rest))),
-            Err(error) => self.keep_error(policy, error),
+        let (id, annotations) = noted(policy)?;
+        match policy.effect() {
+            Effect::Permit => put(&mut self.satisfied_permits, id, annotations),
+            Effect::Forbid => put(&mut self.satisfied_forbids, id, annotations),
         }
     }
 
-    // Keeps the error of one more policy, and not the policy; want of memory is handed on.
-    fn keep_error(&mut self, policy: &Policy, error: EvaluationError) -> Result<(), AllocError>
-        ensures held { OnOk result (held_in self.new ≡ record (held_in self.old) { errors = (held_in self.old).errors ++ (policy_id policy.now, failure_of error) ∷ [] }) }
-        ensures kind { OnOk result (is_want (failure_of error) ≡ false) }
+    fn keep_open(&mut self, policy: &Policy, rest: Rc<Expr>) -> Result<(), AllocError>
+        ensures held { OnOk result (Adds self.old.with_false (kept_as policy.now (Open (bare rest.value))) self.old self.new) }
+        ensures same { self.new.with_false ≡ self.old.with_false }
+    {
+        let (id, annotations) = noted(policy)?;
+        let kept = (rest, annotations);
+        match policy.effect() {
+            Effect::Permit => put(&mut self.residual_permits, id, kept),
+            Effect::Forbid => put(&mut self.residual_forbids, id, kept),
+        }
+    }
+
+    // An error counts as not satisfied; want of memory is handed on.
+    fn keep_erring(&mut self, policy: &Policy, error: EvaluationError) -> Result<(), AllocError>
+        ensures held { OnOk result (Adds self.old.with_false (kept_as policy.now (Erred (failure_of error))) self.old self.new) }
+        ensures keepable { OnOk result (is_want (failure_of error) ≡ false) }
+        ensures same { self.new.with_false ≡ self.old.with_false }
     {
         if is_want_of_memory(&error) {
             return Err(AllocError);
         }
-        let id = copied(policy.id())?;
-        Ok(
-            self.errors
-                .push(AuthorizationError::PolicyEvaluationError { id, error })?,
-        )
+        let id = policy.id().clone()?;
+        self.errors
+            .push(AuthorizationError::PolicyEvaluationError { id, error })?;
+        self.keep_false(policy, ErrorState::Error)
     }
 
-    fn keep_satisfied(
-        &mut self,
-        effect: Effect,
-        id: PolicyID,
-        annotations: Rc<Annotations>,
-    ) -> Result<(), AllocError>
-        ensures { OnOk result (held_in self.new ≡ with_kept (record { id = id; effect = effect_of effect; annotations = annotations.value; found = Satisfied }) (held_in self.old)) }
+    // Keeps a policy that isn't satisfied, if such are kept; its error, where it erred, is kept already.
+    fn keep_false(&mut self, policy: &Policy, state: ErrorState) -> Result<(), AllocError>
+        ensures held { (found : Found) → false_id (policy_id policy.now) found ≡ Some (policy_id policy.now, has_erred state) →
+            OnOk result (AddsFalse self.old.with_false (kept_as policy.now found) self.old self.new) }
+        ensures same { self.new.with_false ≡ self.old.with_false }
     {
-        match effect {
-            Effect::Permit => Ok(self.satisfied_permits.push((id, annotations))?),
-            Effect::Forbid => Ok(self.satisfied_forbids.push((id, annotations))?),
+        if !self.with_false {
+            return Ok(());
         }
-    }
-
-    fn keep_unsatisfied(
-        &mut self,
-        effect: Effect,
-        id: PolicyID,
-        annotations: Rc<Annotations>,
-    ) -> Result<(), AllocError>
-        ensures { OnOk result (held_in self.new ≡ with_kept (record { id = id; effect = effect_of effect; annotations = annotations.value; found = Unsatisfied }) (held_in self.old)) }
-    {
-        let kept = (id, (ErrorState::NoError, annotations));
-        match effect {
-            Effect::Permit => Ok(self.false_permits.push(kept)?),
-            Effect::Forbid => Ok(self.false_forbids.push(kept)?),
-        }
-    }
-
-    fn keep_open(
-        &mut self,
-        effect: Effect,
-        id: PolicyID,
-        rest: Rc<Expr>,
-        annotations: Rc<Annotations>,
-    ) -> Result<(), AllocError>
-        ensures { OnOk result (held_in self.new ≡ with_kept (record { id = id; effect = effect_of effect; annotations = annotations.value; found = Open (bare rest.value) }) (held_in self.old)) }
-    {
-        let kept = (id, (rest, annotations));
-        match effect {
-            Effect::Permit => Ok(self.residual_permits.push(kept)?),
-            Effect::Forbid => Ok(self.residual_forbids.push(kept)?),
-        }
-    }
-
-    // An error counts as not satisfied.
-    fn keep_erring(
-        &mut self,
-        effect: Effect,
-        id: PolicyID,
-        error: EvaluationError,
-        annotations: Rc<Annotations>,
-    ) -> Result<(), AllocError>
-        ensures { OnOk result (held_in self.new ≡ with_kept (record { id = id; effect = effect_of effect; annotations = annotations.value; found = Erred (failure_of error) }) (held_in self.old)) }
-    {
-        let copy = copied(&id)?;
-        self.errors.push(AuthorizationError::PolicyEvaluationError { id: copy, error })?;
-        let kept = (id, (ErrorState::Error, annotations));
-        match effect {
-            Effect::Permit => Ok(self.false_permits.push(kept)?),
-            Effect::Forbid => Ok(self.false_forbids.push(kept)?),
+        let (id, annotations) = noted(policy)?;
+        let kept = (state, annotations);
+        match policy.effect() {
+            Effect::Permit => put(&mut self.false_permits, id, kept),
+            Effect::Forbid => put(&mut self.false_forbids, id, kept),
         }
     }
 
@@ -351,11 +303,12 @@ impl Groups {
         alloc: Global,
         request: Request,
     ) -> Result<PartialResponse, AllocError>
-        ensures holds { IfOk result (λ response. AreApart self → holding_in response ≡ held_in self) }
+        ensures holds { IfOk result (λ response. holding_in response ≡ held_in self) }
         ensures asked { IfOk result (λ response. request_asked response ≡ request_parts request) }
     {
         let request = Rc::new(alloc, request)?;
         let Groups {
+            with_false: _,
             satisfied_permits,
             false_permits,
             residual_permits,
@@ -364,8 +317,7 @@ impl Groups {
             residual_forbids,
             errors,
         } = self;
-        PartialResponse::new(
-            alloc,
+        Ok(PartialResponse {
             satisfied_permits,
             false_permits,
             residual_permits,
@@ -374,6 +326,6 @@ impl Groups {
             residual_forbids,
             errors,
             request,
-        )
+        })
     }
 }

@@ -11,14 +11,14 @@ use crate::partial_response::{ErrorState, PartialResponse};
 use cedar_policy_parts::PolicyID;
 use cedar_policy_parts::annotations::Annotations;
 use cedar_trees::expr::Expr;
-use indexmap::map::{Iter, Keys};
 use std::rc::Rc;
+use std::slice::Iter;
 
 /// The ids of the policies of a response that erred, permits before forbids.
 #[derive(Drop)]
 pub struct ErroredIds<'a> {
-    permits: Iter<'a, PolicyID, (ErrorState, Rc<Annotations>)>,
-    forbids: Iter<'a, PolicyID, (ErrorState, Rc<Annotations>)>,
+    permits: Iter<'a, (PolicyID, (ErrorState, Rc<Annotations>))>,
+    forbids: Iter<'a, (PolicyID, (ErrorState, Rc<Annotations>))>,
 }
 
 // Whether a policy erred.
@@ -59,8 +59,8 @@ impl<'a> Iterator for ErroredIds<'a> {
 /// The ids of the policies of a response that are open, permits before forbids.
 #[derive(Drop)]
 pub struct ResidualIds<'a> {
-    permits: Keys<'a, PolicyID, (Rc<Expr>, Rc<Annotations>)>,
-    forbids: Keys<'a, PolicyID, (Rc<Expr>, Rc<Annotations>)>,
+    permits: Iter<'a, (PolicyID, (Rc<Expr>, Rc<Annotations>))>,
+    forbids: Iter<'a, (PolicyID, (Rc<Expr>, Rc<Annotations>))>,
 }
 
 impl<'a> Iterator for ResidualIds<'a> {
@@ -74,10 +74,11 @@ impl<'a> Iterator for ResidualIds<'a> {
     ghost remaining = { item_count residual_ids_left };
 
     fn next(&mut self) -> Option<&'a PolicyID> {
-        match self.permits.next() {
-            Some(id) => Some(id),
-            None => self.forbids.next(),
+        if let Some((id, _)) = self.permits.next() {
+            return Some(id);
         }
+        let (id, _) = self.forbids.next()?;
+        Some(id)
     }
 }
 
@@ -97,8 +98,8 @@ impl PartialResponse {
         ensures { residual_ids_left result ≡ ids_with is_residual (judged_held (holding_in self.now)) }
     {
         ResidualIds {
-            permits: self.residual_permits.keys(),
-            forbids: self.residual_forbids.keys(),
+            permits: self.residual_permits.iter(),
+            forbids: self.residual_forbids.iter(),
         }
     }
 }

@@ -55,26 +55,7 @@ pub(crate) fn told<F: ExtensionFunctionObject>(
 }
 
 /// What a policy comes to, as [`EvaluatePolicy::partial_evaluate`] has it, by an evaluator of a request and
-/// the scopes that the request decides.
-pub(crate) fn evaluated<F: ExtensionFunctionObject>(
-    alloc: Global,
-    evaluator: &Evaluator<'_, '_, '_, F>,
-    scopes: &Scopes<'_>,
-    policy: &Policy,
-) -> Result<Either<bool, Expr>, EvaluationError>
-    ensures found { JudgesBy F.answers evaluator.now scopes.now policy.now result }
-    ensures limit { IsLimit result → Deep F.answers evaluator.now (depth_of evaluator.now) (condition_of policy.now) }
-    ensures read { JudgesReadBy F.answers evaluator.now scopes.now policy.now result }
-    ensures read_limit { IsLimit result → IsDeepRead F.answers evaluator.now (depth_of evaluator.now) (condition_of policy.now) }
-{
-    match told(evaluator, scopes, policy) {
-        Some(satisfied) => Ok(Either::Left(satisfied)),
-        None => evaluated_in_full(alloc, evaluator, scopes, policy),
-    }
-}
-
-/// The same by an evaluation, where it isn't told: of a policy whose scope holds the clauses alone are
-/// evaluated.
+/// the scopes that the request decides: of a policy whose scope holds the clauses alone are evaluated.
 pub(crate) fn evaluated_in_full<F: ExtensionFunctionObject>(
     alloc: Global,
     evaluator: &Evaluator<'_, '_, '_, F>,

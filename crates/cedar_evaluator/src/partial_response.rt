@@ -14,9 +14,9 @@ ghost use Rattle.cedar_evaluator.specs.Holding.{holding_in};
 use crate::errors::AuthorizationError;
 use cedar_policy_parts::annotations::Annotations;
 use cedar_policy_parts::{Decision, PolicyID};
+use cedar_policy_set::policy_map::PolicyMap;
 use cedar_requests::Request;
 use cedar_trees::expr::Expr;
-use indexmap::IndexMap;
 use std::alloc::{AllocError, Global};
 use std::rc::Rc;
 
@@ -35,17 +35,17 @@ pub enum ErrorState {
 /// (Cedar language reference, "Authorization" and "Partial evaluation".)
 pub struct PartialResponse {
     /// The permits that are satisfied.
-    pub satisfied_permits: IndexMap<PolicyID, Rc<Annotations>>,
+    pub satisfied_permits: PolicyMap<Rc<Annotations>>,
     /// The permits that aren't satisfied, each with whether it erred.
-    pub false_permits: IndexMap<PolicyID, (ErrorState, Rc<Annotations>)>,
+    pub false_permits: PolicyMap<(ErrorState, Rc<Annotations>)>,
     /// The permits that are open, each with what is left of its condition.
-    pub residual_permits: IndexMap<PolicyID, (Rc<Expr>, Rc<Annotations>)>,
+    pub residual_permits: PolicyMap<(Rc<Expr>, Rc<Annotations>)>,
     /// The forbids that are satisfied.
-    pub satisfied_forbids: IndexMap<PolicyID, Rc<Annotations>>,
+    pub satisfied_forbids: PolicyMap<Rc<Annotations>>,
     /// The forbids that aren't satisfied, each with whether it erred.
-    pub false_forbids: IndexMap<PolicyID, (ErrorState, Rc<Annotations>)>,
+    pub false_forbids: PolicyMap<(ErrorState, Rc<Annotations>)>,
     /// The forbids that are open, each with what is left of its condition.
-    pub residual_forbids: IndexMap<PolicyID, (Rc<Expr>, Rc<Annotations>)>,
+    pub residual_forbids: PolicyMap<(Rc<Expr>, Rc<Annotations>)>,
     /// The errors, in the order of the policies.
     pub errors: Vec<AuthorizationError>,
     pub(crate) request: Rc<Request>,
@@ -68,13 +68,10 @@ impl Drop for PartialResponse {
 }
 
 // The map of these entries.
-fn mapped<V: Drop>(
-    alloc: Global,
-    entries: Vec<(PolicyID, V)>,
-) -> Result<IndexMap<PolicyID, V>, AllocError>
-    ensures { IfOk result (λ map. map.entries ≡ gathered entries.items) }
+fn mapped<V: Drop>(alloc: Global, entries: Vec<(PolicyID, V)>) -> Result<PolicyMap<V>, AllocError>
+    ensures { IfOk result (λ map. map ≡ gathered entries.items) }
 {
-    let mut map = IndexMap::with_capacity(alloc, entries.len())?;
+    let mut map = PolicyMap::new(alloc);
     for (id, value) in entries {
         map.insert(id, value)?;
     }
@@ -82,8 +79,8 @@ fn mapped<V: Drop>(
 }
 
 // Whether a group has a policy.
-fn has_any<V>(group: &IndexMap<PolicyID, V>) -> bool
-    ensures { result ≡ has_any group.now.entries }
+fn has_any<V>(group: &PolicyMap<V>) -> bool
+    ensures { result ≡ has_any group.now }
 {
     !group.is_empty()
 }
@@ -108,18 +105,18 @@ fn decided(
 }
 
 // Appends the ids of a group.
-fn push_keys<V>(ids: &mut Vec<PolicyID>, group: &IndexMap<PolicyID, V>) -> Result<(), AllocError>
-    ensures { OnOk result (ids.new.items ≡ ids.old.items ++ keys_of group.now.entries) }
+fn push_keys<V>(ids: &mut Vec<PolicyID>, group: &PolicyMap<V>) -> Result<(), AllocError>
+    ensures { OnOk result (ids.new.items ≡ ids.old.items ++ keys_of group.now) }
 {
-    for id in group.keys() {
+    for (id, _) in group.iter() {
         ids.push(id.clone()?)?;
     }
     Ok(())
 }
 
 // The ids of a group, in a list with room for them.
-fn keys<V>(alloc: Global, group: &IndexMap<PolicyID, V>) -> Result<Vec<PolicyID>, AllocError>
-    ensures { IfOk result (λ ids. ids.items ≡ keys_of group.now.entries) }
+fn keys<V>(alloc: Global, group: &PolicyMap<V>) -> Result<Vec<PolicyID>, AllocError>
+    ensures { IfOk result (λ ids. ids.items ≡ keys_of group.now) }
 {
     let mut ids = Vec::with_capacity(alloc, group.len())?;
     push_keys(&mut ids, group)?;
@@ -168,7 +165,7 @@ impl PartialResponse {
 
     // Whether a forbid is satisfied or open.
     fn has_forbids(&self) -> bool
-        ensures { result ≡ (has_any self.now.satisfied_forbids.entries || has_any self.now.residual_forbids.entries) }
+        ensures { result ≡ (has_any self.now.satisfied_forbids || has_any self.now.residual_forbids) }
     {
         has_any(&self.satisfied_forbids) || has_any(&self.residual_forbids)
     }

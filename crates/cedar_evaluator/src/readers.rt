@@ -17,8 +17,8 @@ use cedar_literals::literals::Literal;
 use cedar_policies::policies::Policy;
 use cedar_policy_parts::annotations::Annotations;
 use cedar_policy_parts::{Effect, PolicyID};
+use cedar_policy_set::policy_map::PolicyMap;
 use cedar_trees::expr::Expr;
-use indexmap::IndexMap;
 use std::alloc::{AllocError, Global};
 use std::rc::Rc;
 
@@ -54,9 +54,9 @@ fn push_satisfied(
     alloc: Global,
     policies: &mut Vec<Policy>,
     effect: Effect,
-    group: &IndexMap<PolicyID, Rc<Annotations>>,
+    group: &PolicyMap<Rc<Annotations>>,
 ) -> Result<(), AllocError>
-    ensures { OnOk result (map policy_seen policies.new.items ≡ map policy_seen policies.old.items ++ map (left_satisfied (effect_of effect)) group.now.entries) }
+    ensures { OnOk result (map policy_seen policies.new.items ≡ map policy_seen policies.old.items ++ map (left_satisfied (effect_of effect)) group.now) }
 {
     let clause = truth(alloc, true)?;
     for (id, annotations) in group.iter() {
@@ -70,9 +70,9 @@ fn push_false(
     alloc: Global,
     policies: &mut Vec<Policy>,
     effect: Effect,
-    group: &IndexMap<PolicyID, (ErrorState, Rc<Annotations>)>,
+    group: &PolicyMap<(ErrorState, Rc<Annotations>)>,
 ) -> Result<(), AllocError>
-    ensures { OnOk result (map policy_seen policies.new.items ≡ map policy_seen policies.old.items ++ map (left_false (effect_of effect)) group.now.entries) }
+    ensures { OnOk result (map policy_seen policies.new.items ≡ map policy_seen policies.old.items ++ map (left_false (effect_of effect)) group.now) }
 {
     let clause = truth(alloc, false)?;
     for (id, kept) in group.iter() {
@@ -86,9 +86,9 @@ fn push_open(
     alloc: Global,
     policies: &mut Vec<Policy>,
     effect: Effect,
-    group: &IndexMap<PolicyID, (Rc<Expr>, Rc<Annotations>)>,
+    group: &PolicyMap<(Rc<Expr>, Rc<Annotations>)>,
 ) -> Result<(), AllocError>
-    ensures { OnOk result (map policy_seen policies.new.items ≡ map policy_seen policies.old.items ++ map (left_open (effect_of effect)) group.now.entries) }
+    ensures { OnOk result (map policy_seen policies.new.items ≡ map policy_seen policies.old.items ++ map (left_open (effect_of effect)) group.now) }
 {
     for (id, kept) in group.iter() {
         policies.push(policy_of(alloc, effect, id, &kept.0, &kept.1)?)?;
@@ -101,9 +101,9 @@ fn open_at(
     alloc: Global,
     effect: Effect,
     id: &PolicyID,
-    group: &IndexMap<PolicyID, (Rc<Expr>, Rc<Annotations>)>,
+    group: &PolicyMap<(Rc<Expr>, Rc<Annotations>)>,
 ) -> Result<Option<Policy>, AllocError>
-    ensures { IfOk result (IsFound id.now (lookup (same_text id.now) (map (left_open (effect_of effect)) group.now.entries))) }
+    ensures { IfOk result (IsFound id.now (lookup (same_text id.now) (map (left_open (effect_of effect)) group.now))) }
 {
     match group.get(id) {
         None => Ok(None),
@@ -116,9 +116,9 @@ fn satisfied_at(
     alloc: Global,
     effect: Effect,
     id: &PolicyID,
-    group: &IndexMap<PolicyID, Rc<Annotations>>,
+    group: &PolicyMap<Rc<Annotations>>,
 ) -> Result<Option<Policy>, AllocError>
-    ensures { IfOk result (IsFound id.now (lookup (same_text id.now) (map (left_satisfied (effect_of effect)) group.now.entries))) }
+    ensures { IfOk result (IsFound id.now (lookup (same_text id.now) (map (left_satisfied (effect_of effect)) group.now))) }
 {
     match group.get(id) {
         None => Ok(None),
@@ -134,9 +134,9 @@ fn false_at(
     alloc: Global,
     effect: Effect,
     id: &PolicyID,
-    group: &IndexMap<PolicyID, (ErrorState, Rc<Annotations>)>,
+    group: &PolicyMap<(ErrorState, Rc<Annotations>)>,
 ) -> Result<Option<Policy>, AllocError>
-    ensures { IfOk result (IsFound id.now (lookup (same_text id.now) (map (left_false (effect_of effect)) group.now.entries))) }
+    ensures { IfOk result (IsFound id.now (lookup (same_text id.now) (map (left_false (effect_of effect)) group.now))) }
 {
     match group.get(id) {
         None => Ok(None),
@@ -152,11 +152,11 @@ fn found_at(
     alloc: Global,
     effect: Effect,
     id: &PolicyID,
-    residuals: &IndexMap<PolicyID, (Rc<Expr>, Rc<Annotations>)>,
-    satisfied: &IndexMap<PolicyID, Rc<Annotations>>,
-    others: &IndexMap<PolicyID, (ErrorState, Rc<Annotations>)>,
+    residuals: &PolicyMap<(Rc<Expr>, Rc<Annotations>)>,
+    satisfied: &PolicyMap<Rc<Annotations>>,
+    others: &PolicyMap<(ErrorState, Rc<Annotations>)>,
 ) -> Result<Option<Policy>, AllocError>
-    ensures { IfOk result (IsFound id.now (lookup (same_text id.now) (of_effect (effect_of effect) residuals.now.entries satisfied.now.entries others.now.entries))) }
+    ensures { IfOk result (IsFound id.now (lookup (same_text id.now) (of_effect (effect_of effect) residuals.now satisfied.now others.now))) }
 {
     match open_at(alloc, effect, id, residuals)? {
         Some(policy) => Ok(Some(policy)),

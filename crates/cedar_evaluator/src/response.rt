@@ -18,6 +18,7 @@ ghost use Rattle.cedar_evaluator.specs.Responses.{judged_held};
 use crate::authorizer::Authorizer;
 use crate::errors::AuthorizationError;
 use crate::partial_response::PartialResponse;
+use crate::reasons::Reasons;
 use cedar_entities::store::Entities;
 use cedar_extensions::evaluation_error::EvaluationError;
 use cedar_extensions::objects::ExtensionFunctionObject;
@@ -25,10 +26,10 @@ use cedar_names::conversions::FromIn;
 use cedar_partial_evaluation::{known_is_meaning, leaves_dont_matter};
 use cedar_policy_parts::annotations::Annotations;
 use cedar_policy_parts::{Decision, PolicyID};
+use cedar_policy_set::policy_map::PolicyMap;
 use cedar_policy_set::sets::PolicySet;
 use cedar_requests::Request;
 use cedar_trees::expr::Expr;
-use indexmap::{IndexMap, IndexSet};
 use std::alloc::{AllocError, Global};
 use std::rc::Rc;
 
@@ -55,7 +56,7 @@ impl Drop for Response {
 #[derive(Debug, PartialEq, Eq)]
 pub struct Diagnostics {
     /// The ids of the policies that decide, in the order of the set; none where no policy applies.
-    pub reason: IndexSet<PolicyID>,
+    pub reason: Reasons,
     /// The errors of policies.
     pub errors: Vec<AuthorizationError>,
 }
@@ -72,11 +73,7 @@ impl Drop for Diagnostics {
 
 impl Response {
     /// The response of this decision, these reasons and these errors.
-    pub fn new(
-        decision: Decision,
-        reason: IndexSet<PolicyID>,
-        errors: Vec<AuthorizationError>,
-    ) -> Response
+    pub fn new(decision: Decision, reason: Reasons, errors: Vec<AuthorizationError>) -> Response
         ensures decision { result.decision ≡ decision }
         ensures reason { result.diagnostics.reason ≡ reason }
         ensures errors { result.diagnostics.errors.items ≡ errors.items }
@@ -102,15 +99,13 @@ impl FromIn<PartialResponse> for Response {
     }
 }
 
-// The ids of a group as a set.
-fn key_set<V>(
-    alloc: Global,
-    group: &IndexMap<PolicyID, V>,
-) -> Result<IndexSet<PolicyID>, AllocError>
-    ensures { IfOk result (λ ids. ids.keys ≡ keys_of group.now.entries) }
+// The ids of a group, as reasons.
+fn key_set<V>(alloc: Global, group: &PolicyMap<V>) -> Result<Reasons, AllocError>
+    ensures { IfOk result (λ ids. ids ≡ keys_of group.now) }
 {
-    let mut ids = IndexSet::new(alloc);
-    for id in group.keys() {
+    let _count = group.len();
+    let mut ids = Reasons::new(alloc);
+    for (id, _) in group.iter() {
         let copy = id.clone()?;
         ids.insert(copy)?;
     }
@@ -130,9 +125,9 @@ fn open_error(alloc: Global, id: &PolicyID, rest: &Expr) -> Result<Authorization
 fn push_open(
     alloc: Global,
     errors: &mut Vec<AuthorizationError>,
-    group: &IndexMap<PolicyID, (Rc<Expr>, Rc<Annotations>)>,
+    group: &PolicyMap<(Rc<Expr>, Rc<Annotations>)>,
 ) -> Result<(), AllocError>
-    ensures { OnOk result (map cause_seen errors.new.items ≡ map cause_seen errors.old.items ++ map left_of group.now.entries) }
+    ensures { OnOk result (map cause_seen errors.new.items ≡ map cause_seen errors.old.items ++ map left_of group.now) }
 {
     for (id, kept) in group.iter() {
         errors.push(open_error(alloc, id, &kept.0)?)?;
@@ -153,8 +148,8 @@ impl PartialResponse {
     }
 
     // The ids of the policies that are reasons whatever the open ones come to.
-    fn reasons(&self, alloc: Global) -> Result<IndexSet<PolicyID>, AllocError>
-        ensures { IfOk result (λ ids. ids.keys ≡ ids_with (in_must (judged_held (holding_in self.now))) (judged_held (holding_in self.now))) }
+    fn reasons(&self, alloc: Global) -> Result<Reasons, AllocError>
+        ensures { IfOk result (λ ids. ids ≡ ids_with (in_must (judged_held (holding_in self.now))) (judged_held (holding_in self.now))) }
     {
         if self.satisfied_forbids.is_empty() && self.residual_forbids.is_empty() {
             key_set(alloc, &self.satisfied_permits)
@@ -218,9 +213,9 @@ impl<'e, 'f, F: ExtensionFunctionObject> Authorizer<'e, 'f, F> {
 #[derive(Debug, PartialEq, Eq)]
 pub struct EvaluationResponse {
     /// The ids of the permits that are satisfied.
-    pub satisfied_permits: IndexSet<PolicyID>,
+    pub satisfied_permits: Reasons,
     /// The ids of the forbids that are satisfied.
-    pub satisfied_forbids: IndexSet<PolicyID>,
+    pub satisfied_forbids: Reasons,
     /// The errors of policies.
     pub errors: Vec<AuthorizationError>,
     /// What is left of the open permits.

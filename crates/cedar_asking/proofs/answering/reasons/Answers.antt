@@ -12,6 +12,6 @@ returns-then-is_empty-2-clause-may c =
     let r = c.args.response.now in
     let h = holding_in r in
     let must : c.in_ok-may.may ≡ ids_of (ids_with (in_must (judged_held h)) (judged_held h)) = search rules in
-    let no_permit = none_seen _ r.residual_permits.entries (c.is_empty.ensures.0 c.if-is_empty.true) in
-    let no_forbid = none_seen _ r.residual_forbids.entries (c.is_empty-then-is_empty.ensures.0 c.if-is_empty-2.true) in
+    let no_permit = none_seen _ r.residual_permits (c.is_empty.ensures.0 c.if-is_empty.true) in
+    let no_forbid = none_seen _ r.residual_forbids (c.is_empty-then-is_empty.ensures.0 c.if-is_empty-2.true) in
     must ∙ ap ids_of (sym (same_reasons h no_permit no_forbid))

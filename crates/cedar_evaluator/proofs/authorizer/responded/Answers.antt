@@ -9,8 +9,8 @@ use Rattle.cedar_evaluator.proofs.authorizer.responded.Goals as goal
 pub returns : goal.returns
 returns g c =
     let es = c.args.policies.now in
+    let apart = IsDistinct-keys_filter same_text (λ e. is_policy e.1) es c.len-count.ensures.whole.distinct in
     if_ok_both c.into_response.result
     (λ response holds asked i store table depth is by scopes.
-    responds c.args.with_false i store table depth es c.in_ok-groups.groups (c.in_ok-groups.ensures i store table depth by scopes)
-    (IsDistinct-keys_filter same_text (λ e. is_policy e.1) es c.len-count.ensures.whole.distinct) response holds asked is)
+    responds c.args.groups.with_false i store table depth es c.gather.new.self (c.in_ok-gather.ensures apart i store table depth by scopes) apart response holds asked is)
     c.into_response.ensures.holds c.into_response.ensures.asked

@@ -4,4 +4,4 @@ use Rattle.cedar_evaluator.specs.Given.{put_in, gathered}
 use Rattle.cedar_evaluator.proofs.partial_response.mapped.Given as goal
 
 abbrev pub invariant-loop-id : goal.invariant-loop-id
-invariant-loop-id g l = put_in l.map.entries l.id-iterator.rest.items ≡ gathered l.fn.entries.items
+invariant-loop-id g l = put_in l.map l.id-iterator.rest.items ≡ gathered l.fn.entries.items

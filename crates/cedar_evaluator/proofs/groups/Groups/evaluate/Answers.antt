@@ -1,22 +1,32 @@
--- What is kept of one more policy, with those that aren't satisfied or without them.
+-- What is kept of one more policy: where it is told, no evaluation is needed.
+use Rattle.std.proofs.Common.{◌≡◌, true, false, refl}
+use Rattle.std.specs.Prelude.{Ok}
+use Rattle.std.proofs.lemmas.Result.{on_ok_weaker}
+use Rattle.either.specs.declared.Either.TheVariants.{Left}
 use Rattle.cedar_policy_set.specs.Bounds.{policy_seen}
+use Rattle.cedar_evaluator.specs.Evaluations.{Unsatisfied}
 use Rattle.cedar_evaluator.specs.Grouping.{kept_of}
-use Rattle.cedar_evaluator.proofs.Keeping.{adds_any, keeps_more}
-use Rattle.cedar_evaluator.proofs.Kept.{is_kept}
-use Rattle.cedar_evaluator.proofs.Responding.{on_ok}
+use Rattle.cedar_evaluator.proofs.Adding.{adds_unsatisfied}
+use Rattle.cedar_evaluator.proofs.Keeping.{keeps_more}
+use Rattle.cedar_evaluator.proofs.Kept.{is_kept_told}
 use Rattle.cedar_evaluator.proofs.groups.Groups.evaluate.Goals as goal
 
-pub returns-then-with_false : goal.returns-then-with_false
-returns-then-with_false g c =
+pub returns-in-Some-true-clause-keeps : goal.returns-in-Some-true-clause-keeps
+returns-in-Some-true-clause-keeps g c =
     let p = c.args.policy.now in
-    let answer = c.evaluated-answer.result in
-    let k = kept_of p answer in
-    on_ok c.keep.result
-    (λ held keepable i store table depth is scopes es keeps.
-    keeps_more c.args.with_false i store table depth es c.args.self.now c.keep.new.self (policy_seen p) k keeps (adds_any c.args.with_false k c.args.self.now c.keep.new.self c.if-with_false.true held)
-    (is_kept g.F.ExtensionFunctionObject.answers i store table depth c.args.evaluator.now is p answer (c.evaluated-answer.ensures.found i store table depth is scopes) c.evaluated-answer.ensures.limit
-    (c.evaluated-answer.ensures.read i store table depth is scopes) c.evaluated-answer.ensures.read_limit keepable))
-    c.keep.ensures.held c.keep.ensures.keepable
+    let before = c.args.self.now in
+    on_ok_weaker c.keep_satisfied.result
+    (λ adds i store table depth is scopes es apart keeps.
+    keeps_more before.with_false i store table depth es before c.keep_satisfied.new.self (policy_seen p) (kept_of p (Ok (Left true))) apart keeps adds
+    (is_kept_told g.F.ExtensionFunctionObject.answers i store table depth c.args.evaluator.now is p c.in-Some-true.field-0 true c.in-Some-true.field-0-test (c.in-Some-true.ensures.found i store table depth is scopes) (c.in-Some-true.ensures.read i store table depth is scopes)))
+    c.keep_satisfied.ensures.held
 
-pub returns-else-with_false : goal.returns-else-with_false
-returns-else-with_false g c = rw c.if-with_false.false c.evaluate_without_false.ensures
+pub returns-in-Some-false-clause-keeps : goal.returns-in-Some-false-clause-keeps
+returns-in-Some-false-clause-keeps g c =
+    let p = c.args.policy.now in
+    let before = c.args.self.now in
+    on_ok_weaker c.keep_false.result
+    (λ adds i store table depth is scopes es apart keeps.
+    keeps_more before.with_false i store table depth es before c.keep_false.new.self (policy_seen p) (kept_of p (Ok (Left false))) apart keeps (adds_unsatisfied before.with_false p before c.keep_false.new.self adds)
+    (is_kept_told g.F.ExtensionFunctionObject.answers i store table depth c.args.evaluator.now is p c.in-Some-false.field-0 false c.in-Some-false.field-0-test (c.in-Some-false.ensures.found i store table depth is scopes) (c.in-Some-false.ensures.read i store table depth is scopes)))
+    (c.keep_false.ensures.held Unsatisfied refl)

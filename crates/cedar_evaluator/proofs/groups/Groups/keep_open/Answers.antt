@@ -1,36 +1,20 @@
 -- One more policy in the group of its effect.
-use Rattle.std.proofs.Common.{map, sym, ◌∙◌, ap}
-use Rattle.std.specs.declared.alloc.Global.{Global}
-use Rattle.std.specs.declared.rc.Rc.{Rc}
-use Rattle.std.proofs.lemmas.List.{map_push}
-use Rattle.cedar_language.specs.Uid.{Text}
+use Rattle.std.proofs.Common.{sym, ◌∙◌, ap}
+use Rattle.std.proofs.lemmas.Result.{on_ok_weaker}
 use Rattle.cedar_policy_parts.specs.Effects.{effect_of}
-use Rattle.cedar_trees.specs.Bare.{bare}
-use Rattle.cedar_trees.specs.declared.expr.Expr.{Expr}
-use Rattle.cedar_evaluator.specs.Evaluations.{Open}
-use Rattle.cedar_evaluator.specs.Given.{Noted}
-use Rattle.cedar_evaluator.specs.Grouping.{held_in, annotated_so_far, with_kept}
-use Rattle.cedar_evaluator.specs.Holding.{noted_behind}
+use Rattle.cedar_evaluator.proofs.Adding.{open_permit, open_forbid}
 use Rattle.cedar_evaluator.proofs.groups.Groups.keep_open.Goals as goal
 
-pub returns-in_ok-push-in-Permit : goal.returns-in_ok-push-in-Permit
-returns-in_ok-push-in-Permit c =
+pub returns-in-Permit-clause-held : goal.returns-in-Permit-clause-held
+returns-in-Permit-clause-held c =
     let g = c.args.self.now in
-    let kept : Text × (Rc (Expr (Unit {0})) Global × Noted) = (c.args.id, (c.args.rest, c.args.annotations)) in
-    let items = c.in_ok-push-in-Permit.ensures.items in
-    (λ i. record (held_in g) {
-      open_permits = (ap (map (λ e. (e.0, bare e.1.0.value))) items ∙ map_push (λ e. (e.0, bare e.1.0.value)) g.residual_permits.items kept) i;
-      annotated = record (annotated_so_far g) { open_permits = (ap (map noted_behind) items ∙ map_push noted_behind g.residual_permits.items kept) i };
-    })
-    ∙ sym (ap (λ e. with_kept (record { id = c.args.id; effect = effect_of e; annotations = c.args.annotations.value; found = Open (bare c.args.rest.value) }) (held_in g)) c.in-Permit.is)
+    on_ok_weaker c.put.result
+    (open_permit g.with_false g c.args.policy.now (c.in_ok-id.id, c.in_ok-id.annotations) c.in_ok-id.ensures c.args.rest (sym (ap effect_of c.in-Permit.is) ∙ c.effect.ensures) c.put.new.group)
+    c.put.ensures
 
-pub returns-in_ok-push-in-Forbid : goal.returns-in_ok-push-in-Forbid
-returns-in_ok-push-in-Forbid c =
+pub returns-in-Forbid-clause-held : goal.returns-in-Forbid-clause-held
+returns-in-Forbid-clause-held c =
     let g = c.args.self.now in
-    let kept : Text × (Rc (Expr (Unit {0})) Global × Noted) = (c.args.id, (c.args.rest, c.args.annotations)) in
-    let items = c.in_ok-push-in-Forbid.ensures.items in
-    (λ i. record (held_in g) {
-      open_forbids = (ap (map (λ e. (e.0, bare e.1.0.value))) items ∙ map_push (λ e. (e.0, bare e.1.0.value)) g.residual_forbids.items kept) i;
-      annotated = record (annotated_so_far g) { open_forbids = (ap (map noted_behind) items ∙ map_push noted_behind g.residual_forbids.items kept) i };
-    })
-    ∙ sym (ap (λ e. with_kept (record { id = c.args.id; effect = effect_of e; annotations = c.args.annotations.value; found = Open (bare c.args.rest.value) }) (held_in g)) c.in-Forbid.is)
+    on_ok_weaker c.put-in-Forbid.result
+    (open_forbid g.with_false g c.args.policy.now (c.in_ok-id.id, c.in_ok-id.annotations) c.in_ok-id.ensures c.args.rest (sym (ap effect_of c.in-Forbid.is) ∙ c.effect.ensures) c.put-in-Forbid.new.group)
+    c.put-in-Forbid.ensures

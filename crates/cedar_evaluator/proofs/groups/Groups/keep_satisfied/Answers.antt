@@ -1,33 +1,20 @@
 -- One more policy in the group of its effect.
-use Rattle.std.proofs.Common.{map, sym, ◌∙◌, ap}
-use Rattle.std.specs.Map.{keys_of}
-use Rattle.std.proofs.lemmas.List.{map_push}
-use Rattle.cedar_language.specs.Uid.{Text}
+use Rattle.std.proofs.Common.{sym, ◌∙◌, ap}
+use Rattle.std.proofs.lemmas.Result.{on_ok_weaker}
 use Rattle.cedar_policy_parts.specs.Effects.{effect_of}
-use Rattle.cedar_evaluator.specs.Evaluations.{Satisfied}
-use Rattle.cedar_evaluator.specs.Given.{Noted}
-use Rattle.cedar_evaluator.specs.Grouping.{held_in, annotated_so_far, with_kept}
-use Rattle.cedar_evaluator.specs.Holding.{noted}
+use Rattle.cedar_evaluator.proofs.Adding.{satisfied_permit, satisfied_forbid}
 use Rattle.cedar_evaluator.proofs.groups.Groups.keep_satisfied.Goals as goal
 
-pub returns-in_ok-push-in-Permit : goal.returns-in_ok-push-in-Permit
-returns-in_ok-push-in-Permit c =
+pub returns-in-Permit-clause-held : goal.returns-in-Permit-clause-held
+returns-in-Permit-clause-held c =
     let g = c.args.self.now in
-    let kept : Text × Noted = (c.args.id, c.args.annotations) in
-    let items = c.in_ok-push-in-Permit.ensures.items in
-    (λ i. record (held_in g) {
-      satisfied_permits = (ap keys_of items ∙ map_push (λ e. e.0) g.satisfied_permits.items kept) i;
-      annotated = record (annotated_so_far g) { satisfied_permits = (ap (map noted) items ∙ map_push noted g.satisfied_permits.items kept) i };
-    })
-    ∙ sym (ap (λ e. with_kept (record { id = c.args.id; effect = effect_of e; annotations = c.args.annotations.value; found = Satisfied }) (held_in g)) c.in-Permit.is)
+    on_ok_weaker c.put.result
+    (satisfied_permit g.with_false g c.args.policy.now (c.in_ok-id.id, c.in_ok-id.annotations) c.in_ok-id.ensures (sym (ap effect_of c.in-Permit.is) ∙ c.effect.ensures) c.put.new.group)
+    c.put.ensures
 
-pub returns-in_ok-push-in-Forbid : goal.returns-in_ok-push-in-Forbid
-returns-in_ok-push-in-Forbid c =
+pub returns-in-Forbid-clause-held : goal.returns-in-Forbid-clause-held
+returns-in-Forbid-clause-held c =
     let g = c.args.self.now in
-    let kept : Text × Noted = (c.args.id, c.args.annotations) in
-    let items = c.in_ok-push-in-Forbid.ensures.items in
-    (λ i. record (held_in g) {
-      satisfied_forbids = (ap keys_of items ∙ map_push (λ e. e.0) g.satisfied_forbids.items kept) i;
-      annotated = record (annotated_so_far g) { satisfied_forbids = (ap (map noted) items ∙ map_push noted g.satisfied_forbids.items kept) i };
-    })
-    ∙ sym (ap (λ e. with_kept (record { id = c.args.id; effect = effect_of e; annotations = c.args.annotations.value; found = Satisfied }) (held_in g)) c.in-Forbid.is)
+    on_ok_weaker c.put-in-Forbid.result
+    (satisfied_forbid g.with_false g c.args.policy.now (c.in_ok-id.id, c.in_ok-id.annotations) c.in_ok-id.ensures (sym (ap effect_of c.in-Forbid.is) ∙ c.effect.ensures) c.put-in-Forbid.new.group)
+    c.put-in-Forbid.ensures

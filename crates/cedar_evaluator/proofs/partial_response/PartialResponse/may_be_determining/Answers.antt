@@ -11,7 +11,7 @@ use Rattle.cedar_evaluator.proofs.partial_response.PartialResponse.may_be_determ
 pub returns : goal.returns
 returns c =
     let r = c.args.self.now in
-    let forbids = r.satisfied_forbids.entries in
+    let forbids = r.satisfied_forbids in
     c.in_ok-push_open-2.ensures ∙ elim c.if-is_empty.branch [
       | then-is_empty+in_ok-push_satisfied+in_ok-push_open w ↦
           let first = w.in_ok-push_satisfied.ensures ∙ ap (λ (l : List Policy). map policy_seen l ++ satisfied_permits_left r) c.new-policies.ensures.items in

@@ -16,8 +16,8 @@ use Rattle.cedar_evaluator.proofs.partial_response.PartialResponse.must_be_deter
 pub returns : goal.returns
 returns c =
     let r = c.args.self.now in
-    let forbids = r.satisfied_forbids.entries in
-    let opens = r.residual_forbids.entries in
+    let forbids = r.satisfied_forbids in
+    let opens = r.residual_forbids in
     elim c.if-is_empty.branch [
       | then-is_empty+then-is_empty-2+in_ok-push_satisfied w ↦
           ap (map policy_seen) (ap vec_items w.policies-is)

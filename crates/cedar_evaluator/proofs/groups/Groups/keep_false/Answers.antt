@@ -1,0 +1,26 @@
+-- One more policy among those that aren't satisfied, if such are kept.
+use Rattle.std.proofs.Common.{sym, ◌∙◌, ap}
+use Rattle.std.proofs.lemmas.Result.{on_ok_weaker}
+use Rattle.cedar_policy_parts.specs.Effects.{effect_of}
+use Rattle.cedar_evaluator.specs.Grouping.{kept_as}
+use Rattle.cedar_evaluator.specs.Holding.{has_erred}
+use Rattle.cedar_evaluator.proofs.Adding.{none_false, false_permit, false_forbid}
+use Rattle.cedar_evaluator.proofs.groups.Groups.keep_false.Goals as goal
+
+pub returns-then-not-self-clause-held : goal.returns-then-not-self-clause-held
+returns-then-not-self-clause-held c = λ found fits.
+    let g = c.args.self.now in none_false g.with_false (cc) (kept_as c.args.policy.now found) (has_erred c.args.state) fits g
+
+pub returns-in-Permit-clause-held : goal.returns-in-Permit-clause-held
+returns-in-Permit-clause-held c = λ found fits.
+    let g = c.args.self.now in
+    on_ok_weaker c.put.result
+    (false_permit g.with_false g c.args.policy.now (c.in_ok-id.id, c.in_ok-id.annotations) c.in_ok-id.ensures (cc) c.args.state found fits (sym (ap effect_of c.in-Permit.is) ∙ c.effect.ensures) c.put.new.group)
+    c.put.ensures
+
+pub returns-in-Forbid-clause-held : goal.returns-in-Forbid-clause-held
+returns-in-Forbid-clause-held c = λ found fits.
+    let g = c.args.self.now in
+    on_ok_weaker c.put-in-Forbid.result
+    (false_forbid g.with_false g c.args.policy.now (c.in_ok-id.id, c.in_ok-id.annotations) c.in_ok-id.ensures (cc) c.args.state found fits (sym (ap effect_of c.in-Forbid.is) ∙ c.effect.ensures) c.put-in-Forbid.new.group)
+    c.put-in-Forbid.ensures

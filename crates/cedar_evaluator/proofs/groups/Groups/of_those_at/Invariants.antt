@@ -1,8 +1,0 @@
-use Rattle.std.proofs.Common.{false, take}
-use Rattle.cedar_evaluator.specs.Candidates.{policies_at}
-use Rattle.cedar_evaluator.specs.Grouping.{KeepsBy}
-use Rattle.cedar_evaluator.proofs.groups.Groups.of_those_at.Given as goal
-
--- the policies at the positions so far are kept
-abbrev pub invariant-loop-position : goal.invariant-loop-position
-invariant-loop-position g l = KeepsBy g.F.ExtensionFunctionObject.answers false l.evaluator l.scopes (policies_at l.policies (take l.position-index l.positions)) l.groups
