@@ -1,13 +1,13 @@
 -- What the reading functions give by the tokens that are next.
-use Rattle.std.proofs.Common.{◌≡◌, ℕ, zero, suc, ◌<◌, ◌^◌, Bool, true, false, ◌-◌, List, [], ◌∷◌, length, Option, Some, None, Result, Ok, Err, refl, sym, ap, ◌∙◌, subst, arith}
+use Rattle.std.proofs.Common.{◌≡◌, ℕ, zero, suc, ◌<◌, true, false, ◌-◌, List, [], ◌∷◌, length, Option, Some, None, Result, Ok, Err, refl, sym, ap, ◌∙◌, subst, arith}
 use Rattle.cedar_grammar.specs.Token as token
 use Rattle.cedar_grammar.specs.Token.{Word, Mark, Token, word, number, text, slot, mark}
-use Rattle.cedar_grammar.specs.Reading.{eat, is_mark}
+use Rattle.cedar_grammar.specs.Reading.{eat}
 use Rattle.cedar_grammar.specs.ReadingPolicies.{word_read}
 use Rattle.cedar_grammar.proofs.Parts.{eat-is}
 use Rattle.cedar_grammar.specs.Loose as loose
 use Rattle.cedar_grammar.specs.Loose.{Expr, Add, Primary}
-use Rattle.cedar_grammar.specs.LooseReading.{Fault, syntax, depth, begins_access, each_of, member_of, Reading, Reader, ◌>>◌, mapped, needed, eat_is, links_of, rel_op, items_of, literal_of, named_of, slot_of, rec_init_of, primary_of, access_of, add_of, relation_step, relation_of, choice_of, or_of, expr_of, expr_at}
+use Rattle.cedar_grammar.specs.LooseReading.{Fault, depth, begins_access, each_of, member_of, Reading, Reader, ◌>>◌, mapped, needed, eat_is, items_of, literal_of, named_of, rec_init_of, primary_of, access_of, add_of, relation_step, relation_of, choice_of, or_of, expr_of, expr_at}
 use Rattle.cedar_grammar.proofs.Rests.{Leaves, rest-length, access-after}
 use Rattle.cedar_loose.specs.declared.error.ReadError.{ReadError}
 use Rattle.cedar_loose.specs.Gives.{Fails, Gives}

@@ -7,3 +7,4 @@ pub mod Limits
 pub mod Fewer
 pub mod Readings
 pub mod Telling
+mod Given

@@ -1,16 +1,17 @@
 -- What loops keep that read operands, items or parts one after the other.
-use Rattle.std.proofs.Common.{◌≡◌, ℕ, zero, suc, ◌<◌, ◌≤◌, Bool, true, false, List, [], ◌∷◌, ◌++◌, length, map, Option, Some, None, Result, Ok, Err, refl, sym, ap, ◌∙◌, subst, arith}
+use Rattle.std.proofs.Common.{◌≡◌, ℕ, zero, suc, ◌<◌, Bool, true, false, List, [], ◌∷◌, ◌++◌, length, map, Option, Some, None, Result, Ok, Err, refl, sym, ap, ◌∙◌, subst, arith}
 use Rattle.std.proofs.lemmas.List.{append-nil, append_assoc}
 use Rattle.cedar_grammar.specs.Token as token
 use Rattle.cedar_grammar.specs.Token.{Mark, Token, mark}
 use Rattle.cedar_grammar.specs.Reading.{eat}
 use Rattle.cedar_grammar.proofs.Parts.{eat-is}
-use Rattle.cedar_grammar.specs.LooseReading.{Fault, Reading, Reader, ◌>>◌, mapped, needed, each_step, each_at, each_of, after_item, items_step, items_at, items_of, operator_at, before_rest, chain_step, chain_at, links_of, chain_of}
+use Rattle.cedar_grammar.specs.LooseReading.{Fault, Reading, Reader, ◌>>◌, mapped, needed, each_at, each_of, items_at, items_of, operator_at, before_rest, chain_at, links_of, chain_of}
 use Rattle.cedar_grammar.proofs.Rests as rests
 use Rattle.cedar_grammar.proofs.Rests.{rest-length}
 use Rattle.cedar_loose.specs.declared.error.ReadError.{ReadError}
 use Rattle.cedar_loose.specs.declared.error.ReadError.TheVariants.{Syntax, Depth, Memory}
 use Rattle.cedar_loose.specs.Gives.{Fails}
+use Rattle.cedar_loose.specs.SoFar.{after_items, Each}
 
 -- an error of a part is one of the whole
 pub fails_by : {A B : Type 0} (e : ReadError) (read : Result A Fault) (whole : Result B Fault) → ((f : Fault) → read ≡ Err f → whole ≡ Err f) → Fails e read → Fails e whole
@@ -134,9 +135,6 @@ map_alone view (x ∷ xs) = ap (λ ys. view x ∷ ys) (map_alone view xs)
 -- ---- items up to a closing mark
 
 module _ {A : Type 0} where
-  abbrev pub after_items : List A → Reading (List A) → Reading (List A)
-  after_items front read = read >> λ xs. Ok (front ++ xs.0, xs.1)
-
   none_before : (read : Reading (List A)) → after_items [] read ≡ read
   none_before (Ok xs) = refl
   none_before (Err e) = refl
@@ -217,11 +215,6 @@ module _ {A : Type 0} where
               items_more k = item-more-at k.turns k.enough k.same
 
   -- ---- parts as long as the tokens begin one
-
-  pub record Each (begins : List Token → Bool) (item : Reader A) (front : List A) (ts : List Token) (whole : Reading (List A)) : Type 0 where
-    pub turns : ℕ
-    pub enough : length ts < turns
-    pub same : after_items front (each_at begins item turns ts) ≡ whole
 
   module _ (begins : List Token → Bool) (item : Reader A) where
     pub each_start : (ts : List Token) → Each begins item [] ts (each_of begins item ts)

@@ -1,7 +1,7 @@
 -- What the loop keeps that reads the words of a name.
-use Rattle.std.proofs.Common.{◌≡◌, ℕ, zero, suc, ◌<◌, ◌≤◌, List, [], ◌∷◌, ◌++◌, length, Option, Some, None, Result, Ok, Err, refl, sym, ap, ◌∙◌, subst, arith}
+use Rattle.std.proofs.Common.{◌≡◌, ℕ, zero, suc, ◌<◌, List, [], ◌∷◌, ◌++◌, length, Option, Some, None, Ok, Err, refl, sym, ap, ◌∙◌, arith}
 use Rattle.std.proofs.lemmas.List.{append-nil, append_assoc}
-use Rattle.cedar_grammar.specs.Token.{Word, Token, word}
+use Rattle.cedar_grammar.specs.Token.{Word, Token}
 use Rattle.cedar_grammar.specs.ReadingPolicies.{word_read}
 use Rattle.cedar_grammar.specs.Loose.{Ident, ident, Name, missing_name, name}
 use Rattle.cedar_grammar.specs.LooseReading.{Fault, syntax, Reading, ◌>>◌, mapped, needed, next_word, qualified, name_next, name_at, name_of}

@@ -4,3 +4,5 @@ pub mod Links
 pub mod Errors
 pub mod Parts
 pub mod Texts
+pub mod SoFar
+pub mod Readers

@@ -15,6 +15,7 @@ mod nodes;
 mod operators;
 mod parse;
 mod policies;
+mod policy_reader;
 mod refusal;
 
 pub use cursor::Cursor;
@@ -23,3 +24,4 @@ pub use errors::{LooseError, ToCSTError};
 pub use parse::{
     parse_expr, parse_ident, parse_name, parse_policies, parse_policy, parse_primary, parse_ref,
 };
+pub use policy_reader::PolicyReader;

@@ -34,7 +34,7 @@ pub fn parse_policies(
     };
     match policies_in(alloc, text, &source, depth) {
         Ok(tree) => Ok(tree),
-        Err(error) => Err(refusal(alloc, error, source)),
+        Err(error) => Err(refusal(alloc, error, &source)),
     }
 }
 
@@ -94,7 +94,7 @@ pub fn parse_policy(
     };
     match policy_in(alloc, text, &source, depth) {
         Ok(tree) => Ok(tree),
-        Err(error) => Err(refusal(alloc, error, source)),
+        Err(error) => Err(refusal(alloc, error, &source)),
     }
 }
 
@@ -149,7 +149,7 @@ pub fn parse_expr(alloc: Global, text: &str, depth: u32) -> Result<Node<Option<E
     };
     match expr_in(alloc, text, &source, depth) {
         Ok(tree) => Ok(tree),
-        Err(error) => Err(refusal(alloc, error, source)),
+        Err(error) => Err(refusal(alloc, error, &source)),
     }
 }
 
@@ -205,7 +205,7 @@ pub fn parse_primary(
     };
     match primary_in(alloc, text, &source, depth) {
         Ok(tree) => Ok(tree),
-        Err(error) => Err(refusal(alloc, error, source)),
+        Err(error) => Err(refusal(alloc, error, &source)),
     }
 }
 
@@ -258,7 +258,7 @@ pub fn parse_ref(alloc: Global, text: &str) -> Result<Node<Option<Ref>>, LooseEr
     };
     match ref_in(alloc, text, &source) {
         Ok(tree) => Ok(tree),
-        Err(error) => Err(refusal(alloc, error, source)),
+        Err(error) => Err(refusal(alloc, error, &source)),
     }
 }
 
@@ -294,7 +294,7 @@ pub fn parse_name(alloc: Global, text: &str) -> Result<Node<Option<Name>>, Loose
     };
     match name_in(alloc, text, &source) {
         Ok(tree) => Ok(tree),
-        Err(error) => Err(refusal(alloc, error, source)),
+        Err(error) => Err(refusal(alloc, error, &source)),
     }
 }
 
@@ -334,7 +334,7 @@ pub fn parse_ident(alloc: Global, text: &str) -> Result<Node<Option<Ident>>, Loo
     };
     match ident_in(alloc, text, &source) {
         Ok(tree) => Ok(tree),
-        Err(error) => Err(refusal(alloc, error, source)),
+        Err(error) => Err(refusal(alloc, error, &source)),
     }
 }
 

@@ -9,11 +9,14 @@ use std::rc::RcStr;
 
 /// The error that stopped the reader, with its place in the text `source`; `Memory` where there is none
 /// for the place.
-pub(crate) fn refusal(alloc: Global, error: ReadError, source: RcStr) -> LooseError
+pub(crate) fn refusal(alloc: Global, error: ReadError, source: &RcStr) -> LooseError
     ensures { IsTold (stop_cause error) (cause_of result) }
 {
     match error {
         ReadError::Syntax(unexpected) => {
+            let Ok(source) = source.clone() else {
+                return LooseError::Memory;
+            };
             let Ok(loc) = Loc::new(alloc, unexpected.span, source) else {
                 return LooseError::Memory;
             };

@@ -1,5 +1,5 @@
 -- An expression counts itself, so it is read within the whole limit; no token may be left behind it.
-use Rattle.std.proofs.Common.{◌-◌, sym}
+use Rattle.std.proofs.Common.{sym}
 use Rattle.std.proofs.lemmas.Result.{err_from_is_err_and}
 use Rattle.cedar_grammar.specs.LooseReading.{whole, expr_at}
 use Rattle.cedar_cst.specs.View.{shown_expr}

@@ -1,5 +1,5 @@
 -- As ref_of does, of a word that stands as an identifier.
-use Rattle.std.proofs.Common.{◌-◌, sym}
+use Rattle.std.proofs.Common.{sym}
 use Rattle.std.proofs.lemmas.Result.{err_from_is_err_and}
 use Rattle.cedar_grammar.specs.ReadingPolicies.{word_read}
 use Rattle.cedar_grammar.specs.Loose as loose

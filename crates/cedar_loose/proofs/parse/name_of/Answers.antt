@@ -1,5 +1,5 @@
 -- As ref_of does, of a name.
-use Rattle.std.proofs.Common.{◌-◌, sym}
+use Rattle.std.proofs.Common.{sym}
 use Rattle.std.proofs.lemmas.Result.{err_from_is_err_and}
 use Rattle.cedar_grammar.specs.LooseReading.{whole, name_of}
 use Rattle.cedar_cst.specs.LeafView.{shown_name}

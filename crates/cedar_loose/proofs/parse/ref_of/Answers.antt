@@ -1,5 +1,5 @@
 -- A reference is the whole where no token is left behind it.
-use Rattle.std.proofs.Common.{◌-◌, sym}
+use Rattle.std.proofs.Common.{sym}
 use Rattle.std.proofs.lemmas.Result.{err_from_is_err_and}
 use Rattle.cedar_grammar.specs.LooseReading.{whole, ref_of}
 use Rattle.cedar_cst.specs.LeafView.{shown_ref}

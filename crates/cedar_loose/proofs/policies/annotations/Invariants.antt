@@ -2,7 +2,7 @@ use Rattle.std.proofs.Common.{map, length}
 use Rattle.cedar_grammar.specs.ReadingPolicies.{begins_annotation}
 use Rattle.cedar_grammar.specs.LooseReading.{each_of, annotation_of}
 use Rattle.cedar_cst.specs.View.{shown_annotation}
-use Rattle.cedar_loose.proofs.Loops.{Each}
+use Rattle.cedar_loose.specs.SoFar.{Each}
 use Rattle.cedar_loose.proofs.policies.annotations.Given as goal
 
 abbrev pub invariant-each : goal.invariant-each

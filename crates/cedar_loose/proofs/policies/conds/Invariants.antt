@@ -1,7 +1,7 @@
 use Rattle.std.proofs.Common.{map, length}
 use Rattle.cedar_grammar.specs.LooseReading.{each_of, begins_cond, cond_of}
 use Rattle.cedar_cst.specs.View.{shown_cond}
-use Rattle.cedar_loose.proofs.Loops.{Each}
+use Rattle.cedar_loose.specs.SoFar.{Each}
 use Rattle.cedar_loose.proofs.policies.conds.Given as goal
 
 abbrev pub invariant-each : goal.invariant-each

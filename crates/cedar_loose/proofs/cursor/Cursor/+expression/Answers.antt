@@ -6,11 +6,10 @@ use Rattle.cedar_tokens.specs.View.{mark_view}
 use Rattle.cedar_grammar.specs.Token as token
 use Rattle.cedar_grammar.specs.Reading.{eat}
 use Rattle.cedar_grammar.specs.ReadingPolicies.{word_read}
-use Rattle.cedar_cst.specs.LeafView.{view_rel_op, view_add_op, view_mult_op, view_neg_op}
 use Rattle.cedar_grammar.specs.Loose as loose
-use Rattle.cedar_grammar.specs.LooseReading.{◌>>◌, mapped, needed, links_of, chain_of, items_of, each_of, or_op, and_op, rel_op, add_op, mult_op, begins_access, or_of, and_of, relation_of, add_of, mult_of, unary_of, member_of, primary_of, access_of, rec_init_of, choice_of, expr_of, expr_at}
-use Rattle.cedar_grammar.proofs.Rests.{and-leaves, relation-leaves, add-leaves, mult-leaves, unary-leaves, rec_init-leaves, access-after, expr_at-leaves}
-use Rattle.cedar_cst.specs.View.{shown_expr, shown_or, shown_and, shown_relation, shown_add, shown_mult, shown_unary, shown_member, shown_mem_access, shown_primary, shown_rec_init}
+use Rattle.cedar_grammar.specs.LooseReading.{◌>>◌, mapped, needed, links_of, chain_of, items_of, each_of, or_op, and_op, rel_op, add_op, mult_op, begins_access, or_of, and_of, relation_of, add_of, mult_of, unary_of, primary_of, access_of, rec_init_of, choice_of, expr_at}
+use Rattle.cedar_grammar.proofs.Rests.{and-leaves, relation-leaves, add-leaves, mult-leaves, unary-leaves, rec_init-leaves, expr_at-leaves}
+use Rattle.cedar_cst.specs.View.{shown_expr, shown_and, shown_relation, shown_add, shown_mult, shown_unary, shown_mem_access, shown_primary, shown_rec_init}
 use Rattle.cedar_loose.specs.Links.{linked_add, linked_mult, linked_unary}
 use Rattle.cedar_loose.specs.Steps.{is_of, comparisons_of, closed_by}
 use Rattle.cedar_loose.proofs.Loops.{mapped_fails, first_fails, then_fails, then_ok, made, links_start, links_done, links_fail, links_fewer, links_more, chain_fails, chained_done, chained_fail, alone, map_alone, items_start, items_closed, items_fail, items_last, items_comma_fails, items_fewer, items_more, each_start, each_done, each_fail, each_more}

@@ -4,7 +4,8 @@ use Rattle.cedar_grammar.specs.Token as token
 use Rattle.cedar_grammar.specs.LooseReading.{links_of, items_of, each_of, or_op, and_op, rel_op, add_op, mult_op, begins_access, and_of, relation_of, add_of, mult_of, unary_of, access_of, rec_init_of, expr_at}
 use Rattle.cedar_cst.specs.View.{shown_expr, shown_and, shown_relation, shown_mem_access, shown_rec_init}
 use Rattle.cedar_loose.specs.Links.{linked_add, linked_mult, linked_unary}
-use Rattle.cedar_loose.proofs.Loops.{Links, Items, Each, alone}
+use Rattle.cedar_loose.proofs.Loops.{Links, Items, alone}
+use Rattle.cedar_loose.specs.SoFar.{Each}
 use Rattle.cedar_loose.proofs.cursor.Cursor.+expression.Given as goal
 
 abbrev pub decreases-expr : goal.decreases-expr

@@ -1,5 +1,5 @@
 -- The words so far, the last of them and those that follow are the whole name; each turn leaves fewer tokens.
-use Rattle.std.proofs.Common.{Ok, map, ap, sym, ◌∙◌, refl}
+use Rattle.std.proofs.Common.{Ok, map, ap, sym, ◌∙◌}
 use Rattle.std.proofs.lemmas.Result.{err_from_is_err_and}
 use Rattle.std.proofs.lemmas.List.{map_push}
 use Rattle.cedar_cst.specs.LeafView.{shown_ident, view_name}
