@@ -1,13 +1,11 @@
 -- One more policy in the group of its effect and of what was found of it.
-use Rattle.std.proofs.Common.{◌≡◌, Bool, true, false, Option, Some, None, List, [], ◌∷◌, ◌++◌, map, refl, sym, ◌∙◌, ap, subst}
+use Rattle.std.proofs.Common.{◌≡◌, Bool, true, false, Some, List, [], ◌∷◌, ◌++◌, map, refl, sym, ◌∙◌, ap, subst}
 use Rattle.std.specs.Map.{keys_of}
-use Rattle.std.specs.Set.{is_member}
 use Rattle.std.specs.declared.alloc.Global.{Global}
 use Rattle.std.specs.declared.rc.Rc.{Rc}
-use Rattle.std.proofs.lemmas.List.{append-nil, map_push}
+use Rattle.std.proofs.lemmas.List.{map_push}
 use Rattle.std.proofs.lemmas.Map.Made.{keys_of-map_values}
 use Rattle.cedar_language.specs.Answering.{Effect, Permit, Forbid}
-use Rattle.cedar_language.specs.Order.{same_text}
 use Rattle.cedar_language.specs.Uid.{Text}
 use Rattle.cedar_extensions.specs.Failures.{Failure}
 use Rattle.cedar_policies.specs.Policies.{policy_id, policy_syntax}
@@ -18,9 +16,9 @@ use Rattle.cedar_trees.specs.Bare.{bare}
 use Rattle.cedar_trees.specs.declared.expr.Expr.{Expr}
 use Rattle.cedar_evaluator.specs.Evaluations.{Annotations, Found, Satisfied, Unsatisfied, Erred, Open, Kept}
 use Rattle.cedar_evaluator.specs.Given.{Noted}
-use Rattle.cedar_evaluator.specs.Grouping.{held_in, annotated_so_far, with_kept, held_with, ids_of, kept_as, Adds, AddsFalse}
+use Rattle.cedar_evaluator.specs.Grouping.{held_in, annotated_so_far, with_kept, held_with, kept_as, Adds, AddsFalse}
 use Rattle.cedar_evaluator.specs.Holding.{has_erred, noted, noted_behind}
-use Rattle.cedar_evaluator.specs.Responses.{Annotated, Holding, satisfied_of, false_of, open_of, false_id, error_id, errors_of, holding_of, without_false}
+use Rattle.cedar_evaluator.specs.Responses.{Holding, satisfied_of, false_of, open_of, false_id, errors_of, holding_of, without_false}
 use Rattle.cedar_evaluator.specs.declared.groups.Groups.{Groups}
 use Rattle.cedar_evaluator.specs.declared.partial_response.ErrorState.{ErrorState}
 use Rattle.cedar_evaluator.proofs.Apart.{nothing_at, some_same, satisfied_free, false_free, open_free}

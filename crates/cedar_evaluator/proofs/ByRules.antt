@@ -1,11 +1,8 @@
 -- A response of which nothing is left is the answer of the rules to its policies.
-use Rattle.std.proofs.Common.{◌≡◌, ℕ, Bool, true, false, ◌||◌, cond, Option, Some, None, List, [], ◌∷◌, ◌++◌, map, filter, refl, sym, ◌∙◌, ap, subst}
-use Rattle.std.specs.List.{AllByRecursion, filter_map, cons_option, list_any}
+use Rattle.std.proofs.Common.{◌≡◌, ℕ, Bool, true, false, ◌||◌, cond, List, [], ◌∷◌, ◌++◌, map, filter, refl, sym, ◌∙◌, ap, subst}
+use Rattle.std.specs.List.{filter_map, cons_option}
 use Rattle.std.proofs.lemmas.List.Folds.{list_any-append}
-use Rattle.cedar_language.specs.Answering as answering
-use Rattle.cedar_language.specs.Answering.{Effect, Permit, Forbid, Allow, Deny, Judged, some, satisfied_permit, satisfied_forbid, known_decision, is_reason, in_must, ids_with}
-use Rattle.cedar_language.specs.Authorization.{Known}
-use Rattle.cedar_language.specs.Facts.{Facts}
+use Rattle.cedar_language.specs.Answering.{Effect, Permit, Forbid, Allow, Deny, Judged, some, satisfied_permit, satisfied_forbid, is_reason, ids_with}
 use Rattle.cedar_language.specs.Tree.{Tree}
 use Rattle.cedar_language.specs.Uid.{Text}
 use Rattle.cedar_partial_evaluation.specs.Leaves.{LeavesDontMatter}
@@ -16,12 +13,12 @@ use Rattle.cedar_extensions.specs.Table.{Table}
 use Rattle.cedar_interpreter.specs.Asking.{Inquiry}
 use Rattle.cedar_policy_set.specs.Entries.{Entries, policies_of}
 use Rattle.cedar_evaluator.specs.Authorizing.{Responds}
-use Rattle.cedar_evaluator.specs.Concrete.{IsConcrete, has_no_value, all_errors}
+use Rattle.cedar_evaluator.specs.Concrete.{IsConcrete, has_no_value}
 use Rattle.cedar_evaluator.specs.Deciding.{has_any}
 use Rattle.cedar_evaluator.specs.Evaluations.{Found, Satisfied, Unsatisfied, Erred, Open, Kept}
 use Rattle.cedar_evaluator.specs.Holding.{error_seen, holding_in}
-use Rattle.cedar_evaluator.specs.Known.{is_limit, meets_limit, error_of, judged_in, IsByRules, AnswersByRules}
-use Rattle.cedar_evaluator.specs.Responses.{Holding, if_effect, satisfied_id, open_id, error_id, satisfied_of, open_of, errors_of, holding_of, judged_held}
+use Rattle.cedar_evaluator.specs.Known.{is_limit, meets_limit, error_of, IsByRules, AnswersByRules}
+use Rattle.cedar_evaluator.specs.Responses.{Holding, if_effect, satisfied_id, open_id, error_id, satisfied_of, open_of, errors_of, holding_of}
 use Rattle.cedar_evaluator.specs.declared.partial_response.PartialResponse.{PartialResponse}
 use Rattle.cedar_evaluator.specs.declared.response.Response.{Response}
 use Rattle.cedar_evaluator.proofs.Deciding.{has_satisfied_permit, has_satisfied_forbid, must_held}

@@ -1,11 +1,11 @@
 -- One more policy that is kept.
-use Rattle.std.proofs.Common.{◌≡◌, ℕ, Bool, true, false, Option, Some, None, List, [], ◌∷◌, ◌++◌, refl, sym, ◌∙◌, ap, subst}
+use Rattle.std.proofs.Common.{◌≡◌, ℕ, Bool, true, false, Option, Some, None, List, [], ◌∷◌, ◌++◌, refl, sym, ◌∙◌, subst}
 use Rattle.std.specs.List.{IsDistinct, filter_map, cons_option}
 use Rattle.std.specs.Map.{keys_of}
 use Rattle.std.specs.Set.{is_member}
 use Rattle.std.proofs.lemmas.List.{append-nil, map-append}
 use Rattle.std.proofs.lemmas.List.Elements.{filter_map-append}
-use Rattle.cedar_language.specs.Answering.{Effect, Permit, Forbid}
+use Rattle.cedar_language.specs.Answering.{Permit, Forbid}
 use Rattle.cedar_language.specs.Order.{same_text}
 use Rattle.cedar_language.specs.Uid.{Text}
 use Rattle.cedar_entities.specs.declared.store.Entities.{Entities}

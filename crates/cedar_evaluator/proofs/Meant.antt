@@ -1,8 +1,6 @@
 -- Where a policy's condition mentions nothing unknown, what was found of it is how it stands by what the condition means.
-use Rattle.std.proofs.Common.{◌≡◌, ℕ, Bool, true, false, ◌||◌, Some, List, [], ◌∷◌, map, refl, sym, ◌∙◌, ap}
+use Rattle.std.proofs.Common.{◌≡◌, ℕ, Bool, true, false, List, [], ◌∷◌, map, refl, sym, ◌∙◌, ap}
 use Rattle.std.specs.List.{AllByRecursion, cons_option}
-use Rattle.cedar_language.specs.Answering.{Judged}
-use Rattle.cedar_language.specs.Authorization as authorization
 use Rattle.cedar_language.specs.Authorization.{Known, request_at, standing_of}
 use Rattle.cedar_language.specs.Facts.{Facts}
 use Rattle.cedar_language.specs.Meaning.{Request, slot_outcome, meaning}
@@ -11,7 +9,7 @@ use Rattle.cedar_language.specs.Uid.{Text}
 use Rattle.cedar_language.specs.Value.{Value, Plain, SetOf, RecordOf, ExtensionOf, Outcome, Gives, Fails}
 use Rattle.cedar_partial_evaluation.specs.Early.{standing_of_answer}
 use Rattle.cedar_partial_evaluation.specs.Leaves.{is_left, AreKnown, AnswerAlike, LeavesDontMatter}
-use Rattle.cedar_partial_evaluation.specs.Partial.{Answer, Evaluated, ResidualTree, Failed, answer_of, LeafAnswers, leaf_answers_of, partial_in, KnownIsMeaning}
+use Rattle.cedar_partial_evaluation.specs.Partial.{Answer, Evaluated, ResidualTree, Failed, answer_of, leaf_answers_of, partial_in, KnownIsMeaning}
 use Rattle.cedar_policy_parts.specs.Bindings.{binding_of}
 use Rattle.cedar_entities.specs.declared.store.Entities.{Entities}
 use Rattle.cedar_extensions.specs.Failures.{Failure, OfKind, LimitMet, MemoryRanOut}
@@ -21,7 +19,7 @@ use Rattle.cedar_interpreter.specs.Holding.{is_evaluated}
 use Rattle.cedar_policy_set.specs.Entries.{Entry, Entries}
 use Rattle.cedar_policy_set.specs.Texts.{condition_in}
 use Rattle.cedar_evaluator.specs.Evaluations.{Found, Satisfied, Unsatisfied, Erred, Open, Finds, bindings_in, is_given, Kept, IsKept, AreKept}
-use Rattle.cedar_evaluator.specs.Known.{HasGiven, judged_in, IsKnownPolicy, is_limit, meets_limit}
+use Rattle.cedar_evaluator.specs.Known.{HasGiven, judged_in, IsKnownPolicy, meets_limit}
 use Rattle.cedar_evaluator.specs.Responses.{error_id, errors_of}
 use Rattle.cedar_evaluator.proofs.Standings as standings
 use Rattle.cedar_evaluator.proofs.Standings.{standing_found, is_settled, stands_as_found}

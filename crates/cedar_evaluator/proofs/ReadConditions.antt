@@ -1,13 +1,11 @@
 -- Conditions that are read: a scope calls nothing, and the clauses behind it are read.
-use Rattle.std.proofs.Common.{◌≡◌, ◌≤◌, ◌∙◌, ℕ, suc, max, arith, Bool, true, false, Option, Some, None, option_map, List, [], ◌∷◌, map, inl, inr, refl, sym, ap, subst}
-use Rattle.std.specs.Prelude.{⊤, ◌||◌, Result, Ok, Err, IfSome}
+use Rattle.std.proofs.Common.{◌≡◌, ◌≤◌, ◌∙◌, ℕ, arith, Bool, true, false, Option, Some, None, option_map, List, [], ◌∷◌, map, inl, inr, refl, sym, ap, subst}
+use Rattle.std.specs.Prelude.{◌||◌, Result, Ok, Err, IfSome}
 use Rattle.either.specs.declared.Either.{Either}
-use Rattle.either.specs.declared.Either.TheVariants.{Left, Right}
-use Rattle.cedar_language.specs.Answering.{Erring}
 use Rattle.cedar_language.specs.Facts.{Facts}
 use Rattle.cedar_language.specs.Uid.{Uid}
-use Rattle.cedar_language.specs.Tree.{Boolean, Long, String, Entity, Principal, Resource, PrincipalSlot, ResourceSlot, Variable, SlotId, Operator, Tree, Lit, Var, Slot, Unknown, If, And, Or, Apply, Trees}
-use Rattle.cedar_language.specs.Value.{Value, Plain, SetOf, RecordOf, ExtensionOf}
+use Rattle.cedar_language.specs.Tree.{Boolean, Entity, Principal, Resource, PrincipalSlot, ResourceSlot, Variable, SlotId, Tree, Lit, And, Apply}
+use Rattle.cedar_language.specs.Value.{Plain}
 use Rattle.cedar_grammar.specs.Build.{trees, conjunction}
 use Rattle.cedar_grammar.specs.Policy as grammar
 use Rattle.cedar_grammar.specs.Policy.{Target, the_entity, the_slot, target_tree, Constraint, anything, equals, within, of_type, of_type_within, constraint_tree, ActionConstraint, any_action, action_equals, action_within_any, action_tree, scope_tree, with_body, condition}
@@ -17,7 +15,7 @@ use Rattle.cedar_partial_evaluation.specs.ReadUnknowns.{read_unknowns, all_read,
 use Rattle.cedar_policy_parts.specs.Bindings.{Bindings}
 use Rattle.cedar_trees.specs.declared.expr.Expr.{Expr}
 use Rattle.cedar_extensions.specs.Answering.{FunctionAnswers}
-use Rattle.cedar_extensions.specs.Failures.{Failure, OfKind, LimitMet, MemoryRanOut, failure_of}
+use Rattle.cedar_extensions.specs.Failures.{OfKind, LimitMet, MemoryRanOut, failure_of}
 use Rattle.cedar_extensions.specs.Giving.{fails_on}
 use Rattle.cedar_extensions.specs.Holding.{are_named}
 use Rattle.cedar_extensions.specs.Tables.{functions_in}
@@ -31,7 +29,7 @@ use Rattle.cedar_interpreter.proofs.Read.{read_answer}
 use Rattle.cedar_evaluator.specs.Evaluating.{found_by, JudgesAt, JudgesReadAt}
 use Rattle.cedar_evaluator.specs.Evaluations.{Found, Satisfied, Unsatisfied, Erred, Open, Finds, found_read}
 use Rattle.cedar_evaluator.specs.Scopes.{IsDecided}
-use Rattle.cedar_evaluator.proofs.Scoped.{right_decides, both_decided, out_of_scope}
+use Rattle.cedar_evaluator.proofs.Scoped.{right_decides, out_of_scope}
 
 -- ---- a conjunction whose left operand is read already
 

@@ -1,7 +1,7 @@
 -- Either list will do, by what is known of its entity.
 use Rattle.std.proofs.Common.{inl, inr, sym, ap, subst}
 use Rattle.std.specs.Option.{option_copied}
-use Rattle.cedar_evaluator.specs.Candidates.{HasListed, HasPaired, is_in_given, is_in_known}
+use Rattle.cedar_evaluator.specs.Candidates.{HasListed, is_in_given, is_in_known}
 use Rattle.cedar_evaluator.proofs.Responding.{if_ok}
 use Rattle.cedar_evaluator.proofs.candidates.add_paired.Goals as goal
 

@@ -1,5 +1,5 @@
 -- What is kept of one more policy: where it is told, no evaluation is needed.
-use Rattle.std.proofs.Common.{◌≡◌, true, false, refl}
+use Rattle.std.proofs.Common.{true, false, refl}
 use Rattle.std.specs.Prelude.{Ok}
 use Rattle.std.proofs.lemmas.Result.{on_ok_weaker}
 use Rattle.either.specs.declared.Either.TheVariants.{Left}

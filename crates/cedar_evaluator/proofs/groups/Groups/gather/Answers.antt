@@ -1,5 +1,5 @@
 -- Where nothing is asked of those that aren't satisfied, the candidates are enough.
-use Rattle.std.proofs.Common.{Bool, List, ℕ, sym, subst}
+use Rattle.std.proofs.Common.{Bool, sym, subst}
 use Rattle.std.specs.Prelude.{IfSome}
 use Rattle.std.proofs.lemmas.Result.{on_ok_weaker}
 use Rattle.cedar_entities.specs.declared.store.Entities.{Entities}

@@ -1,5 +1,5 @@
 -- Each policy in turn.
-use Rattle.std.proofs.Common.{Bool, [], ◌∷◌, ◌++◌, map, sym, ◌∙◌, ap, refl, subst}
+use Rattle.std.proofs.Common.{Bool, [], ◌∷◌, ◌++◌, map, sym, ◌∙◌, refl, subst}
 use Rattle.std.specs.Borrow.{Bor}
 use Rattle.std.specs.List.{IsDistinct}
 use Rattle.std.specs.Map.{keys_of}
