@@ -1,11 +1,11 @@
 -- A response says a first answer to the question, and meets the limit at a known one only where a condition is higher.
-use Rattle.std.proofs.Common.{◌≡◌, ◌<◌, ℕ, Bool, true, false, ◌&&◌, inl, inr, Option, Some, None, is_some, IsSome, List, [], ◌∷◌, map, All, Contains, refl, sym, ◌∙◌, ap, subst, arith}
+use Rattle.std.proofs.Common.{◌≡◌, ℕ, Bool, true, false, ◌&&◌, inl, inr, Option, Some, None, is_some, IsSome, List, [], ◌∷◌, map, All, Contains, refl, sym, ◌∙◌, ap, subst, arith}
 use Rattle.std.specs.FinMap as finite
-use Rattle.std.proofs.lemmas.List.Elements.{All-nil, All-cons}
+use Rattle.std.proofs.lemmas.List.Elements.{All-nil, All-cons, All-head, All-tail}
 use Rattle.cedar_language.specs.Uid.{Text}
 use Rattle.cedar_language.specs.Value.{Kind}
 use Rattle.cedar_language.specs.Facts.{Facts}
-use Rattle.cedar_language.specs.Height.{height, LinkingKeepsHeight}
+use Rattle.cedar_language.specs.Height.{LinkingKeepsHeight}
 use Rattle.cedar_language.specs.Answering as answering
 use Rattle.cedar_language.specs.Answering.{Judged, decision, in_must, in_may, ids_with}
 use Rattle.cedar_partial_evaluation.specs.Early.{standing_of_answer}
@@ -31,7 +31,7 @@ use Rattle.cedar_entities.specs.declared.store.Entities.{Entities}
 use Rattle.cedar_extensions.specs.Table.{Table}
 use Rattle.cedar_operators.specs.Store.{HasFacts}
 use Rattle.cedar_requests.specs.Holding.{RequestParts}
-use Rattle.cedar_interpreter.specs.Asking.{Inquiry, untold, request_held}
+use Rattle.cedar_interpreter.specs.Asking.{untold, request_held}
 use Rattle.cedar_interpreter.proofs.Depths.{held_known, slot_known, known_depth}
 use Rattle.cedar_policy_parts.specs.Bindings.{binding_of}
 use Rattle.cedar_interpreter.specs.Operating.{HasFunctions, NamesNothing}
@@ -40,7 +40,7 @@ use Rattle.cedar_policy_set.specs.Texts.{AreToldBySlots, syntax_in}
 use Rattle.cedar_held.specs.PolicyWorlds.{policies_in, FindsAsWorlds}
 use Rattle.cedar_replies.specs.Erring.{have_kinds, with_kinds}
 use Rattle.cedar_replies.specs.declared.error_kind.ErrorKind.{ErrorKind}
-use Rattle.cedar_evaluator.specs.Evaluations.{Kept, IsKept, AreKept, IsServed, is_given, condition_in}
+use Rattle.cedar_evaluator.specs.Evaluations.{Kept, AreKept, IsServed, is_given, condition_in}
 use Rattle.cedar_evaluator.specs.Responses.{errors_of, holding_of, judged_held}
 use Rattle.cedar_evaluator.proofs.KeptOf.{kept_of, of_kept}
 use Rattle.cedar_evaluator.proofs.Standings.{judged, is_settled, stands_as_found}
@@ -63,6 +63,11 @@ use Rattle.cedar_asking.proofs.Standings.{held_so, stands_as_written, all_given,
 pub all_among : {X : Type 0} (P : X → Type 0) (xs : List X) → ((x : X) → IsAmong x xs → P x) → All P xs
 all_among P [] h = All-nil P
 all_among P (x ∷ xs) h = All-cons P x xs (h x (inl refl)) (all_among P xs (λ y a. h y (inr a)))
+
+pub each_of : {X : Type 0} (P : X → Type 0) (xs : List X) → All P xs → (x : X) → IsAmong x xs → P x
+each_of P [] h x a = absurd a
+each_of P (y ∷ ys) h x (inl is) = subst P is (All-head P y ys h)
+each_of P (y ∷ ys) h x (inr a) = each_of P ys (All-tail P y ys h) x a
 
 pub some_value : {A : Type 0} (o : Option A) → is_some o ≡ true → (x : A) × (o ≡ Some x)
 some_value (Some x) h = (x, refl)

@@ -20,6 +20,7 @@ use Rattle.cedar_partial_evaluation.specs.ReadUnknowns.{calls_unknown}
 use Rattle.cedar_partial_evaluation.specs.Prompt.{IsPrompt}
 use Rattle.cedar_partial_evaluation.specs.Question.{Extends, AreMadeTold, IsAccepted, held_names, context_held, held_of}
 use Rattle.cedar_partial_evaluation.specs.Telling.{ContextsStay}
+use Rattle.cedar_partial_evaluation.specs.Waiting.{WhatIsLeftWaits}
 use Rattle.cedar_world.specs.Again.{StandsAgain, AgainIsSound}
 use Rattle.cedar_world.specs.ContextErrors.{ContextsErrInParts}
 use Rattle.cedar_world.proofs.OrdinaryAnswers.{rules_list}
@@ -78,9 +79,11 @@ use Rattle.cedar_asking.specs.Laws.{SaysHeld}
 use Rattle.cedar_asking.specs.Requests.{IsRequestOf}
 use Rattle.cedar_asking.specs.TellLaws.{IsAnsweredLater, IsContextFailure, IsWhyNotTold}
 use Rattle.cedar_asking.specs.Tells.{told_in}
+use Rattle.cedar_asking.specs.Waiting.{LeftIsUntold}
 use Rattle.cedar_requests.specs.ToldContexts.{ToldContextsAreEvaluated}
 use Rattle.cedar_evaluator.proofs.Accepting.{accepts_told}
-use Rattle.cedar_asking.proofs.AgainJudged.{all_out, says_of_all, judges_again, once_again}
+use Rattle.cedar_asking.proofs.AgainJudged.{all_out, says_of_all, judges_again, once_again, alike_again, none_errs_again}
+use Rattle.cedar_asking.proofs.Waiting.{left_before, alike_first, alike_through, is_last}
 use Rattle.cedar_asking.proofs.Depths.{other_slots, depth_grows, clause_grows, found_grows, substituted_low}
 use Rattle.cedar_asking.proofs.ContextsTold.{extends_empty, record_deep, holds_told, context_fails, no_unknown_asked, nothing_held}
 use Rattle.cedar_asking.proofs.Errors.{errors_listed, settled_listed, limit_kept}
@@ -116,6 +119,7 @@ pub record AnswersRest : Type 0 where
   pub prompt : IsPrompt
   pub again : AgainIsSound
   pub later : LaterAnswersStand
+  pub waits : WhatIsLeftWaits
 
 asked_fails : (o : Option (Either Value Tree)) (k : Kind) → context_asked o ≡ Failed k → ⊥
 asked_fails None k e = cc
@@ -288,6 +292,20 @@ module _ (c : Rests) (by : Setting) (world : World) (q : Question) (first : Part
       says_all : Says (map judged all_later) new
       says_all = says_of_all d.nothing r.kept new says_again response.responds.kept
 
+      -- until a name is told that stands in what is left of a policy, it says what was said
+      stays : (old : List (RcStr Global × Value)) (last answer : Answer) → KeepsQuestion by world q first old last → Extends (told_in old) (told_in told) → IsJoined last new answer →
+          LeftIsUntold (holding_in first) (told_in told) → answer ≡ last
+      stays old last answer keeps extends joined still =
+          let (said, says_first) = keeps.waits (left_before (told_in old) (told_in told) extends (holding_in first) still) in
+          let kept_first = alike_first response.responds.kept (holding_in first) response.responds.holds in
+          let later =
+          alike_again c.plain c.finds by world facts are_facts q first response told r.request (held again r) s table depth
+          (store_has_facts by world facts s are_facts now.shows now.closed now.whole) served r.kept r.each settled d.waits good asked.is_data still in
+          let none =
+          none_errs_again c.plain c.finds by world facts are_facts q first response told r.request (held again r) s table depth
+          (store_has_facts by world facts s are_facts now.shows now.closed now.whole) served r.kept r.each settled d.waits good asked.is_data still in
+          is_last d.made (holding_in first) (map judged r.kept) (alike_through _ _ _ kept_first later) none said last new answer says_first says_again joined
+
       pub is_answered : (old : List (RcStr Global × Value)) (last answer : Answer) → KeepsQuestion by world q first old last → Extends (told_in old) (told_in told) → IsJoined last new answer → IsAnsweredLater by world q first old told last answer
       is_answered old last answer keeps extends joined =
           let judges =
@@ -295,10 +313,17 @@ module _ (c : Rests) (by : Setting) (world : World) (q : Question) (first : Part
           let stands = d.later by world facts (record { question = q; told = told_in old; last = last }) (told_in told) (map judged all_later) new answer are_facts extends (made_told facts served) accepted keeps.steady
           (d.again by world facts q (told_in told) are_facts good (first_names c.plain c.finds by world facts are_facts q first response d.conditions) asked.is_data (asked.accepted facts served_first) (made_told facts served) accepted)
           judges says_all joined in
+          let same = stays old last answer keeps extends joined in
           record {
             later = stands.later;
-            keeps = record { response = response; are_told = are; steady = stands.steady };
+            keeps = record {
+              response = response;
+              are_told = are;
+              steady = stands.steady;
+              waits = λ still. subst (λ (a : Answer). (listed : List (Text × ErrorKind)) × SaysHeld (holding_in first) listed a) (sym (same still)) (keeps.waits (left_before (told_in old) (told_in told) extends (holding_in first) still));
+            };
             fine = fine;
+            waits = same;
             joins = (new, rules_list world (StandsAgain world.policies facts q (told_in told)) (map judged all_later) new judges says_all, joined);
           }
 

@@ -32,5 +32,6 @@ pub mod Requested
 pub mod RequestTold
 pub mod Rejudged
 pub mod AgainJudged
+pub mod Waiting
 pub mod LaterTells
 pub mod Questions

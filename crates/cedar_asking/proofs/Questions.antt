@@ -73,4 +73,5 @@ module _ (exist : WorldsHaveFacts) (early : LinkingIsWritingEarly) (conditions :
         };
         are_told = nothing_told q;
         steady = steady by world facts q (map judged responds.kept) answer are_facts (sound by world facts q are_facts good names asked.is_data (asked.accepted facts served)) judged_first says_first;
+        waits = λ still. (listed, says);
       }

@@ -6,11 +6,15 @@ use Rattle.cedar_world.specs.Answer.{Answer, ids_of, has_id}
 use Rattle.cedar_world.specs.Answers as world
 use Rattle.cedar_world.specs.Standing.{Says, ErrOnce, AnswersAreMade}
 use Rattle.cedar_evaluator.specs.Evaluations.{Kept}
-use Rattle.cedar_evaluator.specs.Responses.{holding_of, judged_held}
+use Rattle.cedar_evaluator.specs.Responses.{Holding, holding_of, judged_held}
 use Rattle.cedar_evaluator.proofs.Counted.{CountAlike, same_decision, must_pass, must_pass_back, may_pass, may_pass_back}
 use Rattle.cedar_evaluator.proofs.Grouped.{all_count_alike, errs, none_errs}
 use Rattle.cedar_evaluator.proofs.Lists.{contained}
 use Rattle.cedar_evaluator.proofs.Standings.{judged}
+
+-- none errs among those that a response holds
+pub err_once_held : (h : Holding) → ErrOnce (judged_held h)
+err_once_held h id k l (j, c, is, e) other = absurd (true≢false (sym (ap errs e) ∙ none_errs h j (contained (judged_held h) j c)))
 
 module _ (ks : List Kept) where
   abbrev held : List Judged
@@ -22,16 +26,13 @@ module _ (ks : List Kept) where
   alike : CountAlike held js
   alike = all_count_alike ks
 
-  err_once_held : ErrOnce held
-  err_once_held id k l (j, c, is, e) other = absurd (true≢false (sym (ap errs e) ∙ none_errs (holding_of ks) j (contained held j c)))
-
   -- ---- the answer
 
   -- an answer that has what a response says, and the errors, says what the rules say of the policies
   pub says_rules : AnswersAreMade → ErrOnce js → (answer : Answer) → answer.decision ≡ decision held → answer.must ≡ ids_of (ids_with (in_must held) held) → answer.may ≡ ids_of (ids_with (in_may held) held) →
       answer.erring ≡ finite.from_entries (world.errors_of js) → Says js answer
   says_rules made once answer decides must may erring =
-      let of_held = made held err_once_held in
+      let of_held = made held (err_once_held (holding_of ks)) in
       let of_kept = made js once in
       record {
         decision = decides ∙ same_decision held js alike;

@@ -1,16 +1,22 @@
 -- Names that are gathered in a list: those for which a question wants values.
 use Rattle.std.specs.Prelude.{◌≡◌, Bool, not, is_some, ◌&&◌, ◌||◌, List, Some}
+use Rattle.std.specs.Borrow.{Bor}
+use Rattle.std.specs.BTreeSet.{BTreeSet, contains_by}
 use Rattle.std.specs.FinMap as finite
 use Rattle.std.specs.List.{list_any}
 use Rattle.cedar_language.specs.Tree.{Tree}
 use Rattle.cedar_language.specs.Uid.{Text}
 use Rattle.cedar_world.specs.Asking.{Question, Told}
 use Rattle.cedar_world.specs.Bodies.{ask_body}
-use Rattle.cedar_world.specs.Orders.{text_eq}
+use Rattle.cedar_world.specs.Orders.{text_cmp, text_eq}
 use Rattle.cedar_world.specs.Question.{is_unknown}
 
 abbrev pub has_name : List Text → Text → Bool
 has_name names n = list_any (text_eq n) names
+
+-- the same of names in a set
+abbrev pub is_listed : BTreeSet (Bor Text) → Text → Bool
+is_listed names n = contains_by (λ k. text_cmp n k.now) names
 
 -- names were appended: a test passes some name now if it passed one before, or passes one of these
 abbrev pub AddsNames : ((Text → Bool) → Bool) → List Text → List Text → Type 0

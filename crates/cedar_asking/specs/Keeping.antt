@@ -27,6 +27,7 @@ use Rattle.cedar_asking.specs.Answering.{AreOf}
 use Rattle.cedar_asking.specs.Erring.{SomeAtLimit}
 use Rattle.cedar_asking.specs.Requests.{IsRequestOf}
 use Rattle.cedar_asking.specs.Tells.{told_in}
+use Rattle.cedar_asking.specs.Waiting.{SaysUntilTold}
 
 -- no unknown of it states a type
 abbrev pub StatesNoTypes : Written → Type 0
@@ -59,8 +60,10 @@ pub record AreTold (q : Question) (told : List (RcStr Global × Value)) : Type 0
   pub named : (n : Text) (v : Value) → told_for told n ≡ Some v → is_unknown q n ≡ true
   pub fit : (n : Text) (v : Value) → told_for told n ≡ Some v → fits q n v ≡ true
 
--- the first response, the values told since, and the last answer, which stays true whatever is told besides
+-- the first response, the values told since, and the last answer, which stays true whatever is told besides; it is the first
+-- response's until a name is told that stands in what is left of a policy
 pub record KeepsQuestion (by : Setting) (world : World) (q : Question) (first : PartialResponse) (told : List (RcStr Global × Value)) (last : Answer) : Type 0 where
   pub response : IsFirstResponse by world q first
   pub are_told : AreTold q told
   pub steady : IsSteady by world (facts_of by world) q (told_in told) last
+  pub waits : SaysUntilTold (holding_in first) (told_in told) last

@@ -10,6 +10,7 @@ pub mod Unknowns
 pub mod UnknownNames
 pub mod Tells
 pub mod TellSteps
+pub mod Waiting
 pub mod Keeping
 pub mod TellLaws
 pub mod Responses

@@ -39,6 +39,7 @@ use Rattle.cedar_asking.specs.Keeping.{IsNamed, AreTold, KeepsQuestion}
 use Rattle.cedar_asking.specs.Laws.{SaysHeld}
 use Rattle.cedar_asking.specs.Requests.{IsRequestOf}
 use Rattle.cedar_asking.specs.Tells.{told_in, TellMore}
+use Rattle.cedar_asking.specs.Waiting.{LeftIsUntold}
 
 -- values told besides others are told with these
 abbrev pub MoreIsTold : Type 0
@@ -56,11 +57,12 @@ QuestionsAreKept =
 
 module _ (by : Setting) (world : World) (q : Question) (first : PartialResponse) (old told : List (RcStr Global × Value)) (last answer : Answer) where
   -- The answer once these values are told, and what is kept then. It joins the last one with one whose errors are those with
-  -- which the policies in force stand again.
+  -- which the policies in force stand again, and is the last one until a name is told that stands in what is left of a policy.
   pub record IsAnsweredLater : Type 0 where
     pub later : IsLaterAnswer by world (record { question = q; told = told_in old; last = last }) (told_in told) answer
     pub keeps : KeepsQuestion by world q first told answer
     pub fine : context_errs by q.context (told_in told) ≡ false
+    pub waits : LeftIsUntold (holding_in first) (told_in told) → answer ≡ last
     pub joins : (new : Answer) × ListsStanding world (StandsAgain world.policies (facts_of by world) q (told_in told)) new × IsJoined last new answer
 
 -- where no limit is met, the first response taken up again, joined with the last answer, answers the question

@@ -117,7 +117,8 @@ fn why_not_told(error: &ReauthorizationError) -> Refusal
 }
 
 /// The answer to a question once more is told: its first response taken up again with all values told, joined
-/// with the answer that was given last. (Cedar language reference, "Partial evaluation".)
+/// with the answer that was given last. Until a name is told that stands in what the response leaves of a policy,
+/// that is the answer that was given last. (Cedar language reference, "Partial evaluation".)
 ///
 /// It is refused `Evaluation` where the context errs with these values, `Depth` where the evaluation of a
 /// context that names an unknown, or of some policy, nests deeper than `depth`, and `Memory`.

@@ -4,13 +4,14 @@ ghost use Rattle.std.specs.FinMap as finite;
 ghost use Rattle.std.specs.List.{filter};
 ghost use Rattle.std.specs.Option.{unwrap_or};
 ghost use Rattle.cedar_grammar.specs.Build.{trees};
-ghost use Rattle.cedar_held.specs.Questions.{part_asked, given_context};
+ghost use Rattle.cedar_held.specs.Questions.{part_asked, question_of, given_context};
 ghost use Rattle.cedar_language.specs.Uid.{Text};
 ghost use Rattle.cedar_restricted.specs.Views.{restricted_tree};
 ghost use Rattle.cedar_trees.specs.Bare.{bare, bare_entries};
 ghost use Rattle.cedar_world.specs.Asking.{NoContext};
+ghost use Rattle.cedar_world.specs.Orders.{text_eq};
 ghost use Rattle.cedar_world.specs.Question as world;
-ghost use Rattle.cedar_asking.specs.AskedNames.{has_name, AddsNames, AreAskedBy, AreUntoldOf};
+ghost use Rattle.cedar_asking.specs.AskedNames.{has_name, is_listed, AddsNames, AreAskedBy, AreUntoldOf};
 ghost use Rattle.cedar_asking.specs.TellSteps.{IsGivenRestricted};
 ghost use Rattle.cedar_asking.specs.Tells.{told_in};
 ghost use Rattle.cedar_asking.specs.UnknownNames.{stands_in, stands_in_call, stands_in_some};
@@ -18,13 +19,13 @@ ghost use Rattle.cedar_asking.specs.UnknownNames.{stands_in, stands_in_call, sta
 use crate::telling::is_told;
 use crate::unknowns::{is_unknown, name_of};
 use crate::wanted::context_entries;
-use cedar_held::{AskedPart, ask_body};
+use cedar_held::{AskBody, AskedPart, ask_body};
 use cedar_names::names::Name;
 use cedar_restricted::restricted::RestrictedExpr;
 use cedar_trees::expr::{Expr, ExprKind};
 use cedar_values::values::Value;
 use std::alloc::{AllocError, Global};
-use std::collections::BTreeMap;
+use std::collections::{BTreeMap, BTreeSet};
 use std::rc::RcStr;
 
 fn push_name<'e>(names: &mut Vec<&'e str>, name: &'e str) -> Result<(), AllocError>
@@ -120,19 +121,58 @@ fn push_context<'e>(names: &mut Vec<&'e str>, context: Option<&'e Expr>) -> Resu
     }
 }
 
-// The names for which the question of a body wants values.
-fn names_asked(alloc: Global, body: &RestrictedExpr) -> Result<Vec<&str>, AllocError>
-    ensures { IfOk result (λ names. AreAskedBy (restricted_tree body.now) (map (λ n. n.now) names.items)) }
+// The names for which a question wants values.
+fn names_of<'q>(alloc: Global, asked: &AskBody<'q>) -> Result<Vec<&'q str>, AllocError>
+    requires { IsGivenRestricted asked.now.context }
+    ensures { IfOk result (λ names. (n : Text) → has_name (map (λ n. n.now) names.items) n ≡ world.is_unknown (question_of asked.now) n) }
 {
     let mut names = Vec::new(alloc);
-    let Some(asked) = ask_body(alloc, body.as_ref())? else {
-        return Ok(names);
-    };
     push_missing(&mut names, &asked.principal, "principal")?;
     push_missing(&mut names, &asked.action, "action")?;
     push_missing(&mut names, &asked.resource, "resource")?;
     push_context(&mut names, asked.context)?;
     Ok(names)
+}
+
+// The same of the question of a body.
+fn names_asked(alloc: Global, body: &RestrictedExpr) -> Result<Vec<&str>, AllocError>
+    ensures { IfOk result (λ names. AreAskedBy (restricted_tree body.now) (map (λ n. n.now) names.items)) }
+{
+    match ask_body(alloc, body.as_ref())? {
+        Some(asked) => Ok(names_of(alloc, &asked)?),
+        None => Ok(Vec::new(alloc)),
+    }
+}
+
+fn list<'n>(set: &mut BTreeSet<&'n str>, name: &'n str) -> Result<(), AllocError>
+    ensures { OnOk result ((n : Text) → is_listed set.new n ≡ (is_listed set.old n || text_eq n name.now)) }
+{
+    set.insert(name)?;
+    Ok(())
+}
+
+// These names, as a set.
+fn set_of<'n>(alloc: Global, names: &[&'n str]) -> Result<BTreeSet<&'n str>, AllocError>
+    ensures { IfOk result (λ set. (n : Text) → is_listed set n ≡ has_name (map (λ n. n.now) names.now) n) }
+{
+    let mut set = BTreeSet::new(alloc);
+    for name in names {
+        list(&mut set, *name)?;
+    }
+    Ok(set)
+}
+
+/// The names for which a question wants values, as a set, so that many of them are looked for at little cost. Refused
+/// for memory alone.
+pub(crate) fn wanted_names<'q>(
+    alloc: Global,
+    asked: &AskBody<'q>,
+) -> Result<BTreeSet<&'q str>, AllocError>
+    requires { IsGivenRestricted asked.now.context }
+    ensures { IfOk result (λ set. (n : Text) → is_listed set n ≡ world.is_unknown (question_of asked.now) n) }
+{
+    let names = names_of(alloc, asked)?;
+    set_of(alloc, names.as_slice())
 }
 
 // Of these names those for which no value is told.

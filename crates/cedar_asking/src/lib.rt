@@ -8,7 +8,6 @@ mod bodies;
 mod joining;
 mod listing;
 mod telling;
-mod unknown_names;
 mod unknowns;
 mod wanted;
 
@@ -70,7 +69,7 @@ pub fn more_is_told()
 {}
 
 /// Where no limit is met, a first response that is taken up again once more is told, joined with the last
-/// answer, answers its question.
+/// answer, answers its question; as the last answer, until a name is told that stands in what is left of a policy.
 pub fn tells_are_answered()
     ensures { TellsAreAnswered }
 {
@@ -78,6 +77,7 @@ pub fn tells_are_answered()
     cedar_partial_evaluation::answers_are_prompt();
     cedar_partial_evaluation::leaves_dont_matter();
     cedar_partial_evaluation::contexts_stay();
+    cedar_partial_evaluation::what_is_left_waits();
     cedar_world::worlds_have_facts();
     cedar_world::answers_are_made();
     cedar_world::unsatisfied_say_nothing();

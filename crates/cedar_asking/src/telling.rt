@@ -12,13 +12,14 @@ ghost use Rattle.cedar_restricted.specs.Views.{restricted_tree};
 ghost use Rattle.cedar_world.specs.Asking.{Question};
 ghost use Rattle.cedar_world.specs.Bodies as world;
 ghost use Rattle.cedar_grammar.specs.UnknownCalls.{holds_call};
-ghost use Rattle.cedar_world.specs.Question.{is_unknown};
 ghost use Rattle.cedar_world.specs.Refusals.{some_key};
 ghost use Rattle.cedar_world.specs.Setting.{Setting};
+ghost use Rattle.cedar_asking.specs.AskedNames.{is_listed};
 ghost use Rattle.cedar_asking.specs.Tells.{told_in, TellsBody};
 ghost use Rattle.cedar_asking.specs.TellSteps.{IsGivenRestricted, fits_attribute, some_misfit, with_attribute, with_attributes};
 
-use crate::wanted::{asks_for, takes};
+use crate::asked_names::wanted_names;
+use crate::wanted::takes;
 use cedar_extensions::extensions::Extensions;
 use cedar_extensions::objects::ExtensionFunctionObject;
 use cedar_held::{AskBody, all_evaluated, ask_body, entries_of};
@@ -28,16 +29,21 @@ use cedar_restricted::restricted::RestrictedExpr;
 use cedar_trees::expr::Expr;
 use cedar_values::values::Value;
 use std::alloc::{AllocError, Global};
-use std::collections::BTreeMap;
+use std::collections::{BTreeMap, BTreeSet};
 use std::rc::RcStr;
 
-// Whether some key is no unknown of the question's.
-fn names_no_unknown(asked: &AskBody<'_>, entries: &BTreeMap<RcStr, Expr>) -> bool
-    requires { IsGivenRestricted asked.now.context }
-    ensures { result ≡ some_key (λ n. not (is_unknown (question_of asked.now) n)) (fields_in entries.now) }
+fn is_listed<'n>(names: &BTreeSet<&'n str>, name: &'n str) -> bool
+    ensures { result ≡ is_listed names.now name.now }
+{
+    names.contains(&name)
+}
+
+// Whether some key is none of these names.
+fn names_another<'n>(names: &BTreeSet<&'n str>, entries: &'n BTreeMap<RcStr, Expr>) -> bool
+    ensures { result ≡ some_key (λ n. not (is_listed names.now n)) (fields_in entries.now) }
 {
     for (name, _expr) in entries {
-        if !asks_for(asked, name) {
+        if !is_listed(names, name) {
             return true;
         }
     }
@@ -138,7 +144,8 @@ pub fn told_by<F: ExtensionFunctionObject>(
     let Some(asked) = ask_body(alloc, question.as_ref())? else {
         return Err(Refusal::Shape);
     };
-    if names_no_unknown(&asked, entries) {
+    let names = wanted_names(alloc, &asked)?;
+    if names_another(&names, entries) {
         return Err(Refusal::NoSuchUnknown);
     }
     if names_told(told, entries) {

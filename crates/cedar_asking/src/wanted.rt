@@ -1,5 +1,5 @@
-// What a question asks for: its unknowns, and the kinds of their values.
-ghost use Rattle.std.specs.Prelude.{◌≡◌, ◌&&◌, true, false, codes, IfSome, option_map, if◌then◌else◌};
+// What a question asks for: the kinds of its unknowns' values.
+ghost use Rattle.std.specs.Prelude.{◌≡◌, true, false, codes, IfSome, option_map, if◌then◌else◌};
 ghost use Rattle.std.specs.Option.{option_copied, unwrap_or};
 ghost use Rattle.cedar_language.specs.Tree.{RecordType};
 ghost use Rattle.cedar_partial_evaluation.specs.Unknowns.{is_of_type};
@@ -12,7 +12,6 @@ ghost use Rattle.cedar_held.specs.Lent.{fields_in};
 ghost use Rattle.cedar_held.specs.Questions.{part_asked, question_of, given_context};
 ghost use Rattle.cedar_asking.specs.TellSteps.{IsGivenRestricted, entries_as};
 
-use crate::unknown_names::some_entry_holds_name;
 use crate::unknowns::is_same;
 use cedar_held::{AskBody, AskedPart, entries_of};
 use cedar_literals::literals::Literal;
@@ -21,16 +20,6 @@ use cedar_trees::expr::Expr;
 use cedar_values::values::{Value, ValueKind};
 use std::collections::BTreeMap;
 use std::rc::RcStr;
-
-// Whether this is the name of the variable, for which nothing is given.
-fn is_missing(part: &AskedPart<'_>, variable: &str, name: &str) -> bool
-    ensures { result ≡ (world.is_missing (part_asked part.now) && text_eq name.now variable.now) }
-{
-    match part {
-        AskedPart::Given(_) => false,
-        AskedPart::Missing(_) => is_same(name, variable),
-    }
-}
 
 // The entries of the record that is given for the context.
 pub(crate) fn context_entries(context: Option<&Expr>) -> Option<&BTreeMap<RcStr, Expr>>
@@ -42,28 +31,6 @@ pub(crate) fn context_entries(context: Option<&Expr>) -> Option<&BTreeMap<RcStr,
         None => None,
         Some(record) => entries_of(record),
     }
-}
-
-// Whether the context has an unknown of this name: itself, where none is given.
-fn is_in_context(context: Option<&Expr>, name: &str) -> bool
-    requires { IsGivenRestricted context }
-    ensures { result ≡ world.has_name (unwrap_or (option_map given_context context.entry) NoContext) name.now }
-{
-    match context_entries(context) {
-        None => is_same(name, "context"),
-        Some(entries) => some_entry_holds_name(entries, name),
-    }
-}
-
-/// Whether the question asks for a value of this name.
-pub(crate) fn asks_for(asked: &AskBody<'_>, name: &str) -> bool
-    requires { IsGivenRestricted asked.now.context }
-    ensures { result ≡ world.is_unknown (question_of asked.now) name.now }
-{
-    is_missing(&asked.principal, "principal", name)
-        || is_missing(&asked.action, "action", name)
-        || is_missing(&asked.resource, "resource", name)
-        || is_in_context(asked.context, name)
 }
 
 // Whether the value is an entity, of this type where one is stated.

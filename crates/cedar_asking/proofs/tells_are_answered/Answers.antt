@@ -22,5 +22,6 @@ returns c by world q first again old told es s table depth listed last new answe
       prompt = c.answers_are_prompt.ensures;
       again = c.again_is_sound.ensures;
       later = c.later_answers_stand.ensures;
+      waits = c.what_is_left_waits.ensures;
     })
     again made listed new says old last answer keeps extends joined
