@@ -9,3 +9,5 @@ pub mod Kinds
 pub mod Numbered
 pub mod Parts
 pub mod Shows
+pub mod Free
+pub mod Gathered
