@@ -16,6 +16,11 @@ use Rattle.cedar_faults.specs.Reasons as reasons
 use Rattle.cedar_faults.specs.Reasons.{Reason}
 use Rattle.cedar_parser.specs.Errors.{Cause, outside_the_grammar, means_nothing, nested_too_deep, out_of_memory, cause_of}
 use Rattle.cedar_parser.specs.declared.errors.ParseErrors.{ParseErrors}
+use Rattle.cedar_grammar.specs.Loose as loose
+use Rattle.cedar_grammar.specs.LooseReading.{read_policies}
+use Rattle.cedar_loose.specs.Texts.{IsRead}
+use Rattle.cedar_policy_conversion.specs.Gathered.{AreGathered}
+use Rattle.cedar_policy_conversion.specs.declared.gathered.GatheredPolicies.{GatheredPolicies}
 use Rattle.cedar_policy_set.specs.Entries.{Entries}
 use Rattle.cedar_policy_set.specs.Texts.{text_entries}
 use Rattle.cedar_restricted.specs.Offences.{offence, refused_offence}
@@ -67,6 +72,10 @@ WritesNot out_of_memory want = ⊤
 abbrev pub Writes : {E W : Type 0} → (E → W) → Result E ParseErrors → Option W → Type 0
 Writes seen (Ok e) want = want ≡ Some (seen e)
 Writes seen (Err errors) want = WritesNot (cause_of errors.0.head) want
+
+-- the policies that the text's loose tree has, gathered in its order
+abbrev pub GathersText : Names → ℕ → Text → GatheredPolicies → Type 0
+GathersText names n text policies = (ps : List loose.Policy) × IsRead read_policies n text (loose.policies ps) × AreGathered names ps policies
 
 -- neither a function nor a method is called `unknown`
 abbrev pub LacksUnknown : Names → Type 0

@@ -1,29 +1,32 @@
 // Policy sets.
-ghost use Rattle.std.specs.Prelude.{IfErr};
+ghost use Rattle.std.specs.Prelude.{List, IfOk, IfErr};
 ghost use Rattle.std.specs.Option.{option_map};
 ghost use Rattle.cedar_grammar.specs.Converting.{policies_syntax};
 ghost use Rattle.cedar_grammar.specs.Functions.{policy_names};
+ghost use Rattle.cedar_grammar.specs.Loose as loose;
 ghost use Rattle.cedar_grammar.specs.LooseReading.{read_policies};
+ghost use Rattle.cedar_grammar.specs.Names.{Names};
 ghost use Rattle.cedar_policy_set.specs.Texts.{text_entries};
-ghost use Rattle.cedar_cst.specs.View.{shown_policies};
+ghost use Rattle.cedar_loose.specs.Texts.{Refuses};
+ghost use Rattle.cedar_policy_conversion.specs.Gathered.{AreGathered};
 ghost use Rattle.cedar_policy_conversion.specs.Shows.{policies_show};
 ghost use Rattle.cedar_parser.specs.Faults.{TellOnly, text_shows};
 ghost use Rattle.cedar_parser.specs.Settings.{functions_of};
-ghost use Rattle.cedar_parser.specs.Strict.{Writes, ReadsSet};
+ghost use Rattle.cedar_parser.specs.Strict.{Writes, ReadsSet, GathersText};
 
 use crate::errors::{ParseError, ParseErrors};
 use crate::refusals::refused;
 use crate::styles::StylesOfExtensions;
-use crate::text_to_cst::parse_policies;
-use cedar_cst::cst;
-use cedar_cst::node::Node;
+use crate::text_to_cst::unread;
 use cedar_extensions::extensions::Extensions;
 use cedar_extensions::objects::ExtensionFunctionObject;
 use cedar_faults::ExtStyles;
 use cedar_grammar::{at_most_one_meaning, converting_is_the_grammar, wider_limits_change_nothing};
-use cedar_policy_conversion::to_policyset;
+use cedar_loose::{LooseError, PolicyReader};
+use cedar_policy_conversion::GatheredPolicies;
 use cedar_policy_set::sets::PolicySet;
 use std::alloc::Global;
+use std::rc::RcStr;
 
 /// The policies and templates that a text is within a nesting of `depth`, under `policy0`, `policy1`, ..
 /// in its order, where these names may be called. One with a slot in its scope or in a clause is a template.
@@ -47,9 +50,9 @@ pub fn parse_policyset_strict(
     converting_is_the_grammar();
     wider_limits_change_nothing();
 
-    match parse_policies(alloc, text, depth) {
-        Ok(tree) => converted(alloc, &tree, styles),
-        Err(errors) => Err(errors),
+    match gathered(alloc, text, styles, depth) {
+        Ok(policies) => converted(alloc, policies),
+        Err(error) => Err(unread(alloc, error)),
     }
 }
 
@@ -70,16 +73,35 @@ pub fn parse_policyset<F: ExtensionFunctionObject>(
     parse_policyset_strict(alloc, text, &styles, depth)
 }
 
-// The policies that a loose tree writes.
-fn converted(
+// The policies of a text. Each is converted as it is read, so that no more than one loose tree stands.
+fn gathered(
     alloc: Global,
-    tree: &Node<Option<cst::Policies>>,
+    text: &str,
     styles: &ExtStyles,
-) -> Result<PolicySet, ParseErrors>
-    ensures set { Writes (λ set. set) result (option_map (text_entries 0) (policies_syntax styles.now (shown_policies tree.now))) }
-    ensures shown { IfErr result (λ errors. TellOnly errors (policies_show styles.now (shown_policies tree.now))) }
+    depth: u32,
+) -> Result<GatheredPolicies, LooseError>
+    ensures read { IfOk result (λ policies. GathersText styles.now depth text.now policies) }
+    ensures refused { IfErr result (Refuses read_policies depth text.now) }
 {
-    match to_policyset(alloc, tree, styles) {
+    let Ok(source) = RcStr::from_str(alloc, text) else {
+        return Err(LooseError::Memory);
+    };
+    let mut reader = PolicyReader::new(alloc, text, &source, depth)?;
+    let mut policies = GatheredPolicies::new(alloc);
+    'each: while let Some(policy) = reader.next(alloc)? {
+        policies = policies.with(alloc, &policy, styles);
+    }
+    Ok(policies)
+}
+
+// The set of the policies that were gathered, or their faults as errors.
+fn converted(alloc: Global, policies: GatheredPolicies) -> Result<PolicySet, ParseErrors>
+    ensures set { (names : Names) (ps : List loose.Policy) → AreGathered names ps policies →
+        Writes (λ set. set) result (option_map (text_entries 0) (policies_syntax names (loose.policies ps))) }
+    ensures shown { (names : Names) (ps : List loose.Policy) → AreGathered names ps policies →
+        IfErr result (λ errors. TellOnly errors (policies_show names (loose.policies ps))) }
+{
+    match policies.into_set() {
         Ok(set) => Ok(set),
         Err(error) => Err(refused(alloc, error)),
     }

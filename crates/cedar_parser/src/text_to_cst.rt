@@ -133,8 +133,8 @@ pub fn parse_ident(alloc: Global, text: &str) -> Result<Node<Option<Ident>>, Par
     }
 }
 
-// The same error, as one of a text.
-fn unread(alloc: Global, error: LooseError) -> ParseErrors
+/// The same error, as one of a text.
+pub(crate) fn unread(alloc: Global, error: LooseError) -> ParseErrors
     ensures cause { cause_of result.0.head ≡ loose.cause_of error }
     ensures alone { result.0.tail.items ≡ [] }
 {
