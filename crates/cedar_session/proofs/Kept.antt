@@ -49,7 +49,11 @@ use Rattle.cedar_session.specs.Open.{KeepsAsked, KeepsOpen, question_in, nothing
 use Rattle.cedar_world.specs.OrdinaryReplies.{AnswersOrdinarily, AnswersToldOrdinarily}
 use Rattle.cedar_session.specs.Sessions.{asked_of}
 use Rattle.cedar_session.specs.declared.asked.Asked.{Asked}
-use Rattle.cedar_session.proofs.LaterProp.{later_prop}
+use Rattle.cedar_session.specs.Lending.{WaitsForNames}
+use Rattle.cedar_asking.specs.Waiting.{LeftIsUntold}
+use Rattle.cedar_asking.proofs.Waiting.{same_answer, at_each}
+use Rattle.cedar_evaluator.specs.Holding.{holding_in}
+use Rattle.cedar_session.proofs.LaterProp.{later_prop, same_prop}
 use Rattle.cedar_session.proofs.Depths.{grows_too_high}
 use Rattle.cedar_session.proofs.Telling.{context_fails, too_deep, no_memory, told}
 
@@ -176,6 +180,13 @@ module _ (by : Setting) (policies : Policies) (entities : Entities) where
           })
           are_told.0 are_told.1
 
+      -- until a name is told that stands in what is left of a policy, it is the last answer
+      waits_on : (answer : Answer) → Says table all s (Ok answer) → LeftIsUntold (holding_in asked.first) (told_in all.entries)
+          → answer_of answer ≡ answer_of asked.answer
+      waits_on answer says still =
+          same_answer (answer_of answer) (answer_of asked.answer)
+          (∥∥₁_elim kept (same_prop (answer_of answer) (answer_of asked.answer)) (λ k. at_each (answer_of answer) (answer_of asked.answer) ((answered (Ok answer) says k).waits still)))
+
       later_here : (answer : world.Answer) → IsLaterAnswer by held (asked_of asked) (told_in all.entries) answer → IsLaterAnswer by (world_with o) (asked_of asked) (told_in all.entries) answer
       later_here answer h = ((reads.alike by held (world_with o) (record { entities = refl; policies = λ id. refl })).later (asked_of asked) (told_in all.entries) answer).0 h
 
@@ -206,6 +217,12 @@ module _ (by : Setting) (policies : Policies) (entities : Entities) where
       module _ (answer copy : Answer) (same : copy ≡ answer) (says : Says table all s (Ok answer)) (new : Option Asked) (new_is : new ≡ option_map (λ (a : Asked). record a { told = all; answer = copy }) o) where
         goes_on : new ≡ Some (record asked { told = all; answer = copy })
         goes_on = new_is ∙ ap (option_map (λ (a : Asked). record a { told = all; answer = copy })) is
+
+        pub waits_for_names : WaitsForNames (option_map (λ (a : Asked). a.first) o) (option_map asked_of o) (option_map asked_of new) (answer_of answer)
+        waits_for_names =
+            subst (λ x. WaitsForNames (option_map (λ (a : Asked). a.first) x) (option_map asked_of x) (option_map asked_of new) (answer_of answer))
+            (sym is)
+            (subst (λ n. WaitsForNames (Some asked.first) (Some (asked_of asked)) (option_map asked_of n) (answer_of answer)) (sym goes_on) (waits_on answer says))
 
         -- what is kept then
         pub keeps_on : AnswersErrOrdinarily → ∥ KeepsOpen by policies entities new ∥₁

@@ -11,12 +11,16 @@ use Rattle.cedar_world.specs.Asking.{Question, Told}
 use Rattle.cedar_world.specs.Setting.{Setting}
 use Rattle.cedar_world.specs.Step.{IsLaterAnswer}
 use Rattle.cedar_world.specs.World.{World, Asked}
+use Rattle.cedar_asking.proofs.Waiting.{SameAtEach}
 
 decisions : (x y : Option Decision) → IsProp (x ≡ y)
 decisions x y = hlevel props
 
 ids_code : Coded Ids
 ids_code = finite.code (coded_list coded_ℕ) coded_unit
+
+pub same_prop : (a b : Answer) → IsProp (SameAtEach a b)
+same_prop a b = hlevel props
 
 pub follows_prop : (a b : Answer) → IsProp (Follows a b)
 follows_prop a b = hlevel props

@@ -2,10 +2,13 @@
 use Rattle.std.specs.Prelude.{◌≡◌, Bool, false, not, is_some, ◌&&◌, Option, Some, None}
 use Rattle.std.specs.FinMap as finite
 use Rattle.cedar_language.specs.Uid.{Text}
+use Rattle.cedar_world.specs.Answer.{Answer}
 use Rattle.cedar_world.specs.Question.{is_unknown}
 use Rattle.cedar_world.specs.Setting.{Setting}
 use Rattle.cedar_world.specs.World.{World, Asked}
 use Rattle.cedar_asking.specs.Keeping.{IsFirstResponse}
+use Rattle.cedar_asking.specs.Waiting.{LeftIsUntold}
+use Rattle.cedar_evaluator.specs.Holding.{holding_in}
 use Rattle.cedar_evaluator.specs.declared.partial_response.PartialResponse.{PartialResponse}
 use Rattle.cedar_session.specs.Open.{bare}
 
@@ -19,3 +22,8 @@ pub record IsResponse (by : Setting) (world : World) (response : PartialResponse
   pub asked : Asked
   pub is_open : world.asked ≡ Some asked
   pub responds : ∥ IsFirstResponse by (bare world.policies world.entities) asked.question response ∥₁
+
+-- Where no name that is told by now stands in what the response left of a policy, the answer is the one that was given last.
+abbrev pub WaitsForNames : Option PartialResponse → Option Asked → Option Asked → Answer → Type 0
+WaitsForNames (Some response) (Some old) (Some new) answer = LeftIsUntold (holding_in response) new.told → answer ≡ old.last
+WaitsForNames response old new answer = Unit {0}

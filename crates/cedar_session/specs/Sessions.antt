@@ -15,6 +15,7 @@ use Rattle.cedar_replies.specs.declared.refusal.Refusal.{Refusal}
 use Rattle.cedar_replies.specs.Replies.{answer_of}
 use Rattle.cedar_replies.specs.Refusals.{refusal_of}
 use Rattle.cedar_asking.specs.Tells.{told_in}
+use Rattle.cedar_evaluator.specs.declared.partial_response.PartialResponse.{PartialResponse}
 use Rattle.cedar_session.specs.Open.{question_in}
 use Rattle.cedar_session.specs.declared.asked.Asked.{Asked}
 use Rattle.cedar_session.specs.declared.session.Session.{Session}
@@ -33,6 +34,10 @@ world_holding policies entities asked = record { policies = policies; entities =
 -- the policies, templates and links, the entities held, and the open question
 abbrev pub world_of : {F : Type 0} {functions : Ghosts F} → Session F functions → World
 world_of session = world_holding session.policies session.entities session.asked
+
+-- the first response to the open question
+abbrev pub response_of : {F : Type 0} {functions : Ghosts F} → Session F functions → Option PartialResponse
+response_of session = option_map (λ (a : Asked). a.first) session.asked
 
 -- what a `load`, an edit, and an `ask` or a `tell` are answered
 abbrev pub load_reply : Result (Vec PolicyID Global) Refusal → commands.Reply

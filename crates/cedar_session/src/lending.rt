@@ -7,7 +7,8 @@ ghost use Rattle.cedar_held.specs.Shown.{Shows};
 ghost use Rattle.cedar_language.specs.Uid.{Text};
 ghost use Rattle.cedar_policy_set.specs.Texts.{AreToldBySlots};
 ghost use Rattle.cedar_session.specs.Lending.{is_untold, IsResponse};
-ghost use Rattle.cedar_session.specs.Sessions.{setting_of, world_of};
+ghost use Rattle.cedar_session.specs.Sessions.{setting_of, world_of, response_of};
+ghost use Rattle.std.specs.Option.{option_map};
 
 use crate::session::Session;
 use cedar_asking::untold_names;
@@ -41,6 +42,7 @@ impl<F: ExtensionFunctionObject> Session<'_, '_, F> {
     /// those that are open, with what is left of them; and the errors. A policy in force that isn't among these isn't
     /// satisfied. None where no question is open. Takes no memory.
     pub fn response(&self) -> Option<&PartialResponse>
+        ensures first { option_map (λ response. response.now) result ≡ response_of self.now }
         ensures response { IfSome result (λ response. IsResponse (setting_of self.now) (world_of self.now) response.now) }
         ensures none { IfNone result ((world_of self.now).asked ≡ None) }
     {

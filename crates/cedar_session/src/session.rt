@@ -60,7 +60,8 @@ impl<F: ExtensionFunctionObject> Drop for Session<'_, '_, F> {
 impl<'e, 'f, F: ExtensionFunctionObject> Session<'e, 'f, F> {
     ghost use Rattle.cedar_frames.specs.declared.verb.Verb.TheVariants.{Load as LoadVerb, Link as LinkVerb, Unlink as UnlinkVerb, RemoveStatic as RemoveStaticVerb, RemoveTemplate as RemoveTemplateVerb, Add as AddVerb, Put as PutVerb, Remove as RemoveVerb, Ask as AskVerb, Tell as TellVerb};
     ghost use Rattle.cedar_world.specs.Step.{Step};
-    ghost use Rattle.cedar_session.specs.Sessions.{world_of, world_holding, setting_of, load_reply, edit_reply, ask_reply};
+    ghost use Rattle.cedar_session.specs.Lending.{WaitsForNames};
+    ghost use Rattle.cedar_session.specs.Sessions.{world_of, world_holding, setting_of, response_of, load_reply, edit_reply, ask_reply};
 
     /// A session without policies and entities, in which no question is open.
     ///
@@ -359,8 +360,9 @@ impl<'e, 'f, F: ExtensionFunctionObject> Session<'e, 'f, F> {
 
     /// Answers the open question with the values that a body tells besides those told before. What was
     /// answered before stays: a decision that was given, the ids among `must` and those that err, each with
-    /// the kind that it was shown with, and no id comes to `may`. Once all is told, decision, reasons and
-    /// erring ids are those of the question asked with all known. Policies and entities stay.
+    /// the kind that it was shown with, and no id comes to `may`. Until a name is told that stands in what the
+    /// [`response`](Session::response) leaves of a policy, it is the answer that was given last. Once all is told,
+    /// decision, reasons and erring ids are those of the question asked with all known. Policies and entities stay.
     /// (Cedar language reference, "Partial evaluation".)
     ///
     /// The body is a record from names to values: the names of the context's unknowns, and `principal`,
@@ -379,6 +381,7 @@ impl<'e, 'f, F: ExtensionFunctionObject> Session<'e, 'f, F> {
         requires { length text.now ≤ body_limit }
         ensures step { Step (setting_of self.old) (world_of self.old) TellVerb text.now (ask_reply result) (world_of self.new) }
         ensures ordinary { IfOk result (λ answer. AnswersToldOrdinarily (setting_of self.old) (world_of self.old) (answer_of answer)) }
+        ensures waits { IfOk result (λ answer. WaitsForNames (response_of self.old) (world_of self.old).asked (world_of self.new).asked (answer_of answer)) }
         ensures setting { setting_of self.new ≡ setting_of self.old }
     {
         cedar_world::texts_are_one();

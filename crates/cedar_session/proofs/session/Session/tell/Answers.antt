@@ -7,7 +7,7 @@ use Rattle.cedar_restricted.specs.Views.{restricted_tree}
 use Rattle.cedar_session.specs.Sessions.{setting_of, world_of, asked_of}
 use Rattle.cedar_session.proofs.Texts.{read_tree, serves}
 use Rattle.cedar_session.proofs.Telling.{unread_tell, untold}
-use Rattle.cedar_session.proofs.Kept.{IsStoreOf, states, keeps_on, accepted, refused, errs_ordinarily}
+use Rattle.cedar_session.proofs.Kept.{IsStoreOf, states, keeps_on, accepted, refused, errs_ordinarily, waits_for_names}
 use Rattle.cedar_session.proofs.session.Session.tell.Goals as goal
 
 pub returns-in_err-body-clause-step : goal.returns-in_err-body-clause-step
@@ -89,3 +89,17 @@ returns-clause-ordinary g c =
     let holds : IsStoreOf by table self.entities c.store.result.now = record { setting = record { functions = served.functions; depth_is = refl }; shows = c.store.ensures.shows; closed = c.store.ensures.closed; whole = c.store.ensures.whole; built = c.store.ensures.built } in
     errs_ordinarily by self.policies self.entities c.in-Some.asked self.asked c.in-Some.is self.steady c.more_is_told.ensures (record { listed = c.answers_read_what_is_in_force.ensures.listed; found = c.answers_read_what_is_in_force.ensures.found; known = c.answers_read_what_is_in_force.ensures.known; alike = c.answers_read_what_is_in_force.ensures.alike }) table c.in_ok-told.told tells.0 tells.2 c.store.result.now holds
     c.answers_err_ordinarily.ensures c.in_ok-answer.answer (λ es keeps. c.in_ok-answer.ensures by _ _ _ es keeps)
+
+pub returns-clause-waits : goal.returns-clause-waits
+returns-clause-waits g c =
+    let self = c.args.self.now in
+    let by = setting_of self in
+    let tree = restricted_tree c.in_ok-body.body in
+    let read = read_tree by c.args.text.now tree tree refl c.in_ok-body.ensures.body in
+    let served = serves g.F.ExtensionFunctionObject.answers self.extensions.now self.depth tree tree refl c.names_are_defined.ensures c.in_ok-body.ensures.calls in
+    let stated = states by self.policies self.entities c.in-Some.asked self.asked c.in-Some.is self.steady in
+    let tells = c.in_ok-told.ensures by _ served stated in
+    let table = as_table g.F.ExtensionFunctionObject.answers self.extensions.now in
+    let holds : IsStoreOf by table self.entities c.store.result.now = record { setting = record { functions = served.functions; depth_is = refl }; shows = c.store.ensures.shows; closed = c.store.ensures.closed; whole = c.store.ensures.whole; built = c.store.ensures.built } in
+    waits_for_names by self.policies self.entities c.in-Some.asked self.asked c.in-Some.is self.steady c.more_is_told.ensures (record { listed = c.answers_read_what_is_in_force.ensures.listed; found = c.answers_read_what_is_in_force.ensures.found; known = c.answers_read_what_is_in_force.ensures.known; alike = c.answers_read_what_is_in_force.ensures.alike }) table c.in_ok-told.told tells.0 tells.2 c.store.result.now holds
+    c.in_ok-answer.answer c.in_ok-kept.kept c.in_ok-kept.ensures.cases (λ es keeps. c.in_ok-answer.ensures by _ _ _ es keeps) c.go_on.new.asked c.go_on.ensures
