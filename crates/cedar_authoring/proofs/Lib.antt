@@ -5,3 +5,4 @@ mod Refusals
 mod Standings
 mod Told
 mod Waiting
+mod NamesLeft

@@ -8,7 +8,7 @@ ghost use Rattle.cedar_session.specs.Sessions.{setting_of, world_of};
 ghost use Rattle.cedar_trees.specs.Bare.{bare};
 ghost use Rattle.cedar_world.specs.Lines.{answer_line};
 ghost use Rattle.cedar_authoring.specs.Explaining.{status_of, IsUnexplained, TellsAnswered, TellsExplained, TellsPolicies};
-ghost use Rattle.cedar_authoring.specs.Names.{names_left, names_of, TellsNames};
+ghost use Rattle.cedar_authoring.specs.Names.{names_left, names_of, TellsNames, AwaitedNamesSuffice};
 ghost use Rattle.cedar_authoring.specs.Standing.{TellsStanding};
 ghost use Rattle.cedar_authoring.specs.Telling.{Adds};
 
@@ -196,6 +196,12 @@ fn tell_one(
         }
     }
 }
+
+/// Until a name is told for which what is left of policies waits, none is told that stands there; and until then, a
+/// [`tell`](Session::tell) answers what was answered.
+pub fn awaited_names_suffice()
+    ensures { AwaitedNamesSuffice }
+{}
 
 /// Tells the names for which what is left of the policies waits.
 fn tell_names(

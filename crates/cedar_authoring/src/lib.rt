@@ -24,7 +24,7 @@ mod wrong;
 
 pub use cedar_scripts::{Script, ScriptError, ScriptFault, Step, Test, read_script};
 pub use checking::{Report, check_text};
-pub use explaining::{Named, explained};
+pub use explaining::{Named, awaited_names_suffice, explained};
 pub use faults::tell_faults;
 pub use places::{Position, line_and_column};
 pub use running::run_script;
