@@ -10,7 +10,7 @@ has as many.
 A crate may also stand before the words: a heading of docs/DEFINITIONS.md names the crate of the words in brackets below it, and
 a row of docs/PROOFS.md that begins with a crate in bold is one of its calls, as are the rows after it. In docs/ARCHITECTURE.md
 each crate has a row, whose last cell is what tools/rooms.py finds nearest below it. No paragraph has more than 100 words, and
-the pages of docs/ have 18,900 at most.
+the pages of docs/ have 16,000 at most.
 
 Prints a line for each that isn't so, and ends with status 1 where there is any."""
 
@@ -27,7 +27,7 @@ NUMBERS = "no one two three four five six seven eight nine ten eleven twelve".sp
 # A word in capitals stands for whatever name is there.
 PATTERN = re.compile(r"\b[A-Z]{4,}\b(?!\.md)")
 FILE = re.compile(r"^[\w.+*/-]+\.(md|py|rt|antt|edit|txt|c|h|rs|sh|stdin|stdout)$")
-LONGEST, WHOLE = 100, 18_900
+LONGEST, WHOLE = 100, 16_000
 
 
 def text_of(path):

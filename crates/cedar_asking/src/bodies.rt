@@ -23,11 +23,14 @@ use cedar_trees::expr::Expr;
 use std::alloc::{AllocError, Global};
 
 // A principal, an action or a resource that is given, or of which at most the type is known.
-fn entry_of(alloc: Global, part: AskedPart<'_>) -> Result<EntityUIDEntry, AllocError>
+fn entry_of(part: AskedPart<'_>) -> Result<EntityUIDEntry, AllocError>
     ensures { IfOk result (λ entry. requests.part_of entry ≡ part_asked part.entry) }
 {
     match part {
-        AskedPart::Given(uid) => EntityUIDEntry::known(alloc, uid.clone(alloc)?, None),
+        AskedPart::Given(uid) => Ok(EntityUIDEntry::Known {
+            euid: uid.clone()?,
+            loc: None,
+        }),
         AskedPart::Missing(None) => Ok(EntityUIDEntry::unknown()),
         AskedPart::Missing(Some(entity_type)) => {
             Ok(EntityUIDEntry::unknown_with_type(entity_type, None))
@@ -91,9 +94,9 @@ pub fn request_of<F: ExtensionFunctionObject>(
     let Some(asked) = ask_body(alloc, body.as_ref())? else {
         return Err(Refusal::Shape);
     };
-    let principal = entry_of(alloc, asked.principal)?;
-    let action = entry_of(alloc, asked.action)?;
-    let resource = entry_of(alloc, asked.resource)?;
+    let principal = entry_of(asked.principal)?;
+    let action = entry_of(asked.action)?;
+    let resource = entry_of(asked.resource)?;
     let context = context_of(alloc, asked.context, extensions, depth)?;
     Ok(Request::new_unchecked(principal, action, resource, context))
 }

@@ -1,8 +1,16 @@
+pub mod Adding
 mod Awaited
 mod Checked
+pub mod Lending
+pub mod LinesRead
+mod NamesLeft
 mod Ran
 mod Refusals
+pub mod Runs
+pub mod Single
+pub mod SingleFault
+pub mod SingleScript
 mod Standings
 mod Told
+pub mod Turns
 mod Waiting
-mod NamesLeft

@@ -4,7 +4,12 @@ pub mod Explaining
 pub mod Faults
 pub mod Names
 pub mod Places
+pub mod ScriptFaults
+pub mod ScriptLaws
+pub mod ScriptLines
+pub mod ScriptTexts
 pub mod Scripts
+pub mod Spoken
 pub mod Standing
 pub mod StandingWords
 pub mod Telling

@@ -4,7 +4,7 @@ ghost use Rattle.cedar_replies.specs.Replies.{reply_of};
 ghost use Rattle.cedar_authoring.specs.Scripts.{Fits, FitsCommand, TellsTest, answers_step, says};
 ghost use Rattle.cedar_authoring.specs.Telling.{Adds};
 
-use cedar_scripts::{Script, Step};
+use crate::scripts::{Script, Step};
 use cedar_session::{BODY_LIMIT, Refusal, Reply, line_in_memory};
 use std::alloc::{AllocError, Global};
 

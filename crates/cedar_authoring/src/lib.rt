@@ -16,15 +16,19 @@ mod giving;
 mod listing;
 mod places;
 mod running;
+mod scripts;
 mod shapes;
 mod standing;
 mod telling;
 mod value_faults;
 mod wrong;
 
-pub use cedar_scripts::{Script, ScriptError, ScriptFault, Step, Test, read_script};
 pub use checking::{Report, check_text};
 pub use explaining::{Named, awaited_names_suffice, explained};
 pub use faults::tell_faults;
 pub use places::{Position, line_and_column};
 pub use running::run_script;
+pub use scripts::{
+    Script, ScriptError, ScriptFault, Step, Test, faults_are_in_no_script, faults_are_one,
+    lines_say_one_thing, read_script, texts_are_one_script,
+};

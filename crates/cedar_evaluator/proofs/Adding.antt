@@ -1,27 +1,23 @@
 -- One more policy in the group of its effect and of what was found of it.
-use Rattle.std.proofs.Common.{◌≡◌, Bool, true, false, Some, List, [], ◌∷◌, ◌++◌, map, refl, sym, ◌∙◌, ap, subst}
-use Rattle.std.specs.Map.{keys_of}
+use Rattle.std.proofs.Common.{◌≡◌, Bool, true, false, Some, List, [], ◌∷◌, ◌++◌, refl, sym, ◌∙◌, ap, subst}
 use Rattle.std.specs.declared.alloc.Global.{Global}
 use Rattle.std.specs.declared.rc.Rc.{Rc}
 use Rattle.std.proofs.lemmas.List.{map_push}
-use Rattle.std.proofs.lemmas.Map.Made.{keys_of-map_values}
 use Rattle.cedar_language.specs.Answering.{Effect, Permit, Forbid}
 use Rattle.cedar_language.specs.Uid.{Text}
 use Rattle.cedar_extensions.specs.Failures.{Failure}
 use Rattle.cedar_policies.specs.Policies.{policy_id, policy_syntax}
 use Rattle.cedar_policies.specs.declared.policies.Policy.{Policy}
-use Rattle.cedar_policy_set.specs.Places.{put}
-use Rattle.cedar_policy_set.proofs.Placed.{put_last}
 use Rattle.cedar_trees.specs.Bare.{bare}
 use Rattle.cedar_trees.specs.declared.expr.Expr.{Expr}
 use Rattle.cedar_evaluator.specs.Evaluations.{Annotations, Found, Satisfied, Unsatisfied, Erred, Open, Kept}
 use Rattle.cedar_evaluator.specs.Given.{Noted}
 use Rattle.cedar_evaluator.specs.Grouping.{held_in, annotated_so_far, with_kept, held_with, kept_as, Adds, AddsFalse}
 use Rattle.cedar_evaluator.specs.Holding.{has_erred, noted, noted_behind}
-use Rattle.cedar_evaluator.specs.Responses.{Holding, satisfied_of, false_of, open_of, false_id, errors_of, holding_of, without_false}
+use Rattle.cedar_evaluator.specs.Responses.{Holding, false_id, errors_of, holding_of, without_false}
 use Rattle.cedar_evaluator.specs.declared.groups.Groups.{Groups}
 use Rattle.cedar_evaluator.specs.declared.partial_response.ErrorState.{ErrorState}
-use Rattle.cedar_evaluator.proofs.Apart.{nothing_at, some_same, satisfied_free, false_free, open_free}
+use Rattle.cedar_evaluator.proofs.Apart.{some_same}
 use Rattle.cedar_evaluator.proofs.Keeping.{holding_more, errors_more}
 
 abbrev Rest : Type 0
@@ -48,74 +44,52 @@ open_stays false id Forbid annotations rest h = refl
 -- ---- a satisfied policy
 
 module _ (b : Bool) (g : Groups) (id : Text) (annotations : Noted) where
-  permit_satisfied : Adds b (record { id = id; effect = Permit; annotations = annotations.value; found = Satisfied }) g (record g { satisfied_permits = put g.satisfied_permits id annotations })
-  permit_satisfied ks free holds =
+  permit_satisfied : Adds b (record { id = id; effect = Permit; annotations = annotations.value; found = Satisfied }) g (record g { satisfied_permits = g.satisfied_permits ++ (id, annotations) ∷ [] })
+  permit_satisfied ks holds =
       let k : Kept = record { id = id; effect = Permit; annotations = annotations.value; found = Satisfied } in
       let group = g.satisfied_permits in
       let kept : Text × Noted = (id, annotations) in
-      let last = put_last group id annotations (nothing_at group (satisfied_of Permit ks) id (ap (λ (h : Holding). h.satisfied_permits) holds ∙ held b) (satisfied_free Permit ks id free)) in
       (λ i. record (held_in g) {
-        satisfied_permits = (ap keys_of last ∙ map_push (λ e. e.0) group kept) i;
-        annotated = record (annotated_so_far g) { satisfied_permits = (ap (map noted) last ∙ map_push noted group kept) i };
+        satisfied_permits = map_push (λ e. e.0) group kept i;
+        annotated = record (annotated_so_far g) { satisfied_permits = map_push noted group kept i };
       })
       ∙ ap (with_kept k) holds ∙ satisfied_stays b id Permit annotations.value (holding_of ks) ∙ ap (held_with b) (sym (holding_more ks k))
-    where
-      held : (b : Bool) → (held_with b (holding_of ks)).satisfied_permits ≡ satisfied_of Permit ks
-      held true = refl
-      held false = refl
 
-  forbid_satisfied : Adds b (record { id = id; effect = Forbid; annotations = annotations.value; found = Satisfied }) g (record g { satisfied_forbids = put g.satisfied_forbids id annotations })
-  forbid_satisfied ks free holds =
+  forbid_satisfied : Adds b (record { id = id; effect = Forbid; annotations = annotations.value; found = Satisfied }) g (record g { satisfied_forbids = g.satisfied_forbids ++ (id, annotations) ∷ [] })
+  forbid_satisfied ks holds =
       let k : Kept = record { id = id; effect = Forbid; annotations = annotations.value; found = Satisfied } in
       let group = g.satisfied_forbids in
       let kept : Text × Noted = (id, annotations) in
-      let last = put_last group id annotations (nothing_at group (satisfied_of Forbid ks) id (ap (λ (h : Holding). h.satisfied_forbids) holds ∙ held b) (satisfied_free Forbid ks id free)) in
       (λ i. record (held_in g) {
-        satisfied_forbids = (ap keys_of last ∙ map_push (λ e. e.0) group kept) i;
-        annotated = record (annotated_so_far g) { satisfied_forbids = (ap (map noted) last ∙ map_push noted group kept) i };
+        satisfied_forbids = map_push (λ e. e.0) group kept i;
+        annotated = record (annotated_so_far g) { satisfied_forbids = map_push noted group kept i };
       })
       ∙ ap (with_kept k) holds ∙ satisfied_stays b id Forbid annotations.value (holding_of ks) ∙ ap (held_with b) (sym (holding_more ks k))
-    where
-      held : (b : Bool) → (held_with b (holding_of ks)).satisfied_forbids ≡ satisfied_of Forbid ks
-      held true = refl
-      held false = refl
 
 -- ---- an open one
 
 module _ (b : Bool) (g : Groups) (id : Text) (rest : Rest) (annotations : Noted) where
-  permit_open : Adds b (record { id = id; effect = Permit; annotations = annotations.value; found = Open (bare rest.value) }) g (record g { residual_permits = put g.residual_permits id (rest, annotations) })
-  permit_open ks free holds =
+  permit_open : Adds b (record { id = id; effect = Permit; annotations = annotations.value; found = Open (bare rest.value) }) g (record g { residual_permits = g.residual_permits ++ (id, (rest, annotations)) ∷ [] })
+  permit_open ks holds =
       let k : Kept = record { id = id; effect = Permit; annotations = annotations.value; found = Open (bare rest.value) } in
       let group = g.residual_permits in
       let kept : Text × (Rest × Noted) = (id, (rest, annotations)) in
-      let ids = sym (keys_of-map_values (λ (v : Rest × Noted). bare v.0.value) group) ∙ ap (λ (h : Holding). keys_of h.open_permits) holds ∙ held b in
-      let last = put_last group id (rest, annotations) (nothing_at group (keys_of (open_of Permit ks)) id ids (open_free Permit ks id free)) in
       (λ i. record (held_in g) {
-        open_permits = (ap (map (λ e. (e.0, bare e.1.0.value))) last ∙ map_push (λ e. (e.0, bare e.1.0.value)) group kept) i;
-        annotated = record (annotated_so_far g) { open_permits = (ap (map noted_behind) last ∙ map_push noted_behind group kept) i };
+        open_permits = map_push (λ e. (e.0, bare e.1.0.value)) group kept i;
+        annotated = record (annotated_so_far g) { open_permits = map_push noted_behind group kept i };
       })
       ∙ ap (with_kept k) holds ∙ open_stays b id Permit annotations.value rest (holding_of ks) ∙ ap (held_with b) (sym (holding_more ks k))
-    where
-      held : (b : Bool) → keys_of (held_with b (holding_of ks)).open_permits ≡ keys_of (open_of Permit ks)
-      held true = refl
-      held false = refl
 
-  forbid_open : Adds b (record { id = id; effect = Forbid; annotations = annotations.value; found = Open (bare rest.value) }) g (record g { residual_forbids = put g.residual_forbids id (rest, annotations) })
-  forbid_open ks free holds =
+  forbid_open : Adds b (record { id = id; effect = Forbid; annotations = annotations.value; found = Open (bare rest.value) }) g (record g { residual_forbids = g.residual_forbids ++ (id, (rest, annotations)) ∷ [] })
+  forbid_open ks holds =
       let k : Kept = record { id = id; effect = Forbid; annotations = annotations.value; found = Open (bare rest.value) } in
       let group = g.residual_forbids in
       let kept : Text × (Rest × Noted) = (id, (rest, annotations)) in
-      let ids = sym (keys_of-map_values (λ (v : Rest × Noted). bare v.0.value) group) ∙ ap (λ (h : Holding). keys_of h.open_forbids) holds ∙ held b in
-      let last = put_last group id (rest, annotations) (nothing_at group (keys_of (open_of Forbid ks)) id ids (open_free Forbid ks id free)) in
       (λ i. record (held_in g) {
-        open_forbids = (ap (map (λ e. (e.0, bare e.1.0.value))) last ∙ map_push (λ e. (e.0, bare e.1.0.value)) group kept) i;
-        annotated = record (annotated_so_far g) { open_forbids = (ap (map noted_behind) last ∙ map_push noted_behind group kept) i };
+        open_forbids = map_push (λ e. (e.0, bare e.1.0.value)) group kept i;
+        annotated = record (annotated_so_far g) { open_forbids = map_push noted_behind group kept i };
       })
       ∙ ap (with_kept k) holds ∙ open_stays b id Forbid annotations.value rest (holding_of ks) ∙ ap (held_with b) (sym (holding_more ks k))
-    where
-      held : (b : Bool) → keys_of (held_with b (holding_of ks)).open_forbids ≡ keys_of (open_of Forbid ks)
-      held true = refl
-      held false = refl
 
 -- ---- one that isn't satisfied
 
@@ -147,33 +121,29 @@ forbid_grown id annotations (Erred f) erred ks h is = let same = ap (λ (y : Tex
 forbid_grown id annotations (Open t) erred ks h is = absurd (cc is)
 
 module _ (g : Groups) (id : Text) (state : ErrorState) (annotations : Noted) (found : Found) (is : false_id id found ≡ Some (id, has_erred state)) where
-  permit_false : AddsFalse true (record { id = id; effect = Permit; annotations = annotations.value; found = found }) g (record g { false_permits = put g.false_permits id (state, annotations) })
+  permit_false : AddsFalse true (record { id = id; effect = Permit; annotations = annotations.value; found = found }) g (record g { false_permits = g.false_permits ++ (id, (state, annotations)) ∷ [] })
   unfolding among_permits
-  permit_false ks free holds =
+  permit_false ks holds =
       let k : Kept = record { id = id; effect = Permit; annotations = annotations.value; found = found } in
       let all = ks ++ k ∷ [] in
       let group = g.false_permits in
       let kept : Text × (ErrorState × Noted) = (id, (state, annotations)) in
-      let ids = sym (keys_of-map_values (λ (v : ErrorState × Noted). has_erred v.0) group) ∙ ap (λ (h : Holding). keys_of h.false_permits) holds in
-      let last = put_last group id (state, annotations) (nothing_at group (keys_of (false_of Permit ks)) id ids (false_free Permit ks id free)) in
       (λ i. record (held_in g) {
-        false_permits = (ap (map (λ e. (e.0, has_erred e.1.0))) last ∙ map_push (λ e. (e.0, has_erred e.1.0)) group kept) i;
-        annotated = record (annotated_so_far g) { false_permits = (ap (map noted_behind) last ∙ map_push noted_behind group kept) i };
+        false_permits = map_push (λ e. (e.0, has_erred e.1.0)) group kept i;
+        annotated = record (annotated_so_far g) { false_permits = map_push noted_behind group kept i };
       })
       ∙ ap (among_permits id annotations.value (has_erred state)) holds ∙ permit_grown id annotations.value found (has_erred state) all (holding_of ks) is ∙ ap (with_errors all) (sym (holding_more ks k))
 
-  forbid_false : AddsFalse true (record { id = id; effect = Forbid; annotations = annotations.value; found = found }) g (record g { false_forbids = put g.false_forbids id (state, annotations) })
+  forbid_false : AddsFalse true (record { id = id; effect = Forbid; annotations = annotations.value; found = found }) g (record g { false_forbids = g.false_forbids ++ (id, (state, annotations)) ∷ [] })
   unfolding among_forbids
-  forbid_false ks free holds =
+  forbid_false ks holds =
       let k : Kept = record { id = id; effect = Forbid; annotations = annotations.value; found = found } in
       let all = ks ++ k ∷ [] in
       let group = g.false_forbids in
       let kept : Text × (ErrorState × Noted) = (id, (state, annotations)) in
-      let ids = sym (keys_of-map_values (λ (v : ErrorState × Noted). has_erred v.0) group) ∙ ap (λ (h : Holding). keys_of h.false_forbids) holds in
-      let last = put_last group id (state, annotations) (nothing_at group (keys_of (false_of Forbid ks)) id ids (false_free Forbid ks id free)) in
       (λ i. record (held_in g) {
-        false_forbids = (ap (map (λ e. (e.0, has_erred e.1.0))) last ∙ map_push (λ e. (e.0, has_erred e.1.0)) group kept) i;
-        annotated = record (annotated_so_far g) { false_forbids = (ap (map noted_behind) last ∙ map_push noted_behind group kept) i };
+        false_forbids = map_push (λ e. (e.0, has_erred e.1.0)) group kept i;
+        annotated = record (annotated_so_far g) { false_forbids = map_push noted_behind group kept i };
       })
       ∙ ap (among_forbids id annotations.value (has_erred state)) holds ∙ forbid_grown id annotations.value found (has_erred state) all (holding_of ks) is ∙ ap (with_errors all) (sym (holding_more ks k))
 
@@ -188,30 +158,30 @@ left_out id Forbid annotations (Erred f) erred all h is = refl
 left_out id effect annotations (Open t) erred all h is = absurd (cc is)
 
 pub none_false : (b : Bool) → b ≡ false → (k : Kept) (erred : Bool) → false_id k.id k.found ≡ Some (k.id, erred) → (g : Groups) → AddsFalse b k g g
-none_false true off k erred is g ks free holds = absurd (cc off)
-none_false false off k erred is g ks free holds =
+none_false true off k erred is g ks holds = absurd (cc off)
+none_false false off k erred is g ks holds =
     holds ∙ left_out k.id k.effect k.annotations k.found erred (ks ++ k ∷ []) (holding_of ks) is ∙ ap (λ h. with_errors (ks ++ k ∷ []) (without_false h)) (sym (holding_more ks k))
 
 -- ---- the policy itself
 
 module _ (b : Bool) (g : Groups) (p : Policy) (kept : Text × Noted) (own : noted kept ≡ (policy_id p, (policy_syntax p).annotations)) where
-  pub satisfied_permit : Permit ≡ (policy_syntax p).effect → (group : List (Text × Noted)) → group ≡ put g.satisfied_permits kept.0 kept.1 → Adds b (kept_as p Satisfied) g (record g { satisfied_permits = group })
+  pub satisfied_permit : Permit ≡ (policy_syntax p).effect → (group : List (Text × Noted)) → group ≡ g.satisfied_permits ++ (kept.0, kept.1) ∷ [] → Adds b (kept_as p Satisfied) g (record g { satisfied_permits = group })
   satisfied_permit effect group is =
       subst (λ (k : Kept). Adds b k g (record g { satisfied_permits = group })) (λ i. record { id = (own i).0; effect = effect i; annotations = (own i).1; found = Satisfied })
       (subst (λ (es : List (Text × Noted)). Adds b (record { id = kept.0; effect = Permit; annotations = kept.1.value; found = Satisfied }) g (record g { satisfied_permits = es })) (sym is) (permit_satisfied b g kept.0 kept.1))
 
-  pub satisfied_forbid : Forbid ≡ (policy_syntax p).effect → (group : List (Text × Noted)) → group ≡ put g.satisfied_forbids kept.0 kept.1 → Adds b (kept_as p Satisfied) g (record g { satisfied_forbids = group })
+  pub satisfied_forbid : Forbid ≡ (policy_syntax p).effect → (group : List (Text × Noted)) → group ≡ g.satisfied_forbids ++ (kept.0, kept.1) ∷ [] → Adds b (kept_as p Satisfied) g (record g { satisfied_forbids = group })
   satisfied_forbid effect group is =
       subst (λ (k : Kept). Adds b k g (record g { satisfied_forbids = group })) (λ i. record { id = (own i).0; effect = effect i; annotations = (own i).1; found = Satisfied })
       (subst (λ (es : List (Text × Noted)). Adds b (record { id = kept.0; effect = Forbid; annotations = kept.1.value; found = Satisfied }) g (record g { satisfied_forbids = es })) (sym is) (forbid_satisfied b g kept.0 kept.1))
 
   module _ (rest : Rest) where
-    pub open_permit : Permit ≡ (policy_syntax p).effect → (group : List (Text × (Rest × Noted))) → group ≡ put g.residual_permits kept.0 (rest, kept.1) → Adds b (kept_as p (Open (bare rest.value))) g (record g { residual_permits = group })
+    pub open_permit : Permit ≡ (policy_syntax p).effect → (group : List (Text × (Rest × Noted))) → group ≡ g.residual_permits ++ (kept.0, (rest, kept.1)) ∷ [] → Adds b (kept_as p (Open (bare rest.value))) g (record g { residual_permits = group })
     open_permit effect group is =
         subst (λ (k : Kept). Adds b k g (record g { residual_permits = group })) (λ i. record { id = (own i).0; effect = effect i; annotations = (own i).1; found = Open (bare rest.value) })
         (subst (λ (es : List (Text × (Rest × Noted))). Adds b (record { id = kept.0; effect = Permit; annotations = kept.1.value; found = Open (bare rest.value) }) g (record g { residual_permits = es })) (sym is) (permit_open b g kept.0 rest kept.1))
 
-    pub open_forbid : Forbid ≡ (policy_syntax p).effect → (group : List (Text × (Rest × Noted))) → group ≡ put g.residual_forbids kept.0 (rest, kept.1) → Adds b (kept_as p (Open (bare rest.value))) g (record g { residual_forbids = group })
+    pub open_forbid : Forbid ≡ (policy_syntax p).effect → (group : List (Text × (Rest × Noted))) → group ≡ g.residual_forbids ++ (kept.0, (rest, kept.1)) ∷ [] → Adds b (kept_as p (Open (bare rest.value))) g (record g { residual_forbids = group })
     open_forbid effect group is =
         subst (λ (k : Kept). Adds b k g (record g { residual_forbids = group })) (λ i. record { id = (own i).0; effect = effect i; annotations = (own i).1; found = Open (bare rest.value) })
         (subst (λ (es : List (Text × (Rest × Noted))). Adds b (record { id = kept.0; effect = Forbid; annotations = kept.1.value; found = Open (bare rest.value) }) g (record g { residual_forbids = es })) (sym is) (forbid_open b g kept.0 rest kept.1))
@@ -220,13 +190,13 @@ module _ (b : Bool) (g : Groups) (p : Policy) (kept : Text × Noted) (own : note
     fits_there : false_id kept.0 found ≡ Some (kept.0, has_erred state)
     fits_there = subst (λ (id : Text). false_id id found ≡ Some (id, has_erred state)) (ap (λ (n : Text × Annotations). n.0) (sym own)) fits
 
-    pub false_permit : Permit ≡ (policy_syntax p).effect → (group : List (Text × (ErrorState × Noted))) → group ≡ put g.false_permits kept.0 (state, kept.1) → AddsFalse b (kept_as p found) g (record g { false_permits = group })
+    pub false_permit : Permit ≡ (policy_syntax p).effect → (group : List (Text × (ErrorState × Noted))) → group ≡ g.false_permits ++ (kept.0, (state, kept.1)) ∷ [] → AddsFalse b (kept_as p found) g (record g { false_permits = group })
     false_permit effect group is =
         subst (λ (c : Bool). AddsFalse c (kept_as p found) g (record g { false_permits = group })) (sym on)
         (subst (λ (k : Kept). AddsFalse true k g (record g { false_permits = group })) (λ i. record { id = (own i).0; effect = effect i; annotations = (own i).1; found = found })
         (subst (λ (es : List (Text × (ErrorState × Noted))). AddsFalse true (record { id = kept.0; effect = Permit; annotations = kept.1.value; found = found }) g (record g { false_permits = es })) (sym is) (permit_false g kept.0 state kept.1 found fits_there)))
 
-    pub false_forbid : Forbid ≡ (policy_syntax p).effect → (group : List (Text × (ErrorState × Noted))) → group ≡ put g.false_forbids kept.0 (state, kept.1) → AddsFalse b (kept_as p found) g (record g { false_forbids = group })
+    pub false_forbid : Forbid ≡ (policy_syntax p).effect → (group : List (Text × (ErrorState × Noted))) → group ≡ g.false_forbids ++ (kept.0, (state, kept.1)) ∷ [] → AddsFalse b (kept_as p found) g (record g { false_forbids = group })
     false_forbid effect group is =
         subst (λ (c : Bool). AddsFalse c (kept_as p found) g (record g { false_forbids = group })) (sym on)
         (subst (λ (k : Kept). AddsFalse true k g (record g { false_forbids = group })) (λ i. record { id = (own i).0; effect = effect i; annotations = (own i).1; found = found })
@@ -236,11 +206,11 @@ module _ (b : Bool) (g : Groups) (p : Policy) (kept : Text × Noted) (own : note
 
 module _ (b : Bool) (p : Policy) (before after : Groups) where
   pub adds_unsatisfied : AddsFalse b (kept_as p Unsatisfied) before after → Adds b (kept_as p Unsatisfied) before after
-  adds_unsatisfied more ks free holds =
-      more ks free (holds ∙ (λ i. record (held_with b (holding_of ks)) { errors = (held_errors b (holding_of ks) ∙ sym (errors_more ks (kept_as p Unsatisfied))) i }))
+  adds_unsatisfied more ks holds =
+      more ks (holds ∙ (λ i. record (held_with b (holding_of ks)) { errors = (held_errors b (holding_of ks) ∙ sym (errors_more ks (kept_as p Unsatisfied))) i }))
 
   pub adds_erring : (f : Failure) (told : Groups) → held_in told ≡ record (held_in before) { errors = (held_in before).errors ++ (policy_id p, f) ∷ [] } → AddsFalse b (kept_as p (Erred f)) told after → Adds b (kept_as p (Erred f)) before after
-  adds_erring f told is more ks free holds =
+  adds_erring f told is more ks holds =
       let k = kept_as p (Erred f) in
-      more ks free
+      more ks
       (is ∙ (λ i. record (holds i) { errors = (ap (λ (h : Holding). h.errors ++ (policy_id p, f) ∷ []) holds ∙ ap (λ l. l ++ (policy_id p, f) ∷ []) (held_errors b (holding_of ks)) ∙ sym (errors_more ks k)) i }))

@@ -4,15 +4,20 @@ use Rattle.std.specs.List.{filter_map, cons_option}
 use Rattle.std.specs.Map.{lookup, keys_of}
 use Rattle.std.specs.Set.{is_member}
 use Rattle.std.proofs.lemmas.List.{map-id}
-use Rattle.std.proofs.lemmas.Map.Made.{is_some-lookup}
+use Rattle.std.proofs.lemmas.Map.Made.{is_some-lookup, keys_of-map_values}
 use Rattle.cedar_language.specs.Answering.{Effect, Permit, Forbid}
 use Rattle.cedar_language.specs.Order.{same_text}
 use Rattle.cedar_language.specs.Tree.{Tree}
 use Rattle.cedar_language.specs.Uid.{Text}
+use Rattle.cedar_policies.specs.Policies.{policy_id}
+use Rattle.cedar_policies.specs.declared.policies.Policy.{Policy}
 use Rattle.cedar_policy_set.proofs.Finding.{none_from}
+use Rattle.cedar_trees.specs.Bare.{bare}
 use Rattle.cedar_evaluator.specs.Evaluations.{Found, Satisfied, Unsatisfied, Erred, Open, Kept}
-use Rattle.cedar_evaluator.specs.Grouping.{ids_of}
-use Rattle.cedar_evaluator.specs.Responses.{if_effect, satisfied_id, false_id, open_id, satisfied_of, false_of, open_of}
+use Rattle.cedar_evaluator.specs.Grouping.{held_in, held_with, ids_of, IsNew}
+use Rattle.cedar_evaluator.specs.Holding.{has_erred}
+use Rattle.cedar_evaluator.specs.Responses.{Holding, if_effect, satisfied_id, false_id, open_id, satisfied_of, false_of, open_of, holding_of, without_false}
+use Rattle.cedar_evaluator.specs.declared.groups.Groups.{Groups}
 
 -- ---- any group
 
@@ -21,7 +26,7 @@ either_false true b h = absurd (true≢false h)
 either_false false b h = (refl, h)
 
 -- entries have nothing at an id that isn't among theirs
-pub nothing_at : {V : Type 0} (es : List (Text × V)) (ids : List Text) (id : Text) → keys_of es ≡ ids → is_member same_text ids id ≡ false → lookup (same_text id) es ≡ None
+nothing_at : {V : Type 0} (es : List (Text × V)) (ids : List Text) (id : Text) → keys_of es ≡ ids → is_member same_text ids id ≡ false → lookup (same_text id) es ≡ None
 nothing_at es ids id are free = none_from (lookup (same_text id) es) (is_some-lookup (same_text id) es ∙ ap (λ l. is_member same_text l id) are ∙ free)
 
 module _ (id : Text) {X : Type 0} (part : Kept → Option X) (name : X → Text) (named : (k : Kept) (x : X) → part k ≡ Some x → name x ≡ k.id) where
@@ -65,15 +70,43 @@ open_named id (Erred e) x h = absurd (cc h)
 open_named id (Open t) x h = ap (λ (y : Text × Tree). y.0) (some_same (id, t) x h)
 
 module _ (e : Effect) (ks : List Kept) (id : Text) (free : is_member same_text (ids_of ks) id ≡ false) where
-  pub satisfied_free : is_member same_text (satisfied_of e ks) id ≡ false
+  satisfied_free : is_member same_text (satisfied_of e ks) id ≡ false
   satisfied_free =
       ap (λ l. is_member same_text l id) (sym (map-id (satisfied_of e ks)))
       ∙ part_free id (λ (k : Kept). if_effect e k.effect (satisfied_id k.id k.found)) (λ t. t) (λ k x h. satisfied_named k.id k.found x (of_effect e k.effect (satisfied_id k.id k.found) x h)) ks free
 
-  pub false_free : is_member same_text (keys_of (false_of e ks)) id ≡ false
+  false_free : is_member same_text (keys_of (false_of e ks)) id ≡ false
   false_free =
       part_free id (λ (k : Kept). if_effect e k.effect (false_id k.id k.found)) (λ x. x.0) (λ k x h. false_named k.id k.found x (of_effect e k.effect (false_id k.id k.found) x h)) ks free
 
-  pub open_free : is_member same_text (keys_of (open_of e ks)) id ≡ false
+  open_free : is_member same_text (keys_of (open_of e ks)) id ≡ false
   open_free =
       part_free id (λ (k : Kept). if_effect e k.effect (open_id k.id k.found)) (λ x. x.0) (λ k x h. open_named k.id k.found x (of_effect e k.effect (open_id k.id k.found) x h)) ks free
+
+-- ---- all groups
+
+module _ (p : Policy) (g : Groups) where
+  -- none of these is the policy's id
+  abbrev IsOther : List Text → Type 0
+  IsOther ids = is_member same_text ids (policy_id p) ≡ false
+
+  new_by : (h : Holding) → held_in g ≡ h → IsOther h.satisfied_permits → IsOther (keys_of h.false_permits) → IsOther (keys_of h.open_permits) → IsOther h.satisfied_forbids → IsOther (keys_of h.false_forbids) → IsOther (keys_of h.open_forbids) → IsNew p g
+  new_by h is satisfied_permits false_permits open_permits satisfied_forbids false_forbids open_forbids =
+      let id = policy_id p in
+      record {
+        satisfied_permits = nothing_at g.satisfied_permits h.satisfied_permits id (ap (λ (k : Holding). k.satisfied_permits) is) satisfied_permits;
+        false_permits = nothing_at g.false_permits (keys_of h.false_permits) id (sym (keys_of-map_values (λ v. has_erred v.0) g.false_permits) ∙ ap (λ (k : Holding). keys_of k.false_permits) is) false_permits;
+        open_permits = nothing_at g.residual_permits (keys_of h.open_permits) id (sym (keys_of-map_values (λ v. bare v.0.value) g.residual_permits) ∙ ap (λ (k : Holding). keys_of k.open_permits) is) open_permits;
+        satisfied_forbids = nothing_at g.satisfied_forbids h.satisfied_forbids id (ap (λ (k : Holding). k.satisfied_forbids) is) satisfied_forbids;
+        false_forbids = nothing_at g.false_forbids (keys_of h.false_forbids) id (sym (keys_of-map_values (λ v. has_erred v.0) g.false_forbids) ∙ ap (λ (k : Holding). keys_of k.false_forbids) is) false_forbids;
+        open_forbids = nothing_at g.residual_forbids (keys_of h.open_forbids) id (sym (keys_of-map_values (λ v. bare v.0.value) g.residual_forbids) ∙ ap (λ (k : Holding). keys_of k.open_forbids) is) open_forbids;
+      }
+
+  -- a policy whose id isn't among those that are kept is new
+  pub is_new : (with_false : Bool) (ks : List Kept) → held_in g ≡ held_with with_false (holding_of ks) → is_member same_text (ids_of ks) (policy_id p) ≡ false → IsNew p g
+  is_new true ks holds free =
+      let id = policy_id p in
+      new_by (holding_of ks) holds (satisfied_free Permit ks id free) (false_free Permit ks id free) (open_free Permit ks id free) (satisfied_free Forbid ks id free) (false_free Forbid ks id free) (open_free Forbid ks id free)
+  is_new false ks holds free =
+      let id = policy_id p in
+      new_by (without_false (holding_of ks)) holds (satisfied_free Permit ks id free) refl (open_free Permit ks id free) (satisfied_free Forbid ks id free) refl (open_free Forbid ks id free)

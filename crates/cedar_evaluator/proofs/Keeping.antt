@@ -1,5 +1,5 @@
 -- One more policy that is kept.
-use Rattle.std.proofs.Common.{◌≡◌, ℕ, Bool, true, false, Option, Some, None, List, [], ◌∷◌, ◌++◌, refl, sym, ◌∙◌, subst}
+use Rattle.std.proofs.Common.{◌≡◌, ℕ, Bool, true, false, Option, Some, None, List, [], ◌∷◌, ◌++◌, refl, sym, ◌∙◌, ap, subst}
 use Rattle.std.specs.List.{IsDistinct, filter_map, cons_option}
 use Rattle.std.specs.Map.{keys_of}
 use Rattle.std.specs.Set.{is_member}
@@ -10,17 +10,23 @@ use Rattle.cedar_language.specs.Order.{same_text}
 use Rattle.cedar_language.specs.Uid.{Text}
 use Rattle.cedar_entities.specs.declared.store.Entities.{Entities}
 use Rattle.cedar_extensions.specs.Table.{Table}
+use Rattle.cedar_extensions.specs.Answering.{FunctionAnswers}
 use Rattle.cedar_interpreter.specs.Asking.{Inquiry}
+use Rattle.cedar_interpreter.specs.declared.evaluator.Evaluator.{Evaluator}
+use Rattle.cedar_policies.specs.Policies.{policy_id}
+use Rattle.cedar_policies.specs.declared.policies.Policy.{Policy}
+use Rattle.cedar_policy_set.specs.Bounds.{policy_seen}
 use Rattle.cedar_policy_set.specs.Entries.{Entry, Entries, policies_of}
-use Rattle.cedar_policy_set.proofs.Distinct.{distinct_apart}
 use Rattle.cedar_requests.specs.Holding.{RequestParts}
 use Rattle.cedar_evaluator.specs.Authorizing.{RespondsWith}
-use Rattle.cedar_evaluator.specs.Evaluations.{Kept, IsKept, AreKept}
-use Rattle.cedar_evaluator.specs.Grouping.{held_in, and_then, with_annotated, with_kept, held_with, ids_of, Adds, Keeps}
+use Rattle.cedar_evaluator.specs.Evaluations.{Found, Kept, IsKept, AreKept}
+use Rattle.cedar_evaluator.specs.Grouping.{held_in, and_then, with_annotated, with_kept, kept_as, held_with, ids_of, Adds, ForEach, IsNew, Keeps, KeepsBy, KeepsEach}
 use Rattle.cedar_evaluator.specs.Holding.{request_asked, holding_in}
 use Rattle.cedar_evaluator.specs.Responses.{if_effect, satisfied_id, false_id, open_id, error_id, annotated, annotated_of, errors_of, holding_of}
 use Rattle.cedar_evaluator.specs.declared.groups.Groups.{Groups}
 use Rattle.cedar_evaluator.specs.declared.partial_response.PartialResponse.{PartialResponse}
+use Rattle.cedar_evaluator.specs.declared.scopes.Scopes.{Scopes}
+use Rattle.cedar_evaluator.proofs.Apart.{is_new}
 use Rattle.cedar_evaluator.proofs.HeldIds.{left_apart}
 
 one_pushed : {X : Type 0} (xs : List X) (o : Option X) → xs ++ cons_option o [] ≡ and_then xs o
@@ -74,19 +80,6 @@ module _ (with_false : Bool) (i : Inquiry) (store : Entities) (table : Table) (d
   ids_kept (e ∷ es) [] each = absurd each
   ids_kept (e ∷ es) (k ∷ ks) each = λ j. each.0.id j ∷ ids_kept es ks each.1 j
 
-  pub keeps_none : (g : Groups) → held_in g ≡ holding_of [] → Keeps with_false i store table depth [] g
-  keeps_none g none = record { kept = []; each = tt; holds = none ∙ sym (none_kept with_false) }
-
-  pub keeps_more : (es : Entries) (g h : Groups) (e : Text × Entry) (k : Kept) → IsDistinct same_text (keys_of (es ++ e ∷ [])) → Keeps with_false i store table depth es g → Adds with_false k g h → IsKept i store table depth e k
-      → Keeps with_false i store table depth (es ++ e ∷ []) h
-  keeps_more es g h e k apart keeps more this =
-      let free = distinct_apart (keys_of es) e.0 [] (subst (IsDistinct same_text) (map-append (λ x. x.0) es (e ∷ [])) apart) in
-      record {
-        kept = keeps.kept ++ k ∷ [];
-        each = each_more es keeps.kept e k keeps.each this;
-        holds = more keeps.kept ((λ j. is_member same_text (ids_kept es keeps.kept keeps.each j) (this.id j)) ∙ free) keeps.holds;
-      }
-
   ids_apart : (es : Entries) (g : Groups) (keeps : Keeps with_false i store table depth es g) → IsDistinct same_text (keys_of es) → IsDistinct same_text (ids_of keeps.kept)
   ids_apart es g keeps apart = subst (IsDistinct same_text) (sym (ids_kept es keeps.kept keeps.each)) apart
 
@@ -101,3 +94,28 @@ module _ (with_false : Bool) (i : Inquiry) (store : Entities) (table : Table) (d
   responds es g keeps apart response holds asked is =
       responds_with with_false es keeps.kept keeps.each (ids_apart (policies_of es) g keeps apart) response
       (holds ∙ keeps.holds) (asked ∙ sym is)
+
+-- ---- for each inquiry
+
+module _ {F : Type 0} (answers : F → FunctionAnswers) (with_false : Bool) (ev : Evaluator F) (scopes : Scopes) where
+  pub keeps_none : (g : Groups) → held_in g ≡ holding_of [] → KeepsEach answers with_false ev scopes [] g
+  keeps_none g none = record { kept = []; ids = refl; each = λ i store table depth is by. tt; holds = none ∙ sym (none_kept with_false) }
+
+  pub keeps_more : (es : Entries) (g h : Groups) (p : Policy) (found : Found) → KeepsEach answers with_false ev scopes es g → Adds with_false (kept_as p found) g h
+      → ForEach answers ev scopes (λ i store table depth. IsKept i store table depth (policy_seen p) (kept_as p found))
+      → KeepsEach answers with_false ev scopes (es ++ policy_seen p ∷ []) h
+  keeps_more es g h p found keeps more this =
+      let k = kept_as p found in
+      record {
+        kept = keeps.kept ++ k ∷ [];
+        ids = map-append (λ (j : Kept). j.id) keeps.kept (k ∷ []) ∙ ap (λ ids. ids ++ policy_id p ∷ []) keeps.ids ∙ sym (map-append (λ e. e.0) es (policy_seen p ∷ []));
+        each = λ i store table depth is by. each_more with_false i store table depth es keeps.kept (policy_seen p) k (keeps.each i store table depth is by) (this i store table depth is by);
+        holds = more keeps.kept keeps.holds;
+      }
+
+  pub keeps_by : (es : Entries) (g : Groups) → KeepsEach answers with_false ev scopes es g → KeepsBy answers with_false ev scopes es g
+  keeps_by es g keeps = λ i store table depth is by. record { kept = keeps.kept; each = keeps.each i store table depth is by; holds = keeps.holds }
+
+  -- a policy whose id isn't among those of the policies so far is new
+  pub next_new : (es : Entries) (g : Groups) (p : Policy) → KeepsEach answers with_false ev scopes es g → is_member same_text (keys_of es) (policy_id p) ≡ false → IsNew p g
+  next_new es g p keeps free = is_new p g with_false keeps.kept keeps.holds (ap (λ ids. is_member same_text ids (policy_id p)) keeps.ids ∙ free)

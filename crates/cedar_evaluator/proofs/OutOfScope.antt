@@ -17,6 +17,7 @@ use Rattle.cedar_policy_parts.specs.Bindings.{unbound}
 use Rattle.cedar_entities.specs.declared.store.Entities.{Entities}
 use Rattle.cedar_operators.specs.Store.{HasFacts}
 use Rattle.cedar_interpreter.specs.Asking.{Inquiry, variable_asked, request_held}
+use Rattle.cedar_interpreter.specs.declared.given.GivenEntity.{GivenEntity}
 use Rattle.cedar_policy_set.specs.Entries.{Entry, Entries, static_policy, template, link, is_policy}
 use Rattle.cedar_policy_set.specs.Scopes.{IsEntryFound, Covers}
 use Rattle.cedar_scope_index.specs.Finding.{IsFound, IsListedFor, by_nothing, by_principal, by_action, by_resource, by_pair, covered, stands_at, is_listed}
@@ -24,12 +25,11 @@ use Rattle.cedar_scope_index.specs.Naming.{named, is_settled, named_action}
 use Rattle.cedar_scope_index.specs.declared.index.ScopeIndex.{ScopeIndex}
 use Rattle.cedar_evaluator.specs.Candidates.{HasPaired, HasFound, IsOutOfScope, is_in_given, is_in_known}
 use Rattle.cedar_evaluator.specs.Scopes.{IsDecided, IsGivenAs, constraint_met}
-use Rattle.cedar_evaluator.specs.declared.scopes.GivenEntity.{GivenEntity}
 use Rattle.cedar_evaluator.proofs.Scoped.{both_decided, constraint_held, action_held}
 use Rattle.cedar_evaluator.proofs.Unmet.{false_behind, unmet, action_unmet, settled}
 
-itself_in : (g : GivenEntity) (n : Uid) → same_uid g.uid.value n ≡ true → is_in_given g n ≡ true
-itself_in g n is = by_test (same_uid g.uid.value n) _ is
+itself_in : (g : GivenEntity) (n : Uid) → same_uid g.uid.now n ≡ true → is_in_given g n ≡ true
+itself_in g n is = by_test (same_uid g.uid.now n) _ is
   where
     by_test : (b c : Bool) → b ≡ true → (b || c) ≡ true
     by_test true c h = refl
@@ -38,9 +38,9 @@ itself_in g n is = by_test (same_uid g.uid.value n) _ is
 -- ---- what is asked of the entities, from the left
 
 module _ (facts : Facts) (holds : LeafAnswers) (b : Bindings) (s : Policy) (p : GivenEntity)
-    (principal : IsDecided facts holds (constraint_tree Principal PrincipalSlot s.principal) (constraint_met (is_in_given p) p.uid.value b.principal s.principal)) where
+    (principal : IsDecided facts holds (constraint_tree Principal PrincipalSlot s.principal) (constraint_met (is_in_given p) p.uid.now b.principal s.principal)) where
   abbrev principal_met : Option Bool
-  principal_met = constraint_met (is_in_given p) p.uid.value b.principal s.principal
+  principal_met = constraint_met (is_in_given p) p.uid.now b.principal s.principal
 
   -- by what is told of the action and the resource, of which either may be unknown
   scope_false : (action_met resource_met : Option Bool) → IsDecided facts holds (action_tree s.action) action_met → IsDecided facts holds (constraint_tree Resource ResourceSlot s.resource) resource_met →
@@ -52,28 +52,28 @@ module _ (facts : Facts) (holds : LeafAnswers) (b : Bindings) (s : Policy) (p : 
 
   principal_out : (n : Uid) → named b.principal s.principal ≡ Some n → is_in_given p n ≡ false → partial_in facts holds (scope_tree s) ≡ Evaluated (Plain (Boolean false))
   principal_out n names out =
-      scope_false None None tt tt (ap (λ o. and_then_met (and_then_met o None) None) (unmet (is_in_given p) p.uid.value n (itself_in p n) out b.principal s.principal names))
+      scope_false None None tt tt (ap (λ o. and_then_met (and_then_met o None) None) (unmet (is_in_given p) p.uid.now n (itself_in p n) out b.principal s.principal names))
 
-  module _ (a : GivenEntity) (action : IsDecided facts holds (action_tree s.action) (Some (action_meets (λ _. is_in_given a) s.action a.uid.value))) where
+  module _ (a : GivenEntity) (action : IsDecided facts holds (action_tree s.action) (Some (action_meets (λ _. is_in_given a) s.action a.uid.now))) where
     abbrev action_met : Bool
-    action_met = action_meets (λ _. is_in_given a) s.action a.uid.value
+    action_met = action_meets (λ _. is_in_given a) s.action a.uid.now
 
     action_out : (n : Uid) → is_settled b.principal s.principal ≡ true → named_action s.action ≡ Some n → is_in_given a n ≡ false → partial_in facts holds (scope_tree s) ≡ Evaluated (Plain (Boolean false))
     action_out n bound names out =
-        let (before, is) = settled (is_in_given p) p.uid.value b.principal s.principal bound in
+        let (before, is) = settled (is_in_given p) p.uid.now b.principal s.principal bound in
         scope_false (Some action_met) None action tt
         (ap (λ o. and_then_met (and_then_met o (Some action_met)) None) is
-        ∙ ap (λ c. and_then_met (and_then_met (Some before) (Some c)) None) (action_unmet (is_in_given a) a.uid.value n (itself_in a n) out s.action names)
+        ∙ ap (λ c. and_then_met (and_then_met (Some before) (Some c)) None) (action_unmet (is_in_given a) a.uid.now n (itself_in a n) out s.action names)
         ∙ ap (λ o. and_then_met o None) (false_behind before))
 
-    resource_out : (r : GivenEntity) → IsDecided facts holds (constraint_tree Resource ResourceSlot s.resource) (constraint_met (is_in_given r) r.uid.value b.resource s.resource) →
+    resource_out : (r : GivenEntity) → IsDecided facts holds (constraint_tree Resource ResourceSlot s.resource) (constraint_met (is_in_given r) r.uid.now b.resource s.resource) →
         (n : Uid) → is_settled b.principal s.principal ≡ true → named b.resource s.resource ≡ Some n → is_in_given r n ≡ false → partial_in facts holds (scope_tree s) ≡ Evaluated (Plain (Boolean false))
     resource_out r resource n bound names out =
-        let (before, is) = settled (is_in_given p) p.uid.value b.principal s.principal bound in
-        let resource_met = constraint_met (is_in_given r) r.uid.value b.resource s.resource in
+        let (before, is) = settled (is_in_given p) p.uid.now b.principal s.principal bound in
+        let resource_met = constraint_met (is_in_given r) r.uid.now b.resource s.resource in
         scope_false (Some action_met) resource_met action resource
         (ap (λ o. and_then_met (and_then_met o (Some action_met)) resource_met) is
-        ∙ ap (and_then_met (and_then_met (Some before) (Some action_met))) (unmet (is_in_given r) r.uid.value n (itself_in r n) out b.resource s.resource names)
+        ∙ ap (and_then_met (and_then_met (Some before) (Some action_met))) (unmet (is_in_given r) r.uid.now n (itself_in r n) out b.resource s.resource names)
         ∙ behind_both before action_met)
       where
         behind_both : (b c : Bool) → and_then_met (and_then_met (Some b) (Some c)) (Some false) ≡ Some false
@@ -102,14 +102,14 @@ module _ (i : Inquiry) (store : Entities) (p : GivenEntity) (principal : IsGiven
     abbrev holds : LeafAnswers
     holds = request_held i b
 
-    by_principal_given : IsDecided facts holds (constraint_tree Principal PrincipalSlot s.principal) (constraint_met (is_in_given p) p.uid.value b.principal s.principal)
-    by_principal_given = constraint_held facts store has p.uid.value p.entity principal.1 holds Principal PrincipalSlot b.principal s.principal principal.0 refl
+    by_principal_given : IsDecided facts holds (constraint_tree Principal PrincipalSlot s.principal) (constraint_met (is_in_given p) p.uid.now b.principal s.principal)
+    by_principal_given = constraint_held facts store has p.uid.now p.entity principal.1 holds Principal PrincipalSlot b.principal s.principal principal.0 refl
 
-    by_action_given : (a : GivenEntity) → IsGivenAs store (variable_asked i.request Action) (Some a) → IsDecided facts holds (action_tree s.action) (Some (action_meets (λ _. is_in_given a) s.action a.uid.value))
-    by_action_given a action = action_held facts store has a.uid.value a.entity action.1 holds s.action action.0
+    by_action_given : (a : GivenEntity) → IsGivenAs store (variable_asked i.request Action) (Some a) → IsDecided facts holds (action_tree s.action) (Some (action_meets (λ _. is_in_given a) s.action a.uid.now))
+    by_action_given a action = action_held facts store has a.uid.now a.entity action.1 holds s.action action.0
 
-    by_resource_given : (r : GivenEntity) → IsGivenAs store (variable_asked i.request Resource) (Some r) → IsDecided facts holds (constraint_tree Resource ResourceSlot s.resource) (constraint_met (is_in_given r) r.uid.value b.resource s.resource)
-    by_resource_given r resource = constraint_held facts store has r.uid.value r.entity resource.1 holds Resource ResourceSlot b.resource s.resource resource.0 refl
+    by_resource_given : (r : GivenEntity) → IsGivenAs store (variable_asked i.request Resource) (Some r) → IsDecided facts holds (constraint_tree Resource ResourceSlot s.resource) (constraint_met (is_in_given r) r.uid.now b.resource s.resource)
+    by_resource_given r resource = constraint_held facts store has r.uid.now r.entity resource.1 holds Resource ResourceSlot b.resource s.resource resource.0 refl
 
   -- what isn't given is told of no policy, and the resource only behind the action
   out_by_action : (o : Option GivenEntity) → IsGivenAs store (variable_asked i.request Action) o →

@@ -1,8 +1,10 @@
 -- Policies that are out of scope aren't satisfied: without those that aren't, what is kept of all is what is kept of the others.
-use Rattle.std.proofs.Common.{◌≡◌, ℕ, ◌+◌, ◌<◌, length, get_or, take, false, Option, Some, None, List, [], ◌∷◌, ◌++◌, refl, sym, ◌∙◌, ap}
+use Rattle.std.proofs.Common.{◌≡◌, inr, ℕ, ◌+◌, ◌<◌, length, get_or, take, drop, false, Option, Some, None, List, [], ◌∷◌, ◌++◌, refl, sym, ◌∙◌, ap, subst}
 use Rattle.std.specs.List.{IsDistinct, cons_option, filter_map, slice_get}
+use Rattle.std.specs.List.Sorted.{IsStrictlyIncreasing}
 use Rattle.std.specs.Map.{keys_of}
-use Rattle.std.proofs.lemmas.List.{append-nil, take_more}
+use Rattle.std.specs.Set.{is_member}
+use Rattle.std.proofs.lemmas.List.{append-nil, map-append, take_more, take-append-drop}
 use Rattle.std.proofs.lemmas.List.Elements.{filter_map-append}
 use Rattle.cedar_language.specs.Uid.{Text}
 use Rattle.cedar_language.specs.Answering.{Effect, Permit, Forbid}
@@ -12,6 +14,7 @@ use Rattle.cedar_extensions.specs.Table.{Table}
 use Rattle.cedar_grammar.specs.Policy.{scope_tree}
 use Rattle.cedar_interpreter.specs.Asking.{Inquiry, request_held}
 use Rattle.cedar_policy_set.specs.Entries.{Entry, Entries, policies_of}
+use Rattle.cedar_policy_set.proofs.Distinct.{distinct_apart}
 use Rattle.cedar_policy_set.specs.Scopes.{policy_stood}
 use Rattle.cedar_policy_set.specs.Texts.{syntax_in}
 use Rattle.cedar_evaluator.specs.Candidates.{IsOutOfScope, AreCandidates, policies_at}
@@ -19,6 +22,7 @@ use Rattle.cedar_evaluator.specs.Evaluations.{Unsatisfied, bindings_in, Annotati
 use Rattle.cedar_evaluator.specs.Grouping.{Keeps}
 use Rattle.cedar_evaluator.specs.Responses.{Annotated, Holding, if_effect, satisfied_id, open_id, error_id, annotated, holding_of, without_false}
 use Rattle.cedar_evaluator.specs.declared.groups.Groups.{Groups}
+use Rattle.cedar_evaluator.proofs.HeldIds.{front_apart}
 use Rattle.cedar_evaluator.proofs.ReadConditions.{out_of_scope_read}
 use Rattle.cedar_evaluator.proofs.Scoped.{out_of_scope}
 use Rattle.cedar_evaluator.proofs.Thinned.{Thinned, nothing, kept, left_out, thinned, thin_apart}
@@ -91,15 +95,15 @@ module _ (i : Inquiry) (store : Entities) (table : Table) (depth : ℕ) where
       let others = kept_of_all rest ks each in
       record { all = unsatisfied e ∷ others.all; each = (out_kept e out, others.each); same = none_kept e.0 (syntax_in e.1).effect (syntax_in e.1).annotations others.all ∙ others.same }
 
-  -- no id stands twice among the candidates where none does among all
-  pub candidates_apart : (es : Entries) (ps : List ℕ) → AreCandidates i store es ps → IsDistinct same_text (keys_of (policies_of es)) → IsDistinct same_text (keys_of (policies_at es ps))
-  candidates_apart es ps candidates = thin_apart (thinned (IsOutOfScope i store) es ps candidates.rising candidates.whole)
-
   -- where nothing is asked of policies that aren't satisfied, the candidates are enough
   pub candidates_keep : (es : Entries) (ps : List ℕ) (g : Groups) → AreCandidates i store es ps → Keeps false i store table depth (policies_at es ps) g → Keeps false i store table depth (policies_of es) g
   candidates_keep es ps g candidates keeps =
       let all = kept_of_all (thinned (IsOutOfScope i store) es ps candidates.rising candidates.whole) keeps.kept keeps.each in
       record { kept = all.all; each = all.each; holds = keeps.holds ∙ sym all.same }
+
+-- no id stands twice among the policies at positions that rise where none does among all
+pub candidates_apart : (es : Entries) (ps : List ℕ) → IsStrictlyIncreasing ps → IsDistinct same_text (keys_of (policies_of es)) → IsDistinct same_text (keys_of (policies_at es ps))
+candidates_apart es ps rising = thin_apart (thinned (λ e. Unit {0}) es ps rising (λ p e stands is. inr tt))
 
 -- ---- the candidates in turn
 
@@ -113,3 +117,17 @@ next_at es ps k d e inside stands = more_at es ps k d inside ∙ ap (λ o. polic
 
 pub none_at : (es : Entries) (ps : List ℕ) (k d : ℕ) → k < length ps → policy_stood (slice_get es (get_or ps k d)) ≡ None → policies_at es (take (k + 1) ps) ≡ policies_at es (take k ps)
 none_at es ps k d inside stands = more_at es ps k d inside ∙ ap (λ o. policies_at es (take k ps) ++ cons_option o []) stands ∙ append-nil (policies_at es (take k ps))
+
+-- its id stands at none of the positions before
+pub next_apart : (es : Entries) (ps : List ℕ) (k d : ℕ) (e : Text × Entry) → k < length ps → policy_stood (slice_get es (get_or ps k d)) ≡ Some e → IsDistinct same_text (keys_of (policies_at es ps))
+    → is_member same_text (keys_of (policies_at es (take k ps))) e.0 ≡ false
+next_apart es ps k d e inside stands apart =
+    let seen = policies_at es (take k ps) in
+    let more = policies_at es (take (k + 1) ps) in
+    let rest = policies_at es (drop (k + 1) ps) in
+    let all : keys_of (policies_at es ps) ≡ keys_of more ++ keys_of rest =
+    ap (λ qs. keys_of (policies_at es qs)) (sym (take-append-drop (k + 1) ps))
+    ∙ ap keys_of (filter_map-append (λ p. policy_stood (slice_get es p)) (take (k + 1) ps) (drop (k + 1) ps))
+    ∙ map-append (λ x. x.0) more rest in
+    let ids : keys_of more ≡ keys_of seen ++ e.0 ∷ [] = ap keys_of (next_at es ps k d e inside stands) ∙ map-append (λ x. x.0) seen (e ∷ []) in
+    distinct_apart (keys_of seen) e.0 [] (subst (IsDistinct same_text) ids (front_apart (keys_of more) (keys_of rest) (subst (IsDistinct same_text) all apart)))

@@ -14,10 +14,8 @@ use Rattle.cedar_evaluator.specs.Evaluations.{Kept, AreKept}
 use Rattle.cedar_evaluator.specs.Holding.{request_asked, holding_in}
 use Rattle.cedar_evaluator.specs.Residuals.{residuals_with, is_any}
 use Rattle.cedar_evaluator.specs.Responses.{holding_of, without_false}
-use Rattle.cedar_evaluator.specs.Scopes.{AreScopesOf}
 use Rattle.cedar_evaluator.specs.declared.authorizer.Authorizer.{Authorizer}
 use Rattle.cedar_evaluator.specs.declared.partial_response.PartialResponse.{PartialResponse}
-use Rattle.cedar_evaluator.specs.declared.scopes.Scopes.{Scopes}
 
 -- the functions that conditions may call
 abbrev pub table_of : {F : Type 0} → (F → FunctionAnswers) → Authorizer F → Table
@@ -26,10 +24,6 @@ table_of answers authorizer = as_table answers authorizer.extensions.now
 -- no evaluation nests deeper
 abbrev pub limit_of : {F : Type 0} → Authorizer F → ℕ
 limit_of authorizer = authorizer.depth
-
--- an evaluator that answers for the inquiry, and the scopes that it decides
-abbrev pub IsAsked : {F : Type 0} → (F → FunctionAnswers) → Inquiry → Entities → Table → ℕ → Evaluator F × Scopes → Type 0
-IsAsked answers i store table depth asked = IsEvaluatorOf answers i store table depth asked.0 × AreScopesOf i store asked.1
 
 -- Of each static policy and link of the set, in its order, what was found of it is kept, and nothing else: of each group its policies,
 -- each with its own annotations, and the errors; no id stands in two groups.
@@ -53,6 +47,7 @@ abbrev pub RespondsWith : Bool → Inquiry → Entities → Table → ℕ → En
 RespondsWith true i store table depth es response = Responds i store table depth es response
 RespondsWith false i store table depth es response = RespondsWithoutFalse i store table depth es response
 
--- by an evaluator and what is decided of scopes, to each inquiry of this request that these answer for
-abbrev pub RespondsBy : {F : Type 0} → (F → FunctionAnswers) → Bool → Evaluator F → Scopes → RequestParts → Entries → PartialResponse → Type 0
-RespondsBy answers with_false ev scopes r es response = (i : Inquiry) (store : Entities) (table : Table) (depth : ℕ) → i.request ≡ r → IsEvaluatorOf answers i store table depth ev → AreScopesOf i store scopes → RespondsWith with_false i store table depth es response
+-- by an evaluator, to each inquiry of this request that it answers for
+abbrev pub RespondsBy : {F : Type 0} → (F → FunctionAnswers) → Bool → Evaluator F → RequestParts → Entries → PartialResponse → Type 0
+RespondsBy answers with_false ev r es response =
+    (i : Inquiry) (store : Entities) (table : Table) (depth : ℕ) → i.request ≡ r → IsEvaluatorOf answers i store table depth ev → RespondsWith with_false i store table depth es response

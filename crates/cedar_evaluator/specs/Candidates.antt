@@ -13,6 +13,7 @@ use Rattle.cedar_entities.specs.declared.store.Entities.{Entities}
 use Rattle.cedar_operators.specs.Hierarchy.{is_within_entity}
 use Rattle.cedar_operators.specs.Store.{HasFacts}
 use Rattle.cedar_interpreter.specs.Asking.{Inquiry, request_held}
+use Rattle.cedar_interpreter.specs.declared.given.GivenEntity.{GivenEntity}
 use Rattle.cedar_policy_set.specs.Entries.{Entry, Entries, is_policy}
 use Rattle.cedar_policy_set.specs.Scopes.{policy_stood}
 use Rattle.cedar_policy_set.specs.Texts.{syntax_in}
@@ -20,7 +21,6 @@ use Rattle.cedar_scope_index.specs.Finding.{positions_at, others_of, is_listed, 
 use Rattle.cedar_scope_index.specs.declared.index.ScopeIndex.{ScopeIndex}
 use Rattle.cedar_scope_index.specs.declared.positions.Positions.{Positions}
 use Rattle.cedar_evaluator.specs.Evaluations.{bindings_in}
-use Rattle.cedar_evaluator.specs.declared.scopes.GivenEntity.{GivenEntity}
 
 -- what is listed under each entity that passes the test is among these
 abbrev pub HasListed : Positions → (Uid → Bool) → List ℕ → Type 0
@@ -28,7 +28,7 @@ HasListed listed test ps = (u : Uid) → test u ≡ true → AreAmong (positions
 
 -- whether an entity that is given is this one, or in it
 abbrev pub is_in_given : GivenEntity → Uid → Bool
-is_in_given g = is_within_entity g.uid.value (option_copied g.entity)
+is_in_given g = is_within_entity g.uid.now (option_copied g.entity)
 
 -- whether it may be, or be in, the entity that is given: where none is, each may
 abbrev pub is_in_known : Option GivenEntity → Uid → Bool

@@ -1,8 +1,6 @@
 -- Policies in groups, by their effects and by what was found of them.
 use Rattle.std.specs.Prelude.{◌≡◌, ℕ, Bool, true, false, Option, Some, None, List, [], ◌∷◌, ◌++◌, map, Result, Ok, Err}
-use Rattle.std.specs.List.{IsDistinct}
-use Rattle.std.specs.Map.{keys_of}
-use Rattle.std.specs.Set.{is_member}
+use Rattle.std.specs.Map.{lookup, keys_of}
 use Rattle.either.specs.declared.Either.{Either}
 use Rattle.cedar_language.specs.Answering.{Permit, Forbid}
 use Rattle.cedar_language.specs.Order.{same_text}
@@ -113,15 +111,28 @@ held_with false h = without_false h
 abbrev pub ids_of : List Kept → List Text
 ids_of ks = map (λ (k : Kept). k.id) ks
 
--- one more policy is kept, of an id that isn't among those before it, with those that aren't satisfied or without them
+-- nothing stands under the policy's id
+abbrev pub IsFree : {X : Type 0} → Policy → List (Text × X) → Type 0
+IsFree p es = lookup (same_text (policy_id p)) es ≡ None
+
+-- the policy's id stands in none of the groups
+pub record IsNew (p : Policy) (g : Groups) : Type 0 where
+  pub satisfied_permits : IsFree p g.satisfied_permits
+  pub false_permits : IsFree p g.false_permits
+  pub open_permits : IsFree p g.residual_permits
+  pub satisfied_forbids : IsFree p g.satisfied_forbids
+  pub false_forbids : IsFree p g.false_forbids
+  pub open_forbids : IsFree p g.residual_forbids
+
+-- one more policy is kept, with those that aren't satisfied or without them
 abbrev pub Adds : Bool → Kept → Groups → Groups → Type 0
 Adds with_false k before after =
-    (ks : List Kept) → is_member same_text (ids_of ks) k.id ≡ false → held_in before ≡ held_with with_false (holding_of ks) → held_in after ≡ held_with with_false (holding_of (ks ++ k ∷ []))
+    (ks : List Kept) → held_in before ≡ held_with with_false (holding_of ks) → held_in after ≡ held_with with_false (holding_of (ks ++ k ∷ []))
 
 -- the same where its error, if it errs, is kept already
 abbrev pub AddsFalse : Bool → Kept → Groups → Groups → Type 0
 AddsFalse with_false k before after =
-    (ks : List Kept) → is_member same_text (ids_of ks) k.id ≡ false → held_in before ≡ record (held_with with_false (holding_of ks)) { errors = errors_of (ks ++ k ∷ []) }
+    (ks : List Kept) → held_in before ≡ record (held_with with_false (holding_of ks)) { errors = errors_of (ks ++ k ∷ []) }
     → held_in after ≡ held_with with_false (holding_of (ks ++ k ∷ []))
 
 -- of each policy what was found of it is kept, and nothing else
@@ -130,13 +141,25 @@ pub record Keeps (with_false : Bool) (i : Inquiry) (store : Entities) (table : T
   pub each : AreKept i store table depth es kept
   pub holds : held_in g ≡ held_with with_false (holding_of kept)
 
--- where no id stands twice, by an evaluator and what is decided of scopes, for each inquiry that these answer for
-abbrev pub KeepsBy : {F : Type 0} → (F → FunctionAnswers) → Bool → Evaluator F → Scopes → Entries → Groups → Type 0
-KeepsBy answers with_false ev scopes es g =
-    IsDistinct same_text (keys_of es) → (i : Inquiry) (store : Entities) (table : Table) (depth : ℕ) → IsEvaluatorOf answers i store table depth ev → AreScopesOf i store scopes → Keeps with_false i store table depth es g
+-- for each inquiry that an evaluator and what is decided of scopes answer for
+abbrev pub ForEach : {F : Type 0} → (F → FunctionAnswers) → Evaluator F → Scopes → (Inquiry → Entities → Table → ℕ → Type 0) → Type 0
+ForEach answers ev scopes Holds =
+    (i : Inquiry) (store : Entities) (table : Table) (depth : ℕ) → IsEvaluatorOf answers i store table depth ev → AreScopesOf i store scopes → Holds i store table depth
 
--- groups that kept what was found of some policies keep then what was found of one more besides, of another id
+-- by these, for each such inquiry
+abbrev pub KeepsBy : {F : Type 0} → (F → FunctionAnswers) → Bool → Evaluator F → Scopes → Entries → Groups → Type 0
+KeepsBy answers with_false ev scopes es g = ForEach answers ev scopes (λ i store table depth. Keeps with_false i store table depth es g)
+
+-- the same is kept for each of them, under the ids of the policies in their order
+pub record KeepsEach
+    {F : Type 0} (answers : F → FunctionAnswers) (with_false : Bool) (ev : Evaluator F) (scopes : Scopes)
+    (es : Entries) (g : Groups) : Type 0 where
+  pub kept : List Kept
+  pub ids : ids_of kept ≡ keys_of es
+  pub each : ForEach answers ev scopes (λ i store table depth. AreKept i store table depth es kept)
+  pub holds : held_in g ≡ held_with with_false (holding_of kept)
+
+-- groups that keep what was found of some policies keep then what was found of one more besides
 abbrev pub KeepsOneMore : {F : Type 0} → (F → FunctionAnswers) → Bool → Evaluator F → Scopes → Policy → Groups → Groups → Type 0
 KeepsOneMore answers with_false ev scopes p before after =
-    (i : Inquiry) (store : Entities) (table : Table) (depth : ℕ) → IsEvaluatorOf answers i store table depth ev → AreScopesOf i store scopes →
-    (es : Entries) → IsDistinct same_text (keys_of (es ++ policy_seen p ∷ [])) → Keeps with_false i store table depth es before → Keeps with_false i store table depth (es ++ policy_seen p ∷ []) after
+    (es : Entries) → KeepsEach answers with_false ev scopes es before → KeepsEach answers with_false ev scopes (es ++ policy_seen p ∷ []) after

@@ -1,5 +1,5 @@
 -- What the scope of a policy asks, against the entities that a request gives.
-use Rattle.std.specs.Prelude.{◌≡◌, ⊤, Bool, true, Option, Some, None}
+use Rattle.std.specs.Prelude.{◌≡◌, ⊤, Bool, true, Option, Some, None, IfSome}
 use Rattle.std.specs.Option.{option_copied, option_map}
 use Rattle.cedar_language.specs.Uid.{Uid}
 use Rattle.cedar_language.specs.Order.{same_name, same_uid}
@@ -12,8 +12,8 @@ use Rattle.cedar_partial_evaluation.specs.Partial.{Answer, Evaluated, LeafAnswer
 use Rattle.cedar_entities.specs.declared.store.Entities.{Entities}
 use Rattle.cedar_interpreter.specs.Asking.{Inquiry, variable_asked}
 use Rattle.cedar_interpreter.specs.Seen.{IsSeen}
+use Rattle.cedar_interpreter.specs.declared.given.GivenEntity.{GivenEntity}
 use Rattle.cedar_policy_parts.specs.References.{target_bound}
-use Rattle.cedar_evaluator.specs.declared.scopes.GivenEntity.{GivenEntity}
 use Rattle.cedar_evaluator.specs.declared.scopes.Scopes.{Scopes}
 
 -- the Boolean that is answered of a tree, where it is decided
@@ -23,8 +23,7 @@ IsDecided facts holds t (Some b) = partial_in facts holds t ≡ Evaluated (Plain
 
 -- the entity that stands for a variable, and what the store holds of it
 abbrev pub IsGivenAs : Entities → Answer → Option GivenEntity → Type 0
-IsGivenAs store a None = ⊤
-IsGivenAs store a (Some g) = (a ≡ Evaluated (Plain (Entity g.uid.value))) × IsSeen store g.uid.value (option_copied g.entity)
+IsGivenAs store a given = IfSome given (λ g. (a ≡ Evaluated (Plain (Entity g.uid.now))) × IsSeen store g.uid.now (option_copied g.entity))
 
 pub record AreScopesOf (i : Inquiry) (store : Entities) (s : Scopes) : Type 0 where
   pub principal : IsGivenAs store (variable_asked i.request Principal) s.principal

@@ -3,10 +3,10 @@
 //! unknown; `is_authorized_without_false` where nothing is asked of the policies that aren't satisfied.
 ghost use Rattle.std.specs.Prelude.{◌≡◌, [], IfOk};
 ghost use Rattle.cedar_extensions.specs.Table.{as_table};
-ghost use Rattle.cedar_interpreter.specs.Asking.{untold};
+ghost use Rattle.cedar_interpreter.specs.Asking.{untold, IsEvaluatorOf};
 ghost use Rattle.cedar_requests.specs.Holding.{request_parts};
 ghost use Rattle.cedar_substitution.specs.Told.{told_for};
-ghost use Rattle.cedar_evaluator.specs.Authorizing.{table_of, limit_of, IsAsked, Responds, RespondsWithoutFalse, RespondsBy};
+ghost use Rattle.cedar_evaluator.specs.Authorizing.{table_of, limit_of, Responds, RespondsWithoutFalse, RespondsBy};
 ghost use Rattle.cedar_evaluator.specs.Grouping.{held_in};
 ghost use Rattle.cedar_evaluator.specs.Responses.{holding_of};
 
@@ -49,18 +49,16 @@ impl<'e, 'f, F: ExtensionFunctionObject> Authorizer<'e, 'f, F> {
         Authorizer { extensions, depth }
     }
 
-    // The evaluator of a request, and the scopes that it decides; refused for memory alone.
+    // The evaluator of a request; refused for memory alone.
     fn asked<'s>(
         &self,
         alloc: Global,
         request: &Request,
         entities: &'s Entities,
-    ) -> Result<(Evaluator<'s, 'e, 'f, F>, Scopes<'s>), AllocError>
-        ensures { IfOk result (IsAsked F.answers (untold (request_parts request.now)) entities.now (table_of F.answers self.now) (limit_of self.now)) }
+    ) -> Result<Evaluator<'s, 'e, 'f, F>, AllocError>
+        ensures { IfOk result (IsEvaluatorOf F.answers (untold (request_parts request.now)) entities.now (table_of F.answers self.now) (limit_of self.now)) }
     {
-        let evaluator = Evaluator::new(alloc, request, entities, self.extensions, self.depth)?;
-        let scopes = Scopes::new(entities, &evaluator)?;
-        Ok((evaluator, scopes))
+        Evaluator::new(alloc, request, entities, self.extensions, self.depth)
     }
 
     /// What each policy in force, a static policy or a link, comes to for this request. An error of one is
@@ -75,9 +73,9 @@ impl<'e, 'f, F: ExtensionFunctionObject> Authorizer<'e, 'f, F> {
     ) -> Result<PartialResponse, AllocError>
         ensures { IfOk result (λ response. Responds (untold (request_parts request)) entities.now (table_of F.answers self.now) (limit_of self.now) policies.now response) }
     {
-        let (evaluator, scopes) = self.asked(alloc, &request, entities)?;
+        let evaluator = self.asked(alloc, &request, entities)?;
         let groups = Groups::new(alloc);
-        responded(alloc, &evaluator, &scopes, request, policies, groups)
+        responded(alloc, &evaluator, entities, request, policies, groups)
     }
 
     /// The same where these values are told for unknowns.
@@ -91,10 +89,10 @@ impl<'e, 'f, F: ExtensionFunctionObject> Authorizer<'e, 'f, F> {
     ) -> Result<PartialResponse, AllocError>
         ensures { IfOk result (λ response. Responds (record { request = request_parts request; told = told_for told.now.entries }) entities.now (table_of F.answers self.now) (limit_of self.now) policies.now response) }
     {
-        let (evaluator, scopes) = self.asked(alloc, &request, entities)?;
+        let evaluator = self.asked(alloc, &request, entities)?;
         let evaluator = evaluator.with_told(told);
         let groups = Groups::new(alloc);
-        responded(alloc, &evaluator, &scopes, request, policies, groups)
+        responded(alloc, &evaluator, entities, request, policies, groups)
     }
 
     /// What [`Authorizer::is_authorized_core`] answers, but without the policies that aren't satisfied:
@@ -110,26 +108,27 @@ impl<'e, 'f, F: ExtensionFunctionObject> Authorizer<'e, 'f, F> {
     ) -> Result<PartialResponse, AllocError>
         ensures { IfOk result (λ response. RespondsWithoutFalse (untold (request_parts request)) entities.now (table_of F.answers self.now) (limit_of self.now) policies.now response) }
     {
-        let (evaluator, scopes) = self.asked(alloc, &request, entities)?;
+        let evaluator = self.asked(alloc, &request, entities)?;
         let groups = Groups::without_false(alloc);
-        responded(alloc, &evaluator, &scopes, request, policies, groups)
+        responded(alloc, &evaluator, entities, request, policies, groups)
     }
 }
 
-// What the policies of a set come to for a request, by its evaluator and what it decides of scopes, as groups
-// of none yet keep it; refused for memory alone.
+// What the policies of a set come to for a request, by its evaluator over these entities, as groups of none yet
+// keep it; refused for memory alone.
 fn responded<F: ExtensionFunctionObject>(
     alloc: Global,
     evaluator: &Evaluator<'_, '_, '_, F>,
-    scopes: &Scopes<'_>,
+    entities: &Entities,
     request: Request,
     policies: &PolicySet,
     mut groups: Groups,
 ) -> Result<PartialResponse, AllocError>
     requires { held_in groups ≡ holding_of [] }
-    ensures { IfOk result (RespondsBy F.answers groups.with_false evaluator.now scopes.now (request_parts request) policies.now) }
+    ensures { IfOk result (RespondsBy F.answers groups.with_false evaluator.now (request_parts request) policies.now) }
 {
     let _count = policies.len();
-    groups.gather(alloc, evaluator, scopes, policies)?;
+    let scopes = Scopes::new(entities, evaluator);
+    groups.gather(alloc, evaluator, &scopes, policies)?;
     groups.into_response(alloc, request)
 }

@@ -10,8 +10,9 @@ ghost use Rattle.cedar_scope_index.specs.Finding.{AreAmong};
 ghost use Rattle.cedar_evaluator.specs.Candidates.{is_in_given, is_in_known, HasListed, HasPaired, HasFound, AreCandidates};
 ghost use Rattle.cedar_evaluator.specs.Scopes.{AreScopesOf};
 
-use crate::scopes::{GivenEntity, Scopes};
+use crate::scopes::Scopes;
 use cedar_entities::entity::Entity;
+use cedar_interpreter::GivenEntity;
 use cedar_policy_set::sets::PolicySet;
 use cedar_scope_index::index::ScopeIndex;
 use cedar_scope_index::positions::Positions;
@@ -27,7 +28,8 @@ pub(crate) fn candidates(
     scopes: &Scopes<'_>,
     policies: &PolicySet,
 ) -> Result<Option<Vec<usize>>, AllocError>
-    ensures { IfOk result (λ found. IfSome found (λ positions. (i : Inquiry) (store : Store) → AreScopesOf i store scopes.now → AreCandidates i store policies.now positions.items)) }
+    ensures rising { IfOk result (λ found. IfSome found (λ positions. IsStrictlyIncreasing positions.items)) }
+    ensures whole { IfOk result (λ found. IfSome found (λ positions. (i : Inquiry) (store : Store) → AreScopesOf i store scopes.now → AreCandidates i store policies.now positions.items)) }
 {
     let Some(principal) = &scopes.principal else {
         return Ok(None);
@@ -51,9 +53,9 @@ pub(crate) fn candidates(
 fn found_by(
     alloc: Global,
     index: &ScopeIndex,
-    principal: &GivenEntity<'_>,
-    action: Option<&GivenEntity<'_>>,
-    resource: Option<&GivenEntity<'_>>,
+    principal: &GivenEntity<'_, '_>,
+    action: Option<&GivenEntity<'_, '_>>,
+    resource: Option<&GivenEntity<'_, '_>>,
     most: usize,
 ) -> Result<Option<Vec<usize>>, AllocError>
     ensures { IfOk result (λ found. IfSome found (λ positions. HasFound index.now principal.now (option_copied action.entry) (option_copied resource.entry) positions.items)) }
@@ -76,7 +78,7 @@ fn found_by(
 fn add_known(
     found: &mut Vec<usize>,
     listed: &Positions,
-    known: Option<&GivenEntity<'_>>,
+    known: Option<&GivenEntity<'_, '_>>,
     most: usize,
 ) -> Result<bool, AllocError>
     ensures kept { OnOk result (AreAmong found.old.items found.new.items) }
@@ -96,8 +98,8 @@ fn add_known(
 fn add_paired(
     found: &mut Vec<usize>,
     index: &ScopeIndex,
-    principal: &GivenEntity<'_>,
-    resource: Option<&GivenEntity<'_>>,
+    principal: &GivenEntity<'_, '_>,
+    resource: Option<&GivenEntity<'_, '_>>,
     most: usize,
 ) -> Result<bool, AllocError>
     ensures kept { OnOk result (AreAmong found.old.items found.new.items) }
@@ -113,7 +115,7 @@ fn add_paired(
 fn add_found(
     found: &mut Vec<usize>,
     listed: &Positions,
-    given: &GivenEntity<'_>,
+    given: &GivenEntity<'_, '_>,
     most: usize,
 ) -> Result<bool, AllocError>
     ensures kept { OnOk result (AreAmong found.old.items found.new.items) }
@@ -122,7 +124,7 @@ fn add_found(
     if listed.is_empty() {
         return Ok(true);
     }
-    found.extend_from_slice(listed.at(&given.uid))?;
+    found.extend_from_slice(listed.at(given.uid))?;
     match given.entity {
         Some(entity) => add_of_ancestors(found, listed, entity, most),
         None => Ok(true),

@@ -1,14 +1,16 @@
 // Policies in groups, by their effects and by what was found of them.
 ghost use Rattle.std.specs.Prelude.{◌≡◌, true, false, [], IfOk, OnOk};
+ghost use Rattle.std.specs.List.{IsDistinct};
+ghost use Rattle.std.specs.Map.{keys_of};
+ghost use Rattle.cedar_language.specs.Order.{same_text};
 ghost use Rattle.cedar_extensions.specs.Failures.{failure_of};
 ghost use Rattle.cedar_policies.specs.Policies.{policy_id, policy_syntax};
 ghost use Rattle.cedar_policy_set.specs.Entries.{policies_of};
-ghost use Rattle.cedar_policy_set.specs.Places.{put};
 ghost use Rattle.cedar_requests.specs.Holding.{request_parts};
 ghost use Rattle.cedar_trees.specs.Bare.{bare};
 ghost use Rattle.cedar_evaluator.specs.Candidates.{policies_at};
 ghost use Rattle.cedar_evaluator.specs.Evaluations.{Found, Satisfied, Erred, Open};
-ghost use Rattle.cedar_evaluator.specs.Grouping.{held_in, kept_as, kept_of, is_want, IsKeepable, Adds, AddsFalse, KeepsBy, KeepsOneMore};
+ghost use Rattle.cedar_evaluator.specs.Grouping.{held_in, kept_as, kept_of, is_want, IsKeepable, Adds, AddsFalse, IsNew, KeepsBy, KeepsOneMore};
 ghost use Rattle.cedar_evaluator.specs.Holding.{has_erred, holding_in, noted, request_asked};
 ghost use Rattle.cedar_evaluator.specs.Responses.{false_id, holding_of};
 
@@ -94,14 +96,6 @@ fn noted(policy: &Policy) -> Result<(PolicyID, Rc<Annotations>), AllocError>
     Ok((id, annotations))
 }
 
-// Puts in a group what is kept of a policy.
-fn put<V: Drop>(group: &mut PolicyMap<V>, id: PolicyID, kept: V) -> Result<(), AllocError>
-    ensures { OnOk result (group.new ≡ put group.old id kept) }
-{
-    group.insert(id, kept)?;
-    Ok(())
-}
-
 impl Groups {
     /// No policies yet; those that aren't satisfied will be kept.
     pub(crate) fn new(alloc: Global) -> Groups
@@ -139,7 +133,8 @@ impl Groups {
         scopes: &Scopes<'_>,
         policies: &PolicySet,
     ) -> Result<(), AllocError>
-        requires { held_in self.old ≡ holding_of [] }
+        requires none { held_in self.old ≡ holding_of [] }
+        requires apart { IsDistinct same_text (keys_of (policies_of policies.now)) }
         ensures { OnOk result (KeepsBy F.answers self.old.with_false evaluator.now scopes.now (policies_of policies.now) self.new) }
     {
         if self.with_false {
@@ -159,7 +154,8 @@ impl Groups {
         scopes: &Scopes<'_>,
         policies: &PolicySet,
     ) -> Result<(), AllocError>
-        requires { held_in self.old ≡ holding_of [] }
+        requires none { held_in self.old ≡ holding_of [] }
+        requires apart { IsDistinct same_text (keys_of (policies_of policies.now)) }
         ensures { OnOk result (KeepsBy F.answers self.old.with_false evaluator.now scopes.now (policies_of policies.now) self.new) }
     {
         for policy in policies.policies() {
@@ -177,7 +173,8 @@ impl Groups {
         policies: &PolicySet,
         positions: &[usize],
     ) -> Result<(), AllocError>
-        requires { held_in self.old ≡ holding_of [] }
+        requires none { held_in self.old ≡ holding_of [] }
+        requires apart { IsDistinct same_text (keys_of (policies_at policies.now positions.now)) }
         ensures { OnOk result (KeepsBy F.answers self.old.with_false evaluator.now scopes.now (policies_at policies.now positions.now) self.new) }
     {
         for position in positions {
@@ -197,6 +194,7 @@ impl Groups {
         scopes: &Scopes<'_>,
         policy: &Policy,
     ) -> Result<(), AllocError>
+        requires { IsNew policy.now self.old }
         ensures keeps { OnOk result (KeepsOneMore F.answers self.old.with_false evaluator.now scopes.now policy.now self.old self.new) }
         ensures same { self.new.with_false ≡ self.old.with_false }
     {
@@ -216,6 +214,7 @@ impl Groups {
         scopes: &Scopes<'_>,
         policy: &Policy,
     ) -> Result<(), AllocError>
+        requires { IsNew policy.now self.old }
         ensures keeps { OnOk result (KeepsOneMore F.answers self.old.with_false evaluator.now scopes.now policy.now self.old self.new) }
         ensures same { self.new.with_false ≡ self.old.with_false }
     {
@@ -230,6 +229,7 @@ impl Groups {
         policy: &Policy,
         answer: Result<Either<bool, Expr>, EvaluationError>,
     ) -> Result<(), AllocError>
+        requires { IsNew policy.now self.old }
         ensures held { OnOk result (Adds self.old.with_false (kept_of policy.now answer) self.old self.new) }
         ensures keepable { OnOk result (IsKeepable answer) }
         ensures same { self.new.with_false ≡ self.old.with_false }
@@ -243,30 +243,33 @@ impl Groups {
     }
 
     fn keep_satisfied(&mut self, policy: &Policy) -> Result<(), AllocError>
+        requires { IsNew policy.now self.old }
         ensures held { OnOk result (Adds self.old.with_false (kept_as policy.now Satisfied) self.old self.new) }
         ensures same { self.new.with_false ≡ self.old.with_false }
     {
         let (id, annotations) = noted(policy)?;
         match policy.effect() {
-            Effect::Permit => put(&mut self.satisfied_permits, id, annotations),
-            Effect::Forbid => put(&mut self.satisfied_forbids, id, annotations),
+            Effect::Permit => self.satisfied_permits.push(id, annotations),
+            Effect::Forbid => self.satisfied_forbids.push(id, annotations),
         }
     }
 
     fn keep_open(&mut self, policy: &Policy, rest: Rc<Expr>) -> Result<(), AllocError>
+        requires { IsNew policy.now self.old }
         ensures held { OnOk result (Adds self.old.with_false (kept_as policy.now (Open (bare rest.value))) self.old self.new) }
         ensures same { self.new.with_false ≡ self.old.with_false }
     {
         let (id, annotations) = noted(policy)?;
         let kept = (rest, annotations);
         match policy.effect() {
-            Effect::Permit => put(&mut self.residual_permits, id, kept),
-            Effect::Forbid => put(&mut self.residual_forbids, id, kept),
+            Effect::Permit => self.residual_permits.push(id, kept),
+            Effect::Forbid => self.residual_forbids.push(id, kept),
         }
     }
 
     // An error counts as not satisfied; want of memory is handed on.
     fn keep_erring(&mut self, policy: &Policy, error: EvaluationError) -> Result<(), AllocError>
+        requires { IsNew policy.now self.old }
         ensures held { OnOk result (Adds self.old.with_false (kept_as policy.now (Erred (failure_of error))) self.old self.new) }
         ensures keepable { OnOk result (is_want (failure_of error) ≡ false) }
         ensures same { self.new.with_false ≡ self.old.with_false }
@@ -282,6 +285,7 @@ impl Groups {
 
     // Keeps a policy that isn't satisfied, if such are kept; its error, where it erred, is kept already.
     fn keep_false(&mut self, policy: &Policy, state: ErrorState) -> Result<(), AllocError>
+        requires { IsNew policy.now self.old }
         ensures held { (found : Found) → false_id (policy_id policy.now) found ≡ Some (policy_id policy.now, has_erred state) →
             OnOk result (AddsFalse self.old.with_false (kept_as policy.now found) self.old self.new) }
         ensures same { self.new.with_false ≡ self.old.with_false }
@@ -292,8 +296,8 @@ impl Groups {
         let (id, annotations) = noted(policy)?;
         let kept = (state, annotations);
         match policy.effect() {
-            Effect::Permit => put(&mut self.false_permits, id, kept),
-            Effect::Forbid => put(&mut self.false_forbids, id, kept),
+            Effect::Permit => self.false_permits.push(id, kept),
+            Effect::Forbid => self.false_forbids.push(id, kept),
         }
     }
 

@@ -1,179 +1,107 @@
 // The scopes of policies, decided by the entities that a request gives. What looks at a scope is inlined, since
 // each policy in force is asked so.
-ghost use Rattle.std.specs.Prelude.{◌≡◌, ℕ, Some, IfOk, true, false};
-ghost use Rattle.std.specs.FinSet as set;
+ghost use Rattle.std.specs.Prelude.{◌≡◌, ℕ, Some, true};
 ghost use Rattle.std.specs.List.{list_any};
-ghost use Rattle.std.specs.Option.{option_map, option_map_or, option_copied};
+ghost use Rattle.std.specs.Option.{option_map, option_copied};
 ghost use Rattle.cedar_language.specs.Facts.{Facts};
 ghost use Rattle.cedar_language.specs.Meaning.{slot_outcome};
-ghost use Rattle.cedar_language.specs.Order.{same_name, same_uid};
+ghost use Rattle.cedar_language.specs.Order.{same_uid};
 ghost use Rattle.cedar_language.specs.Tree.{Variable, Principal, Action, Resource, SlotId as Slot, PrincipalSlot, ResourceSlot};
 ghost use Rattle.cedar_grammar.specs.Policy.{constraint_tree, action_tree, scope_tree};
 ghost use Rattle.cedar_partial_evaluation.specs.Partial.{LeafAnswers, answer_of};
 ghost use Rattle.cedar_grammar.specs.Scopes.{action_meets};
-ghost use Rattle.cedar_literals.specs.Variables.{variable_of};
 ghost use Rattle.cedar_policy_parts.specs.Actions.{action_of, held_uids};
 ghost use Rattle.cedar_policy_parts.specs.Asked.{constraint_of};
-ghost use Rattle.cedar_entities.specs.Data.{ancestors_of};
 ghost use Rattle.cedar_entities.specs.declared.store.Entities.{Entities as Store};
 ghost use Rattle.cedar_extensions.specs.Table.{Table};
 ghost use Rattle.cedar_operators.specs.Hierarchy.{is_within_entity};
 ghost use Rattle.cedar_operators.specs.Store.{HasFacts};
-ghost use Rattle.cedar_interpreter.specs.Asking.{Inquiry, variable_asked, request_held, IsEvaluatorOf};
+ghost use Rattle.cedar_interpreter.specs.Asking.{Inquiry, request_held, IsEvaluatorOf};
 ghost use Rattle.cedar_policies.specs.Policies.{bindings_of, policy_syntax};
 ghost use Rattle.cedar_evaluator.specs.Scopes.{IsDecided, IsGivenAs, AreScopesOf, constraint_met, unasked};
 
-use cedar_entities::entity::Entity;
 use cedar_entities::store::Entities;
 use cedar_extensions::objects::ExtensionFunctionObject;
-use cedar_interpreter::Evaluator;
+use cedar_interpreter::{Evaluator, GivenEntity};
 use cedar_literals::slots::SlotId;
-use cedar_literals::uids::{EntityType, EntityUID};
+use cedar_literals::uids::EntityUID;
 use cedar_literals::variables::Var;
 use cedar_policies::policies::Policy;
 use cedar_policy_parts::actions::ActionConstraint;
 use cedar_policy_parts::constraints::PrincipalOrResourceConstraint;
-use std::alloc::AllocError;
 use std::rc::Rc;
 
-// An entity that a request gives, with what a store holds of it.
-pub(crate) struct GivenEntity<'s> {
-    pub(crate) uid: Rc<EntityUID>,
-    pub(crate) entity: Option<&'s Entity>,
+/// The entities that a request gives for the variables of scopes, as its evaluator lends them. Over a store that
+/// is partial none is given, since what isn't held there isn't known.
+#[derive(Clone, Copy)]
+pub(crate) struct Scopes<'v> {
+    pub(crate) principal: Option<GivenEntity<'v, 'v>>,
+    pub(crate) action: Option<GivenEntity<'v, 'v>>,
+    pub(crate) resource: Option<GivenEntity<'v, 'v>>,
 }
 
-impl Drop for GivenEntity<'_> {
-    fn drop(self) {
-        let GivenEntity { uid: _, entity: _ } = self;
-    }
-}
-
-/// The entities that a request gives for the variables of scopes. Over a store that is partial none is
-/// given, since what isn't held there isn't known.
-pub(crate) struct Scopes<'s> {
-    pub(crate) principal: Option<GivenEntity<'s>>,
-    pub(crate) action: Option<GivenEntity<'s>>,
-    pub(crate) resource: Option<GivenEntity<'s>>,
-}
-
-impl Drop for Scopes<'_> {
-    fn drop(self) {
-        let Scopes {
-            principal: _,
-            action: _,
-            resource: _,
-        } = self;
-    }
-}
-
-impl<'s> GivenEntity<'s> {
-    fn is(&self, uid: &EntityUID) -> bool
-        ensures { result ≡ same_uid self.now.uid.value uid.now }
-    {
-        *self.uid == *uid
-    }
-
-    fn is_of(&self, ty: &EntityType) -> bool
-        ensures { result ≡ same_name self.now.uid.value.type_name ty.now }
-    {
-        self.uid.entity_type() == ty
-    }
-
-    fn descends_from(&self, uid: &EntityUID) -> bool
-        ensures { result ≡ option_map_or (λ held. set.contains (ancestors_of held) uid.now) (option_copied self.now.entity) false }
-    {
-        match self.entity {
-            Some(entity) => entity.is_descendant_of(uid),
-            None => false,
-        }
-    }
-
-    fn is_in(&self, uid: &EntityUID) -> bool
-        ensures { result ≡ is_within_entity self.now.uid.value (option_copied self.now.entity) uid.now }
-    {
-        self.is(uid) || self.descends_from(uid)
-    }
-
-    fn is_in_some(&self, uids: &[Rc<EntityUID>]) -> bool
-        ensures { result ≡ list_any (is_within_entity self.now.uid.value (option_copied self.now.entity)) (held_uids uids.now) }
-    {
-        for uid in uids {
-            if self.is_in(uid) {
-                return true;
-            }
-        }
-        false
-    }
-
-    fn is_target(&self, target: Option<&EntityUID>) -> Option<bool>
-        ensures { result ≡ option_map (same_uid self.now.uid.value) (option_copied target.entry) }
-    {
-        match target {
-            Some(uid) => Some(self.is(uid)),
-            None => None,
-        }
-    }
-
-    fn is_in_target(&self, target: Option<&EntityUID>) -> Option<bool>
-        ensures { result ≡ option_map (is_within_entity self.now.uid.value (option_copied self.now.entity)) (option_copied target.entry) }
-    {
-        match target {
-            Some(uid) => Some(self.is_in(uid)),
-            None => None,
-        }
-    }
-
-    // Whether it is as a scope asks; not said where a slot isn't bound.
-    #[inline(always)]
-    fn meets(
-        &self,
-        constraint: &PrincipalOrResourceConstraint,
-        bound: Option<&EntityUID>,
-    ) -> Option<bool>
-        ensures { result ≡ constraint_met (is_within_entity self.now.uid.value (option_copied self.now.entity)) self.now.uid.value (option_copied bound.entry) (constraint_of constraint.now) }
-    {
-        match constraint {
-            PrincipalOrResourceConstraint::Any => Some(true),
-            PrincipalOrResourceConstraint::Eq(named) => self.is_target(named.uid_or_bound(bound)),
-            PrincipalOrResourceConstraint::In(named) => self.is_in_target(named.uid_or_bound(
-                bound,
-            )),
-            PrincipalOrResourceConstraint::Is(ty) => Some(self.is_of(ty)),
-            PrincipalOrResourceConstraint::IsIn(ty, named) => {
-                if self.is_of(ty) {
-                    self.is_in_target(named.uid_or_bound(bound))
-                } else {
-                    Some(false)
-                }
-            }
-        }
-    }
-
-    // Whether it is as a scope asks of the action.
-    fn meets_action(&self, constraint: &ActionConstraint) -> bool
-        ensures { result ≡ action_meets (λ a. is_within_entity self.now.uid.value (option_copied self.now.entity)) (action_of constraint.now) self.now.uid.value }
-    {
-        match constraint {
-            ActionConstraint::Any => true,
-            ActionConstraint::Eq(uid) => self.is(uid),
-            ActionConstraint::In(uids) => self.is_in_some(uids),
-        }
-    }
-}
-
-// The entity that stands for a variable in what an evaluator answers for.
-fn given<'s, F: ExtensionFunctionObject>(
-    evaluator: &Evaluator<'s, '_, '_, F>,
-    var: Var,
-) -> Result<Option<GivenEntity<'s>>, AllocError>
-    ensures { IfOk result (λ g. (i : Inquiry) (store : Store) (table : Table) (depth : ℕ) → IsEvaluatorOf F.answers i store table depth evaluator.now → IsGivenAs store (variable_asked i.request (variable_of var)) g) }
+// Whether an entity is one of these, or in one.
+fn is_in_some(given: &GivenEntity<'_, '_>, uids: &[Rc<EntityUID>]) -> bool
+    ensures { result ≡ list_any (is_within_entity given.now.uid.now (option_copied given.now.entity)) (held_uids uids.now) }
 {
-    match evaluator.given_entity(var) {
-        Some((uid, entity)) => {
-            let uid = uid.clone()?;
-            Ok(Some(GivenEntity { uid, entity }))
+    for uid in uids {
+        if given.is_in(uid) {
+            return true;
         }
-        None => Ok(None),
+    }
+    false
+}
+
+fn is_target(given: &GivenEntity<'_, '_>, target: Option<&EntityUID>) -> Option<bool>
+    ensures { result ≡ option_map (same_uid given.now.uid.now) (option_copied target.entry) }
+{
+    match target {
+        Some(uid) => Some(given.is(uid)),
+        None => None,
+    }
+}
+
+fn is_in_target(given: &GivenEntity<'_, '_>, target: Option<&EntityUID>) -> Option<bool>
+    ensures { result ≡ option_map (is_within_entity given.now.uid.now (option_copied given.now.entity)) (option_copied target.entry) }
+{
+    match target {
+        Some(uid) => Some(given.is_in(uid)),
+        None => None,
+    }
+}
+
+// Whether an entity is as a scope asks; not said where a slot isn't bound.
+#[inline(always)]
+fn meets(
+    given: &GivenEntity<'_, '_>,
+    constraint: &PrincipalOrResourceConstraint,
+    bound: Option<&EntityUID>,
+) -> Option<bool>
+    ensures { result ≡ constraint_met (is_within_entity given.now.uid.now (option_copied given.now.entity)) given.now.uid.now (option_copied bound.entry) (constraint_of constraint.now) }
+{
+    match constraint {
+        PrincipalOrResourceConstraint::Any => Some(true),
+        PrincipalOrResourceConstraint::Eq(named) => is_target(given, named.uid_or_bound(bound)),
+        PrincipalOrResourceConstraint::In(named) => is_in_target(given, named.uid_or_bound(bound)),
+        PrincipalOrResourceConstraint::Is(ty) => Some(given.is_of(ty)),
+        PrincipalOrResourceConstraint::IsIn(ty, named) => {
+            if given.is_of(ty) {
+                is_in_target(given, named.uid_or_bound(bound))
+            } else {
+                Some(false)
+            }
+        }
+    }
+}
+
+// Whether an entity is as a scope asks of the action.
+fn meets_action(given: &GivenEntity<'_, '_>, constraint: &ActionConstraint) -> bool
+    ensures { result ≡ action_meets (λ a. is_within_entity given.now.uid.now (option_copied given.now.entity)) (action_of constraint.now) given.now.uid.now }
+{
+    match constraint {
+        ActionConstraint::Any => true,
+        ActionConstraint::Eq(uid) => given.is(uid),
+        ActionConstraint::In(uids) => is_in_some(given, uids),
     }
 }
 
@@ -193,24 +121,24 @@ fn without_entity(constraint: &PrincipalOrResourceConstraint) -> Option<bool>
 // What a scope asks of the principal or of the resource, as far as it is decided.
 #[inline(always)]
 fn part_meets(
-    given: &Option<GivenEntity<'_>>,
+    given: &Option<GivenEntity<'_, '_>>,
     constraint: &PrincipalOrResourceConstraint,
     bound: Option<&EntityUID>,
 ) -> Option<bool>
     ensures { (facts : Facts) (store : Store) (holds : LeafAnswers) (v : Variable) (s : Slot) → HasFacts store facts → IsGivenAs store (holds.variable v) given.now → holds.slot s ≡ answer_of (slot_outcome (option_copied bound.entry)) → IsDecided facts holds (constraint_tree v s (constraint_of constraint.now)) result }
 {
     match given {
-        Some(entity) => entity.meets(constraint, bound),
+        Some(entity) => meets(entity, constraint, bound),
         None => without_entity(constraint),
     }
 }
 
 // What a scope asks of the action, as far as it is decided.
-fn action_meets(given: &Option<GivenEntity<'_>>, constraint: &ActionConstraint) -> Option<bool>
+fn action_meets(given: &Option<GivenEntity<'_, '_>>, constraint: &ActionConstraint) -> Option<bool>
     ensures { (facts : Facts) (store : Store) (holds : LeafAnswers) → HasFacts store facts → IsGivenAs store (holds.variable Action) given.now → IsDecided facts holds (action_tree (action_of constraint.now)) result }
 {
     match given {
-        Some(entity) => Some(entity.meets_action(constraint)),
+        Some(entity) => Some(meets_action(entity, constraint)),
         None => match constraint {
             ActionConstraint::Any => Some(true),
             ActionConstraint::Eq(_) | ActionConstraint::In(_) => None,
@@ -218,29 +146,26 @@ fn action_meets(given: &Option<GivenEntity<'_>>, constraint: &ActionConstraint) 
     }
 }
 
-impl<'s> Scopes<'s> {
-    /// What the request of an evaluator over these entities gives; refused for memory alone.
+impl<'v> Scopes<'v> {
+    /// What the request of an evaluator over these entities gives. Nothing is looked up, and no memory taken.
     pub(crate) fn new<F: ExtensionFunctionObject>(
         entities: &Entities,
-        evaluator: &Evaluator<'s, '_, '_, F>,
-    ) -> Result<Scopes<'s>, AllocError>
-        ensures { IfOk result (λ scopes. (i : Inquiry) (store : Store) (table : Table) (depth : ℕ) → IsEvaluatorOf F.answers i store table depth evaluator.now → AreScopesOf i store scopes) }
+        evaluator: &'v Evaluator<'_, '_, '_, F>,
+    ) -> Scopes<'v>
+        ensures { (i : Inquiry) (store : Store) (table : Table) (depth : ℕ) → IsEvaluatorOf F.answers i store table depth evaluator.now → AreScopesOf i store result }
     {
         if entities.is_partial() {
-            return Ok(Scopes {
+            return Scopes {
                 principal: None,
                 action: None,
                 resource: None,
-            });
+            };
         }
-        let principal = given(evaluator, Var::Principal)?;
-        let action = given(evaluator, Var::Action)?;
-        let resource = given(evaluator, Var::Resource)?;
-        Ok(Scopes {
-            principal,
-            action,
-            resource,
-        })
+        Scopes {
+            principal: evaluator.given_entity(Var::Principal),
+            action: evaluator.given_entity(Var::Action),
+            resource: evaluator.given_entity(Var::Resource),
+        }
     }
 
     #[inline(always)]

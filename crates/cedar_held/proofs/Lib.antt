@@ -12,6 +12,7 @@ pub mod Reading
 pub mod Sets
 pub mod Versions
 pub mod Shown
+mod Asked
 mod EditedWorlds
 mod Fitting
 pub mod PolicyWorlds

@@ -12,13 +12,15 @@ use Rattle.cedar_world.specs.Bodies.{Fields, fields_of, found, entries_of}
 use Rattle.cedar_held.specs.declared.questions.AskBody.{AskBody}
 use Rattle.cedar_held.specs.declared.questions.AskedPart.{AskedPart}
 use Rattle.cedar_held.specs.declared.questions.AskedPart.TheVariants.{Given, Missing}
+use Rattle.cedar_held.specs.declared.questions.QuestionFields.{QuestionFields}
+use Rattle.cedar_held.specs.Lent.{tree_in}
 
 -- the context that a record is; a call that names an unknown is that unknown
 abbrev pub given_context : Bor (Expr (Unit {0})) → Entries
 given_context e = unwrap_or (entries_of (bare e.now)) NoContext
 
 abbrev pub part_asked : AskedPart → Part
-part_asked (Given uid) = world.Given uid.now
+part_asked (Given uid) = world.Given uid.now.value
 part_asked (Missing entity_type) = world.Missing entity_type
 
 abbrev pub question_of : AskBody → Question
@@ -28,6 +30,15 @@ question_of b = record {
   resource = part_asked b.resource;
   context = unwrap_or (option_map given_context b.context) NoContext;
 }
+
+-- in each field is lent what stands beside its key
+pub record LendsEach (fs : Fields) (q : QuestionFields) : Type 0 where
+  pub principal : tree_in q.principal ≡ found (codes "principal") fs
+  pub principal_type : tree_in q.principal_type ≡ found (codes "principal_type") fs
+  pub action : tree_in q.action ≡ found (codes "action") fs
+  pub resource : tree_in q.resource ≡ found (codes "resource") fs
+  pub resource_type : tree_in q.resource_type ≡ found (codes "resource_type") fs
+  pub context : tree_in q.context ≡ found (codes "context") fs
 
 -- c is t, which is a record
 pub record IsRecordOf (t c : Tree) : Type 0 where

@@ -13,7 +13,7 @@ use cedar_names::reading::FromNormalizedStr;
 use cedar_trees::expr::{Expr, ExprKind};
 use std::alloc::{AllocError, Global};
 use std::collections::BTreeMap;
-use std::rc::RcStr;
+use std::rc::{Rc, RcStr};
 
 /// The text of a string.
 pub fn string_of(expr: &Expr) -> Option<&RcStr>
@@ -51,6 +51,14 @@ pub fn type_named(alloc: Global, expr: &Expr) -> Result<Option<EntityType>, Allo
 /// The uid of an entity.
 pub fn entity_of(expr: &Expr) -> Option<&EntityUID>
     ensures { option_map (λ uid. uid.now) result ≡ world.entity_of (bare expr.now) }
+{
+    let uid = shared_entity_of(expr)?;
+    Some(uid)
+}
+
+/// The uid of an entity, as the expression shares it.
+pub fn shared_entity_of(expr: &Expr) -> Option<&Rc<EntityUID>>
+    ensures { option_map (λ uid. uid.now.value) result ≡ world.entity_of (bare expr.now) }
 {
     match &expr.expr_kind {
         ExprKind::Lit(Literal::EntityUID(uid)) => Some(uid),

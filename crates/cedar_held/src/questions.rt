@@ -1,23 +1,24 @@
 // The body of a question.
-ghost use Rattle.std.specs.Prelude.{◌≡◌, IfOk, IfSome, option_map, codes};
+ghost use Rattle.std.specs.Prelude.{◌≡◌, IfOk, IfSome, Some, None, is_some, option_map, codes};
 ghost use Rattle.cedar_trees.specs.Bare.{bare};
 ghost use Rattle.cedar_world.specs.Bodies as world;
-ghost use Rattle.cedar_held.specs.Lent.{fields_in};
-ghost use Rattle.cedar_held.specs.Questions.{part_asked, question_of, given_context, IsRecordOf, LendsFrom, LendsContext};
+ghost use Rattle.cedar_world.specs.Bodies.{Fields};
+ghost use Rattle.cedar_held.specs.Lent.{fields_in, tree_in};
+ghost use Rattle.cedar_held.specs.Questions.{part_asked, question_of, given_context, LendsEach, IsRecordOf, LendsFrom, LendsContext};
 
-use crate::fields::{field, has_only, optional_entity, optional_type};
+use crate::fields::{entity_if_given, type_if_given};
 use crate::literals::entries_of;
 use cedar_literals::uids::{EntityType, EntityUID};
 use cedar_trees::expr::Expr;
 use std::alloc::{AllocError, Global};
 use std::collections::BTreeMap;
-use std::rc::RcStr;
+use std::rc::{Rc, RcStr};
 
 /// A principal, an action or a resource of a question.
 #[derive(Drop)]
 pub enum AskedPart<'e> {
     /// It is given.
-    Given(&'e EntityUID),
+    Given(&'e Rc<EntityUID>),
     /// It is missing, and of this type where one is stated.
     Missing(Option<EntityType>),
 }
@@ -32,6 +33,45 @@ pub struct AskBody<'e> {
     pub context: Option<&'e Expr>,
 }
 
+// What stands beside each key that a question may have.
+#[derive(Clone, Copy)]
+struct QuestionFields<'e> {
+    principal: Option<&'e Expr>,
+    principal_type: Option<&'e Expr>,
+    action: Option<&'e Expr>,
+    resource: Option<&'e Expr>,
+    resource_type: Option<&'e Expr>,
+    context: Option<&'e Expr>,
+}
+
+// The fields, in one walk over the entries; none where a key stands there that no question has. The first
+// value of a key stays, as where one is looked for.
+fn find_fields(entries: &BTreeMap<RcStr, Expr>) -> Option<QuestionFields<'_>>
+    ensures keys { is_some result ≡ world.are_among world.question_keys (fields_in entries.now) }
+    ensures fields { IfSome result (LendsEach (fields_in entries.now)) }
+{
+    let mut fields = QuestionFields {
+        principal: None,
+        principal_type: None,
+        action: None,
+        resource: None,
+        resource_type: None,
+        context: None,
+    };
+    for (key, value) in entries {
+        match key.as_str() {
+            "principal" => fields.principal = fields.principal.or(Some(value)),
+            "action" => fields.action = fields.action.or(Some(value)),
+            "resource" => fields.resource = fields.resource.or(Some(value)),
+            "context" => fields.context = fields.context.or(Some(value)),
+            "principal_type" => fields.principal_type = fields.principal_type.or(Some(value)),
+            "resource_type" => fields.resource_type = fields.resource_type.or(Some(value)),
+            _ => return None,
+        }
+    }
+    Some(fields)
+}
+
 // The expression, where it is a record.
 fn record_in(expr: &Expr) -> Option<&Expr>
     ensures entries { option_map given_context result ≡ world.entries_of (bare expr.now) }
@@ -42,19 +82,19 @@ fn record_in(expr: &Expr) -> Option<&Expr>
 }
 
 // The context, where one is given; none where what is given can't be one.
-fn optional_context(entries: &BTreeMap<RcStr, Expr>) -> Option<Option<&Expr>>
-    ensures context { option_map (option_map given_context) result ≡ world.optional world.entries_of (codes "context") (fields_in entries.now) }
-    ensures lent { IfSome result (λ context. LendsFrom (fields_in entries.now) context) }
+fn context_if_given(value: Option<&Expr>) -> Option<Option<&Expr>>
+    ensures context { option_map (option_map given_context) result ≡ world.if_there world.entries_of (tree_in value.entry) }
+    ensures lent { (fs : Fields) → tree_in value.entry ≡ world.found (codes "context") fs → IfSome result (λ context. LendsFrom fs context) }
 {
-    match field(entries, "context") {
+    match value {
         None => Some(None),
         Some(value) => Some(Some(record_in(value)?)),
     }
 }
 
 // What is given, or missing; none where a type is stated of what is given.
-fn asked_part(uid: Option<&EntityUID>, entity_type: Option<EntityType>) -> Option<AskedPart<'_>>
-    ensures { option_map part_asked result ≡ world.part_of (option_map (λ uid. uid.now) uid.entry) entity_type }
+fn asked_part(uid: Option<&Rc<EntityUID>>, entity_type: Option<EntityType>) -> Option<AskedPart<'_>>
+    ensures { option_map part_asked result ≡ world.part_of (option_map (λ uid. uid.now.value) uid.entry) entity_type }
 {
     match uid {
         None => Some(AskedPart::Missing(entity_type)),
@@ -65,48 +105,48 @@ fn asked_part(uid: Option<&EntityUID>, entity_type: Option<EntityType>) -> Optio
     }
 }
 
-// The principal or the resource, by its own key and that of its type.
-fn part_at<'e>(
+// The principal or the resource, by what stands beside its own key and beside that of its type.
+fn typed_part<'e>(
     alloc: Global,
-    entries: &'e BTreeMap<RcStr, Expr>,
-    key: &str,
-    type_key: &str,
+    uid: Option<&'e Expr>,
+    entity_type: Option<&Expr>,
 ) -> Result<Option<AskedPart<'e>>, AllocError>
-    ensures { IfOk result (λ part. option_map part_asked part ≡ world.part_fields key.now type_key.now (fields_in entries.now)) }
+    ensures { IfOk result (λ part. option_map part_asked part ≡
+        world.part_with (world.if_there world.entity_of (tree_in uid.entry)) (world.if_there world.type_named (tree_in entity_type.entry))) }
 {
-    let Some(uid) = optional_entity(entries, key) else {
+    let Some(uid) = entity_if_given(uid) else {
         return Ok(None);
     };
-    let Some(entity_type) = optional_type(alloc, entries, type_key)? else {
+    let Some(entity_type) = type_if_given(alloc, entity_type)? else {
         return Ok(None);
     };
     Ok(asked_part(uid, entity_type))
 }
 
 // The action, of which no type is stated.
-fn action_at(entries: &BTreeMap<RcStr, Expr>) -> Option<AskedPart<'_>>
-    ensures { option_map part_asked result ≡ world.action_fields (fields_in entries.now) }
+fn untyped_part(uid: Option<&Expr>) -> Option<AskedPart<'_>>
+    ensures { option_map part_asked result ≡ world.part_with (world.if_there world.entity_of (tree_in uid.entry)) (Some None) }
 {
-    asked_part(optional_entity(entries, "action")?, None)
+    asked_part(entity_if_given(uid)?, None)
 }
 
-fn ask_fields(
+fn ask_fields<'e>(
     alloc: Global,
-    entries: &BTreeMap<RcStr, Expr>,
-) -> Result<Option<AskBody<'_>>, AllocError>
-    ensures question { IfOk result (λ body. option_map question_of body ≡ world.question_fields (fields_in entries.now)) }
-    ensures lent { IfOk result (λ body. IfSome body (λ body. LendsFrom (fields_in entries.now) body.context)) }
+    fields: QuestionFields<'e>,
+) -> Result<Option<AskBody<'e>>, AllocError>
+    ensures question { (fs : Fields) → LendsEach fs fields.entry → IfOk result (λ body. option_map question_of body ≡ world.question_fields fs) }
+    ensures lent { (fs : Fields) → LendsEach fs fields.entry → IfOk result (λ body. IfSome body (λ body. LendsFrom fs body.context)) }
 {
-    let Some(principal) = part_at(alloc, entries, "principal", "principal_type")? else {
+    let Some(principal) = typed_part(alloc, fields.principal, fields.principal_type)? else {
         return Ok(None);
     };
-    let Some(action) = action_at(entries) else {
+    let Some(action) = untyped_part(fields.action) else {
         return Ok(None);
     };
-    let Some(resource) = part_at(alloc, entries, "resource", "resource_type")? else {
+    let Some(resource) = typed_part(alloc, fields.resource, fields.resource_type)? else {
         return Ok(None);
     };
-    let Some(context) = optional_context(entries) else {
+    let Some(context) = context_if_given(fields.context) else {
         return Ok(None);
     };
     Ok(Some(AskBody {
@@ -128,19 +168,8 @@ pub fn ask_body(alloc: Global, expr: &Expr) -> Result<Option<AskBody<'_>>, Alloc
     let Some(entries) = entries_of(expr) else {
         return Ok(None);
     };
-    if has_only(
-        entries,
-        &[
-            "principal",
-            "principal_type",
-            "action",
-            "resource",
-            "resource_type",
-            "context",
-        ],
-    ) {
-        ask_fields(alloc, entries)
-    } else {
-        Ok(None)
-    }
+    let Some(fields) = find_fields(entries) else {
+        return Ok(None);
+    };
+    ask_fields(alloc, fields)
 }

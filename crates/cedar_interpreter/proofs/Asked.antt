@@ -71,10 +71,10 @@ is_evaluator answers r entities table depth ev stand nothing es ts ds = record {
 }
 
 -- the same evaluator, that is told values
-abbrev pub telling : {F : Type 0} (ev : Evaluator F) → Bor (BTreeMap (RcStr Global) Value) → AreSeen ev.entities.now ev.variables ev.seen → Evaluator F
-telling ev told seen = record { variables = ev.variables; entities = ev.entities; seen = ev.seen; extensions = ev.extensions; depth = ev.depth; told = Some told; are_seen = seen }
+abbrev pub telling : {F : Type 0} (ev : Evaluator F) → Bor (BTreeMap (RcStr Global) Value) → AreSeen ev.entities.now ev.variables → Evaluator F
+telling ev told seen = record { variables = ev.variables; entities = ev.entities; extensions = ev.extensions; depth = ev.depth; told = Some told; are_seen = seen }
 
-pub is_told : {F : Type 0} (answers : F → FunctionAnswers) (r : RequestParts) (entities : Entities) (table : Table) (depth : ℕ) (ev : Evaluator F) (told : Bor (BTreeMap (RcStr Global) Value)) (seen : AreSeen ev.entities.now ev.variables ev.seen) →
+pub is_told : {F : Type 0} (answers : F → FunctionAnswers) (r : RequestParts) (entities : Entities) (table : Table) (depth : ℕ) (ev : Evaluator F) (told : Bor (BTreeMap (RcStr Global) Value)) (seen : AreSeen ev.entities.now ev.variables) →
     IsEvaluatorOf answers (untold r) entities table depth ev → IsEvaluatorOf answers (record { request = r; told = told_for told.now.entries }) entities table depth (telling ev told seen)
 is_told answers r entities table depth ev told seen is = record {
   store = is.store;

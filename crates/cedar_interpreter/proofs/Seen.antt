@@ -25,7 +25,9 @@ use Rattle.cedar_values.specs.Readers.{uid_in}
 use Rattle.cedar_interpreter.specs.Asking.{Inquiry, variable_asked, uid_given, entity_asked, IsEvaluatorOf}
 use Rattle.cedar_interpreter.specs.Holding.{variable_held, entity_held}
 use Rattle.cedar_interpreter.specs.Seen.{IsSeen, IsSeenFor, uid_standing}
+use Rattle.cedar_interpreter.specs.declared.evaluator.EntityVariable.{EntityVariable}
 use Rattle.cedar_interpreter.specs.declared.evaluator.Evaluator.{Evaluator}
+use Rattle.cedar_interpreter.specs.declared.given.GivenEntity.{GivenEntity}
 
 held_as : (store : Entities) (uid : Uid) (o : Option (Bor EntityData)) → IsFound store uid o → held_at store uid ≡ option_map held_of (option_copied o)
 held_as store uid None found = found
@@ -34,17 +36,25 @@ held_as store uid (Some e) found = found.0
 found_seen : (store : Entities) (uid : Uid) (o : Option (Bor EntityData)) → IsFound store uid o → IsSeen store uid (option_copied o)
 found_seen store uid o found = (held_as store uid o found, λ facts has b. within_is store facts has uid o found b)
 
-pub seen_of : (store : Entities) (part : PartialValue) (u : Uid) (o : Option (Bor EntityData)) → uid_standing (partial_of part) ≡ Some u → IsFound store u o → IsSeenFor store part o
+pub seen_of : (store : Entities) (part : PartialValue) (u : Uid) (o : Option (Bor EntityData)) → uid_standing (partial_of part) ≡ Some u → IsFound store u o →
+    (uid : Uid) → uid_standing (partial_of part) ≡ Some uid → IsSeen store uid (option_copied o)
 seen_of store part u o is found = λ uid h.
     let stands : Some u ≡ Some uid = sym is ∙ h in
     let same : u ≡ uid = cc in
     subst (λ x. IsSeen store x (option_copied o)) same (found_seen store u o found)
 
--- ---- of an inquiry that is asked
-
 if_some : {X : Type 0} {P Q : X → Type 0} (found : Option X) → ((x : X) → P x → Q x) → IfSome found P → IfSome found Q
 if_some None f h = tt
 if_some (Some x) f h = f x h
+
+-- what is given of what stands for a variable
+pub given_held : {F : Type 0} (ev : Evaluator F) (v : Variable) (x : EntityVariable) (given : Option GivenEntity) →
+    part_answer (partial_of x.part) ≡ variable_held ev v → IsSeenFor ev.entities.now x →
+    ((store : Entities) → IsSeenFor store x → IfSome given (λ g. (part_answer (partial_of x.part) ≡ Evaluated (Plain (Entity g.uid.now))) × IsSeen store g.uid.now (option_copied g.entity))) →
+    IfSome given (λ g. (variable_held ev v ≡ Evaluated (Plain (Entity g.uid.now))) × IsSeen ev.entities.now g.uid.now (option_copied g.entity))
+given_held ev v x given is seen k = if_some given (λ g h. (sym is ∙ h.0, h.1)) (k ev.entities.now seen)
+
+-- ---- of an inquiry that is asked
 
 module _ {F : Type 0} (answers : F → FunctionAnswers) (ev : Evaluator F) (i : Inquiry) (store : Entities) (table : Table) (depth : ℕ) (is : IsEvaluatorOf answers i store table depth ev) where
   asked_as : (v : Variable) → variable_asked i.request v ≡ variable_held ev v
@@ -58,9 +68,9 @@ module _ {F : Type 0} (answers : F → FunctionAnswers) (ev : Evaluator F) (i : 
   part_given (Right t) (Missing ty) n same = refl
 
   pub entity_given : (v : Variable) → entity_held ev v ≡ entity_asked i.request v
-  entity_given Principal = part_given (partial_of ev.variables.principal) i.request.principal (codes "principal") (asked_as Principal)
-  entity_given Action = part_given (partial_of ev.variables.action) i.request.action (codes "action") (asked_as Action)
-  entity_given Resource = part_given (partial_of ev.variables.resource) i.request.resource (codes "resource") (asked_as Resource)
+  entity_given Principal = part_given (partial_of ev.variables.principal.part) i.request.principal (codes "principal") (asked_as Principal)
+  entity_given Action = part_given (partial_of ev.variables.action.part) i.request.action (codes "action") (asked_as Action)
+  entity_given Resource = part_given (partial_of ev.variables.resource.part) i.request.resource (codes "resource") (asked_as Resource)
   entity_given Context = refl
 
   seen_asked : (v : Variable) (uid : Uid) (seen : Option EntityData) → (variable_held ev v ≡ Evaluated (Plain (Entity uid))) × IsSeen ev.entities.now uid seen → (variable_asked i.request v ≡ Evaluated (Plain (Entity uid))) × IsSeen store uid seen

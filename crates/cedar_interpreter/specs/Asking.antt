@@ -73,9 +73,9 @@ request_held i slots = record {
 
 -- these stand for its variables
 pub record StandFor (r : RequestParts) (vs : Variables) : Type 0 where
-  pub principal : part_answer (partial_of vs.principal) ≡ variable_asked r Principal
-  pub action : part_answer (partial_of vs.action) ≡ variable_asked r Action
-  pub resource : part_answer (partial_of vs.resource) ≡ variable_asked r Resource
+  pub principal : part_answer (partial_of vs.principal.part) ≡ variable_asked r Principal
+  pub action : part_answer (partial_of vs.action.part) ≡ variable_asked r Action
+  pub resource : part_answer (partial_of vs.resource.part) ≡ variable_asked r Resource
   pub context : part_answer (partial_of vs.context) ≡ variable_asked r Context
 
 -- it answers for this inquiry, over these entities and functions, to this depth

@@ -29,9 +29,9 @@ use Rattle.cedar_interpreter.specs.declared.evaluator.Variables.{Variables}
 use Rattle.cedar_interpreter.specs.declared.evaluator.Evaluator.{Evaluator}
 
 abbrev pub variable_in : Variables → Variable → PartialValue
-variable_in vs Principal = vs.principal
-variable_in vs Action = vs.action
-variable_in vs Resource = vs.resource
+variable_in vs Principal = vs.principal.part
+variable_in vs Action = vs.action.part
+variable_in vs Resource = vs.resource.part
 variable_in vs Context = vs.context
 
 abbrev pub variable_held : {F : Type 0} → Evaluator F → Variable → Answer
@@ -39,9 +39,9 @@ variable_held ev v = part_answer (partial_of (variable_in ev.variables v))
 
 -- the entity that stands for a variable; for the context none does
 abbrev pub entity_held : {F : Type 0} → Evaluator F → Variable → Option Uid
-entity_held ev Principal = uid_standing (partial_of ev.variables.principal)
-entity_held ev Action = uid_standing (partial_of ev.variables.action)
-entity_held ev Resource = uid_standing (partial_of ev.variables.resource)
+entity_held ev Principal = uid_standing (partial_of ev.variables.principal.part)
+entity_held ev Action = uid_standing (partial_of ev.variables.action.part)
+entity_held ev Resource = uid_standing (partial_of ev.variables.resource.part)
 entity_held ev Context = None
 
 -- no evaluation nests deeper

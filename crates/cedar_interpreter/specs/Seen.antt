@@ -1,6 +1,5 @@
 -- What a store holds of the entities that a request gives: looked up once, and kept beside what is asked.
 use Rattle.std.specs.Prelude.{◌≡◌, Option, Some, None, refl}
-use Rattle.std.specs.Borrow.{Bor}
 use Rattle.std.specs.Coded.{Coded, Coded-set, coded_bool, coded_option, coded×, code_by, ×_prop, Π_prop}
 use Rattle.std.specs.Option.{option_map, option_copied}
 use Rattle.either.specs.declared.Either.{Either}
@@ -18,9 +17,8 @@ use Rattle.cedar_entities.specs.declared.store.Entities.{Entities}
 use Rattle.cedar_operators.specs.Hierarchy.{is_within_entity}
 use Rattle.cedar_operators.specs.Store.{HasFacts}
 use Rattle.cedar_restricted.specs.PartialValues.{partial_of}
-use Rattle.cedar_restricted.specs.declared.partial_values.PartialValue.{PartialValue}
 use Rattle.cedar_values.specs.Readers.{uid_in}
-use Rattle.cedar_interpreter.specs.declared.evaluator.Seen.{Seen}
+use Rattle.cedar_interpreter.specs.declared.evaluator.EntityVariable.{EntityVariable}
 use Rattle.cedar_interpreter.specs.declared.evaluator.Variables.{Variables}
 
 -- what the store holds of the uid, by which the facts say what it is within
@@ -35,11 +33,12 @@ uid_standing (Left v) = uid_in v
 uid_standing (Right t) = None
 
 -- the same of the entity that stands for a variable; where none does, nothing is said
-abbrev pub IsSeenFor : Entities → PartialValue → Option (Bor EntityData) → Type 0
-IsSeenFor store part seen = (uid : Uid) → uid_standing (partial_of part) ≡ Some uid → IsSeen store uid (option_copied seen)
+abbrev pub IsSeenFor : Entities → EntityVariable → Type 0
+IsSeenFor store v = (uid : Uid) → uid_standing (partial_of v.part) ≡ Some uid → IsSeen store uid (option_copied v.entity)
 
-abbrev pub AreSeen : Entities → Variables → Seen → Type 0
-AreSeen store vs seen = IsSeenFor store vs.principal seen.principal × (IsSeenFor store vs.action seen.action × IsSeenFor store vs.resource seen.resource)
+-- of each that stands for a variable
+abbrev pub AreSeen : Entities → Variables → Type 0
+AreSeen store vs = IsSeenFor store vs.principal × (IsSeenFor store vs.action × IsSeenFor store vs.resource)
 
 -- ---- each has one proof
 
@@ -50,8 +49,8 @@ held_code = code_by (AttributeMap × (AttributeMap × UidSet)) (coded× attribut
 seen_prop : (store : Entities) (uid : Uid) (seen : Option EntityData) → IsProp (IsSeen store uid seen)
 seen_prop store uid seen = ×_prop (Coded-set (coded_option held_code) _ _) (Π_prop (λ facts. Π_prop (λ has. Π_prop (λ b. Coded-set coded_bool _ _))))
 
-seen_for_prop : (store : Entities) (part : PartialValue) (seen : Option (Bor EntityData)) → IsProp (IsSeenFor store part seen)
-seen_for_prop store part seen = Π_prop (λ uid. Π_prop (λ is. seen_prop store uid (option_copied seen)))
+seen_for_prop : (store : Entities) (v : EntityVariable) → IsProp (IsSeenFor store v)
+seen_for_prop store v = Π_prop (λ uid. Π_prop (λ is. seen_prop store uid (option_copied v.entity)))
 
-pub are_seen_prop : (store : Entities) (vs : Variables) (seen : Seen) → IsProp (AreSeen store vs seen)
-are_seen_prop store vs seen = ×_prop (seen_for_prop store vs.principal seen.principal) (×_prop (seen_for_prop store vs.action seen.action) (seen_for_prop store vs.resource seen.resource))
+pub are_seen_prop : (store : Entities) (vs : Variables) → IsProp (AreSeen store vs)
+are_seen_prop store vs = ×_prop (seen_for_prop store vs.principal) (×_prop (seen_for_prop store vs.action) (seen_for_prop store vs.resource))

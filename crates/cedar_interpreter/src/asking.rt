@@ -15,8 +15,9 @@ ghost use Rattle.cedar_interpreter.specs.Asking.{context_asked, untold, StandFor
 ghost use Rattle.cedar_interpreter.specs.Holding.{held_by, Knows, Serves, ServesRead, is_naming, Deep, IsDeepRead, depth_of};
 ghost use Rattle.cedar_interpreter.specs.Meeting.{MeetsAt, ReadsAt, ValueAt, IsLimit};
 ghost use Rattle.cedar_interpreter.specs.Naming.{naming_in};
+ghost use Rattle.cedar_interpreter.specs.Seen.{AreSeen};
 
-use crate::evaluator::{Evaluator, Seen, Variables};
+use crate::evaluator::{EntityVariable, Evaluator, Variables};
 use cedar_entities::store::Entities;
 use cedar_extensions::evaluation_error::EvaluationError;
 use cedar_extensions::extensions::Extensions;
@@ -49,13 +50,11 @@ impl<'s, 'e, 'f, F: ExtensionFunctionObject> Evaluator<'s, 'e, 'f, F> {
     ) -> Result<Evaluator<'s, 'e, 'f, F>, AllocError>
         ensures { IfOk result (λ ev. IsEvaluatorOf F.answers (untold (request_parts request.now)) entities.now (as_table F.answers extensions.now) depth ev) }
     {
-        let stands = variables_of(alloc, request)?;
-        let seen = Shared::new(alloc, Seen::of(entities, &stands))?;
+        let stands = variables_of(alloc, request, entities)?;
         let variables = Shared::new(alloc, stands)?;
         Ok(Evaluator {
             variables,
             entities,
-            seen,
             extensions,
             depth,
             told: None,
@@ -72,7 +71,6 @@ impl<'s, 'e, 'f, F: ExtensionFunctionObject> Evaluator<'s, 'e, 'f, F> {
         Evaluator {
             variables: self.variables,
             entities: self.entities,
-            seen: self.seen,
             extensions: self.extensions,
             depth: self.depth,
             told: Some(told),
@@ -139,15 +137,25 @@ fn value_of(
     }
 }
 
-// What stands for the variables of a request; refused for memory alone.
-fn variables_of(alloc: Global, request: &Request) -> Result<Variables, AllocError>
-    ensures { IfOk result (λ vs. StandFor (request_parts request.now) vs) }
+// What stands for the variables of a request, with what a store holds of the entities among it; refused for memory
+// alone.
+fn variables_of<'s>(
+    alloc: Global,
+    request: &Request,
+    entities: &'s Entities,
+) -> Result<Variables<'s>, AllocError>
+    ensures stand { IfOk result (λ vs. StandFor (request_parts request.now) vs) }
+    ensures seen { IfOk result (λ vs. AreSeen entities.now vs) }
 {
+    let principal = request.principal().evaluate(alloc, Var::Principal)?;
+    let action = request.action().evaluate(alloc, Var::Action)?;
+    let resource = request.resource().evaluate(alloc, Var::Resource)?;
+    let context = context_of(alloc, request.context())?;
     Ok(Variables {
-        principal: request.principal().evaluate(alloc, Var::Principal)?,
-        action: request.action().evaluate(alloc, Var::Action)?,
-        resource: request.resource().evaluate(alloc, Var::Resource)?,
-        context: context_of(alloc, request.context())?,
+        principal: EntityVariable::of(entities, principal),
+        action: EntityVariable::of(entities, action),
+        resource: EntityVariable::of(entities, resource),
+        context,
     })
 }
 

@@ -11,23 +11,21 @@ use cedar_values::values::Value;
 use std::collections::BTreeMap;
 use std::rc::RcStr;
 
-// What stands for the variables of a request: an entity or an unknown for the first three, and for the
-// context a record, what is left of one, or an unknown.
+// What stands for the principal, the action or the resource of a request: an entity or an unknown, and with
+// the entity what a store holds of it, looked up once. Where no entity stands there, nothing is said.
 #[derive(Drop)]
-pub(crate) struct Variables {
-    pub(crate) principal: PartialValue,
-    pub(crate) action: PartialValue,
-    pub(crate) resource: PartialValue,
-    pub(crate) context: PartialValue,
+pub(crate) struct EntityVariable<'s> {
+    pub(crate) part: PartialValue,
+    pub(crate) entity: Option<&'s Entity>,
 }
 
-// What a store holds of the entities that stand for variables, each looked up once. Where no entity stands
-// for a variable, nothing is said.
+// What stands for the variables of a request; for the context a record, what is left of one, or an unknown.
 #[derive(Drop)]
-pub(crate) struct Seen<'s> {
-    pub(crate) principal: Option<&'s Entity>,
-    pub(crate) action: Option<&'s Entity>,
-    pub(crate) resource: Option<&'s Entity>,
+pub(crate) struct Variables<'s> {
+    pub(crate) principal: EntityVariable<'s>,
+    pub(crate) action: EntityVariable<'s>,
+    pub(crate) resource: EntityVariable<'s>,
+    pub(crate) context: PartialValue,
 }
 
 /// A request and what is held besides it, by which expressions are evaluated: the entities of a store,
@@ -36,11 +34,10 @@ pub(crate) struct Seen<'s> {
 /// facts and trees that it serves, and by `depth_of`, its limit.
 #[derive(Drop)]
 pub struct Evaluator<'s, 'e, 'f, F = NoFunction> {
-    pub(crate) variables: Shared<Variables>,
+    pub(crate) variables: Shared<Variables<'s>>,
     pub(crate) entities: &'s Entities,
-    pub(crate) seen: Shared<Seen<'s>>,
     pub(crate) extensions: &'e Extensions<'f, F>,
     pub(crate) depth: u32,
     pub(crate) told: Option<&'s BTreeMap<RcStr, Value>>,
-    ghost are_seen: { AreSeen entities.now variables seen } by { are_seen_prop entities.now variables seen },
+    ghost are_seen: { AreSeen entities.now variables } by { are_seen_prop entities.now variables },
 }

@@ -256,7 +256,7 @@ impl<'s, 'e, 'f, F> Evaluator<'s, 'e, 'f, F> {
         ensures { IfSome result (λ lent. Tells self.now 2 (unary (tree.GetAttr attr.now) (tree.Var (variable_of var))) (value_lent lent)) }
     {
         match self.given(var) {
-            Some((_, seen)) => attribute_of_held(seen?, attr),
+            Some(given) => attribute_of_held(given.entity?, attr),
             None => {
                 let lent = self.glance_variable(var)?;
                 attribute_lent(self.entities, lent, attr)
@@ -267,14 +267,7 @@ impl<'s, 'e, 'f, F> Evaluator<'s, 'e, 'f, F> {
     fn glance_variable(&self, var: Var) -> Option<Lent<'_>>
         ensures { IfSome result (λ lent. variable_held self.now (variable_of var) ≡ Evaluated (value_lent lent)) }
     {
-        let variables = self.variables.get();
-        let part = match var {
-            Var::Principal => &variables.principal,
-            Var::Action => &variables.action,
-            Var::Resource => &variables.resource,
-            Var::Context => &variables.context,
-        };
-        let lent = Lent::of_partial(part)?;
+        let lent = Lent::of_partial(self.variables.get().part(var))?;
         Some(lent)
     }
 }

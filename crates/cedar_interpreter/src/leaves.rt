@@ -73,15 +73,10 @@ impl<'s, 'e, 'f, F> Evaluator<'s, 'e, 'f, F> {
 }
 
 // What stands for a variable; refused for memory alone.
-fn variable(alloc: Global, variables: &Variables, var: Var) -> Result<PartialValue, AllocError>
+fn variable(alloc: Global, variables: &Variables<'_>, var: Var) -> Result<PartialValue, AllocError>
     ensures { IfOk result (λ p. partial_of p ≡ partial_of (variable_in variables.now (variable_of var))) }
 {
-    match var {
-        Var::Principal => copied(alloc, &variables.principal),
-        Var::Action => copied(alloc, &variables.action),
-        Var::Resource => copied(alloc, &variables.resource),
-        Var::Context => copied(alloc, &variables.context),
-    }
+    copied(alloc, variables.part(var))
 }
 
 fn copied(alloc: Global, partial: &PartialValue) -> Result<PartialValue, AllocError>

@@ -123,7 +123,8 @@ pub(crate) fn is_within(entities: &Entities, uid: &EntityUID, above: &EntityUID)
     *uid == *above || is_below(held(entities, uid), above)
 }
 
-fn is_below(entity: Option<&Entity>, above: &EntityUID) -> bool
+/// Whether an entity is below another one, by what a store holds of it, if it does.
+pub(crate) fn is_below(entity: Option<&Entity>, above: &EntityUID) -> bool
     ensures { result ≡ option_map_or (λ held. set.contains (ancestors_of held) above.now) (option_copied entity.entry) false }
 {
     match entity {

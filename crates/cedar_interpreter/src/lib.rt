@@ -8,6 +8,7 @@ mod asking;
 mod attributes;
 mod evaluator;
 mod forms;
+mod given;
 mod glancing;
 mod interpreting;
 mod lazy;
@@ -27,5 +28,6 @@ mod stated;
 mod waiting;
 
 pub use evaluator::Evaluator;
+pub use given::GivenEntity;
 pub use lazy::last_of_and;
 pub use restricted::RestrictedEvaluator;

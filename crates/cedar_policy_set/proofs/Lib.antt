@@ -3,6 +3,7 @@ pub mod Counting
 pub mod Covering
 pub mod Distinct
 pub mod Edits
+pub mod Few
 pub mod Finding
 pub mod Placed
 pub mod Placing

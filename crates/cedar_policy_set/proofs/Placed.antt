@@ -145,7 +145,7 @@ stands_last (x ∷ xs) id free = by (same_text id x) free (stands_last xs id)
     by true g rest = absurd (true≢false g)
     by false g rest = let behind = rest g in omega arith
 
-without_last : (xs : List Text) (id : Text) → remove (xs ++ id ∷ []) (length xs) ≡ xs
+pub without_last : (xs : List Text) (id : Text) → remove (xs ++ id ∷ []) (length xs) ≡ xs
 without_last [] id = refl
 without_last (x ∷ xs) id = ap (λ ys. x ∷ ys) (without_last xs id)
 

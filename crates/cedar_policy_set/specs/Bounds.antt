@@ -26,11 +26,11 @@ abbrev pub policy_entry : APolicy → Entry
 policy_entry p = entry_by (link_of p) (template_id (policy_template p)) (policy_syntax p) (bindings_of p)
 
 abbrev pub entry_of : Bound → Entry
-entry_of (Policy p) = policy_entry p
+entry_of (Policy p) = policy_entry p.value
 entry_of (Template t) = template (syntax_of t.value)
 
 abbrev pub bound_id : Bound → Text
-bound_id (Policy p) = policy_id p
+bound_id (Policy p) = policy_id p.value
 bound_id (Template t) = template_id t.value
 
 abbrev pub entries_of : List (Text × Bound) → Entries

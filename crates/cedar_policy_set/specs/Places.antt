@@ -1,5 +1,5 @@
 -- Where ids stand in an order.
-use Rattle.std.specs.Prelude.{◌≡◌, ◌<◌, List, [], ◌∷◌, length, if◌then◌else◌}
+use Rattle.std.specs.Prelude.{◌≡◌, ◌<◌, List, [], ◌∷◌, Option, IfSome, length, if◌then◌else◌}
 use Rattle.std.specs.BTreeMap.{get}
 use Rattle.std.specs.List.{AllPairs, IsDistinct, zip}
 use Rattle.std.specs.Map.{lookup}
@@ -13,6 +13,11 @@ pub record Tells (places : Places) (ids : List Text) : Type 0 where
   pub as_many : length places.numbers.items ≡ length ids
   pub rising : AllPairs ◌<◌ places.numbers.items
   pub held : (id : Text) → get text_cmp places.of_ids id ≡ lookup (same_text id) (zip ids places.numbers.items)
+
+-- no id stands twice, and where there are places, they tell of the ids
+pub record AreKept (places : Option Places) (ids : List Text) : Type 0 where
+  pub distinct : IsDistinct same_text ids
+  pub told : IfSome places (λ p. Tells p ids)
 
 -- the entries with this at an id: in the place of what stands there, or last
 abbrev pub put : {V : Type 0} → List (Text × V) → Text → V → List (Text × V)

@@ -146,7 +146,7 @@ fn alone(alloc: Global, policy: Policy) -> Result<PolicyMap<Bound>, AllocError>
     ensures policy { IfOk result (λ more. entries_of more ≡ policy_seen policy ∷ []) }
 {
     let mut more = PolicyMap::new(alloc);
-    Bound::Policy(policy).insert_into(&mut more)?;
+    Bound::from_policy(alloc, policy)?.insert_into(&mut more)?;
     Ok(more)
 }
 
@@ -160,7 +160,7 @@ fn with_its_template(alloc: Global, link: Policy) -> Result<PolicyMap<Bound>, Al
     let mut more = PolicyMap::new(alloc);
     let template = listed(alloc, link.template_arc())?;
     Bound::Template(template).insert_into(&mut more)?;
-    Bound::Policy(link).insert_into(&mut more)?;
+    Bound::from_policy(alloc, link)?.insert_into(&mut more)?;
     Ok(more)
 }
 

@@ -4,6 +4,7 @@ ghost use Rattle.std.specs.Option.{option_copied};
 ghost use Rattle.std.specs.Map.{lookup};
 ghost use Rattle.cedar_language.specs.Order.{same_text};
 ghost use Rattle.cedar_policies.specs.Templates.{template_id, syntax_of};
+ghost use Rattle.cedar_policies.specs.Policies.{policy_id};
 ghost use Rattle.cedar_policy_set.specs.Entries.{template as a_template, IsFull, is_link, is_link_to, is_of_template, is_policy, is_static, own_template, slotted_template, named};
 ghost use Rattle.cedar_policy_set.specs.EntryNodes.{same_entry};
 ghost use Rattle.cedar_policy_set.specs.Bounds.{policy_entry, link_entry, policy_seen, template_seen};
@@ -12,15 +13,16 @@ use crate::policy_map::PolicyMap;
 use cedar_policies::policies::Policy;
 use cedar_policies::templates::Template;
 use cedar_policy_parts::PolicyID;
-use std::alloc::AllocError;
+use std::alloc::{AllocError, Global};
 use std::rc::Rc;
 
 /// What an id is bound to: a policy, which is a static one or a link, or a template. Contracts see the id
-/// through `bound_id` and the rest, without places, through `entry_of`.
+/// through `bound_id` and the rest, without places, through `entry_of`. A policy stands in a box, so that what
+/// a removal moves up in a set is small.
 #[derive(Debug, Drop)]
 pub enum Bound {
     /// A static policy or a link.
-    Policy(Policy),
+    Policy(Box<Policy>),
     /// A template, shared with its links.
     Template(Rc<Template>),
 }
@@ -46,7 +48,16 @@ impl Eq for Bound {
 }
 
 impl Bound {
-    ghost use Rattle.cedar_policy_set.specs.Bounds.{bound_id, entry_of};
+    ghost use Rattle.cedar_policy_set.specs.Bounds.{bound_id, entry_of, ListsSlots};
+
+    /// A static policy or a link, to be bound. Refused for memory alone.
+    pub fn from_policy(alloc: Global, policy: Policy) -> Result<Bound, AllocError>
+        ensures id { IfOk result (λ bound. bound_id bound ≡ policy_id policy) }
+        ensures entry { IfOk result (λ bound. entry_of bound ≡ policy_entry policy) }
+        ensures listed { IfOk result ListsSlots }
+    {
+        Ok(Bound::Policy(Box::new(alloc, policy)?))
+    }
 
     /// The id.
     pub fn id(&self) -> &PolicyID

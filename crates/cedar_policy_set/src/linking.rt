@@ -34,7 +34,8 @@ impl PolicySet {
         if self.is_bound(&new_id) {
             return Err(LinkingError::PolicyIdConflict { id: new_id });
         }
-        self.bind(new_id, Bound::Policy(policy))?;
+        let bound = Bound::from_policy(alloc, policy)?;
+        self.bind(new_id, bound)?;
         Ok(())
     }
 }

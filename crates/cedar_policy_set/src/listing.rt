@@ -166,7 +166,7 @@ impl Iterator for IntoPolicies {
     fn next(&mut self) -> Option<Policy> {
         while let Some(bound) = self.bound.next() {
             if let Bound::Policy(policy) = bound {
-                return Some(policy);
+                return Some(Box::into_inner(policy));
             }
         }
         None

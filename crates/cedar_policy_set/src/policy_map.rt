@@ -1,12 +1,13 @@
 //! What stands under policy ids.
-ghost use Rattle.std.specs.Prelude.{◌≡◌, ◌↔◌, ◌^◌, ◌-◌, ◌<◌, ◌++◌, [], ◌∷◌, All, IsTrue, IfOk, OnOk, OnErr, None, is_some, length, option_map, position, slice_get, take};
+ghost use Rattle.std.specs.Prelude.{◌≡◌, ◌↔◌, ◌^◌, ◌-◌, ◌<◌, ◌++◌, List, [], ◌∷◌, All, IsTrue, IfOk, IfSome, IfNone, OnOk, OnErr, None, is_some, length, option_map, position, remove, slice_get, take};
 ghost use Rattle.std.specs.List.{IsDistinct};
 ghost use Rattle.std.specs.Map.{keys_of, lookup, remove_entry, values_of};
 ghost use Rattle.std.specs.Map.Iter.{deref_pair};
-ghost use Rattle.std.specs.Option.{option_copied};
+ghost use Rattle.std.specs.Option.{option_copied, unwrap_or};
 ghost use Rattle.std.specs.Slice.Iter.{iter_rest};
+ghost use Rattle.cedar_language.specs.Uid.{Text};
 ghost use Rattle.cedar_language.specs.Order.{same_text};
-ghost use Rattle.cedar_policy_set.specs.Places.{put, Tells};
+ghost use Rattle.cedar_policy_set.specs.Places.{put, AreKept, Tells};
 
 use crate::map_values::{IntoValues, Values};
 use crate::places::Places;
@@ -15,12 +16,16 @@ use std::alloc::{AllocError, Global};
 use std::marker::Model;
 use std::{fmt, mem, slice};
 
-/// What stands under policy ids, in the order in which it came. An id is found by an order of ids, so that no
-/// choice of ids makes it slow, and a removal changes nothing of what stands before it. Contracts see the ids,
-/// each with what stands there.
+// So many entries are looked at one by one; a map that has had more of them keeps an order of its ids.
+const FEW: usize = 64;
+
+/// What stands under policy ids, in the order in which it came. An id is found by an order of ids where there
+/// are many, else by a look at each, so that no choice of ids makes it slow, and a removal changes nothing of
+/// what stands before it. Contracts see the ids, each with what stands there.
 #[derive(Drop)]
 pub struct PolicyMap<V> {
-    places: Places,
+    // none while the entries have been few
+    places: Option<Places>,
     entries: Vec<(PolicyID, V)>,
 }
 
@@ -28,13 +33,13 @@ impl<V> Model for PolicyMap<V> {
     ghost use Rattle.std.specs.Prelude.{List};
     ghost use Rattle.std.specs.Map.{keys_of};
     ghost use Rattle.cedar_language.specs.Uid.{Text};
-    ghost use Rattle.cedar_policy_set.specs.Places.{Tells};
+    ghost use Rattle.cedar_policy_set.specs.Places.{AreKept};
 
     ghost Value = { List (Text × V) };
 
     ghost view = { λ m. m.entries.items };
 
-    ghost invariant = { λ m. Tells m.places (keys_of m.entries.items) };
+    ghost invariant = { λ m. AreKept m.places (keys_of m.entries.items) };
 }
 
 /// Each id with what stands there.
@@ -54,7 +59,7 @@ impl<V> PolicyMap<V> {
         ensures { result ≡ [] }
     {
         PolicyMap {
-            places: Places::new(alloc),
+            places: None,
             entries: Vec::new(alloc),
         }
     }
@@ -84,14 +89,17 @@ impl<V> PolicyMap<V> {
     pub fn get_index_of(&self, id: &PolicyID) -> Option<usize>
         ensures { result ≡ position (same_text id.now) (keys_of self.now) }
     {
-        self.places.position(id)
+        match &self.places {
+            Some(places) => places.position(id),
+            None => position_among(&self.entries, id),
+        }
     }
 
     /// What stands under an id.
     pub fn get(&self, id: &PolicyID) -> Option<&V>
         ensures { option_copied result ≡ lookup (same_text id.now) self.now }
     {
-        let position = self.places.position(id)?;
+        let position = self.get_index_of(id)?;
         Some(&self.entries[position].1)
     }
 
@@ -143,11 +151,9 @@ impl<V> PolicyMap<V> {
         ensures pushed { OnOk result (self.new ≡ self.old ++ (id, value) ∷ []) }
         ensures err { OnErr result (self.new ≡ self.old) }
     {
-        let place = copy_of(&id)?;
         self.entries.reserve(1)?;
         let alloc = *self.entries.allocator();
-        let number = number_after(alloc, &mut self.places, &self.entries)?;
-        self.places.push(place, number)?;
+        place_next(alloc, &mut self.places, &self.entries, &id)?;
         self.entries.push((id, value))?;
         Ok(())
     }
@@ -161,7 +167,7 @@ impl<V> PolicyMap<V> {
         ensures before { IfOk result (λ before. before ≡ lookup (same_text id) self.old) }
         ensures err { OnErr result (self.new ≡ self.old) }
     {
-        match self.places.position(&id) {
+        match self.get_index_of(&id) {
             Some(position) => Ok(Some(mem::replace(&mut self.entries[position].1, value))),
             None => {
                 self.push(id, value)?;
@@ -176,7 +182,7 @@ impl<V> PolicyMap<V> {
         ensures entries { self.new ≡ remove_entry (same_text id.now) self.old }
         ensures unique { IsDistinct same_text (keys_of self.new) }
     {
-        let position = self.places.take_away(id)?;
+        let position = take_place(&mut self.places, &self.entries, id)?;
         let (_, value) = self.entries.remove(position);
         Some(value)
     }
@@ -229,8 +235,96 @@ impl<V> PolicyMap<V> {
         ensures { self.new ≡ take (length self.old - 1) self.old }
     {
         if let Some((id, _)) = self.entries.pop() {
-            self.places.take_away(&id);
+            unplace_last(&mut self.places, &id);
         }
+    }
+}
+
+// The position of an id, looked for at each entry.
+fn position_among<V>(entries: &[(PolicyID, V)], id: &PolicyID) -> Option<usize>
+    ensures { result ≡ position (λ entry. same_text id.now entry.0) entries.now }
+{
+    entries.iter().position(|(other, _)| is_same(id, other))
+}
+
+// Whether both are one id. Ids that are numbered, as `policy10` and `policy11`, mostly differ in their last byte.
+fn is_same(id: &PolicyID, other: &PolicyID) -> bool
+    ensures { result ≡ same_text id.now other.now }
+{
+    last_byte(id) == last_byte(other) && id == other
+}
+
+// The last byte of an id, and 0 where it has none.
+fn last_byte(id: &PolicyID) -> u8
+    ensures { result ≡ unwrap_or (slice_get id.now (length id.now - 1)) 0 }
+{
+    id.as_str().as_bytes().last().copied().unwrap_or(0)
+}
+
+// An id comes last. The places are made once the entries aren't few.
+fn place_next<V>(
+    alloc: Global,
+    places: &mut Option<Places>,
+    entries: &[(PolicyID, V)],
+    id: &PolicyID,
+) -> Result<(), AllocError>
+    requires kept { AreKept places.old (keys_of entries.now) }
+    requires free { lookup (same_text id.now) entries.now ≡ None }
+    ensures placed { OnOk result (AreKept places.new (keys_of entries.now ++ id.now ∷ [])) }
+    ensures err { OnErr result (AreKept places.new (keys_of entries.now)) }
+{
+    match places {
+        Some(places) => place_last(alloc, places, entries, id),
+        None if entries.len() < FEW => Ok(()),
+        None => {
+            let mut made = places_of(alloc, entries)?;
+            place_last(alloc, &mut made, entries, id)?;
+            *places = Some(made);
+            Ok(())
+        }
+    }
+}
+
+// An id comes last in the places of these.
+fn place_last<V>(
+    alloc: Global,
+    places: &mut Places,
+    entries: &[(PolicyID, V)],
+    id: &PolicyID,
+) -> Result<(), AllocError>
+    requires told { Tells places.old (keys_of entries.now) }
+    requires free { lookup (same_text id.now) entries.now ≡ None }
+    ensures placed { OnOk result (Tells places.new (keys_of entries.now ++ id.now ∷ [])) }
+    ensures err { OnErr result (Tells places.new (keys_of entries.now)) }
+{
+    let place = copy_of(id)?;
+    let number = number_after(alloc, places, entries)?;
+    places.push(place, number)
+}
+
+// Takes an id out of the places, where there are any, and tells where it stands.
+fn take_place<V>(
+    places: &mut Option<Places>,
+    entries: &[(PolicyID, V)],
+    id: &PolicyID,
+) -> Option<usize>
+    requires { AreKept places.old (keys_of entries.now) }
+    ensures position { result ≡ position (same_text id.now) (keys_of entries.now) }
+    ensures kept { IfSome result (λ position. AreKept places.new (remove (keys_of entries.now) position)) }
+    ensures none { IfNone result (AreKept places.new (keys_of entries.now)) }
+{
+    match places {
+        Some(places) => places.take_away(id),
+        None => position_among(entries, id),
+    }
+}
+
+// Takes the last id out of the places, where there are any.
+fn unplace_last(places: &mut Option<Places>, id: &PolicyID)
+    ensures { (ids : List Text) → AreKept places.old (ids ++ id.now ∷ []) → AreKept places.new ids }
+{
+    if let Some(places) = places {
+        places.take_away(id);
     }
 }
 

@@ -112,7 +112,7 @@ impl PolicySet {
         ensures id { policy_id result ≡ id.now }
     {
         match self.take_away(id) {
-            Some(Bound::Policy(policy)) => policy,
+            Some(Bound::Policy(policy)) => Box::into_inner(policy),
             _ => unreachable!(),
         }
     }

@@ -2,6 +2,7 @@ pub mod Settings
 pub mod Told
 pub mod TextReading
 pub mod PolicyReading
+pub mod Calling
 pub mod Commands
 pub mod Open
 pub mod Programs

@@ -10,4 +10,4 @@ abbrev pub owned_setting : {F : Type 0} {functions : Ghosts F} → OwnedSession 
 owned_setting {functions = functions} session = setting_with functions.answers session.extensions session.depth
 
 abbrev pub owned_world : {F : Type 0} {functions : Ghosts F} → OwnedSession F functions → World
-owned_world session = world_holding session.policies session.entities session.asked
+owned_world session = world_holding session.held.policies session.held.entities session.held.asked

@@ -8,9 +8,11 @@
 #![tactic(auto)]
 
 mod asked;
+mod called_names;
 mod command;
 mod entry;
 mod finishing;
+mod held;
 mod in_memory;
 mod lending;
 mod naming;

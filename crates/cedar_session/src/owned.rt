@@ -4,16 +4,17 @@ ghost use Rattle.cedar_frames.specs.Heads.{body_limit};
 ghost use Rattle.cedar_replies.specs.Replies.{reply_of};
 ghost use Rattle.cedar_world.specs.RunText.{FrameStep};
 ghost use Rattle.cedar_world.specs.World.{new_world};
+ghost use Rattle.cedar_parser.specs.Settings.{functions_of};
+ghost use Rattle.cedar_session.specs.Calling.{AreNamesOf};
 ghost use Rattle.cedar_session.specs.Open.{KeepsOpen};
 ghost use Rattle.cedar_session.specs.Settings.{setting_with};
 
-use crate::asked::Asked;
 use crate::command::Command;
+use crate::held::Held;
 use crate::session::Session;
 use cedar_extensions::extensions::Extensions;
 use cedar_extensions::objects::{ExtensionFunctionObject, NoFunction};
 use cedar_frames::Verb;
-use cedar_held::{HeldEntities, HeldPolicies};
 use cedar_replies::{Refusal, Reply};
 use std::alloc::Global;
 use std::mem;
@@ -24,10 +25,9 @@ pub struct OwnedSession<'f, F: ExtensionFunctionObject = NoFunction> {
     allocator: Global,
     extensions: Extensions<'f, F>,
     depth: u32,
-    policies: HeldPolicies,
-    entities: HeldEntities,
-    asked: Option<Asked>,
-    ghost steady: { ∥ KeepsOpen (setting_with F.answers extensions depth) policies entities asked ∥₁ },
+    held: Held,
+    ghost called: { AreNamesOf (functions_of F.answers extensions) held.names },
+    ghost steady: { ∥ KeepsOpen (setting_with F.answers extensions depth) held.policies held.entities held.asked ∥₁ },
 }
 
 impl<F: ExtensionFunctionObject> Drop for OwnedSession<'_, F> {
@@ -36,9 +36,7 @@ impl<F: ExtensionFunctionObject> Drop for OwnedSession<'_, F> {
             allocator: _,
             extensions: _,
             depth: _,
-            policies: _,
-            entities: _,
-            asked: _,
+            held: _,
         } = self;
     }
 }
@@ -56,9 +54,7 @@ impl<'f, F: ExtensionFunctionObject> OwnedSession<'f, F> {
             allocator,
             extensions,
             depth,
-            policies: HeldPolicies::new(allocator),
-            entities: HeldEntities::new(allocator),
-            asked: None,
+            held: Held::nothing(allocator),
         }
     }
 
@@ -72,17 +68,10 @@ impl<'f, F: ExtensionFunctionObject> OwnedSession<'f, F> {
         let Ok(text) = str::from_utf8(body) else {
             return Err(Refusal::NotUtf8);
         };
-        let held = (
-            mem::replace(&mut self.policies, HeldPolicies::new(self.allocator)),
-            mem::replace(&mut self.entities, HeldEntities::new(self.allocator)),
-            self.asked.take(),
-        );
+        let held = mem::replace(&mut self.held, Held::nothing(self.allocator));
         let mut session = Session::resumed(self.allocator, &self.extensions, self.depth, held);
         let outcome = session.apply(&Command::of(verb, text));
-        let (policies, entities, asked) = session.into_held();
-        self.policies = policies;
-        self.entities = entities;
-        self.asked = asked;
+        self.held = session.into_held();
         outcome
     }
 }

@@ -3,16 +3,17 @@ ghost use Rattle.std.specs.Prelude.{◌≡◌, IfOk, false};
 ghost use Rattle.cedar_extensions.specs.Tables.{holds_unknown};
 ghost use Rattle.cedar_restricted.specs.Views.{restricted_tree};
 ghost use Rattle.cedar_grammar.specs.UnknownCalls.{holds_call};
+ghost use Rattle.cedar_parser.specs.Settings.{functions_of};
+ghost use Rattle.cedar_session.specs.Calling.{AreNamesOf};
 ghost use Rattle.cedar_session.specs.TextReading.{ReadsBody};
 ghost use Rattle.cedar_session.specs.Settings.{setting_with};
 
+use crate::called_names::CalledNames;
 use crate::refusals::of_body;
 use cedar_data::read_data;
 use cedar_extensions::extensions::Extensions;
 use cedar_extensions::objects::ExtensionFunctionObject;
-use cedar_faults::ExtStyles;
 use cedar_grammar::texts_call_the_table;
-use cedar_parser::prelude::StylesOfExtensions;
 use cedar_parser::strict::parse_restrictedexpr;
 use cedar_replies::Refusal;
 use cedar_restricted::restricted::RestrictedExpr;
@@ -21,7 +22,8 @@ use std::alloc::Global;
 
 /// The body that a text is, where it may call the functions of the table. No `unknown` is called in it
 /// where the table lacks that function. Most bodies are read straight from their text (`read_data`); the
-/// parser reads the others, and finds why a text is refused.
+/// parser reads the others, and finds why a text is refused. The names of the table's functions are made where they
+/// aren't yet, and kept.
 ///
 /// It is refused `Text` where the text is no expression within any nesting, and so where a slot of templates
 /// stands in it; `Depth` where its nesting or the height of its tree is more than `depth`; `NotRestricted`
@@ -29,9 +31,12 @@ use std::alloc::Global;
 pub fn read_body<F: ExtensionFunctionObject>(
     alloc: Global,
     text: &str,
+    names: &mut CalledNames,
     extensions: &Extensions<'_, F>,
     depth: u32,
 ) -> Result<RestrictedExpr, Refusal>
+    requires { AreNamesOf (functions_of F.answers extensions.now) names.old }
+    ensures called { AreNamesOf (functions_of F.answers extensions.now) names.new }
     ensures body { ReadsBody (setting_with F.answers extensions.now depth) text.now result }
     ensures calls { IfOk result (λ body. holds_unknown extensions.now ≡ false → holds_call (restricted_tree body) ≡ false) }
 {
@@ -40,12 +45,13 @@ pub fn read_body<F: ExtensionFunctionObject>(
     names_are_found();
     texts_call_the_table();
 
-    let styles = ExtStyles::from_extensions(alloc, extensions)?;
-    let found = read_data(alloc, text, &styles, depth)?;
+    names.make_for_bodies(alloc, extensions)?;
+    let styles = names.for_bodies();
+    let found = read_data(alloc, text, styles, depth)?;
     if let Some(body) = found {
         return Ok(body);
     }
-    match parse_restrictedexpr(alloc, text, &styles, depth) {
+    match parse_restrictedexpr(alloc, text, styles, depth) {
         Ok(body) => Ok(body),
         Err(error) => Err(of_body(&error)),
     }

@@ -3,13 +3,17 @@ ghost use Rattle.std.specs.Prelude.{◌≡◌, ◌≤◌, length, IfOk, OnErr, I
 ghost use Rattle.cedar_frames.specs.Heads.{body_limit};
 ghost use Rattle.cedar_world.specs.World.{new_world};
 ghost use Rattle.cedar_replies.specs.Replies.{answer_of, reply_of};
+ghost use Rattle.cedar_parser.specs.Settings.{functions_of};
+ghost use Rattle.cedar_session.specs.Calling.{AreNamesOf};
 ghost use Rattle.cedar_session.specs.Commands.{command_verb, command_text};
 ghost use Rattle.cedar_session.specs.Open.{KeepsOpen};
 ghost use Rattle.cedar_world.specs.OrdinaryReplies.{AnswersOrdinarily, AnswersToldOrdinarily, RepliesOrdinarily};
 ghost use Rattle.cedar_session.specs.Settings.{setting_with};
 
 use crate::asked::{Asked, close, go_on};
+use crate::called_names::CalledNames;
 use crate::command::Command;
+use crate::held::Held;
 use crate::naming::read_id;
 use crate::policy_reading::read_policies;
 use crate::reading::read_body;
@@ -38,9 +42,11 @@ pub struct Session<'e, 'f, F: ExtensionFunctionObject = NoFunction> {
     allocator: Global,
     extensions: &'e Extensions<'f, F>,
     depth: u32,
+    names: CalledNames,
     pub(crate) policies: HeldPolicies,
     pub(crate) entities: HeldEntities,
     pub(crate) asked: Option<Asked>,
+    ghost called: { AreNamesOf (functions_of F.answers extensions.now) names },
     ghost steady: { ∥ KeepsOpen (setting_with F.answers extensions.now depth) policies entities asked ∥₁ },
 }
 
@@ -50,6 +56,7 @@ impl<F: ExtensionFunctionObject> Drop for Session<'_, '_, F> {
             allocator: _,
             extensions: _,
             depth: _,
+            names: _,
             policies: _,
             entities: _,
             asked: _,
@@ -84,6 +91,7 @@ impl<'e, 'f, F: ExtensionFunctionObject> Session<'e, 'f, F> {
             allocator,
             extensions,
             depth,
+            names: CalledNames::new(),
             policies: HeldPolicies::new(allocator),
             entities: HeldEntities::new(allocator),
             asked: None,
@@ -95,17 +103,24 @@ impl<'e, 'f, F: ExtensionFunctionObject> Session<'e, 'f, F> {
         allocator: Global,
         extensions: &'e Extensions<'f, F>,
         depth: u32,
-        held: (HeldPolicies, HeldEntities, Option<Asked>),
+        held: Held,
     ) -> Session<'e, 'f, F>
-        requires steady { ∥ KeepsOpen (setting_with F.answers extensions.now depth) held.0 held.1 held.2 ∥₁ }
-        ensures world { world_of result ≡ world_holding held.0 held.1 held.2 }
+        requires called { AreNamesOf (functions_of F.answers extensions.now) held.names }
+        requires steady { ∥ KeepsOpen (setting_with F.answers extensions.now depth) held.policies held.entities held.asked ∥₁ }
+        ensures world { world_of result ≡ world_holding held.policies held.entities held.asked }
         ensures setting { setting_of result ≡ setting_with F.answers extensions.now depth }
     {
-        let (policies, entities, asked) = held;
+        let Held {
+            names,
+            policies,
+            entities,
+            asked,
+        } = held;
         Session {
             allocator,
             extensions,
             depth,
+            names,
             policies,
             entities,
             asked,
@@ -113,19 +128,26 @@ impl<'e, 'f, F: ExtensionFunctionObject> Session<'e, 'f, F> {
     }
 
     /// What the session holds, without its table.
-    pub(crate) fn into_held(self) -> (HeldPolicies, HeldEntities, Option<Asked>)
-        ensures world { world_holding result.0 result.1 result.2 ≡ world_of self.entry }
-        ensures steady { ∥ KeepsOpen (setting_of self.entry) result.0 result.1 result.2 ∥₁ }
+    pub(crate) fn into_held(self) -> Held
+        ensures called { AreNamesOf (setting_of self.entry).functions result.names }
+        ensures world { world_holding result.policies result.entities result.asked ≡ world_of self.entry }
+        ensures steady { ∥ KeepsOpen (setting_of self.entry) result.policies result.entities result.asked ∥₁ }
     {
         let Session {
             allocator: _,
             extensions: _,
             depth: _,
+            names,
             policies,
             entities,
             asked,
         } = self;
-        (policies, entities, asked)
+        Held {
+            names,
+            policies,
+            entities,
+            asked,
+        }
     }
 
     /// What the session's parts are made with, as it was handed to [`new`](Session::new).
@@ -148,8 +170,9 @@ impl<'e, 'f, F: ExtensionFunctionObject> Session<'e, 'f, F> {
         ensures setting { setting_of self.new ≡ setting_of self.old }
     {
         cedar_world::texts_are_one();
-        let policies = read_policies(self.allocator, text, self.extensions, self.depth)?;
-        let ids = self.policies.load(self.allocator, policies)?;
+        let alloc = self.allocator;
+        let policies = read_policies(alloc, text, &mut self.names, self.extensions, self.depth)?;
+        let ids = self.policies.load(alloc, policies)?;
         close(&mut self.asked);
         Ok(ids)
     }
@@ -170,11 +193,12 @@ impl<'e, 'f, F: ExtensionFunctionObject> Session<'e, 'f, F> {
         ensures setting { setting_of self.new ≡ setting_of self.old }
     {
         cedar_world::texts_are_one();
-        let body = read_body(self.allocator, text, self.extensions, self.depth)?;
+        let alloc = self.allocator;
+        let body = read_body(alloc, text, &mut self.names, self.extensions, self.depth)?;
         let Some(link) = link_body(body.as_ref()) else {
             return Err(Refusal::Shape);
         };
-        self.policies.link(self.allocator, &link)?;
+        self.policies.link(alloc, &link)?;
         close(&mut self.asked);
         Ok(())
     }
@@ -190,7 +214,8 @@ impl<'e, 'f, F: ExtensionFunctionObject> Session<'e, 'f, F> {
         ensures setting { setting_of self.new ≡ setting_of self.old }
     {
         cedar_world::texts_are_one();
-        let id = read_id(self.allocator, text, self.extensions, self.depth)?;
+        let alloc = self.allocator;
+        let id = read_id(alloc, text, &mut self.names, self.extensions, self.depth)?;
         self.policies.unlink(&id)?;
         close(&mut self.asked);
         Ok(())
@@ -206,7 +231,8 @@ impl<'e, 'f, F: ExtensionFunctionObject> Session<'e, 'f, F> {
         ensures setting { setting_of self.new ≡ setting_of self.old }
     {
         cedar_world::texts_are_one();
-        let id = read_id(self.allocator, text, self.extensions, self.depth)?;
+        let alloc = self.allocator;
+        let id = read_id(alloc, text, &mut self.names, self.extensions, self.depth)?;
         self.policies.remove_static(&id)?;
         close(&mut self.asked);
         Ok(())
@@ -223,7 +249,8 @@ impl<'e, 'f, F: ExtensionFunctionObject> Session<'e, 'f, F> {
         ensures setting { setting_of self.new ≡ setting_of self.old }
     {
         cedar_world::texts_are_one();
-        let id = read_id(self.allocator, text, self.extensions, self.depth)?;
+        let alloc = self.allocator;
+        let id = read_id(alloc, text, &mut self.names, self.extensions, self.depth)?;
         self.policies.remove_template(&id)?;
         close(&mut self.asked);
         Ok(())
@@ -247,10 +274,11 @@ impl<'e, 'f, F: ExtensionFunctionObject> Session<'e, 'f, F> {
     {
         cedar_world::texts_are_one();
         self.extensions.names_are_defined();
-        let body = read_body(self.allocator, text, self.extensions, self.depth)?;
+        let alloc = self.allocator;
+        let body = read_body(alloc, text, &mut self.names, self.extensions, self.depth)?;
         let listed = body.as_borrowed();
         self.entities
-            .add(self.allocator, listed, self.extensions, self.depth)?;
+            .add(alloc, listed, self.extensions, self.depth)?;
         close(&mut self.asked);
         Ok(())
     }
@@ -271,10 +299,11 @@ impl<'e, 'f, F: ExtensionFunctionObject> Session<'e, 'f, F> {
     {
         cedar_world::texts_are_one();
         self.extensions.names_are_defined();
-        let body = read_body(self.allocator, text, self.extensions, self.depth)?;
+        let alloc = self.allocator;
+        let body = read_body(alloc, text, &mut self.names, self.extensions, self.depth)?;
         let listed = body.as_borrowed();
         self.entities
-            .put(self.allocator, listed, self.extensions, self.depth)?;
+            .put(alloc, listed, self.extensions, self.depth)?;
         close(&mut self.asked);
         Ok(())
     }
@@ -291,8 +320,9 @@ impl<'e, 'f, F: ExtensionFunctionObject> Session<'e, 'f, F> {
         ensures setting { setting_of self.new ≡ setting_of self.old }
     {
         cedar_world::texts_are_one();
-        let body = read_body(self.allocator, text, self.extensions, self.depth)?;
-        self.entities.remove(self.allocator, body.as_borrowed())?;
+        let alloc = self.allocator;
+        let body = read_body(alloc, text, &mut self.names, self.extensions, self.depth)?;
+        self.entities.remove(alloc, body.as_borrowed())?;
         close(&mut self.asked);
         Ok(())
     }
@@ -336,12 +366,13 @@ impl<'e, 'f, F: ExtensionFunctionObject> Session<'e, 'f, F> {
         cedar_world::calls_are_found();
         cedar_world::telling::answers_err_ordinarily();
         self.extensions.names_are_defined();
-        let body = read_body(self.allocator, text, self.extensions, self.depth)?;
-        let request = request_of(self.allocator, &body, self.extensions, self.depth)?;
+        let alloc = self.allocator;
+        let body = read_body(alloc, text, &mut self.names, self.extensions, self.depth)?;
+        let request = request_of(alloc, &body, self.extensions, self.depth)?;
         let policies = self.policies.set();
         let entities = self.entities.store();
         let (first, answer) = answer(
-            self.allocator,
+            alloc,
             request,
             policies,
             entities,
@@ -352,7 +383,7 @@ impl<'e, 'f, F: ExtensionFunctionObject> Session<'e, 'f, F> {
         self.asked = Some(Asked {
             body,
             first,
-            told: BTreeMap::new(self.allocator),
+            told: BTreeMap::new(alloc),
             answer: kept,
         });
         Ok(answer)
@@ -392,9 +423,10 @@ impl<'e, 'f, F: ExtensionFunctionObject> Session<'e, 'f, F> {
         let Some(asked) = &self.asked else {
             return Err(Refusal::NoQuestion);
         };
-        let body = read_body(self.allocator, text, self.extensions, self.depth)?;
+        let alloc = self.allocator;
+        let body = read_body(alloc, text, &mut self.names, self.extensions, self.depth)?;
         let told = told_by(
-            self.allocator,
+            alloc,
             &body,
             &asked.body,
             &asked.told,
@@ -402,7 +434,7 @@ impl<'e, 'f, F: ExtensionFunctionObject> Session<'e, 'f, F> {
             self.depth,
         )?;
         let answer = answer_told(
-            self.allocator,
+            alloc,
             &asked.first,
             &told,
             &asked.answer,

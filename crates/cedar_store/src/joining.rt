@@ -61,11 +61,11 @@ fn renamed(alloc: Global, renaming: &Renaming, bound: &Bound) -> Result<Bound, A
         }
         Bound::Policy(policy) if policy.is_static() => {
             let policy = renamed_static(alloc, renaming, policy)?;
-            Ok(Bound::Policy(policy))
+            Bound::from_policy(alloc, policy)
         }
         Bound::Policy(policy) => {
             let policy = renamed_link(alloc, renaming, policy)?;
-            Ok(Bound::Policy(policy))
+            Bound::from_policy(alloc, policy)
         }
     }
 }

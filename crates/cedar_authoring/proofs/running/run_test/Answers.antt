@@ -4,7 +4,7 @@ use Rattle.cedar_world.specs.Setting.{Setting}
 use Rattle.cedar_world.specs.World.{World, new_world}
 use Rattle.cedar_session.specs.Programs.{setting_within}
 use Rattle.cedar_session.specs.Sessions.{setting_of, world_of}
-use Rattle.cedar_scripts.specs.declared.script.Step.{Step}
+use Rattle.cedar_authoring.specs.declared.scripts.script.Step.{Step}
 use Rattle.cedar_authoring.specs.Scripts.{AreAnswered}
 use Rattle.cedar_authoring.proofs.Ran.{AreAnswered-append}
 use Rattle.cedar_authoring.proofs.running.run_test.Goals as goal

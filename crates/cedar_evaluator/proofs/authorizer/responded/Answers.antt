@@ -11,6 +11,10 @@ returns g c =
     let es = c.args.policies.now in
     let apart = IsDistinct-keys_filter same_text (λ e. is_policy e.1) es c.len-count.ensures.whole.distinct in
     if_ok_both c.into_response.result
-    (λ response holds asked i store table depth is by scopes.
-    responds c.args.groups.with_false i store table depth es c.gather.new.self (c.in_ok-gather.ensures apart i store table depth by scopes) apart response holds asked is)
+    (λ response holds asked i store table depth is by.
+    let scopes = c.new-scopes.ensures i store table depth by in
+    responds c.args.groups.with_false i store table depth es c.gather.new.self (c.in_ok-gather.ensures i store table depth by scopes) apart response holds asked is)
     c.into_response.ensures.holds c.into_response.ensures.asked
+
+pub gather-requires-clause-apart : goal.gather-requires-clause-apart
+gather-requires-clause-apart g c = IsDistinct-keys_filter same_text (λ e. is_policy e.1) c.args.policies.now c.len-count.ensures.whole.distinct

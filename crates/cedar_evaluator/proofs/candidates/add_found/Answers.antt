@@ -16,8 +16,8 @@ returns-then-is_empty-clause-added c = λ whole u given p h.
 pub returns-in-Some-clause-added : goal.returns-in-Some-clause-added
 returns-in-Some-clause-added c =
     let listed = c.args.listed.now in
-    let uid = c.args.given.now.uid.value in
-    let own = one_added listed uid c.args.found.now.items c.at.result.now c.extend_from_slice.new.self.items c.in_ok-extend_from_slice.ensures.items (c.at.ensures ∙ ap (positions_at listed) c.deref.ensures) in
+    let uid = c.args.given.now.uid.now in
+    let own = one_added listed uid c.args.found.now.items c.at.result.now c.extend_from_slice.new.self.items c.in_ok-extend_from_slice.ensures.items c.at.ensures in
     let held : option_copied c.args.given.now.entity ≡ Some c.in-Some.entity.now = ap option_copied c.in-Some.is in
     if_ok_both c.add_of_ancestors.result
     (λ all kept added whole. all_added listed uid (option_copied c.args.given.now.entity) c.add_of_ancestors.new.found.items
@@ -28,8 +28,8 @@ returns-in-Some-clause-added c =
 pub returns-in-None-clause-added : goal.returns-in-None-clause-added
 returns-in-None-clause-added c = λ whole.
     let listed = c.args.listed.now in
-    let uid = c.args.given.now.uid.value in
+    let uid = c.args.given.now.uid.now in
     let none : option_copied c.args.given.now.entity ≡ None = ap option_copied c.in-None.is in
     all_added listed uid (option_copied c.args.given.now.entity) c.extend_from_slice.new.self.items
-    (one_added listed uid c.args.found.now.items c.at.result.now c.extend_from_slice.new.self.items c.in_ok-extend_from_slice.ensures.items (c.at.ensures ∙ ap (positions_at listed) c.deref.ensures))
+    (one_added listed uid c.args.found.now.items c.at.result.now c.extend_from_slice.new.self.items c.in_ok-extend_from_slice.ensures.items c.at.ensures)
     (λ u h. absurd (true≢false (sym h ∙ ap (λ (e : Option EntityData). option_map_or (λ d. set.contains (ancestors_of d) u) e false) none)))

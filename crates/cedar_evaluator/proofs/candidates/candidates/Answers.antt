@@ -14,8 +14,11 @@ copied_and : {X Y : Type 0} (o : Option (Bor X)) (q : Option (Bor Y)) → option
 copied_and None q = refl
 copied_and (Some x) q = refl
 
-pub returns-in-Some-2 : goal.returns-in-Some-2
-returns-in-Some-2 c = λ i store scopes.
+pub returns-in-Some-2-clause-rising : goal.returns-in-Some-2-clause-rising
+returns-in-Some-2-clause-rising c = c.in_order.ensures.rising
+
+pub returns-in-Some-2-clause-whole : goal.returns-in-Some-2-clause-whole
+returns-in-Some-2-clause-whole c = λ i store scopes.
     let p = c.in-Some.principal in
     let given = c.args.scopes.now in
     let es = c.args.policies.now in

@@ -13,4 +13,4 @@ returns-in-Some c = λ facts store holds has given.
     let entity = c.in-Some.entity in
     let held = subst (IsGivenAs store (holds.variable Action)) c.in-Some.is given in
     subst (λ (b : Bool). IsDecided facts holds (action_tree asked) (Some b)) (sym c.meets_action.ensures)
-    (action_held facts store has entity.uid.value entity.entity held.1 holds asked held.0)
+    (action_held facts store has entity.uid.now entity.entity held.1 holds asked held.0)

@@ -13,4 +13,4 @@ returns-in-Some c = λ facts store holds v s has given binds.
     let entity = c.in-Some.entity in
     let held = subst (IsGivenAs store (holds.variable v)) c.in-Some.is given in
     subst (IsDecided facts holds (constraint_tree v s asked)) (sym c.meets.ensures)
-    (constraint_held facts store has entity.uid.value entity.entity held.1 holds v s (option_copied c.args.bound) asked held.0 binds)
+    (constraint_held facts store has entity.uid.now entity.entity held.1 holds v s (option_copied c.args.bound) asked held.0 binds)

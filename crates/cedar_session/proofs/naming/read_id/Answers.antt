@@ -8,21 +8,21 @@ use Rattle.cedar_session.proofs.PolicyCommands.{no_id}
 use Rattle.cedar_session.proofs.Texts.{read_tree}
 use Rattle.cedar_session.proofs.naming.read_id.Goals as goal
 
-pub returns-in_err-body : goal.returns-in_err-body
-returns-in_err-body g c =
+pub returns-in_err-body-clause-id : goal.returns-in_err-body-clause-id
+returns-in_err-body-clause-id g c =
     let by = setting_with g.F.ExtensionFunctionObject.answers c.args.extensions.now c.args.depth in
     let p = err_from_is_err_and c.from_residual.result c.from_residual.ensures.1 in
     rw (p.1, p.2) (no_id by c.args.text.now c.in_err-body.field-0.0 c.in_err-body.ensures.body)
 
-pub returns-in_default : goal.returns-in_default
-returns-in_default g c =
+pub returns-in_default-clause-id : goal.returns-in_default-clause-id
+returns-in_default-clause-id g c =
     let by = setting_with g.F.ExtensionFunctionObject.answers c.args.extensions.now c.args.depth in
     let tree = bare c.as_ref.result.now in
     let read = read_tree by c.args.text.now (restricted_tree c.in_ok-body.body) tree c.as_ref.ensures.tree c.in_ok-body.ensures.body in
     (tree, read.0, read.1, (c.as_ref.ensures.restricted, sym (rw c.in_default.is at c.string_of.ensures)))
 
-pub returns : goal.returns
-returns g c =
+pub returns-clause-id : goal.returns-clause-id
+returns-clause-id g c =
     let by = setting_with g.F.ExtensionFunctionObject.answers c.args.extensions.now c.args.depth in
     let tree = bare c.as_ref.result.now in
     let read = read_tree by c.args.text.now (restricted_tree c.in_ok-body.body) tree c.as_ref.ensures.tree c.in_ok-body.ensures.body in

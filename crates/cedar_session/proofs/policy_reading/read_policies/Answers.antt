@@ -8,8 +8,10 @@ use Rattle.cedar_session.proofs.policy_reading.read_policies.Goals as goal
 pub returns : goal.returns
 returns g c =
     let by = setting_with g.F.ExtensionFunctionObject.answers c.args.extensions.now c.args.depth in
-    let reads = subst (λ names. ReadsSet names c.args.depth c.args.text.now c.policy_set.result) c.in_ok-styles.ensures c.policy_set.ensures in
+    let same = c.in_ok-make_for_policies.ensures.called.policies c.for_policies.result.now c.for_policies.ensures in
+    let reads = subst (λ names. ReadsSet names c.args.depth c.args.text.now c.policy_set.result) same c.policy_set.ensures in
     record {
+      called = c.in_ok-make_for_policies.ensures.called;
       policies = policies_read by c.args.text.now c.policy_set.result reads;
       names = names_read by c.args.text.now (c.calls_are_found.ensures by) c.policy_set.result reads;
     }

@@ -4,7 +4,6 @@ use Rattle.cedar_interpreter.specs.Asking.{Inquiry}
 use Rattle.cedar_requests.specs.Holding.{request_parts}
 use Rattle.cedar_substitution.specs.Told.{told_for}
 use Rattle.cedar_evaluator.specs.Authorizing.{table_of, limit_of, RespondsWith}
-use Rattle.cedar_evaluator.specs.Scopes.{AreScopesOf}
 use Rattle.cedar_evaluator.proofs.Responding.{if_ok}
 use Rattle.cedar_evaluator.proofs.authorizer.Authorizer.answer_told.Goals as goal
 
@@ -14,7 +13,5 @@ returns g c =
     let store = c.args.entities.now in
     let table = table_of g.F.ExtensionFunctionObject.answers c.args.self.now in
     let depth = limit_of c.args.self.now in
-    let given = c.in_ok-evaluator.ensures.1 in
-    let scopes : AreScopesOf i store c.in_ok-evaluator.scopes = record { principal = given.principal; action = given.action; resource = given.resource } in
     if_ok c.responded.result
-    (λ response by. subst (λ (b : Bool). RespondsWith b i store table depth c.args.policies.now response) c.new-groups.ensures.with_false (by i store table depth refl (c.with_told-evaluator.ensures (request_parts c.args.request) store table depth c.in_ok-evaluator.ensures.0) scopes)) c.responded.ensures
+    (λ response by. subst (λ (b : Bool). RespondsWith b i store table depth c.args.policies.now response) c.new-groups.ensures.with_false (by i store table depth refl (c.with_told-evaluator.ensures (request_parts c.args.request) store table depth c.in_ok-evaluator.ensures))) c.responded.ensures

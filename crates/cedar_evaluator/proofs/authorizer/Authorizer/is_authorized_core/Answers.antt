@@ -13,4 +13,4 @@ returns g c =
     let table = table_of g.F.ExtensionFunctionObject.answers c.args.self.now in
     let depth = limit_of c.args.self.now in
     if_ok c.responded.result
-    (λ response by. subst (λ (b : Bool). RespondsWith b i store table depth c.args.policies.now response) c.new-groups.ensures.with_false (by i store table depth refl c.in_ok-evaluator.ensures.0 c.in_ok-evaluator.ensures.1)) c.responded.ensures
+    (λ response by. subst (λ (b : Bool). RespondsWith b i store table depth c.args.policies.now response) c.new-groups.ensures.with_false (by i store table depth refl c.in_ok-evaluator.ensures)) c.responded.ensures

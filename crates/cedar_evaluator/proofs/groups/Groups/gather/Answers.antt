@@ -1,6 +1,7 @@
 -- Where nothing is asked of those that aren't satisfied, the candidates are enough.
-use Rattle.std.proofs.Common.{Bool, sym, subst}
+use Rattle.std.proofs.Common.{◌≡◌, Bool, List, ℕ, Option, Some, sym, subst}
 use Rattle.std.specs.Prelude.{IfSome}
+use Rattle.std.specs.List.Sorted.{IsStrictlyIncreasing}
 use Rattle.std.proofs.lemmas.Result.{on_ok_weaker}
 use Rattle.cedar_entities.specs.declared.store.Entities.{Entities}
 use Rattle.cedar_interpreter.specs.Asking.{Inquiry}
@@ -11,14 +12,22 @@ use Rattle.cedar_evaluator.specs.Scopes.{AreScopesOf}
 use Rattle.cedar_evaluator.proofs.Passed.{candidates_apart, candidates_keep}
 use Rattle.cedar_evaluator.proofs.groups.Groups.gather.Goals as goal
 
+-- what holds of what is found holds of its items, as they are lent
+of_found : {X : Type 0} (P : List ℕ → Type 0) (items : X → List ℕ) {o : Option X} {x : X} {lent : List ℕ} → o ≡ Some x → lent ≡ items x → IfSome o (λ y. P (items y)) → P lent
+of_found P items is same found = subst P (sym same) (subst (λ o. IfSome o (λ y. P (items y))) is found)
+
+pub gather_at-requires-clause-apart : goal.gather_at-requires-clause-apart
+gather_at-requires-clause-apart g c =
+    let rising = of_found IsStrictlyIncreasing (λ positions. positions.items) c.in-Some.is c.deref.ensures.value c.in_ok-positions.ensures.rising in
+    candidates_apart c.args.policies.now c.deref.result.now rising c.requires.apart
+
 pub returns-in-Some : goal.returns-in-Some
 returns-in-Some g c =
     let es = c.args.policies.now in
-    let found = subst (λ o. IfSome o (λ positions. (i : Inquiry) (store : Entities) → AreScopesOf i store c.args.scopes.now → AreCandidates i store es positions.items)) c.in-Some.is c.in_ok-positions.ensures in
+    let candidates = of_found (λ ps. (i : Inquiry) (store : Entities) → AreScopesOf i store c.args.scopes.now → AreCandidates i store es ps) (λ positions. positions.items) c.in-Some.is c.deref.ensures.value c.in_ok-positions.ensures.whole in
     on_ok_weaker c.gather_at.result
-    (λ keeps apart i store table depth is scopes.
-    let candidates = subst (AreCandidates i store es) (sym c.deref.ensures.value) (found i store scopes) in
-    let own = keeps (candidates_apart i store table depth es c.deref.result.now candidates apart) i store table depth is scopes in
+    (λ keeps i store table depth is scopes.
     subst (λ (b : Bool). Keeps b i store table depth (policies_of es) c.gather_at.new.self) (sym c.if-self.false)
-    (candidates_keep i store table depth es c.deref.result.now c.gather_at.new.self candidates (subst (λ (b : Bool). Keeps b i store table depth (policies_at es c.deref.result.now) c.gather_at.new.self) c.if-self.false own)))
+    (candidates_keep i store table depth es c.deref.result.now c.gather_at.new.self (candidates i store scopes)
+    (subst (λ (b : Bool). Keeps b i store table depth (policies_at es c.deref.result.now) c.gather_at.new.self) c.if-self.false (keeps i store table depth is scopes))))
     c.gather_at.ensures

@@ -22,3 +22,15 @@ returns-clause-held c =
     on_ok_weaker c.keep_false.result
     (adds_erring before.with_false p before c.keep_false.new.self told (record before { errors = c.push.new.self }) (λ i. record (held_in before) { errors = errors i }))
     (c.keep_false.ensures.held (Erred told) refl)
+
+pub keep_false-requires : goal.keep_false-requires
+keep_false-requires c =
+    let new = c.requires in
+    record {
+      satisfied_permits = new.satisfied_permits;
+      false_permits = new.false_permits;
+      open_permits = new.open_permits;
+      satisfied_forbids = new.satisfied_forbids;
+      false_forbids = new.false_forbids;
+      open_forbids = new.open_forbids;
+    }

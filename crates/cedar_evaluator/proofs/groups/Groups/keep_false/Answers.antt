@@ -14,13 +14,13 @@ returns-then-not-self-clause-held c = λ found fits.
 pub returns-in-Permit-clause-held : goal.returns-in-Permit-clause-held
 returns-in-Permit-clause-held c = λ found fits.
     let g = c.args.self.now in
-    on_ok_weaker c.put.result
-    (false_permit g.with_false g c.args.policy.now (c.in_ok-id.id, c.in_ok-id.annotations) c.in_ok-id.ensures (cc) c.args.state found fits (sym (ap effect_of c.in-Permit.is) ∙ c.effect.ensures) c.put.new.group)
-    c.put.ensures
+    on_ok_weaker c.push.result
+    (false_permit g.with_false g c.args.policy.now (c.in_ok-id.id, c.in_ok-id.annotations) c.in_ok-id.ensures (cc) c.args.state found fits (sym (ap effect_of c.in-Permit.is) ∙ c.effect.ensures) c.push.new.self)
+    c.push.ensures.pushed
 
 pub returns-in-Forbid-clause-held : goal.returns-in-Forbid-clause-held
 returns-in-Forbid-clause-held c = λ found fits.
     let g = c.args.self.now in
-    on_ok_weaker c.put-in-Forbid.result
-    (false_forbid g.with_false g c.args.policy.now (c.in_ok-id.id, c.in_ok-id.annotations) c.in_ok-id.ensures (cc) c.args.state found fits (sym (ap effect_of c.in-Forbid.is) ∙ c.effect.ensures) c.put-in-Forbid.new.group)
-    c.put-in-Forbid.ensures
+    on_ok_weaker c.push-in-Forbid.result
+    (false_forbid g.with_false g c.args.policy.now (c.in_ok-id.id, c.in_ok-id.annotations) c.in_ok-id.ensures (cc) c.args.state found fits (sym (ap effect_of c.in-Forbid.is) ∙ c.effect.ensures) c.push-in-Forbid.new.self)
+    c.push-in-Forbid.ensures.pushed

@@ -6,7 +6,7 @@ returns-then-is_partial g c = λ i store table depth is. record { principal = tt
 
 pub returns : goal.returns
 returns g c = λ i store table depth is. record {
-  principal = c.in_ok-principal.ensures i store table depth is;
-  action = c.in_ok-action.ensures i store table depth is;
-  resource = c.in_ok-resource.ensures i store table depth is;
+  principal = c.given_entity.ensures.seen i store table depth is;
+  action = c.given_entity-2.ensures.seen i store table depth is;
+  resource = c.given_entity-3.ensures.seen i store table depth is;
 }

@@ -11,4 +11,4 @@ returns-clause-given g c = λ i store table depth is.
 
 pub returns-clause-seen : goal.returns-clause-seen
 returns-clause-seen g c = λ i store table depth is.
-    given_asked g.F.ExtensionFunctionObject.answers c.args.self.now i store table depth is (variable_of c.args.var) (λ given. given.0.now.value) (λ given. option_copied given.1) c.given.result c.given.ensures.seen
+    given_asked g.F.ExtensionFunctionObject.answers c.args.self.now i store table depth is (variable_of c.args.var) (λ given. given.uid.now) (λ given. option_copied given.entity) c.given.result c.given.ensures.seen

@@ -7,13 +7,13 @@ use Rattle.cedar_interpreter.specs.Seen.{IsSeen}
 use Rattle.cedar_interpreter.proofs.Glanced.{attribute_of_variable, attribute_of_given}
 use Rattle.cedar_interpreter.proofs.evaluator.Evaluator.glance_attribute_of.Goals as goal
 
-pub returns-in_ok-seen-in-Some : goal.returns-in_ok-seen-in-Some
-returns-in_ok-seen-in-Some g c =
+pub returns-in_ok-given-in-Some : goal.returns-in_ok-given-in-Some
+returns-in_ok-given-in-Some g c =
     let ev = c.args.self.now in
     let store = ev.entities.now in
-    let u = c.in-Some.field-0-0.now.value in
-    attribute_of_given ev c.args.attr.now (variable_of c.args.var) c.attribute_of_held.result u c.in_ok-seen-in-Some.field-0.now c.in-Some.ensures.seen.0
-    (subst (λ o. IsSeen store u (option_copied o)) c.in_ok-seen-in-Some.was c.in-Some.ensures.seen.1)
+    let u = c.in-Some.given.uid.now in
+    attribute_of_given ev c.args.attr.now (variable_of c.args.var) c.attribute_of_held.result u c.in_ok-given-in-Some.field-0.now c.in-Some.ensures.seen.0
+    (subst (λ o. IsSeen store u (option_copied o)) c.in_ok-given-in-Some.was c.in-Some.ensures.seen.1)
     (λ facts has held. c.attribute_of_held.ensures store facts u has held)
 
 pub returns-in_ok-lent-in-None : goal.returns-in_ok-lent-in-None

@@ -8,5 +8,5 @@ use Rattle.cedar_interpreter.proofs.evaluator.Evaluator.new.Goals as goal
 
 pub returns : goal.returns
 returns g c =
-    let stand = subst (StandFor (request_parts c.args.request.now)) (sym c.in_ok-variables.ensures) c.in_ok-stands.ensures in
+    let stand = subst (StandFor (request_parts c.args.request.now)) (sym c.in_ok-variables.ensures) c.in_ok-stands.ensures.stand in
     is_evaluator g.F.ExtensionFunctionObject.answers (request_parts c.args.request.now) c.args.entities.now (as_table g.F.ExtensionFunctionObject.answers c.args.extensions.now) c.args.depth _ stand refl refl refl refl

@@ -41,4 +41,4 @@ invariant_of-self g c =
     let read = read_tree by c.args.text.now (restricted_tree c.in_ok-body.body) tree c.as_borrowed-listed.ensures c.in_ok-body.ensures.body in
     let edited = c.in_err-add.ensures by (serves g.F.ExtensionFunctionObject.answers c.args.self.now.extensions.now c.args.self.now.depth (restricted_tree c.in_ok-body.body) (borrowed_tree c.as_borrowed-listed.result) c.as_borrowed-listed.ensures c.names_are_defined.ensures c.in_ok-body.ensures.calls) in
     let same = add_changes_nothing by old c.args.text.now once tree read.0 read.1 c.as_borrowed-listed.result.restricted c.in_err-add.field-0.0 c.add.new.self edited in
-    record { steady = stays by c.args.self.now.policies c.args.self.now.entities c.add.new.self same c.args.self.now.asked c.args.self.now.steady }
+    record { called = c.in_ok-body.ensures.called; steady = stays by c.args.self.now.policies c.args.self.now.entities c.add.new.self same c.args.self.now.asked c.args.self.now.steady }

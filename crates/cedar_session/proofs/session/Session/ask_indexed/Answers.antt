@@ -116,6 +116,7 @@ invariant_of-self-2 g c =
     }) asked.2.is_request named in
     let asks : IsAskedBy by asked.0 = (c.args.text.now, tree, (self.depth, read.0), asked.1) in
     record {
+      called = c.in_ok-body.ensures.called;
       steady = ∣ begins by self.policies self.entities (record { body = c.in_ok-body.body; first = c.in_ok-first.first; told = c.new.result; answer = c.in_ok-kept.kept })
           asked.0 c.in_ok-first.answer asked.1 (c.args.text.now, (self.depth, read.0)) c.new.ensures.empty c.in_ok-kept.ensures.cases first.keeps
           (asked_ordinarily by self.policies self.entities c.answers_err_ordinarily.ensures c.in_ok-first.answer

@@ -57,6 +57,7 @@ invariant_of-self-2 g c =
     let table = as_table g.F.ExtensionFunctionObject.answers self.extensions.now in
     let holds : IsStoreOf by table self.entities c.store.result.now = record { setting = record { functions = served.functions; depth_is = refl }; shows = c.store.ensures.shows; closed = c.store.ensures.closed; whole = c.store.ensures.whole; built = c.store.ensures.built } in
     record {
+      called = c.in_ok-body.ensures.called;
       steady = keeps_on by self.policies self.entities c.in-Some.asked self.asked c.in-Some.is self.steady c.more_is_told.ensures (record { listed = c.answers_read_what_is_in_force.ensures.listed; found = c.answers_read_what_is_in_force.ensures.found; known = c.answers_read_what_is_in_force.ensures.known; alike = c.answers_read_what_is_in_force.ensures.alike }) table c.in_ok-told.told tells.0 tells.2 c.store.result.now holds
           c.in_ok-answer.answer c.in_ok-kept.kept c.in_ok-kept.ensures.cases (λ es keeps. c.in_ok-answer.ensures by _ _ _ es keeps) c.go_on.new.asked c.go_on.ensures c.answers_err_ordinarily.ensures;
     }

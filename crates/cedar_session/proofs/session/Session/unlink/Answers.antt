@@ -13,17 +13,17 @@ returns-in_err-id-clause-step g c =
     let by = setting_of c.args.self.now in
     let old = world_of c.args.self.now in
     let p = err_from_is_err_and c.from_residual.result c.from_residual.ensures.1 in
-    rw (p.1, p.2) (id_unread by old c.args.text.now Unlink (λ h. cc) (UnlinkCases old.policies) refl (unlink_is_late old.policies) (c.texts_are_one.ensures.bodies by) c.in_err-id.field-0.0 c.in_err-id.ensures)
+    rw (p.1, p.2) (id_unread by old c.args.text.now Unlink (λ h. cc) (UnlinkCases old.policies) refl (unlink_is_late old.policies) (c.texts_are_one.ensures.bodies by) c.in_err-id.field-0.0 c.in_err-id.ensures.id)
 
 pub returns-in_err-unlink-clause-step : goal.returns-in_err-unlink-clause-step
 returns-in_err-unlink-clause-step g c =
     let by = setting_of c.args.self.now in
     let old = world_of c.args.self.now in
     let p = err_from_is_err_and c.from_residual-in_err-unlink.result c.from_residual-in_err-unlink.ensures.1 in
-    rw (p.1, p.2) (id_refused by old c.args.text.now Unlink (λ h. cc) (UnlinkCases old.policies) refl (unlink_is_late old.policies) (c.texts_are_one.ensures.bodies by) (rc_str_bytes c.in_ok-id.id) c.in_ok-id.ensures c.in_err-unlink.field-0.0 c.unlink.new.self c.in_err-unlink.ensures)
+    rw (p.1, p.2) (id_refused by old c.args.text.now Unlink (λ h. cc) (UnlinkCases old.policies) refl (unlink_is_late old.policies) (c.texts_are_one.ensures.bodies by) (rc_str_bytes c.in_ok-id.id) c.in_ok-id.ensures.id c.in_err-unlink.field-0.0 c.unlink.new.self c.in_err-unlink.ensures)
 
 pub returns-clause-step : goal.returns-clause-step
 returns-clause-step g c =
     let by = setting_of c.args.self.now in
     let old = world_of c.args.self.now in
-    rw (c.close.ensures) (id_done by old c.args.text.now Unlink (λ h. cc) (UnlinkCases old.policies) refl (unlink_is_late old.policies) (c.texts_are_one.ensures.bodies by) (rc_str_bytes c.in_ok-id.id) c.in_ok-id.ensures c.unlink.new.self (λ does. does) c.in_ok-unlink.ensures)
+    rw (c.close.ensures) (id_done by old c.args.text.now Unlink (λ h. cc) (UnlinkCases old.policies) refl (unlink_is_late old.policies) (c.texts_are_one.ensures.bodies by) (rc_str_bytes c.in_ok-id.id) c.in_ok-id.ensures.id c.unlink.new.self (λ does. does) c.in_ok-unlink.ensures)

@@ -1,5 +1,0 @@
-pub mod Faults
-pub mod Laws
-pub mod Lines
-pub mod Scripts
-pub mod Spoken
