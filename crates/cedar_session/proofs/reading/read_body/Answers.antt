@@ -42,8 +42,8 @@ returns-in-Ok-clause-calls g c = λ lacks.
     let same = c.in_ok-make_for_bodies.ensures.called.bodies c.for_bodies-styles.result.now c.for_bodies-styles.ensures in
     subst (λ names. LacksUnknown names → holds_call (restricted_tree c.in-Ok.body) ≡ false) same c.in-Ok.ensures.calls (lacks_unknown c.names_are_found.ensures (functions_of g.F.ExtensionFunctionObject.answers c.args.extensions.now) lacks)
 
-pub returns-clause-body : goal.returns-clause-body
-returns-clause-body g c =
+pub returns-in-Err-clause-body : goal.returns-in-Err-clause-body
+returns-in-Err-clause-body g c =
     let same = c.in_ok-make_for_bodies.ensures.called.bodies c.for_bodies-styles.result.now c.for_bodies-styles.ensures in
     let reads = subst (λ names. ReadsRestricted names c.args.depth c.args.text.now (Err c.in-Err.error)) same c.in-Err.ensures.body in
     subst (λ r. ReadsBody (setting_with g.F.ExtensionFunctionObject.answers c.args.extensions.now c.args.depth) c.args.text.now (Err r)) (sym c.of_body.ensures)

@@ -32,8 +32,8 @@ returns-clause-step g c =
     let read = read_tree by c.args.text.now (restricted_tree c.in_ok-body.body) tree c.as_borrowed-listed.ensures c.in_ok-body.ensures.body in
     rw (c.close.ensures) (add_done by (world_of c.args.self.now) c.args.text.now (c.texts_are_one.ensures.bodies by) tree read.0 read.1 c.as_borrowed-listed.result.restricted c.add.new.self (c.in_ok-add.ensures by (serves g.F.ExtensionFunctionObject.answers c.args.self.now.extensions.now c.args.self.now.depth (restricted_tree c.in_ok-body.body) (borrowed_tree c.as_borrowed-listed.result) c.as_borrowed-listed.ensures c.names_are_defined.ensures c.in_ok-body.ensures.calls)))
 
-pub invariant_of-self : goal.invariant_of-self
-invariant_of-self g c =
+pub invariant_of-self-in-Break-branch-2 : goal.invariant_of-self-in-Break-branch-2
+invariant_of-self-in-Break-branch-2 g c =
     let by = setting_of c.args.self.now in
     let old = world_of c.args.self.now in
     let once = c.texts_are_one.ensures.bodies by in
