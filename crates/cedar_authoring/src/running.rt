@@ -9,8 +9,8 @@ ghost use Rattle.cedar_authoring.specs.Telling.{Adds};
 
 use crate::checking::{DEPTH, Report};
 use crate::expecting::{first_long, is_expected, tell_test};
-use crate::wrong::tell_wrong;
 use crate::scripts::{Script, Step, Test};
+use crate::wrong::tell_wrong;
 use cedar_session::{Command, Extensions, Session};
 use std::alloc::{AllocError, Global};
 

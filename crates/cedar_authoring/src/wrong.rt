@@ -1,7 +1,7 @@
 // What is told of a command that isn't answered as is expected.
 use crate::giving::{Refused, Source, faults_told};
-use crate::telling::push_indented;
 use crate::scripts::Step;
+use crate::telling::push_indented;
 use cedar_session::{Extensions, Refusal, Reply, Session, line_in_memory};
 use std::alloc::{AllocError, Global};
 
