@@ -15,9 +15,9 @@ use Rattle.cedar_language.specs.Order.{same_uid}
 use Rattle.cedar_policy_parts.specs.SameScopes.{uids_decide}
 use Rattle.cedar_entities.specs.Data.{EntityData, UidSet, ancestors_of}
 use Rattle.cedar_operators.specs.Hierarchy.{is_within_entity}
-use Rattle.cedar_scope_index.specs.Finding.{positions_at, AreAmong}
-use Rattle.cedar_scope_index.specs.declared.positions.Positions.{Positions}
-use Rattle.cedar_scope_index.proofs.Gathering.{among_first, among_second}
+use Rattle.cedar_policy_set.specs.ScopeFinding.{positions_at, AreAmong}
+use Rattle.cedar_policy_set.specs.declared.scope_index.positions.Positions.{Positions}
+use Rattle.cedar_policy_set.proofs.Gathering.{among_first, among_second}
 use Rattle.cedar_evaluator.specs.Candidates.{HasListed}
 
 -- sorted, each once

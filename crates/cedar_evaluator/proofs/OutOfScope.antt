@@ -20,9 +20,9 @@ use Rattle.cedar_interpreter.specs.Asking.{Inquiry, variable_asked, request_held
 use Rattle.cedar_interpreter.specs.declared.given.GivenEntity.{GivenEntity}
 use Rattle.cedar_policy_set.specs.Entries.{Entry, Entries, static_policy, template, link, is_policy}
 use Rattle.cedar_policy_set.specs.Scopes.{IsEntryFound, Covers}
-use Rattle.cedar_scope_index.specs.Finding.{IsFound, IsListedFor, by_nothing, by_principal, by_action, by_resource, by_pair, covered, stands_at, is_listed}
-use Rattle.cedar_scope_index.specs.Naming.{named, is_settled, named_action}
-use Rattle.cedar_scope_index.specs.declared.index.ScopeIndex.{ScopeIndex}
+use Rattle.cedar_policy_set.specs.ScopeFinding.{IsFound, IsListedFor, by_nothing, by_principal, by_action, by_resource, by_pair, covered, stands_at, is_listed}
+use Rattle.cedar_policy_set.specs.ScopeNaming.{named, is_settled, named_action}
+use Rattle.cedar_policy_set.specs.declared.scope_index.index.ScopeIndex.{ScopeIndex}
 use Rattle.cedar_evaluator.specs.Candidates.{HasPaired, HasFound, IsOutOfScope, is_in_given, is_in_known}
 use Rattle.cedar_evaluator.specs.Scopes.{IsDecided, IsGivenAs, constraint_met}
 use Rattle.cedar_evaluator.proofs.Scoped.{both_decided, constraint_held, action_held}

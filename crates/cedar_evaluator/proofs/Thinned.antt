@@ -13,7 +13,7 @@ use Rattle.cedar_language.specs.Order.{same_text}
 use Rattle.cedar_language.specs.Uid.{Text}
 use Rattle.cedar_policy_set.specs.Entries.{Entry, Entries, is_policy, policies_of}
 use Rattle.cedar_policy_set.specs.Scopes.{policy_stood}
-use Rattle.cedar_scope_index.specs.Finding.{is_listed}
+use Rattle.cedar_policy_set.specs.ScopeFinding.{is_listed}
 use Rattle.cedar_evaluator.specs.Candidates.{policies_at}
 
 -- the second list is the first without some that may be left out

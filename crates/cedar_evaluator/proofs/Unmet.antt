@@ -5,7 +5,7 @@ use Rattle.cedar_language.specs.Order.{same_name, same_uid}
 use Rattle.cedar_grammar.specs.Policy.{Constraint, anything, equals, within, of_type, of_type_within, ActionConstraint, any_action, action_equals, action_within_any}
 use Rattle.cedar_grammar.specs.Scopes.{and_then_met, action_meets}
 use Rattle.cedar_policy_parts.specs.References.{target_bound}
-use Rattle.cedar_scope_index.specs.Naming.{named, is_settled, named_action}
+use Rattle.cedar_policy_set.specs.ScopeNaming.{named, is_settled, named_action}
 use Rattle.cedar_evaluator.specs.Scopes.{constraint_met}
 
 pub false_behind : (b : Bool) → and_then_met (Some b) (Some false) ≡ Some false

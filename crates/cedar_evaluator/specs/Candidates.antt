@@ -17,9 +17,9 @@ use Rattle.cedar_interpreter.specs.declared.given.GivenEntity.{GivenEntity}
 use Rattle.cedar_policy_set.specs.Entries.{Entry, Entries, is_policy}
 use Rattle.cedar_policy_set.specs.Scopes.{policy_stood}
 use Rattle.cedar_policy_set.specs.Texts.{syntax_in}
-use Rattle.cedar_scope_index.specs.Finding.{positions_at, others_of, is_listed, AreAmong}
-use Rattle.cedar_scope_index.specs.declared.index.ScopeIndex.{ScopeIndex}
-use Rattle.cedar_scope_index.specs.declared.positions.Positions.{Positions}
+use Rattle.cedar_policy_set.specs.ScopeFinding.{positions_at, others_of, is_listed, AreAmong}
+use Rattle.cedar_policy_set.specs.declared.scope_index.index.ScopeIndex.{ScopeIndex}
+use Rattle.cedar_policy_set.specs.declared.scope_index.positions.Positions.{Positions}
 use Rattle.cedar_evaluator.specs.Evaluations.{bindings_in}
 
 -- what is listed under each entity that passes the test is among these

@@ -6,16 +6,16 @@ ghost use Rattle.std.specs.Option.{option_copied};
 ghost use Rattle.cedar_entities.specs.Data.{ancestors_of};
 ghost use Rattle.cedar_entities.specs.declared.store.Entities.{Entities as Store};
 ghost use Rattle.cedar_interpreter.specs.Asking.{Inquiry};
-ghost use Rattle.cedar_scope_index.specs.Finding.{AreAmong};
+ghost use Rattle.cedar_policy_set.specs.ScopeFinding.{AreAmong};
 ghost use Rattle.cedar_evaluator.specs.Candidates.{is_in_given, is_in_known, HasListed, HasPaired, HasFound, AreCandidates};
 ghost use Rattle.cedar_evaluator.specs.Scopes.{AreScopesOf};
 
 use crate::scopes::Scopes;
 use cedar_entities::entity::Entity;
 use cedar_interpreter::GivenEntity;
+use cedar_policy_set::scope_index::index::ScopeIndex;
+use cedar_policy_set::scope_index::positions::Positions;
 use cedar_policy_set::sets::PolicySet;
-use cedar_scope_index::index::ScopeIndex;
-use cedar_scope_index::positions::Positions;
 use std::alloc::{AllocError, Global};
 
 /// Positions in a set, each below the next, outside of which no policy is in scope of a request. A scope is asked from

@@ -12,8 +12,8 @@ use Rattle.cedar_policy_parts.specs.Bindings.{unbound}
 use Rattle.cedar_policies.specs.Policies.{policy_template, policy_syntax, link_of, bindings_of}
 use Rattle.cedar_policies.specs.declared.policies.Policy.{Policy}
 use Rattle.cedar_policies.specs.Templates.{template_id}
-use Rattle.cedar_scope_index.specs.Finding.{IsFound, KeepsFound, covered}
-use Rattle.cedar_scope_index.specs.declared.index.ScopeIndex.{ScopeIndex}
+use Rattle.cedar_policy_set.specs.ScopeFinding.{IsFound, KeepsFound, covered}
+use Rattle.cedar_policy_set.specs.declared.scope_index.index.ScopeIndex.{ScopeIndex}
 use Rattle.cedar_policy_set.specs.Entries.{Entry, static_policy, template, link, Entries}
 use Rattle.cedar_policy_set.specs.Bounds.{entry_by, policy_entry, entry_of, entries_of}
 use Rattle.cedar_policy_set.specs.declared.bounds.Bound.{Bound}

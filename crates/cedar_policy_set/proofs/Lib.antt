@@ -1,10 +1,15 @@
 pub mod Additions
+mod Closing
 pub mod Counting
 pub mod Covering
 pub mod Distinct
 pub mod Edits
 pub mod Few
 pub mod Finding
+pub mod Gathering
+mod Growing
+mod Listing
+mod Moving
 pub mod Placed
 pub mod Placing
 pub mod Sameness

@@ -8,9 +8,9 @@ use Rattle.cedar_language.specs.Order.{same_text}
 use Rattle.cedar_grammar.specs.Policy as grammar
 use Rattle.cedar_grammar.specs.Bindings.{Bindings}
 use Rattle.cedar_policy_parts.specs.Bindings.{unbound}
-use Rattle.cedar_scope_index.specs.Finding.{IsFound, covered}
-use Rattle.cedar_scope_index.specs.Places.{closed_up}
-use Rattle.cedar_scope_index.specs.declared.index.ScopeIndex.{ScopeIndex}
+use Rattle.cedar_policy_set.specs.ScopeFinding.{IsFound, covered}
+use Rattle.cedar_policy_set.specs.ClosedPlaces.{closed_up}
+use Rattle.cedar_policy_set.specs.declared.scope_index.index.ScopeIndex.{ScopeIndex}
 use Rattle.cedar_policy_set.specs.Entries.{Entry, static_policy, template, link, Entries, without}
 use Rattle.cedar_policy_set.specs.Bounds.{entry_of, entries_of}
 use Rattle.cedar_policy_set.specs.declared.bounds.Bound.{Bound}

@@ -1,3 +1,8 @@
+pub mod ScopeNaming
+pub mod ClosedPlaces
+pub mod ScopeFinding
+pub mod ScopeKeys
+pub mod ScopeLists
 pub mod Entries
 pub mod Places
 pub mod EntryNodes

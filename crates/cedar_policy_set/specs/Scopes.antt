@@ -2,8 +2,8 @@
 use Rattle.std.specs.Prelude.{◌≡◌, ⊤, ℕ, ◌<◌, ◌≤◌, List, length, slice_get, Option, Some, None, if◌then◌else◌}
 use Rattle.cedar_language.specs.Uid.{Text}
 use Rattle.cedar_policy_parts.specs.Bindings.{unbound}
-use Rattle.cedar_scope_index.specs.Finding.{IsFound, covered}
-use Rattle.cedar_scope_index.specs.declared.index.ScopeIndex.{ScopeIndex}
+use Rattle.cedar_policy_set.specs.ScopeFinding.{IsFound, covered}
+use Rattle.cedar_policy_set.specs.declared.scope_index.index.ScopeIndex.{ScopeIndex}
 use Rattle.cedar_policy_set.specs.Entries.{Entry, static_policy, template, link, Entries, is_policy}
 use Rattle.cedar_policy_set.specs.Bounds.{entries_of, IsSound}
 use Rattle.cedar_policy_set.specs.Numbers.{AreBound}

@@ -15,6 +15,7 @@ mod places;
 pub mod policy_map;
 mod reading;
 mod removing;
+pub mod scope_index;
 mod scopes;
 pub mod sets;
 mod validating;

@@ -1,17 +1,17 @@
 // The policies of a set by their positions and by what their scopes name.
 ghost use Rattle.std.specs.Prelude.{◌≡◌, ◌+◌, ◌<◌, ◌^◌, OnOk, OnErr, length, option_map, slice_get};
 ghost use Rattle.std.specs.Option.{option_copied};
-ghost use Rattle.cedar_scope_index.specs.Finding.{covered, KeepsFound};
+ghost use Rattle.cedar_policy_set.specs.ScopeFinding.{covered, KeepsFound};
 ghost use Rattle.cedar_policy_set.specs.Bounds.{entry_of, entries_of, policy_seen};
 ghost use Rattle.cedar_policy_set.specs.Entries.{without};
 ghost use Rattle.cedar_policy_set.specs.Scopes.{IsEntryFound, Covers, policy_stood};
 
 use crate::bounds::Bound;
 use crate::policy_map::PolicyMap;
+use crate::scope_index::index::ScopeIndex;
 use crate::sets::PolicySet;
 use cedar_policies::policies::Policy;
 use cedar_policy_parts::PolicyID;
-use cedar_scope_index::index::ScopeIndex;
 use std::alloc::{AllocError, Global};
 
 impl PolicySet {

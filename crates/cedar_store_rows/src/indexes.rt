@@ -1,8 +1,8 @@
 // The index of scopes of the set at hand, and the policies at its positions.
 use crate::words::{Answer, Case, done, no_case, text, told, uid};
 use cedar_literals::uids::EntityUID;
-use cedar_scope_index::index::ScopeIndex;
-use cedar_scope_index::positions::Positions;
+use cedar_policy_set::scope_index::index::ScopeIndex;
+use cedar_policy_set::scope_index::positions::Positions;
 use cedar_store::ast::{Policy, PolicySet};
 use std::alloc::Global;
 

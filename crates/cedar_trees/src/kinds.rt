@@ -240,10 +240,12 @@ fn insert_new<T: Drop>(
     ensures { PutsNew (rc_str_bytes key, bare expr)
         (bare_entries map.old.entries) (bare_entries map.new.entries) result }
 {
-    if map.contains_key(&key) {
-        let error = DuplicateKeyError::new(key, "in record literal");
-        return Err(ExpressionConstructionError::DuplicateKey(error));
+    let name = key.clone()?;
+    match map.insert(key, expr)? {
+        None => Ok(()),
+        Some(_) => {
+            let error = DuplicateKeyError::new(name, "in record literal");
+            Err(ExpressionConstructionError::DuplicateKey(error))
+        }
     }
-    map.insert(key, expr)?;
-    Ok(())
 }

@@ -3,7 +3,7 @@ use Rattle.std.proofs.Common.{◌≡◌, true, false, Option, Some, None, [], ap
 use Rattle.std.specs.FinSet as set
 use Rattle.std.specs.Option.{option_copied, option_map_or}
 use Rattle.cedar_entities.specs.Data.{EntityData, ancestors_of}
-use Rattle.cedar_scope_index.specs.Finding.{positions_at, is_listed}
+use Rattle.cedar_policy_set.specs.ScopeFinding.{positions_at, is_listed}
 use Rattle.cedar_evaluator.proofs.Listed.{one_added, all_added}
 use Rattle.cedar_evaluator.proofs.Responding.{if_ok_both}
 use Rattle.cedar_evaluator.proofs.candidates.add_found.Goals as goal

@@ -5,8 +5,8 @@ use Rattle.std.specs.Set.{is_member}
 use Rattle.cedar_language.specs.Uid.{Uid}
 use Rattle.cedar_language.specs.Order.{same_uid}
 use Rattle.cedar_entities.specs.Data.{ancestors_of}
-use Rattle.cedar_scope_index.specs.Finding.{positions_at, AreAmong}
-use Rattle.cedar_scope_index.proofs.Gathering.{among_first}
+use Rattle.cedar_policy_set.specs.ScopeFinding.{positions_at, AreAmong}
+use Rattle.cedar_policy_set.proofs.Gathering.{among_first}
 use Rattle.cedar_evaluator.proofs.Listed.{AreGathered, gathered_more, all_gathered}
 use Rattle.cedar_evaluator.proofs.candidates.add_of_ancestors.Goals as goal
 

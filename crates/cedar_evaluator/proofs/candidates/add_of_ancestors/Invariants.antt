@@ -1,4 +1,4 @@
-use Rattle.cedar_scope_index.specs.Finding.{AreAmong}
+use Rattle.cedar_policy_set.specs.ScopeFinding.{AreAmong}
 use Rattle.cedar_evaluator.proofs.Listed.{AreGathered}
 use Rattle.cedar_evaluator.proofs.candidates.add_of_ancestors.Given as goal
 

@@ -1,6 +1,6 @@
 -- What was found for one part stays while the next ones are looked up.
 use Rattle.std.proofs.Common.{◌++◌, ap, ◌∙◌}
-use Rattle.cedar_scope_index.specs.Finding.{positions_at, is_listed}
+use Rattle.cedar_policy_set.specs.ScopeFinding.{positions_at, is_listed}
 use Rattle.cedar_evaluator.proofs.candidates.found_by.Goals as goal
 
 pub returns-then-branch-4 : goal.returns-then-branch-4

@@ -4,7 +4,7 @@ use Rattle.std.specs.Prelude.{nat_eq}
 use Rattle.std.specs.List.Sorted.{IsStrictlyIncreasing}
 use Rattle.std.proofs.lemmas.List.Filters.{dedup_is}
 use Rattle.std.proofs.lemmas.Map.Keys.{IsStrictlyIncreasing-dedup}
-use Rattle.cedar_scope_index.specs.Finding.{AreAmong}
+use Rattle.cedar_policy_set.specs.ScopeFinding.{AreAmong}
 use Rattle.cedar_evaluator.proofs.Listed.{among_sorted}
 use Rattle.cedar_evaluator.proofs.candidates.in_order.Goals as goal
 

@@ -1,6 +1,6 @@
 -- What is covered stays so, and each turn leaves fewer positions.
 use Rattle.std.proofs.Common.{length, ◌-◌}
-use Rattle.cedar_scope_index.specs.Finding.{covered}
+use Rattle.cedar_policy_set.specs.ScopeFinding.{covered}
 use Rattle.cedar_policy_set.specs.Bounds.{entries_of}
 use Rattle.cedar_policy_set.specs.Scopes.{Covers}
 use Rattle.cedar_policy_set.proofs.scopes.cover.Given as goal

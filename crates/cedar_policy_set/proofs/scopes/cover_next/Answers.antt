@@ -2,7 +2,7 @@
 use Rattle.std.proofs.Common.{sym, subst}
 use Rattle.std.proofs.lemmas.Result.{on_ok_weaker}
 use Rattle.cedar_policies.specs.Policies.{bindings_of, policy_syntax}
-use Rattle.cedar_scope_index.specs.Finding.{covered, IsFound}
+use Rattle.cedar_policy_set.specs.ScopeFinding.{covered, IsFound}
 use Rattle.cedar_policy_set.specs.Bounds.{entry_of}
 use Rattle.cedar_policy_set.specs.Scopes.{IsEntryFound}
 use Rattle.cedar_policy_set.proofs.Covering.{found_entered}

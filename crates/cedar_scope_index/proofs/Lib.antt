@@ -1,5 +1,0 @@
-mod Growing
-mod Listing
-mod Closing
-mod Moving
-pub mod Gathering

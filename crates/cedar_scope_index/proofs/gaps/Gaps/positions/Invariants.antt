@@ -1,7 +1,0 @@
--- Those so far are moved to where they stand, and the others wait.
-use Rattle.cedar_scope_index.specs.Places.{position_of}
-use Rattle.cedar_scope_index.proofs.Moving.{AreMoved}
-use Rattle.cedar_scope_index.proofs.gaps.Gaps.positions.Given as goal
-
-abbrev pub invariant-loop-place : goal.invariant-loop-place
-invariant-loop-place l = AreMoved (position_of l.self.taken.items) l.initial.place-items l.place-items l.place-index

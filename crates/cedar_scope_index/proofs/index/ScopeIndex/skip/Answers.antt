@@ -1,6 +1,0 @@
--- What is listed is listed whatever is covered (Growing).
-use Rattle.cedar_scope_index.proofs.Growing.{counted}
-use Rattle.cedar_scope_index.proofs.index.ScopeIndex.skip.Goals as goal
-
-pub returns-clause-kept : goal.returns-clause-kept
-returns-clause-kept c = counted c.args.self.now _

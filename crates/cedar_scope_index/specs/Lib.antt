@@ -1,5 +1,0 @@
-pub mod Naming
-pub mod Places
-pub mod Finding
-pub mod Keys
-pub mod Lists

@@ -1,7 +1,0 @@
-//! An index of policies by the entities that their scopes name.
-#![tactic(auto)]
-
-mod gaps;
-pub mod index;
-mod keys;
-pub mod positions;
