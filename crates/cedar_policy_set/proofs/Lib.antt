@@ -8,7 +8,7 @@ pub mod Few
 pub mod Finding
 pub mod Gathering
 mod Growing
-mod Listing
+mod ListedPlaces
 mod Moving
 pub mod Placed
 pub mod Placing

@@ -7,7 +7,7 @@ use Rattle.std.specs.Option.{option_map_or}
 use Rattle.cedar_language.specs.Uid.{Text}
 use Rattle.cedar_language.specs.Order.{text_cmp}
 use Rattle.cedar_policy_set.specs.ScopeLists.{ListsSome}
-use Rattle.cedar_policy_set.proofs.Listing.{at_same}
+use Rattle.cedar_policy_set.proofs.ListedPlaces.{at_same}
 use Rattle.cedar_policy_set.proofs.scope_index.positions.Positions.is_empty.Goals as goal
 
 no_list : (es : List (Text × Vec ℕ Global)) → ListsSome (λ t. lookup (is_at (text_cmp t)) es) → ((t : Text) → option_map_or (λ v. v.items) (lookup (is_at (text_cmp t)) es) [] ≡ []) → es ≡ []

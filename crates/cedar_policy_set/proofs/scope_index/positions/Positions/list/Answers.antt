@@ -4,7 +4,7 @@ use Rattle.std.specs.BTreeMap.{get}
 use Rattle.std.specs.Option.{option_map_or}
 use Rattle.std.proofs.lemmas.Result.{on_err_weaker}
 use Rattle.cedar_language.specs.Order.{text_cmp}
-use Rattle.cedar_policy_set.proofs.Listing.{alike_there, put_at, on_err, listed_behind, listed_none, said_of, still_some, still_full}
+use Rattle.cedar_policy_set.proofs.ListedPlaces.{alike_there, put_at, on_err, listed_behind, listed_none, said_of, still_some, still_full}
 use Rattle.cedar_policy_set.proofs.scope_index.positions.Positions.list.Goals as goal
 
 pub invariant_of-self : goal.invariant_of-self

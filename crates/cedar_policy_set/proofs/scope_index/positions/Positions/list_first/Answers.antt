@@ -3,7 +3,7 @@ use Rattle.std.proofs.Common.{◌≢◌, cond, [], ◌∷◌, ◌++◌, Some, ap
 use Rattle.std.specs.BTreeMap.{get, is_at}
 use Rattle.std.specs.Option.{option_map_or}
 use Rattle.cedar_language.specs.Order.{text_cmp}
-use Rattle.cedar_policy_set.proofs.Listing.{alike_there, put_at, listed_first, said_of, still_some, same_some, listed_full, either_way}
+use Rattle.cedar_policy_set.proofs.ListedPlaces.{alike_there, put_at, listed_first, said_of, still_some, same_some, listed_full, either_way}
 use Rattle.cedar_policy_set.proofs.scope_index.positions.Positions.list_first.Goals as goal
 
 pub invariant_of-self : goal.invariant_of-self
