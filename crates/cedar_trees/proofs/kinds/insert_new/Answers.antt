@@ -15,6 +15,7 @@ returns-in-None g c =
     (new, ap bare_entries c.in_ok-insert.ensures.entries ∙ insert_is_put c.args.key c.args.expr c.args.map.now.entries new)
 
 pub returns-in-Some : goal.returns-in-Some
-returns-in-Some g c =
-    (sym (found_is_among (rc_str_bytes c.args.key) c.args.map.now.entries) ∙ ap is_some (sym c.in_ok-insert.ensures.old ∙ c.in-Some.is),
-    ap rc_str_bytes c.new-error.ensures.key ∙ c.in_ok-name.ensures.cases)
+returns-in-Some g c = (
+  sym (found_is_among (rc_str_bytes c.args.key) c.args.map.now.entries) ∙ ap is_some (sym c.in_ok-insert.ensures.old ∙ c.in-Some.is),
+  ap rc_str_bytes c.new-error.ensures.key ∙ c.in_ok-name.ensures.cases,
+)
