@@ -1,20 +1,17 @@
 -- Entries by the positions of their ids.
-use Rattle.std.proofs.Common.{◌≡◌, ℕ, zero, suc, ◌+◌, ◌<◌, ◌≤◌, Bool, true, false, not, ◌||◌, cond, ltb, lt-ltb, ltb-false, List, [], ◌∷◌, ◌++◌, length, get_or, take, drop, refl, sym, ap, subst, ◌∙◌, true≢false, Option, None, Some, is_some, arith}
-use Rattle.std.specs.Prelude.{All, IfSome, position, remove, slice_set}
+use Rattle.std.proofs.Common.{◌≡◌, ℕ, zero, suc, ◌+◌, ◌<◌, ◌≤◌, Bool, true, false, not, ◌||◌, cond, ltb, ltb-false, List, [], ◌∷◌, ◌++◌, length, get_or, take, drop, refl, sym, ap, subst, ◌∙◌, true≢false, None, Some, is_some, arith}
+use Rattle.std.specs.Prelude.{position, remove, slice_set}
 use Rattle.std.specs.List.{position_or_len, list_any, IsDistinct}
 use Rattle.std.specs.Map.{lookup, keys_of, remove_entry}
-use Rattle.std.proofs.lemmas.List.{length-map, map-append, take-map, drop-map, map_more, get_or-map, length_push}
-use Rattle.std.proofs.lemmas.List.Elements.{All-push}
+use Rattle.std.proofs.lemmas.List.{length-map, map-append, take-map, drop-map, map_more, get_or-map}
 use Rattle.std.proofs.lemmas.Map.Keys.{apart_from_distinct, IsDistinct-tail}
 use Rattle.std.proofs.lemmas.Map.Made.{is_some-lookup}
 use Rattle.std.specs.Cmp.Lexicographic.{nat_list_eq_equiv}
 use Rattle.cedar_language.specs.Uid.{Text}
 use Rattle.cedar_language.specs.Order.{same_text}
-use Rattle.std.specs.Option.{unwrap_or}
-use Rattle.cedar_policy_set.specs.Places.{Tells, put}
-use Rattle.cedar_policy_set.specs.declared.places.Places.{Places}
+use Rattle.cedar_policy_set.specs.Places.{put}
 use Rattle.cedar_policy_set.proofs.Distinct.{distinct_apart}
-use Rattle.cedar_policy_set.proofs.Finding.{id_itself, none_from, some_apart}
+use Rattle.cedar_policy_set.proofs.Finding.{none_from, some_apart}
 use Rattle.cedar_policy_set.proofs.Placing.{onward}
 use Rattle.cedar_policy_set.proofs.Telling.{stands_at}
 
@@ -127,38 +124,3 @@ module _ {V : Type 0} where
   keys_set [] p v d = refl
   keys_set (e ∷ es) zero v d = refl
   keys_set (e ∷ es) (suc p) v d = ap (λ ids. e.0 ∷ ids) (keys_set es p v d)
-
--- numbers below their count stay so when their count comes last
-pub below_push : (ns : List ℕ) → All (λ n. n < length ns) ns → All (λ n. n < length (ns ++ length ns ∷ [])) (ns ++ length ns ∷ [])
-below_push ns below =
-    let longer = length_push ns (length ns) in
-    All-push (λ n. n < length (ns ++ length ns ∷ [])) ns (length ns) (λ k d within. let less = below k d within in omega arith) (omega arith)
-
--- ---- the last id is taken away
-
-stands_last : (xs : List Text) (id : Text) → list_any (same_text id) xs ≡ false → position_or_len (same_text id) (xs ++ id ∷ []) ≡ length xs
-stands_last [] id free = ap (λ b. cond (not b) (1 + 0) 0) (id_itself id)
-stands_last (x ∷ xs) id free = by (same_text id x) free (stands_last xs id)
-  where
-    by : (b : Bool) → (b || list_any (same_text id) xs) ≡ false → (list_any (same_text id) xs ≡ false → position_or_len (same_text id) (xs ++ id ∷ []) ≡ length xs)
-        → cond (not b) (1 + position_or_len (same_text id) (xs ++ id ∷ [])) 0 ≡ length (x ∷ xs)
-    by true g rest = absurd (true≢false g)
-    by false g rest = let behind = rest g in omega arith
-
-pub without_last : (xs : List Text) (id : Text) → remove (xs ++ id ∷ []) (length xs) ≡ xs
-without_last [] id = refl
-without_last (x ∷ xs) id = ap (λ ys. x ∷ ys) (without_last xs id)
-
-pub told_popped : (p q : Places) (xs : List Text) (id : Text) (r : Option ℕ) → Tells p (xs ++ id ∷ []) → r ≡ position (same_text id) (xs ++ id ∷ []) → IfSome r (λ i. (ids : List Text) → Tells p ids → Tells q (remove ids i))
-    → Tells q xs
-told_popped p q xs id r told at taken = by r (at ∙ last) taken
-  where
-    last : position (same_text id) (xs ++ id ∷ []) ≡ Some (length xs)
-    last =
-        let stands = stands_last xs id (distinct_apart xs id [] told.distinct) in
-        let longer = length_push xs id in
-        ap (λ b. cond b (Some (position_or_len (same_text id) (xs ++ id ∷ []))) None) (lt-ltb (position_or_len (same_text id) (xs ++ id ∷ [])) (length (xs ++ id ∷ [])) (omega arith)) ∙ ap Some stands
-
-    by : (o : Option ℕ) → o ≡ Some (length xs) → IfSome o (λ i. (ids : List Text) → Tells p ids → Tells q (remove ids i)) → Tells q xs
-    by None h t = absurd (true≢false (sym (ap is_some h)))
-    by (Some i) h t = subst (Tells q) (ap (λ o. remove (xs ++ id ∷ []) (unwrap_or o 0)) h ∙ without_last xs id) (t (xs ++ id ∷ []) told)

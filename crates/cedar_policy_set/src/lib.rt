@@ -6,6 +6,7 @@ pub mod bounds;
 mod comparing;
 mod displays;
 pub mod errors;
+mod gaps;
 pub mod laws;
 mod linking;
 pub mod listing;

@@ -176,13 +176,15 @@ impl<V> PolicyMap<V> {
         }
     }
 
-    /// Takes an id away, and gives what stood there. Takes no memory.
+    /// Takes an id away, and gives what stood there. It is told for each id without the order of ids where memory
+    /// for that lacks.
     pub fn shift_remove(&mut self, id: &PolicyID) -> Option<V>
         ensures value { result ≡ lookup (same_text id.now) self.old }
         ensures entries { self.new ≡ remove_entry (same_text id.now) self.old }
         ensures unique { IsDistinct same_text (keys_of self.new) }
     {
-        let position = take_place(&mut self.places, &self.entries, id)?;
+        let alloc = *self.entries.allocator();
+        let position = take_place(alloc, &mut self.places, &self.entries, id)?;
         let (_, value) = self.entries.remove(position);
         Some(value)
     }
@@ -217,26 +219,14 @@ impl<V> PolicyMap<V> {
         entries
     }
 
-    // Takes away what stands from a position on.
+    // Takes away what stands from a position on. The places are made again when the next comes.
     fn truncate(&mut self, len: usize)
     where
         V: Drop,
         ensures { self.new ≡ take len self.old }
     {
-        while self.len() > len {
-            self.pop();
-        }
-    }
-
-    // Takes the last away.
-    fn pop(&mut self)
-    where
-        V: Drop,
-        ensures { self.new ≡ take (length self.old - 1) self.old }
-    {
-        if let Some((id, _)) = self.entries.pop() {
-            unplace_last(&mut self.places, &id);
-        }
+        self.places = None;
+        self.entries.truncate(len);
     }
 }
 
@@ -270,15 +260,16 @@ fn place_next<V>(
 ) -> Result<(), AllocError>
     requires kept { AreKept places.old (keys_of entries.now) }
     requires free { lookup (same_text id.now) entries.now ≡ None }
+    requires small { length entries.now < 2 ^ 63 }
     ensures placed { OnOk result (AreKept places.new (keys_of entries.now ++ id.now ∷ [])) }
     ensures err { OnErr result (AreKept places.new (keys_of entries.now)) }
 {
     match places {
-        Some(places) => place_last(alloc, places, entries, id),
+        Some(places) => place_last(places, entries, id),
         None if entries.len() < FEW => Ok(()),
         None => {
             let mut made = places_of(alloc, entries)?;
-            place_last(alloc, &mut made, entries, id)?;
+            place_last(&mut made, entries, id)?;
             *places = Some(made);
             Ok(())
         }
@@ -287,73 +278,70 @@ fn place_next<V>(
 
 // An id comes last in the places of these.
 fn place_last<V>(
-    alloc: Global,
     places: &mut Places,
     entries: &[(PolicyID, V)],
     id: &PolicyID,
 ) -> Result<(), AllocError>
     requires told { Tells places.old (keys_of entries.now) }
     requires free { lookup (same_text id.now) entries.now ≡ None }
+    requires small { length entries.now < 2 ^ 63 }
     ensures placed { OnOk result (Tells places.new (keys_of entries.now ++ id.now ∷ [])) }
     ensures err { OnErr result (Tells places.new (keys_of entries.now)) }
 {
-    let place = copy_of(id)?;
-    let number = number_after(alloc, places, entries)?;
-    places.push(place, number)
+    places.push(copy_of(id)?)
 }
 
-// Takes an id out of the places, where there are any, and tells where it stands.
+// Takes an id out of the places, where there are any, and tells where it stands. No places are left where memory
+// lacks.
 fn take_place<V>(
+    alloc: Global,
     places: &mut Option<Places>,
     entries: &[(PolicyID, V)],
     id: &PolicyID,
 ) -> Option<usize>
-    requires { AreKept places.old (keys_of entries.now) }
+    requires kept { AreKept places.old (keys_of entries.now) }
+    requires small { length entries.now < 2 ^ 63 }
     ensures position { result ≡ position (same_text id.now) (keys_of entries.now) }
     ensures kept { IfSome result (λ position. AreKept places.new (remove (keys_of entries.now) position)) }
     ensures none { IfNone result (AreKept places.new (keys_of entries.now)) }
 {
+    thin_out(alloc, places, entries);
     match places {
-        Some(places) => places.take_away(id),
         None => position_among(entries, id),
+        Some(told) => {
+            let position = told.position(id)?;
+            if told.take_out(id, position).is_err() {
+                *places = None;
+            }
+            Some(position)
+        }
     }
 }
 
-// Takes the last id out of the places, where there are any.
-fn unplace_last(places: &mut Option<Places>, id: &PolicyID)
-    ensures { (ids : List Text) → AreKept places.old (ids ++ id.now ∷ []) → AreKept places.new ids }
+// Makes the places again where more ids were taken out of them than are left.
+fn thin_out<V>(alloc: Global, places: &mut Option<Places>, entries: &[(PolicyID, V)])
+    requires kept { AreKept places.old (keys_of entries.now) }
+    requires small { length entries.now < 2 ^ 63 }
+    ensures { AreKept places.new (keys_of entries.now) }
 {
-    if let Some(places) = places {
-        places.take_away(id);
+    let is_sparse = match places {
+        Some(told) => told.is_sparse(),
+        None => false,
+    };
+    if is_sparse {
+        *places = places_of(alloc, entries).ok();
     }
 }
 
-// A number above those of the places, which are numbered again from 0 where the last is the highest that there is.
-fn number_after<V>(
-    alloc: Global,
-    places: &mut Places,
-    entries: &[(PolicyID, V)],
-) -> Result<u64, AllocError>
-    requires { Tells places.old (keys_of entries.now) }
-    ensures told { Tells places.new (keys_of entries.now) }
-    ensures above { IfOk result (λ number. All (λ n. n < number) places.new.numbers.items) }
-{
-    if let Some(number) = places.next_number() {
-        return Ok(number);
-    }
-    *places = places_of(alloc, entries)?;
-    Ok(entries.len() as u64)
-}
-
-// The places of these ids, numbered from 0.
+// The places of these ids.
 fn places_of<V>(alloc: Global, entries: &[(PolicyID, V)]) -> Result<Places, AllocError>
-    requires { IsDistinct same_text (keys_of entries.now) }
-    ensures told { IfOk result (λ places. Tells places (keys_of entries.now)) }
-    ensures below { IfOk result (λ places. All (λ n. n < length entries.now) places.numbers.items) }
+    requires distinct { IsDistinct same_text (keys_of entries.now) }
+    requires small { length entries.now < 2 ^ 63 }
+    ensures { IfOk result (λ places. Tells places (keys_of entries.now)) }
 {
     let mut places = Places::new(alloc);
     for (id, _) in entries {
-        places.push(copy_of(id)?, places.len() as u64)?;
+        places.push(copy_of(id)?)?;
     }
     Ok(places)
 }

@@ -1,6 +1,5 @@
 //! An index of policies by the entities that their scopes name.
 
-mod gaps;
 pub mod index;
 mod keys;
 pub mod positions;

@@ -7,7 +7,7 @@ ghost use Rattle.cedar_policy_set.specs.ScopeFinding.{IsFound, IsListedFor, Keep
 ghost use Rattle.cedar_policy_set.specs.ScopeKeys.{IsKey};
 ghost use Rattle.cedar_policy_set.specs.ClosedPlaces.{closed_up};
 
-use crate::scope_index::gaps::Gaps;
+use crate::gaps::Gaps;
 use crate::scope_index::keys::{Key, key_of};
 use crate::scope_index::positions::Positions;
 use cedar_literals::uids::EntityUID;

@@ -1,10 +1,10 @@
--- The next id isn't among those so far, and its number is their count.
-use Rattle.std.proofs.Common.{◌≡◌, ◌<◌, ◌++◌, [], ◌∷◌, All, length, get_or, take, sym, ap, subst, ◌∙◌}
+-- The next id isn't among those so far.
+use Rattle.std.proofs.Common.{◌≡◌, ◌++◌, [], ◌∷◌, get_or, take, sym, ap, subst, ◌∙◌}
 use Rattle.std.specs.Map.{keys_of}
 use Rattle.std.specs.List.{list_any}
 use Rattle.cedar_language.specs.Order.{same_text}
 use Rattle.cedar_policy_set.specs.Places.{Tells}
-use Rattle.cedar_policy_set.proofs.Placed.{keys_more, next_apart, below_push}
+use Rattle.cedar_policy_set.proofs.Placed.{keys_more, next_apart}
 use Rattle.cedar_policy_set.proofs.policy_map.places_of.Goals as goal
 
 pub loop-id-preserved : goal.loop-id-preserved
@@ -12,11 +12,7 @@ loop-id-preserved g c =
     let es = c.args.entries.now in
     let k = c.loop-id.id-index in
     let item = c.loop-id-item.result in
-    let ns = c.loop-id.places.numbers.items in
     let is : c.in_ok-copy_of.field-0 ≡ (get_or es k item).0 = c.in_ok-copy_of.ensures ∙ ap (λ e. e.0) c.loop-id-item.is in
-    let apart = next_apart es k item c.loop-id-test.true c.requires in
-    record {
-      told = subst (Tells c.push.new.self) (ap (λ i. keys_of (take k es) ++ i ∷ []) is ∙ sym (keys_more es k item c.loop-id-test.true))
-          (c.in_ok-push.ensures.told (keys_of (take k es)) c.loop-id.invariant.told (ap (λ i. list_any (same_text i) (keys_of (take k es))) is ∙ apart));
-      below = subst (λ ms. All (λ n. n < length ms) ms) (sym (c.in_ok-push.ensures.numbers ∙ ap (λ n. ns ++ n ∷ []) c.len.ensures.len)) (below_push ns c.loop-id.invariant.below);
-    }
+    let apart = next_apart es k item c.loop-id-test.true c.requires.distinct in
+    subst (Tells c.push.new.self) (ap (λ i. keys_of (take k es) ++ i ∷ []) is ∙ sym (keys_more es k item c.loop-id-test.true))
+    (c.in_ok-push.ensures.told (keys_of (take k es)) c.loop-id.invariant (ap (λ i. list_any (same_text i) (keys_of (take k es))) is ∙ apart))

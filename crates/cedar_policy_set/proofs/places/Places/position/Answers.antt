@@ -1,10 +1,10 @@
--- An id stands nowhere, or where its number does.
-use Rattle.std.proofs.Common.{sym, ◌∙◌}
-use Rattle.cedar_policy_set.proofs.Telling.{told_absent, told_present}
+-- An id stands nowhere, or where its place does.
+use Rattle.std.proofs.Common.{ap, Some, ◌∙◌}
+use Rattle.cedar_policy_set.proofs.Telling.{told_at}
 use Rattle.cedar_policy_set.proofs.places.Places.position.Goals as goal
 
-pub returns-in_err-number : goal.returns-in_err-number
-returns-in_err-number c = λ ids told. c.from_residual.ensures ∙ sym (told_absent c.args.self.now ids told c.args.id.now (sym c.in_err-number.ensures.value))
+pub returns-in_err-place : goal.returns-in_err-place
+returns-in_err-place c = λ ids told. c.from_residual.ensures ∙ told_at c.args.self.now ids told c.args.id.now _ c.in_err-place.ensures.value
 
 pub returns : goal.returns
-returns c = λ ids told. told_present c.args.self.now ids told c.args.id.now _ (sym c.in_ok-number.ensures.value) _ c.deref.ensures.value _ c.place.ensures.place
+returns c = λ ids told. ap Some c.position.ensures ∙ told_at c.args.self.now ids told c.args.id.now _ c.in_ok-place.ensures.value

@@ -3,7 +3,7 @@ use Rattle.std.proofs.Common.{rules, arith, ltb, ltb-true, ltb-false, sym, subst
 use Rattle.std.specs.List.Sorted.{IsNonDecreasing}
 use Rattle.std.proofs.lemmas.List.Sorted.{IsPartitionPoint-from_clause, IsPartitionedBy-ltb}
 use Rattle.cedar_policy_set.specs.ClosedPlaces.{AreBefore}
-use Rattle.cedar_policy_set.proofs.scope_index.gaps.Gaps.before.Goals as goal
+use Rattle.cedar_policy_set.proofs.gaps.Gaps.before.Goals as goal
 
 pub returns : goal.returns
 returns c =

@@ -2,7 +2,7 @@
 use Rattle.std.proofs.Common.{◌≡◌, ◌+◌, ◌<◌, length, sym, subst, arith}
 use Rattle.cedar_policy_set.specs.ClosedPlaces.{position_of}
 use Rattle.cedar_policy_set.proofs.Closing.{last_there, behind_all}
-use Rattle.cedar_policy_set.proofs.scope_index.gaps.Gaps.place.Goals as goal
+use Rattle.cedar_policy_set.proofs.gaps.Gaps.place.Goals as goal
 
 pub returns-then-position-clause-next : goal.returns-then-position-clause-next
 returns-then-position-clause-next c =

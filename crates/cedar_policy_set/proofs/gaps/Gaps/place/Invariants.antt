@@ -1,7 +1,7 @@
 -- The last place that stands there or before is between the two.
 use Rattle.std.proofs.Common.{◌-◌, ◌<◌, ◌≤◌}
 use Rattle.cedar_policy_set.specs.ClosedPlaces.{position_of}
-use Rattle.cedar_policy_set.proofs.scope_index.gaps.Gaps.place.Given as goal
+use Rattle.cedar_policy_set.proofs.gaps.Gaps.place.Given as goal
 
 abbrev pub invariant-loop-high : goal.invariant-loop-high
 invariant-loop-high l = record {

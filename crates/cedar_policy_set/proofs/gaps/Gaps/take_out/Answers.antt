@@ -3,7 +3,7 @@ use Rattle.std.proofs.Common.{◌∙◌, ap}
 use Rattle.std.specs.List.Sorted.{IsNonDecreasing}
 use Rattle.cedar_policy_set.specs.ClosedPlaces.{AreTakenOnce, position_of}
 use Rattle.cedar_policy_set.proofs.Closing.{StandsAt, once_more, closes, still_rising, after_insert}
-use Rattle.cedar_policy_set.proofs.scope_index.gaps.Gaps.take_out.Goals as goal
+use Rattle.cedar_policy_set.proofs.gaps.Gaps.take_out.Goals as goal
 
 pub invariant_of-self : goal.invariant_of-self
 invariant_of-self c =

@@ -89,7 +89,7 @@ impl Gaps {
     }
 
     // The position at which a place stands.
-    fn position(&self, place: usize) -> usize
+    pub(crate) fn position(&self, place: usize) -> usize
         ensures { result ≡ position_of self.now.taken.items place }
     {
         place - self.before(place)

@@ -3,7 +3,7 @@ use Rattle.std.proofs.Common.{◌≡◌, ◌≤◌, ◌++◌, length, take, drop
 use Rattle.cedar_policy_set.specs.ScopeFinding.{is_listed}
 use Rattle.cedar_policy_set.specs.ClosedPlaces.{position_of}
 use Rattle.cedar_policy_set.proofs.Moving.{AreMoved, all_moved, written_back}
-use Rattle.cedar_policy_set.proofs.scope_index.gaps.Gaps.positions.Goals as goal
+use Rattle.cedar_policy_set.proofs.gaps.Gaps.positions.Goals as goal
 
 pub returns-after-loop-place : goal.returns-after-loop-place
 returns-after-loop-place c = λ t h.

@@ -1,7 +1,7 @@
 -- Those before a place are those that are below it (Closing).
 use Rattle.std.proofs.Common.{arith}
 use Rattle.cedar_policy_set.proofs.Closing.{counted_at, fewer_below}
-use Rattle.cedar_policy_set.proofs.scope_index.gaps.Gaps.position.Goals as goal
+use Rattle.cedar_policy_set.proofs.gaps.Gaps.position.Goals as goal
 
 pub overflow_sub-result : goal.overflow_sub-result
 overflow_sub-result c =
