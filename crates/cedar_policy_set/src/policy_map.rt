@@ -176,8 +176,8 @@ impl<V> PolicyMap<V> {
         }
     }
 
-    /// Takes an id away, and gives what stood there. It is told for each id without the order of ids where memory
-    /// for that lacks.
+    /// Takes an id away, and gives what stood there. Where memory lacks to keep the order of ids, they are looked
+    /// for one by one until the next id comes; nothing is refused.
     pub fn shift_remove(&mut self, id: &PolicyID) -> Option<V>
         ensures value { result ≡ lookup (same_text id.now) self.old }
         ensures entries { self.new ≡ remove_entry (same_text id.now) self.old }
