@@ -102,13 +102,6 @@ impl<K: Ord + Clone + Drop> Sources<K> {
         }
     }
 
-    /// Removes all edges that lead to a target; takes no memory.
-    pub fn remove_target(&mut self, target: &K)
-        ensures { (t s : K) → has_source K.cmp self.new t s ≡ (has_source K.cmp self.old t s && not (K.eq target.now t)) }
-    {
-        self.by_target.remove(target);
-    }
-
     /// The targets and all keys from which one or more edges lead to one of them, each once; `None` where there are
     /// more than `most`. It looks at the sources of each key once, and at no others. Refused for memory alone.
     pub fn that_lead_to(
