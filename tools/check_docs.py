@@ -27,7 +27,7 @@ NUMBERS = "no one two three four five six seven eight nine ten eleven twelve".sp
 # A word in capitals stands for whatever name is there.
 PATTERN = re.compile(r"\b[A-Z]{4,}\b(?!\.md)")
 FILE = re.compile(r"^[\w.+*/-]+\.(md|py|rt|antt|edit|txt|c|h|rs|sh|stdin|stdout)$")
-LONGEST, WHOLE = 100, 16_000
+LONGEST, WHOLE = 100, 20_000
 
 
 def text_of(path):

@@ -44,7 +44,7 @@ use Rattle.cedar_evaluator.specs.Residuals.{residuals_with, is_any}
 use Rattle.cedar_evaluator.specs.declared.partial_response.PartialResponse.{PartialResponse}
 use Rattle.cedar_evaluator.proofs.Standings.{standing_found, judged, is_settled, stands_as_found}
 use Rattle.cedar_asking.specs.Keeping.{IsFirstResponse}
-use Rattle.cedar_asking.specs.Tells.{told_in}
+use Rattle.cedar_telling.specs.Tells.{told_in}
 use Rattle.cedar_asking.specs.Waiting.{LeftIsUntold}
 use Rattle.cedar_evaluator.proofs.Counted.{counts, CountAlike}
 use Rattle.cedar_evaluator.proofs.Grouped.{errs, open_there}

@@ -27,7 +27,7 @@ use Rattle.cedar_asking.specs.Answering.{AreOf}
 use Rattle.cedar_asking.specs.Erring.{SomeAtLimit, ListsErrors}
 use Rattle.cedar_asking.specs.Keeping.{IsNamed}
 use Rattle.cedar_asking.specs.Laws.{StoresHaveWorldFacts, TablesServeWorlds, WorldsAreMade, IsHeldBy, SaysHeld, AnswersQuestion, ResponsesAnswerQuestions}
-use Rattle.cedar_asking.specs.Requests.{IsRequestOf}
+use Rattle.cedar_telling.specs.Requests.{IsRequestOf}
 use Rattle.cedar_asking.specs.Responses.{SaysResponse, IsAnswered, AnswersAsked}
 use Rattle.cedar_asking.specs.TellLaws.{QuestionsAreKept}
 use Rattle.cedar_asking.proofs.WithoutFalse.{says_with_all}

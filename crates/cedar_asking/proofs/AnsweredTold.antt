@@ -24,7 +24,7 @@ use Rattle.cedar_evaluator.specs.declared.partial_response.PartialResponse.{Part
 use Rattle.cedar_asking.specs.Erring.{SomeAtLimit}
 use Rattle.cedar_asking.specs.Responses.{SaysResponse, AnswersTold, IsToldAs}
 use Rattle.cedar_asking.specs.TellLaws.{IsContextFailure, IsWhyNotTold}
-use Rattle.cedar_asking.specs.Tells.{told_in}
+use Rattle.cedar_telling.specs.Tells.{told_in}
 use Rattle.std.specs.Prelude.{Result}
 
 -- what an authorizer with this table and this limit makes of a response

@@ -40,7 +40,7 @@ use Rattle.cedar_requests.specs.declared.contexts.Context.TheVariants as context
 use Rattle.cedar_substitution.specs.Told.{told_for}
 use Rattle.cedar_evaluator.specs.Concretizing.{ContextTold}
 use Rattle.cedar_asking.specs.Keeping.{IsNamed}
-use Rattle.cedar_asking.specs.Tells.{told_in}
+use Rattle.cedar_telling.specs.Tells.{told_in}
 use Rattle.cedar_requests.specs.ToldContexts.{HoldTold, ToldContextsAreEvaluated}
 use Rattle.cedar_requests.proofs.KnownData.{data_stays}
 use Rattle.cedar_asking.proofs.Exactness.{names_plain, none_told, record_calls_none}

@@ -26,7 +26,7 @@ use Rattle.cedar_interpreter.specs.Operating.{HasFunctions}
 use Rattle.cedar_requests.specs.Holding.{RequestParts}
 use Rattle.cedar_evaluator.specs.Evaluations.{Found, Satisfied, Unsatisfied, Erred, Open, Finds}
 use Rattle.cedar_evaluator.specs.Residuals.{clause_policy}
-use Rattle.cedar_asking.specs.Requests.{IsRequestOf}
+use Rattle.cedar_telling.specs.Requests.{IsRequestOf}
 use Rattle.cedar_asking.proofs.Plainness.{all_call_none, or_right, slot_plain}
 use Rattle.cedar_evaluator.proofs.Taken.{clause_of}
 

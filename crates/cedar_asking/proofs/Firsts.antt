@@ -49,7 +49,7 @@ use Rattle.cedar_asking.specs.Erring.{with_failure, SomeAtLimit}
 use Rattle.cedar_world.specs.Lookups.{ListsStanding}
 use Rattle.cedar_world.proofs.OrdinaryAnswers.{rules_list}
 use Rattle.cedar_asking.specs.Laws.{SaysHeld}
-use Rattle.cedar_asking.specs.Requests.{IsRequestOf}
+use Rattle.cedar_telling.specs.Requests.{IsRequestOf}
 use Rattle.cedar_asking.proofs.Errors.{errors_listed, settled_listed, limit_kept}
 use Rattle.cedar_asking.proofs.InForce.{written_entry, is_bound, is_there, is_in_force, some_in_force, written_by}
 use Rattle.cedar_evaluator.proofs.Lists.{IsAmong, contained, contains, mapped, unmapped}

@@ -76,9 +76,9 @@ use Rattle.cedar_asking.specs.Answering.{AreOf}
 use Rattle.cedar_asking.specs.Erring.{with_failure, SomeAtLimit}
 use Rattle.cedar_asking.specs.Keeping.{IsNamed, AreTold, KeepsQuestion, IsFirstResponse}
 use Rattle.cedar_asking.specs.Laws.{SaysHeld}
-use Rattle.cedar_asking.specs.Requests.{IsRequestOf}
+use Rattle.cedar_telling.specs.Requests.{IsRequestOf}
 use Rattle.cedar_asking.specs.TellLaws.{IsAnsweredLater, IsContextFailure, IsWhyNotTold}
-use Rattle.cedar_asking.specs.Tells.{told_in}
+use Rattle.cedar_telling.specs.Tells.{told_in}
 use Rattle.cedar_asking.specs.Waiting.{LeftIsUntold}
 use Rattle.cedar_requests.specs.ToldContexts.{ToldContextsAreEvaluated}
 use Rattle.cedar_evaluator.proofs.Accepting.{accepts_told}

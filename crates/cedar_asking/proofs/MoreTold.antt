@@ -24,7 +24,7 @@ use Rattle.cedar_substitution.specs.Told.{told_for}
 use Rattle.cedar_held.specs.Built.{IsBuilt, AreBuiltEntries}
 use Rattle.cedar_asking.specs.Keeping.{AreTold}
 use Rattle.cedar_asking.specs.TellLaws.{MoreIsTold}
-use Rattle.cedar_asking.specs.Tells.{told_in, TellMore}
+use Rattle.cedar_telling.specs.Tells.{told_in, TellMore}
 
 -- ---- a map of told values
 

@@ -35,8 +35,8 @@ use Rattle.cedar_requests.specs.declared.requests.Request.{Request}
 use Rattle.cedar_substitution.specs.Told.{told_for}
 use Rattle.cedar_evaluator.specs.Concretizing.{part_conflict, record_conflict, context_conflict, or_first, first_conflict, part_told, IsConcreteRequest}
 use Rattle.cedar_asking.specs.Keeping.{IsNamed, AreTold}
-use Rattle.cedar_asking.specs.Requests.{IsRequestOf}
-use Rattle.cedar_asking.specs.Tells.{told_in}
+use Rattle.cedar_telling.specs.Requests.{IsRequestOf}
+use Rattle.cedar_telling.specs.Tells.{told_in}
 use Rattle.cedar_requests.specs.ToldContexts.{ToldContextsAreEvaluated}
 use Rattle.cedar_asking.proofs.ContextsTold.{holds_told, context_again, no_unknown_asked, nothing_held}
 use Rattle.cedar_asking.proofs.Plainness.{or_left}

@@ -28,7 +28,7 @@ use Rattle.cedar_interpreter.specs.Operating.{HasFunctions}
 use Rattle.cedar_policy_set.specs.Entries.{Entry, static_policy, template, link}
 use Rattle.cedar_evaluator.specs.Evaluations.{bindings_in, condition_in, is_given}
 use Rattle.cedar_evaluator.proofs.AskedSo as inquiries
-use Rattle.cedar_asking.specs.Requests.{HoldsQuestion, IsRequestOf}
+use Rattle.cedar_telling.specs.Requests.{HoldsQuestion, IsRequestOf}
 use Rattle.cedar_asking.proofs.InForce.{written_entry}
 use Rattle.cedar_asking.proofs.Naming.{no_unknown, is_other, bound_mentions}
 

@@ -25,8 +25,8 @@ use Rattle.cedar_evaluator.specs.Holding.{holding_in}
 use Rattle.cedar_evaluator.specs.declared.partial_response.PartialResponse.{PartialResponse}
 use Rattle.cedar_asking.specs.Answering.{AreOf}
 use Rattle.cedar_asking.specs.Erring.{SomeAtLimit}
-use Rattle.cedar_asking.specs.Requests.{IsRequestOf}
-use Rattle.cedar_asking.specs.Tells.{told_in}
+use Rattle.cedar_telling.specs.Requests.{IsRequestOf}
+use Rattle.cedar_telling.specs.Tells.{told_in}
 use Rattle.cedar_asking.specs.Waiting.{SaysUntilTold}
 
 -- no unknown of it states a type

@@ -31,7 +31,7 @@ use Rattle.cedar_asking.specs.Answers.{IsSettingOf}
 use Rattle.cedar_held.specs.Built.{HoldBuilt, GivesBuilt}
 use Rattle.cedar_asking.specs.Erring.{with_failure, SomeAtLimit}
 use Rattle.cedar_evaluator.specs.Evaluations.{Kept, AreKept}
-use Rattle.cedar_asking.specs.Requests.{IsRequestOf}
+use Rattle.cedar_telling.specs.Requests.{IsRequestOf}
 use Rattle.cedar_evaluator.specs.Responses.{Holding, holding_of, judged_held}
 
 -- ---- the facts of a world

@@ -1,15 +1,7 @@
-pub mod Requests
 pub mod Answers
 pub mod Erring
-pub mod Contexts
 pub mod Laws
-pub mod Bodies
 pub mod Answering
-pub mod AskedNames
-pub mod Unknowns
-pub mod UnknownNames
-pub mod Tells
-pub mod TellSteps
 pub mod Waiting
 pub mod Keeping
 pub mod TellLaws

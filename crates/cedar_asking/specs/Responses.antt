@@ -32,7 +32,7 @@ use Rattle.cedar_asking.specs.Erring.{SomeAtLimit}
 use Rattle.cedar_asking.specs.Keeping.{KeepsQuestion}
 use Rattle.cedar_asking.specs.Laws.{SaysHeld}
 use Rattle.cedar_asking.specs.TellLaws.{IsAnsweredLater}
-use Rattle.cedar_asking.specs.Tells.{told_in}
+use Rattle.cedar_telling.specs.Tells.{told_in}
 
 -- the answer has the decision, the ids and the errors of what the response holds; or some error met the limit
 abbrev pub SaysResponse : PartialResponse → Result Answer Refusal → Type 0

@@ -37,8 +37,8 @@ use Rattle.cedar_asking.specs.Answering.{AreOf}
 use Rattle.cedar_asking.specs.Erring.{SomeAtLimit}
 use Rattle.cedar_asking.specs.Keeping.{IsNamed, AreTold, KeepsQuestion}
 use Rattle.cedar_asking.specs.Laws.{SaysHeld}
-use Rattle.cedar_asking.specs.Requests.{IsRequestOf}
-use Rattle.cedar_asking.specs.Tells.{told_in, TellMore}
+use Rattle.cedar_telling.specs.Requests.{IsRequestOf}
+use Rattle.cedar_telling.specs.Tells.{told_in, TellMore}
 use Rattle.cedar_asking.specs.Waiting.{LeftIsUntold}
 
 -- values told besides others are told with these

@@ -18,11 +18,10 @@ ghost use Rattle.cedar_world.specs.Setting.{Setting};
 ghost use Rattle.cedar_world.specs.World.{World};
 ghost use Rattle.cedar_asking.specs.Answering.{AreOf};
 ghost use Rattle.cedar_asking.specs.Keeping.{IsNamed, AreTold, KeepsQuestion};
-ghost use Rattle.cedar_asking.specs.Requests.{IsRequestOf};
+ghost use Rattle.cedar_telling.specs.Requests.{IsRequestOf};
 ghost use Rattle.cedar_asking.specs.Responses.{SaysResponse, AnswersAsked, AnswersTold, IsToldAs};
-ghost use Rattle.cedar_asking.specs.Tells.{told_in};
+ghost use Rattle.cedar_telling.specs.Tells.{told_in};
 
-use crate::joining::joined;
 use crate::listing::listed_errors;
 use crate::{
     questions_are_kept, responses_answer_questions, tells_are_answered, tells_are_refused,
@@ -38,6 +37,7 @@ use cedar_held::refusal;
 use cedar_policy_set::sets::PolicySet;
 use cedar_replies::{Answer, Erring, PolicyIds, Refusal};
 use cedar_requests::Request;
+use cedar_telling::joined;
 use cedar_values::values::Value;
 use std::alloc::{AllocError, Global};
 use std::collections::BTreeMap;

@@ -1,24 +1,14 @@
-//! Questions asked of policies and entities by requests: the request of a body, its answer, and the laws by
-//! which what a response says is a first answer to the question.
+//! Questions answered: what is answered by a response, once more is told too, and the laws by which what a
+//! response says is a first answer to the question.
 #![tactic(auto)]
 
 mod answering;
-mod asked_names;
-mod bodies;
-mod joining;
 mod listing;
-mod telling;
-mod unknowns;
-mod wanted;
 
-ghost use Rattle.cedar_asking.specs.Contexts.{QuestionsAreAsked};
 ghost use Rattle.cedar_asking.specs.Laws.{StoresHaveWorldFacts, TablesServeWorlds, WorldsAreMade, ResponsesAnswerQuestions};
 ghost use Rattle.cedar_asking.specs.TellLaws.{MoreIsTold, QuestionsAreKept, TellsAreAnswered, TellsAreRefused, LimitsAreOfPolicies};
 
 pub use answering::{answer, answer_told};
-pub use asked_names::untold_names;
-pub use bodies::request_of;
-pub use telling::told_by;
 
 /// The facts of a world are those of a whole store that shows its entities and of a table that has its
 /// functions, and what it holds is made again by trees for it.
@@ -26,12 +16,6 @@ pub fn worlds_are_shown()
     ensures stores { StoresHaveWorldFacts }
     ensures tables { TablesServeWorlds }
     ensures made { WorldsAreMade }
-{}
-
-/// A request that has the parts of a question, and for its context what that was evaluated to, is a
-/// request of the question.
-pub fn questions_are_asked()
-    ensures { QuestionsAreAsked }
 {}
 
 /// What is kept of the policies held, each evaluated for the request of a question, gives a first answer to

@@ -2,7 +2,7 @@
 use Rattle.std.proofs.Common.{◌≡◌, ◌∙◌, sym, ap, Bool, ◌&&◌, List}
 use Rattle.std.proofs.lemmas.Map.Views.{any-filter_same}
 use Rattle.std.specs.List.{filter, list_any}
-use Rattle.cedar_asking.proofs.JoinedIds.{same_text}
+use Rattle.cedar_telling.proofs.JoinedIds.{same_text}
 use Rattle.cedar_language.specs.Uid.{Text}
 use Rattle.cedar_world.specs.Orders.{text_eq}
 use Rattle.cedar_authoring.specs.Awaiting.{awaits}

@@ -4,7 +4,7 @@ use Rattle.std.specs.FinMap as finite
 use Rattle.std.specs.List.{filter_map, flat_map}
 use Rattle.cedar_language.specs.Tree.{Tree}
 use Rattle.cedar_language.specs.Uid.{Text}
-use Rattle.cedar_asking.specs.AskedNames.{has_name}
+use Rattle.cedar_telling.specs.AskedNames.{has_name}
 use Rattle.cedar_asking.specs.Waiting.{LeftIsUntold}
 use Rattle.cedar_evaluator.specs.Holding.{holding_in}
 use Rattle.cedar_evaluator.specs.declared.partial_response.PartialResponse.{PartialResponse}

@@ -1,16 +1,15 @@
 -- What an evaluator answers: it holds what its request holds, and an answer to a tree that mentions only what is known is what
 -- the tree means.
-use Rattle.std.specs.Prelude.{◌≡◌, ◌<◌, ℕ, Bool, true, false, Option, Some, None, codes, Result}
-use Rattle.either.specs.declared.Either.{Either}
-use Rattle.cedar_language.specs.Tree.{Variable, Principal, Action, Resource, Context, SlotId, Tree, Unknown}
+use Rattle.std.specs.Prelude.{◌≡◌, ◌<◌, ℕ, Bool, true, false, Option, Some, None, Result}
+use Rattle.cedar_language.specs.Tree.{Variable, Principal, Action, Resource, Context, SlotId, Tree}
 use Rattle.cedar_language.specs.Uid.{Text, Uid}
 use Rattle.cedar_language.specs.Value.{Value}
 use Rattle.cedar_language.specs.Facts.{Facts}
 use Rattle.cedar_language.specs.Height.{height}
 use Rattle.cedar_language.specs.Meaning.{Request, slot_outcome, meaning}
 use Rattle.cedar_partial_evaluation.specs.Mentions.{mentions_only}
-use Rattle.cedar_partial_evaluation.specs.Partial.{Answer, Evaluated, ResidualTree, answer_of, LeafAnswers}
-use Rattle.cedar_partial_evaluation.specs.Question.{Part, Given, Missing, part_held, name_held}
+use Rattle.cedar_partial_evaluation.specs.Partial.{Evaluated, answer_of, LeafAnswers}
+use Rattle.cedar_partial_evaluation.specs.Question.{Part, Given, Missing, name_held}
 use Rattle.cedar_partial_evaluation.specs.ReadUnknowns.{read_unknowns, calls_unknown}
 use Rattle.cedar_policy_parts.specs.Bindings.{Bindings, binding_of}
 use Rattle.cedar_entities.specs.declared.store.Entities.{Entities}
@@ -22,6 +21,7 @@ use Rattle.cedar_operators.specs.Store.{HasFacts}
 use Rattle.cedar_restricted.specs.PartialValues.{partial_of}
 use Rattle.cedar_restricted_evaluation.specs.Evaluations.{part_answer}
 use Rattle.cedar_requests.specs.Holding.{RequestParts}
+pub use Rattle.cedar_requests.specs.Asked.{context_asked, variable_asked}
 use Rattle.cedar_interpreter.specs.Holding.{held_by, is_evaluated, Serves, ServesRead, depth_of}
 use Rattle.cedar_interpreter.specs.Naming.{IsPlain}
 use Rattle.cedar_interpreter.specs.Operating.{HasFunctions, NamesNothing}
@@ -38,18 +38,6 @@ pub record Inquiry : Type 0 where
 -- of no unknown a value is told
 abbrev pub untold : RequestParts → Inquiry
 untold r = record { request = r; told = λ n. None }
-
--- the context's record, or what is left of it; where none is given, the unknown that is named `context`
-abbrev pub context_asked : Option (Either Value Tree) → Answer
-context_asked (Some part) = part_answer part
-context_asked None = ResidualTree (Unknown (codes "context") None)
-
--- what stands for a variable: an entity that is given, or the unknown that is named as the variable
-abbrev pub variable_asked : RequestParts → Variable → Answer
-variable_asked r Principal = part_held r.principal None (codes "principal")
-variable_asked r Action = part_held r.action None (codes "action")
-variable_asked r Resource = part_held r.resource None (codes "resource")
-variable_asked r Context = context_asked r.context
 
 abbrev pub uid_given : Part → Option Uid
 uid_given (Given u) = Some u

@@ -3,6 +3,7 @@ pub mod Contexts
 pub mod Creating
 pub mod Entries
 pub mod Holding
+pub mod Asked
 pub mod Parts
 pub mod Refusals
 pub mod Residuals

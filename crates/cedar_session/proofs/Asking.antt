@@ -27,9 +27,9 @@ use Rattle.cedar_replies.specs.declared.refusal.Refusal.TheVariants.{Text, Depth
 use Rattle.cedar_replies.specs.Refusals.{refusal_of}
 use Rattle.cedar_replies.specs.Replies.{answer_of}
 use Rattle.cedar_session.specs.TextReading.{ReadsBody}
-use Rattle.cedar_asking.specs.Bodies.{AsksBody}
+use Rattle.cedar_telling.specs.Bodies.{AsksBody}
 use Rattle.cedar_asking.specs.Responses.{AnswersAsked}
-use Rattle.cedar_asking.specs.Tells.{told_in}
+use Rattle.cedar_telling.specs.Tells.{told_in}
 use Rattle.cedar_session.specs.Open.{question_in}
 use Rattle.cedar_session.proofs.Edits.{not_both}
 

@@ -35,7 +35,7 @@ use Rattle.cedar_entities.specs.Store.{held_at, is_partial_store, IsClosed}
 use Rattle.cedar_asking.specs.Keeping.{AreTold, KeepsQuestion}
 use Rattle.cedar_asking.specs.Responses.{AnswersTold}
 use Rattle.cedar_asking.specs.TellLaws.{MoreIsTold}
-use Rattle.cedar_asking.specs.Tells.{TellMore, told_in}
+use Rattle.cedar_telling.specs.Tells.{TellMore, told_in}
 use Rattle.cedar_entities.specs.declared.store.Entities.{Entities as Store}
 use Rattle.cedar_extensions.specs.Table.{Table}
 use Rattle.cedar_policy_set.specs.Entries.{Entries}

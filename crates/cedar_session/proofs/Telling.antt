@@ -18,7 +18,7 @@ use Rattle.cedar_world.specs.Commands as commands
 use Rattle.cedar_world.specs.Commands.{Tell, Answered, Refused, rank}
 use Rattle.cedar_world.proofs.Parts.{same_some, not_none}
 use Rattle.cedar_world.proofs.BodyCommands.{First, not_below, no_text, not_restricted, misshapen, stands_not, stands_first}
-use Rattle.cedar_asking.specs.Tells.{TellsBody, TellMore, are_of_other_kinds}
+use Rattle.cedar_telling.specs.Tells.{TellsBody, TellMore, are_of_other_kinds}
 use Rattle.cedar_replies.specs.declared.refusal.Refusal.{Refusal}
 use Rattle.cedar_replies.specs.declared.refusal.Refusal.TheVariants.{Text, Depth, NotRestricted, Shape, Evaluation, NotAValue, NoSuchUnknown, AlreadyTold, WrongKind, Memory}
 use Rattle.cedar_replies.specs.Refusals.{refusal_of}

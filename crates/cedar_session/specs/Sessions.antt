@@ -14,7 +14,7 @@ use Rattle.cedar_replies.specs.declared.answer.Answer.{Answer}
 use Rattle.cedar_replies.specs.declared.refusal.Refusal.{Refusal}
 use Rattle.cedar_replies.specs.Replies.{answer_of}
 use Rattle.cedar_replies.specs.Refusals.{refusal_of}
-use Rattle.cedar_asking.specs.Tells.{told_in}
+use Rattle.cedar_telling.specs.Tells.{told_in}
 use Rattle.cedar_evaluator.specs.declared.partial_response.PartialResponse.{PartialResponse}
 use Rattle.cedar_session.specs.Open.{question_in}
 use Rattle.cedar_session.specs.declared.asked.Asked.{Asked}

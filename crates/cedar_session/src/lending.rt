@@ -1,6 +1,6 @@
 // What a session holds, lent.
 ghost use Rattle.std.specs.Prelude.{◌≡◌, false, None, Some, IfOk, IfSome, IfNone, map};
-ghost use Rattle.cedar_asking.specs.AskedNames.{has_name};
+ghost use Rattle.cedar_telling.specs.AskedNames.{has_name};
 ghost use Rattle.cedar_entities.specs.Store.{held_at, is_partial_store, IsClosed};
 ghost use Rattle.cedar_held.specs.PolicyWorlds.{policies_in};
 ghost use Rattle.cedar_held.specs.Shown.{Shows};
@@ -11,7 +11,7 @@ ghost use Rattle.cedar_session.specs.Sessions.{setting_of, world_of, response_of
 ghost use Rattle.std.specs.Option.{option_map};
 
 use crate::session::Session;
-use cedar_asking::untold_names;
+use cedar_telling::untold_names;
 use cedar_entities::store::Entities;
 use cedar_evaluator::partial_response::PartialResponse;
 use cedar_extensions::objects::ExtensionFunctionObject;

@@ -17,12 +17,13 @@ use crate::held::Held;
 use crate::naming::read_id;
 use crate::policy_reading::read_policies;
 use crate::reading::read_body;
-use cedar_asking::{answer, answer_told, request_of, told_by};
+use cedar_asking::{answer, answer_told};
 use cedar_extensions::extensions::Extensions;
 use cedar_extensions::objects::{ExtensionFunctionObject, NoFunction};
 use cedar_held::{HeldEntities, HeldPolicies, link_body};
 use cedar_policy_parts::PolicyID;
 use cedar_replies::{Answer, Refusal, Reply};
+use cedar_telling::{request_of, told_by};
 use std::alloc::Global;
 use std::collections::BTreeMap;
 
