@@ -8,7 +8,7 @@ use Rattle.cedar_language.specs.Tree as tree
 use Rattle.cedar_language.specs.Tree.{Tree}
 use Rattle.cedar_grammar.specs.Names.{Names}
 use Rattle.cedar_grammar.specs.Build.{Keyed, keys, trees, unary}
-use Rattle.cedar_grammar.specs.Reading.{◌>>=◌}
+use Rattle.cedar_grammar.specs.Steps.{◌>>=◌}
 use Rattle.cedar_grammar.specs.Loose as loose
 use Rattle.cedar_grammar.specs.Converting as converting
 use Rattle.cedar_grammar.specs.Converting.{named_slot, expr_tree, primary_head, access_head, exprs_trees, rec_inits_trees, rec_init_tree, head_tree, literal_tree, ref_entity, record_tree, ident_text, alone, primary_key, primary_text, called}

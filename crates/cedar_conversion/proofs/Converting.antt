@@ -1,7 +1,7 @@
 -- Conversions and their parts.
 use Rattle.std.proofs.Common.{◌≡◌, ◌⊎◌, inl, inr, Option, Some, None, Result, Ok, Err, refl, sym, ap, ◌∙◌, subst}
 use Rattle.std.specs.Prelude.{IfSome, IsErr, IsErrAnd}
-use Rattle.cedar_grammar.specs.Reading.{◌>>=◌}
+use Rattle.cedar_grammar.specs.Steps.{◌>>=◌}
 use Rattle.cedar_faults.specs.declared.errors.ConversionError.{ConversionError}
 use Rattle.cedar_faults.specs.declared.errors.ConversionError.TheVariants as error
 use Rattle.cedar_faults.specs.Reasons.{Reason, means_nothing, refused, out_of_memory, reason, IsFault, Gathers}

@@ -1,7 +1,7 @@
 -- What holds of all that an option gives.
 use Rattle.std.proofs.Common.{◌≡◌, Bool, true, false, Option, Some, None, refl, subst}
 use Rattle.std.specs.Prelude.{⊤, cond}
-use Rattle.cedar_grammar.specs.Reading.{◌>>=◌}
+use Rattle.cedar_grammar.specs.Steps.{◌>>=◌}
 
 abbrev pub Holds : {A : Type 0} → (A → Type 0) → Option A → Type 0
 Holds P None = ⊤

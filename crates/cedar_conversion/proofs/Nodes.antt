@@ -8,7 +8,7 @@ use Rattle.cedar_language.specs.Tree.{Tree}
 use Rattle.cedar_grammar.specs.Build as build
 use Rattle.cedar_grammar.specs.Build.{compared, unary, is_in, nots, negs, long, trees}
 use Rattle.cedar_grammar.specs.Names.{Names}
-use Rattle.cedar_grammar.specs.Reading.{◌>>=◌}
+use Rattle.cedar_grammar.specs.Steps.{◌>>=◌}
 use Rattle.cedar_grammar.specs.Escape.{pattern_of}
 use Rattle.cedar_grammar.specs.Loose as loose
 use Rattle.cedar_grammar.specs.Converting as converting

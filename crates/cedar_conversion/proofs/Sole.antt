@@ -2,7 +2,7 @@
 use Rattle.std.proofs.Common.{◌≡◌, Option, Some, None, refl, ap, ◌∙◌}
 use Rattle.cedar_language.specs.Tree.{Tree}
 use Rattle.cedar_grammar.specs.Names.{Names}
-use Rattle.cedar_grammar.specs.Reading.{◌>>=◌}
+use Rattle.cedar_grammar.specs.Steps.{◌>>=◌}
 use Rattle.cedar_grammar.specs.Loose as loose
 use Rattle.cedar_grammar.specs.Converting.{lone_member, primary_head, a_tree, expr_tree, or_tree, ands_tree, and_tree, relations_tree, relation_tree, adds_tree, add_tree, mults_tree, mult_tree, unaries_tree, unary_tree, member_tree}
 use Rattle.cedar_conversion.specs.Alone.{only_or, lone_relation, only_add, only_expr}

@@ -11,7 +11,7 @@ use Rattle.cedar_names.specs.Identifiers.{is_identifier, is_keyword, is_id, IsUn
 use Rattle.cedar_grammar.specs.Loose as loose
 use Rattle.cedar_grammar.specs.Converting.{ident_text, ident_spelling, name_variable}
 use Rattle.cedar_cst.specs.LeafView.{written_ident}
-use Rattle.cedar_grammar.specs.Reading.{◌>>=◌}
+use Rattle.cedar_grammar.specs.Steps.{◌>>=◌}
 use Rattle.cedar_conversion.specs.Words.{ident_variable, valid_text}
 
 -- what holds of the first of some words, where the text is so spelled, and of the word among the others

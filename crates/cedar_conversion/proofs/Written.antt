@@ -5,7 +5,7 @@ use Rattle.cedar_language.specs.Tree.{Tree, GetAttr, Like, Is}
 use Rattle.cedar_grammar.specs.Escape.{pattern_of}
 use Rattle.cedar_grammar.specs.Names.{Names}
 use Rattle.cedar_grammar.specs.Build.{conjunction, disjunction, Keyed}
-use Rattle.cedar_grammar.specs.Reading.{◌>>=◌}
+use Rattle.cedar_grammar.specs.Steps.{◌>>=◌}
 use Rattle.cedar_grammar.specs.Loose as loose
 use Rattle.cedar_grammar.specs.Converting.{named_slot, ident_text, ref_entity, literal_tree, alone, lone_member, lone_primary, primary_text, primary_key, primary_path, primary_raw, member_fields, lone_number, comparison_of, sum, product, Head, head_tree, called, record_tree, expr_tree, or_tree, ands_tree, and_tree, relations_tree, relation_tree, adds_tree, add_tree, mults_tree, mult_tree, unaries_tree, unary_tree, member_tree, accesses_tree, access_head, primary_head, exprs_trees, rec_inits_trees, rec_init_tree}
 use Rattle.cedar_conversion.specs.Laws.{TreesAreBuilt, CallsAreNamed}

@@ -7,7 +7,7 @@ use Rattle.cedar_language.specs.Uid.{Text}
 use Rattle.cedar_language.specs.Tree.{Tree}
 use Rattle.cedar_grammar.specs.Names.{are_distinct, is_among}
 use Rattle.cedar_grammar.specs.Build.{Keyed, keys, put, by_key}
-use Rattle.cedar_grammar.specs.Reading.{◌>>=◌}
+use Rattle.cedar_grammar.specs.Steps.{◌>>=◌}
 use Rattle.cedar_grammar.specs.Loose as loose
 use Rattle.cedar_grammar.specs.Converting.{alone, primary_key}
 use Rattle.cedar_trees.specs.declared.errors.ExpressionConstructionError.TheVariants.{DuplicateKey}

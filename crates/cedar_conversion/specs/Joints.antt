@@ -2,7 +2,7 @@
 use Rattle.std.specs.Prelude.{ℕ, nat_le, ◌^◌, pos, neg_ℤ, cond, Option, Some, None}
 use Rattle.cedar_language.specs.Tree.{Tree}
 use Rattle.cedar_grammar.specs.Build.{conjunction, disjunction, compared, nots, negs, long}
-use Rattle.cedar_grammar.specs.Reading.{◌>>=◌}
+use Rattle.cedar_grammar.specs.Steps.{◌>>=◌}
 use Rattle.cedar_grammar.specs.Converting.{comparison_of, sum, product}
 use Rattle.cedar_cst.specs.LeafView.{view_rel_op, view_add_op, view_mult_op}
 use Rattle.cedar_conversion.specs.declared.applying.Joint.{Joint}

@@ -1,7 +1,7 @@
 -- What a loop over a chain keeps: what stands for the part that is done, and what the rest makes of it.
 use Rattle.std.specs.Prelude.{◌≡◌, Option, Result, Bool}
 use Rattle.cedar_grammar.specs.Names.{Names}
-use Rattle.cedar_grammar.specs.Reading.{◌>>=◌}
+use Rattle.cedar_grammar.specs.Steps.{◌>>=◌}
 use Rattle.cedar_grammar.specs.Loose as loose
 use Rattle.cedar_faults.specs.declared.kinds.ToASTErrorKind.{ToASTErrorKind}
 use Rattle.cedar_faults.specs.declared.errors.ConversionError.{ConversionError}

@@ -5,7 +5,7 @@ use Rattle.cedar_language.specs.Tree.{Variable}
 use Rattle.cedar_grammar.specs.Names.{variable_of}
 use Rattle.cedar_grammar.specs.Loose as loose
 use Rattle.cedar_grammar.specs.Converting.{ident_spelling}
-use Rattle.cedar_grammar.specs.Reading.{◌>>=◌}
+use Rattle.cedar_grammar.specs.Steps.{◌>>=◌}
 use Rattle.cedar_names.specs.Identifiers.{is_keyword}
 
 abbrev pub ident_variable : loose.Ident → Option Variable

@@ -1,6 +1,6 @@
 -- What a conversion gives: what stands for the value that should be given, or faults where there is none.
 use Rattle.std.specs.Prelude.{◌≡◌, ⊤, Option, Some, None, IfSome, Result, Ok, Err}
-use Rattle.cedar_grammar.specs.Reading.{◌>>=◌}
+use Rattle.cedar_grammar.specs.Steps.{◌>>=◌}
 use Rattle.cedar_faults.specs.declared.errors.ConversionError.{ConversionError}
 use Rattle.cedar_faults.specs.Reasons.{Reason, means_nothing, refused, out_of_memory, reason}
 

@@ -5,10 +5,8 @@ use Rattle.cedar_grammar.specs.Token as token
 use Rattle.cedar_grammar.specs.Token.{Word, Mark, Token, word, number, text, slot, mark, id_of}
 use Rattle.cedar_grammar.specs.Build.{Link, linked, Comparison, conjunction, disjunction}
 use Rattle.cedar_grammar.specs.Grammar.{link_of, comparison_of}
-use Rattle.cedar_grammar.specs.Reading.{◌>>=◌, eat, eat_in}
-use Rattle.cedar_grammar.specs.ReadingPolicies.{word_read}
-use Rattle.cedar_grammar.proofs.Follow as strict
-use Rattle.cedar_grammar.proofs.Follow.{some_pair}
+use Rattle.cedar_grammar.specs.Steps.{◌>>=◌, eat, eat_in, word_read}
+use Rattle.cedar_grammar.proofs.Parts.{some_pair}
 use Rattle.cedar_grammar.specs.Loose as loose
 use Rattle.cedar_grammar.specs.LooseReading.{Fault, Reading, ◌>>◌, mapped, needed, operator_at, or_op, and_op, rel_op, add_op, mult_op, next_word, begins_access}
 use Rattle.cedar_grammar.specs.Converting as converting
@@ -51,10 +49,29 @@ next_word-is ts us e = absurd (cc e)
 
 -- the level of the operator or access that a token begins, or 0
 abbrev pub level_of : Token → ℕ
+level_of (mark token.OrOr) = 1
+level_of (mark token.AndAnd) = 2
+level_of (mark token.Less) = 3
+level_of (mark token.LessEqual) = 3
+level_of (mark token.Greater) = 3
+level_of (mark token.GreaterEqual) = 3
+level_of (mark token.EqualEqual) = 3
+level_of (mark token.NotEqual) = 3
+level_of (word token.In) = 3
+level_of (word token.Has) = 3
+level_of (word token.Like) = 3
+level_of (word token.Is) = 3
+level_of (mark token.Equal) = 3
+level_of (mark token.Plus) = 4
+level_of (mark token.Minus) = 4
+level_of (mark token.Star) = 5
 level_of (mark token.Slash) = 5
 level_of (mark token.Percent) = 5
-level_of (mark token.Equal) = 3
-level_of t = strict.level_of t
+level_of (mark token.Dot) = 6
+level_of (mark token.LeftBracket) = 6
+level_of (mark token.ColonColon) = 7
+level_of (mark token.LeftParen) = 7
+level_of t = 0
 
 -- nothing of level k or more is next
 abbrev pub Below : ℕ → List Token → Type 0
@@ -65,18 +82,15 @@ pub below-more : (j k : ℕ) → j ≤ k → (ts : List Token) → Below j ts �
 below-more j k le [] h = tt
 below-more j k le (o ∷ ts) h = omega arith
 
-strict-below : (k : ℕ) (ts : List Token) → Below k ts → strict.Below k ts
-strict-below k [] h = tt
-strict-below k (mark token.Slash ∷ ts) h = omega arith
-strict-below k (mark token.Percent ∷ ts) h = omega arith
-strict-below k (mark token.Equal ∷ ts) h = omega arith
-strict-below k (t ∷ ts) h = h
-
 pub eat-colons : (ts : List Token) → Below 7 ts → eat token.ColonColon ts ≡ None
-eat-colons ts h = strict.eat-colons ts (strict-below 7 ts h)
+eat-colons [] h = refl
+eat-colons (mark token.ColonColon ∷ ts) h = absurd (omega arith)
+eat-colons (t ∷ ts) h = refl
 
 pub eat_in-below : (ts : List Token) → Below 3 ts → eat_in ts ≡ None
-eat_in-below ts h = strict.eat_in-below ts (strict-below 3 ts h)
+eat_in-below [] h = refl
+eat_in-below (word token.In ∷ ts) h = absurd (omega arith)
+eat_in-below (t ∷ ts) h = refl
 
 pub next_word-below : (ts : List Token) → Below 7 ts → next_word ts ≡ None
 next_word-below [] h = refl

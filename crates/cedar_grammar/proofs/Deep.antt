@@ -3,8 +3,7 @@ use Rattle.std.proofs.Common.{◌≡◌, ℕ, zero, suc, ◌≤◌, ◌^◌, Boo
 use Rattle.std.specs.Prelude.{map, nat_lt}
 use Rattle.cedar_grammar.specs.Token as token
 use Rattle.cedar_grammar.specs.Token.{Word, Mark, Token, word, number, text, slot, mark}
-use Rattle.cedar_grammar.specs.Reading.{eat, eat_in, eat_then, eat_else, signs_of, text_read}
-use Rattle.cedar_grammar.specs.ReadingPolicies.{word_read, begins_annotation, is_more}
+use Rattle.cedar_grammar.specs.Steps.{eat, eat_in, eat_then, eat_else, word_read, text_read, begins_annotation, is_more, signs_of}
 use Rattle.cedar_grammar.proofs.Parts.{eat-is, eat_in-is, eat_then-is, eat_else-is}
 use Rattle.cedar_grammar.specs.Loose as loose
 use Rattle.cedar_grammar.specs.Loose.{ands, relations, adds, mults, unaries, accesses, exprs, rec_inits}

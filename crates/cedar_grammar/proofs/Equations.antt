@@ -4,7 +4,7 @@ use Rattle.std.specs.Prelude.{map}
 use Rattle.cedar_language.specs.Tree.{Tree}
 use Rattle.cedar_grammar.specs.Names.{Names}
 use Rattle.cedar_grammar.specs.Build.{conjunction, disjunction}
-use Rattle.cedar_grammar.specs.Reading.{◌>>=◌}
+use Rattle.cedar_grammar.specs.Steps.{◌>>=◌}
 use Rattle.cedar_grammar.specs.Loose as loose
 use Rattle.cedar_grammar.specs.Loose.{ands, relations, mults, unaries, exprs, rec_inits}
 use Rattle.cedar_grammar.specs.Converting.{each, sum, product, expr_tree, or_tree, ands_tree, and_tree, relations_tree, relation_tree, add_tree, mults_tree, mult_tree, unaries_tree, unary_tree, exprs_trees, rec_inits_trees, rec_init_tree, action, actions}

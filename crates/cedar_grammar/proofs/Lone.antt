@@ -3,7 +3,7 @@ use Rattle.std.proofs.Common.{◌≡◌, ℕ, zero, suc, ◌^◌, Bool, true, fa
 use Rattle.std.specs.Prelude.{map, nat_lt}
 use Rattle.cedar_grammar.specs.Token as token
 use Rattle.cedar_grammar.specs.Token.{Word, Mark, Token, word, number, text, slot, mark, id_of}
-use Rattle.cedar_grammar.specs.Reading.{eat, eat_in, eat_then, eat_else, signs_of}
+use Rattle.cedar_grammar.specs.Steps.{eat, eat_in, eat_then, eat_else, signs_of}
 use Rattle.cedar_grammar.proofs.Parts.{bind_some, eat-is, eat_then-is, eat_else-is}
 use Rattle.cedar_grammar.specs.Loose as loose
 use Rattle.cedar_grammar.specs.Loose.{ands, relations, adds, mults, unaries, accesses, exprs, rec_inits}

@@ -6,9 +6,8 @@ use Rattle.cedar_grammar.specs.Token.{Mark, Token, mark}
 use Rattle.cedar_grammar.specs.Build.{linked}
 use Rattle.cedar_grammar.specs.Grammar.{Rule, Items, no_items, last_item, an_item, Tail, stop, go_on, Chain, chain}
 use Rattle.cedar_grammar.specs.Policies.{Each, no_more, one_more}
-use Rattle.cedar_grammar.specs.Reading.{◌>>=◌, eat, is_mark}
-use Rattle.cedar_grammar.proofs.Follow.{eat-same, eat-other}
-use Rattle.cedar_grammar.proofs.Parts.{bind_some, eat-is}
+use Rattle.cedar_grammar.specs.Steps.{◌>>=◌, is_mark, eat}
+use Rattle.cedar_grammar.proofs.Parts.{bind_some, eat-same, eat-other, eat-is}
 use Rattle.cedar_grammar.proofs.Eats.{Eats}
 use Rattle.cedar_grammar.specs.LooseReading.{Reading, Reader, ◌>>◌, mapped, needed, each_step, each_at, each_of, after_item, items_step, items_at, items_of, before_rest, operator_at, chain_step, chain_at, links_of, chain_of}
 use Rattle.cedar_grammar.specs.Converting.{each}

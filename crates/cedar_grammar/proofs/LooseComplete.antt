@@ -10,8 +10,8 @@ use Rattle.cedar_grammar.specs.Escape.{string_of}
 use Rattle.cedar_grammar.specs.Names.{Names, variable_of, slot_id, is_function}
 use Rattle.cedar_grammar.specs.Build.{Keyed}
 use Rattle.cedar_grammar.specs.Grammar.{Rule, Inner, Ids, one_id, more_ids, EntityRule, entity, Items, Entry, id_entry, text_entry, Primary, true_is, false_is, number_is, text_is, variable_is, slot_is, entity_is, call_is, group_is, list_is, record_is, attribute, call, index, Accesses, no_access, an_access, Member, member, Signs, no_sign, a_sign, IsNumber, Unary, plain, not_is, neg_is, negative_is, Chain, Mul, Relation, alone, compare, has_text, has_ids, like_is, is_type, is_type_in, And, Expr, or_is, if_is, Within}
-use Rattle.cedar_grammar.specs.Reading.{◌>>=◌, is_mark, eat, signs_of}
-use Rattle.cedar_grammar.proofs.Follow.{is_mark-same}
+use Rattle.cedar_grammar.specs.Steps.{◌>>=◌, is_mark, eat, signs_of}
+use Rattle.cedar_grammar.proofs.Parts.{is_mark-same}
 use Rattle.cedar_grammar.proofs.Eats.{Eats, items-eats, entry-eats, unary-eats, chain-eats, relation-eats, within-eats, Front, Begins, begins_primary, begins_unary, begins_expr, begins_key, front-eat, expr-paren, expr-bracket, key-brace, primary-bang, primary-minus, entry-begins, member-begins, ids-begin, signs-begin, or-begins, within-begins}
 use Rattle.cedar_grammar.specs.Loose as loose
 use Rattle.cedar_grammar.specs.Loose.{ands, relations, adds, mults, unaries, accesses, exprs, rec_inits}

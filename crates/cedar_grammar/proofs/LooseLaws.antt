@@ -1,20 +1,19 @@
 -- The laws of the loose grammar.
 use Rattle.std.proofs.Common.{◌≡◌, ℕ, zero, suc, ◌<◌, ◌≤◌, ◌⊎◌, inl, inr, List, [], ◌∷◌, Option, Some, Result, Ok, Err, refl, sym, ap, subst, ◌∙◌, arith}
 use Rattle.std.proofs.lemmas.Bool.{cases_lt}
-use Rattle.cedar_language.specs.Tree.{Tree, Literal, Lit}
+use Rattle.cedar_language.specs.Slots.{tree_slots}
+use Rattle.cedar_language.specs.Tree.{Tree, SlotId, Literal, Lit}
 use Rattle.cedar_grammar.specs.Token.{Token}
 use Rattle.cedar_grammar.specs.Names.{Names}
 use Rattle.cedar_grammar.specs.Grammar.{Primary, call_is, Within, inner}
-use Rattle.cedar_grammar.specs.Reading.{◌>>=◌, without_slots}
-use Rattle.cedar_grammar.specs.ReadingPolicies.{is_more}
+use Rattle.cedar_grammar.specs.Steps.{◌>>=◌, is_more}
 use Rattle.cedar_grammar.proofs.Eats.{within-eats, within-begins}
 use Rattle.cedar_grammar.specs.Loose as loose
 use Rattle.cedar_grammar.specs.LooseReading.{Fault, depth, read_expr, read_primary, read_policy, read_policies, Reading, ◌>>◌, mapped, each_of, name_of, ref_of, primary_of, expr_at, policy_of, policy_at, policies_at, whole}
-use Rattle.cedar_grammar.specs.Converting.{converted, expr_tree, free_tree, name_path, ref_entity, head_tree, primary_tree, policy_syntax, policies_syntax}
+use Rattle.cedar_grammar.specs.Converting.{converted, expr_tree, free_tree, name_path, ref_entity, head_tree, primary_tree, policy_syntax, policies_syntax, if_none, without_slots}
 use Rattle.cedar_grammar.specs.LooseLaws.{ExprsConvert, EntitiesConvert, NamesConvert, LiteralsConvert, PolicyConverts, PoliciesConvert, ExprsStand, LiteralsStand, PolicyStands, PoliciesStand}
 use Rattle.cedar_grammar.proofs.Stays.{exprs_stay, primaries_stay, policy_stays, policies_stay}
 use Rattle.cedar_grammar.proofs.Basics.{mapped_ok}
-use Rattle.cedar_grammar.proofs.Laws.{free-is, free-from}
 use Rattle.cedar_grammar.proofs.Parts.{bind_some}
 use Rattle.cedar_grammar.proofs.Loops.{Reads}
 use Rattle.cedar_grammar.proofs.LooseComplete.{name-complete, ref-complete, primary-complete, NoCall, within-live, lones-at, within-complete}
@@ -31,6 +30,17 @@ converted-read f (Err x) t e = absurd (cc e)
 
 read-converted : {A B : Type 0} (f : A → Option B) (r : Reading A) (a : A) (t : B) → r ≡ Ok (a, []) → f a ≡ Some t → converted f (r >> whole) ≡ Some t
 read-converted f r a t e g = ap (λ x. converted f (x >> whole)) e ∙ g
+
+-- a tree without slots
+free-is : (t : Tree) → tree_slots t ≡ [] → without_slots t ≡ Some t
+free-is t e = ap (λ ss. if_none ss t) e
+
+free-from : (u t : Tree) → without_slots u ≡ Some t → (u ≡ t) × (tree_slots t ≡ [])
+free-from u t e = by (tree_slots u) refl e
+  where
+    by : (ss : List SlotId) → tree_slots u ≡ ss → if_none ss u ≡ Some t → (u ≡ t) × (tree_slots t ≡ [])
+    by [] f g = let same : u ≡ t = cc g in (same, ap tree_slots (sym same) ∙ f)
+    by (s ∷ ss) f g = absurd (cc g)
 
 pub exprs_convert : ExprsConvert
 exprs_convert names n ts t = (

@@ -9,15 +9,14 @@ use Rattle.cedar_grammar.specs.Build.{Keyed}
 use Rattle.cedar_grammar.specs.Grammar.{Rule, one_id, more_ids, EntityRule, entity, Items, no_items, last_item, an_item, Within}
 use Rattle.cedar_grammar.specs.Policy.{Target, Constraint, ActionConstraint, Policy}
 use Rattle.cedar_grammar.specs.Policies.{Annotation, key_alone, key_value, Each, TargetRule, entity_target, slot_target, in_parens, ConstraintRule, no_constraint, equals_target, in_target, is_type, is_type_in, ActionEntity, action_entity, action_in_parens, ListedAction, ActionRule, no_action, equals_action, in_action, in_actions, closed, comma_closed, Clause, when_is, unless_is, head, ScopeRule, scope, PolicyRule, policy, PolicyWithin}
-use Rattle.cedar_grammar.specs.Reading.{eat, is_mark}
-use Rattle.cedar_grammar.specs.ReadingPolicies.{begins_annotation, owns, is_more}
+use Rattle.cedar_grammar.specs.Steps.{is_mark, eat, begins_annotation, is_more}
 use Rattle.cedar_grammar.proofs.Eats.{within-eats, within-begins, front-eat, begins_expr, ids-begin}
-use Rattle.cedar_grammar.proofs.PoliciesComplete.{annotation-eats, listed-eats, clause-eats, policy_within-eats}
+use Rattle.cedar_grammar.proofs.PoliciesEat.{annotation-eats, listed-eats, clause-eats, policy_within-eats}
 use Rattle.cedar_grammar.specs.Loose as loose
 use Rattle.cedar_grammar.specs.Loose.{exprs}
 use Rattle.cedar_grammar.specs.LooseReading.{Reader, each_of, items_of, operator_at, rel_op, primary_of, slot_of, expr_at, annotation_of, eat_is, variable_def_of, cond_of, begins_cond, policy_of}
 use Rattle.cedar_grammar.specs.Converting as converting
-use Rattle.cedar_grammar.specs.Converting.{each, expr_tree, inside_parens, target, is_own, type_of, asked, constraint, action, actions, actions_among, action_constraint, clause, policy_syntax}
+use Rattle.cedar_grammar.specs.Converting.{each, expr_tree, inside_parens, target, is_own, type_of, asked, constraint, action, actions, actions_among, action_constraint, clause, policy_syntax, owns}
 use Rattle.cedar_grammar.proofs.Basics.{Below, below-more}
 use Rattle.cedar_grammar.proofs.Loops.{Reads, Completes, items-complete, each-complete}
 use Rattle.cedar_grammar.proofs.Equations.{actions-each}

@@ -11,14 +11,13 @@ use Rattle.cedar_grammar.specs.Build.{Keyed, keys, unary, by_key}
 use Rattle.cedar_grammar.specs.Grammar.{Ids, Items, no_items, last_item, an_item, Within}
 use Rattle.cedar_grammar.specs.Policy.{Target, the_entity, the_slot, Constraint, anything, equals, within, of_type, of_type_within, ActionConstraint, any_action, action_equals, action_within_any, Policy}
 use Rattle.cedar_grammar.specs.Policies.{Annotation, key_alone, key_value, Each, TargetRule, entity_target, slot_target, in_parens, ConstraintRule, no_constraint, equals_target, in_target, is_type, is_type_in, ActionEntity, action_entity, action_in_parens, ListedAction, ActionRule, no_action, equals_action, in_action, in_actions, closed, comma_closed, Clause, when_is, unless_is, HeadRule, head, ScopeRule, scope, PolicyRule, policy, PolicyWithin, ends_in_action, effect_of, body_of}
-use Rattle.cedar_grammar.specs.Reading.{◌>>=◌, eat, text_read}
-use Rattle.cedar_grammar.specs.ReadingPolicies.{word_read, begins_annotation, owns, is_more}
+use Rattle.cedar_grammar.specs.Steps.{◌>>=◌, eat, word_read, text_read, begins_annotation, is_more}
 use Rattle.cedar_grammar.proofs.Parts.{bind_some, cond_some, eat-is, text_read-is}
 use Rattle.cedar_grammar.specs.Loose as loose
 use Rattle.cedar_grammar.specs.Loose.{exprs}
 use Rattle.cedar_grammar.specs.LooseReading.{Reader, ◌>>◌, needed, each_of, items_of, operator_at, rel_op, name_of, add_of, slot_of, expr_at, annotated, annotation_of, eat_is, optional, compared_step, variable_def_of, braced, cond_of, begins_cond, policy_of}
 use Rattle.cedar_grammar.specs.Converting as converting
-use Rattle.cedar_grammar.specs.Converting.{each, str_text, ref_entity, expr_tree, inside_parens, opened, primary_target, target, is_own, type_of, lone_primary, primary_path, compared_with, typed_within, asked, constraint, primary_action, action, actions, actions_among, action_asked, action_constraint, clause_by, clause, distinct_keys, policy_syntax}
+use Rattle.cedar_grammar.specs.Converting.{each, str_text, ref_entity, expr_tree, inside_parens, opened, primary_target, target, is_own, type_of, lone_primary, primary_path, compared_with, typed_within, asked, constraint, primary_action, action, actions, actions_among, action_asked, action_constraint, clause_by, clause, distinct_keys, policy_syntax, owns}
 use Rattle.cedar_grammar.proofs.Basics.{bind_ok, needed_ok, ok_pair, mapped_ok, word_read-is}
 use Rattle.cedar_grammar.proofs.Loops.{Sounds, moved, items-sound, each-sound, operator-is}
 use Rattle.cedar_grammar.proofs.Equations.{actions-each}

@@ -11,8 +11,7 @@ use Rattle.cedar_grammar.specs.Names.{Names, variable_of, slot_id, is_function, 
 use Rattle.cedar_grammar.specs.Build.{truth, long, trees, Keyed, keys, record_of, unary, compared, is_in, nots, negs, has}
 use Rattle.cedar_grammar.specs.Grammar.{Rule, Inner, Ids, one_id, more_ids, EntityRule, entity, Items, Entry, id_entry, text_entry, Primary, true_is, false_is, number_is, text_is, variable_is, slot_is, entity_is, call_is, group_is, list_is, record_is, attribute, call, index, Accesses, no_access, an_access, Member, member, Signs, no_sign, a_sign, IsNumber, Unary, plain, not_is, neg_is, negative_is, Chain, Mul, Relation, alone, compare, has_text, has_ids, like_is, is_type, is_type_in, And, Expr, or_is, if_is, Within}
 use Rattle.cedar_grammar.specs.Grammar as grammar
-use Rattle.cedar_grammar.specs.Reading.{◌>>=◌, is_mark, eat, eat_in, signs_of}
-use Rattle.cedar_grammar.specs.ReadingPolicies.{word_read}
+use Rattle.cedar_grammar.specs.Steps.{◌>>=◌, is_mark, eat, eat_in, word_read, signs_of}
 use Rattle.cedar_grammar.proofs.Parts.{bind_some, cond_some, is_mark-is, eat-is, eat_in-is}
 use Rattle.cedar_grammar.specs.Loose as loose
 use Rattle.cedar_grammar.specs.Loose.{ands, relations, adds, mults, unaries, accesses, exprs, rec_inits}

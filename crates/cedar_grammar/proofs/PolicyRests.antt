@@ -2,8 +2,7 @@
 use Rattle.std.proofs.Common.{◌≡◌, ℕ, suc, ◌<◌, List, ◌∷◌, length, Option, Some, None, Ok, refl, ap, ◌∙◌, arith}
 use Rattle.cedar_grammar.specs.Token as token
 use Rattle.cedar_grammar.specs.Token.{Word, Mark, Token, word, text, mark}
-use Rattle.cedar_grammar.specs.Reading.{eat, text_read}
-use Rattle.cedar_grammar.specs.ReadingPolicies.{word_read, begins_annotation}
+use Rattle.cedar_grammar.specs.Steps.{eat, word_read, text_read, begins_annotation}
 use Rattle.cedar_grammar.proofs.Parts.{eat-is, text_read-is}
 use Rattle.cedar_grammar.specs.Loose as loose
 use Rattle.cedar_grammar.specs.LooseReading.{Reader, ◌>>◌, needed, each_of, items_of, operator_at, rel_op, name_of, add_of, expr_at, annotated, annotation_of, eat_is, optional, compared_step, variable_def_of, braced, cond_of, begins_cond, policy_of}

@@ -3,8 +3,7 @@ use Rattle.std.proofs.Common.{◌≡◌, ℕ, zero, suc, ◌≤◌, ◌^◌, Boo
 use Rattle.std.specs.Prelude.{map, nat_lt}
 use Rattle.cedar_grammar.specs.Token as token
 use Rattle.cedar_grammar.specs.Token.{Word, Mark, Token, word, number, text, slot, mark}
-use Rattle.cedar_grammar.specs.Reading.{eat, eat_in, is_mark, signs_of}
-use Rattle.cedar_grammar.specs.ReadingPolicies.{word_read}
+use Rattle.cedar_grammar.specs.Steps.{is_mark, eat, eat_in, word_read, signs_of}
 use Rattle.cedar_grammar.proofs.Parts.{eat-is, eat_in-is}
 use Rattle.cedar_grammar.specs.Loose as loose
 use Rattle.cedar_grammar.specs.Loose.{ands, relations, adds, mults, unaries, accesses, exprs, rec_inits}

@@ -3,8 +3,7 @@ use Rattle.std.proofs.Common.{◌≡◌, ℕ, zero, suc, ◌≤◌, ◌⊎◌, i
 use Rattle.std.specs.Prelude.{map}
 use Rattle.cedar_grammar.specs.Token as token
 use Rattle.cedar_grammar.specs.Token.{Word, Mark, Token, word, number, text, slot, mark}
-use Rattle.cedar_grammar.specs.Reading.{eat, eat_in, eat_then, eat_else, signs_of}
-use Rattle.cedar_grammar.specs.ReadingPolicies.{word_read, begins_annotation, is_more}
+use Rattle.cedar_grammar.specs.Steps.{eat, eat_in, eat_then, eat_else, word_read, begins_annotation, is_more, signs_of}
 use Rattle.cedar_grammar.specs.Loose as loose
 use Rattle.cedar_grammar.specs.Loose.{ands, relations, adds, mults, unaries, accesses, exprs, rec_inits}
 use Rattle.cedar_grammar.specs.LooseReading.{Fault, depth, Reading, Reader, ◌>>◌, mapped, needed, each_step, each_at, each_of, after_item, items_step, items_at, items_of, operator_at, chain_step, chain_at, links_of, chain_of, or_op, and_op, rel_op, add_op, mult_op, name_of, rec_init_of, primary_of, begins_access, access_of, member_of, bangs, dashes, after_dashes, after_bangs, unary_of, mult_of, add_of, is_step, relation_step, relation_of, and_of, or_of, choice_of, expr_of, expr_at, annotation_of, eat_is, optional, compared_step, variable_def_of, braced, cond_of, begins_cond, policy_of, policy_at, policies_at, whole}

@@ -11,7 +11,7 @@ use Rattle.cedar_grammar.specs.Token.{Token}
 use Rattle.cedar_grammar.specs.Tokens.{line_feed, Run, ends, goes_on, is_in_line, Blank, nothing, space, comment, Front, AreTokens, IsTokens, none, next}
 use Rattle.cedar_grammar.specs.Policies.{IsToken}
 use Rattle.cedar_grammar.specs.Laws.{OneToken, TokensOfTexts}
-use Rattle.cedar_grammar.proofs.Follow.{some_pair}
+use Rattle.cedar_grammar.proofs.Parts.{some_pair}
 use Rattle.cedar_grammar.proofs.TokensComplete.{front-complete}
 use Rattle.cedar_grammar.proofs.Gaps.{StartsAs, blank-move, blank-join, front-cut, front-visible, front-split, blank-split, and-true}
 

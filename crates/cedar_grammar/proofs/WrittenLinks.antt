@@ -12,7 +12,7 @@ use Rattle.cedar_grammar.specs.Policies.{Annotation, key_alone, key_value, Each,
 use Rattle.cedar_grammar.specs.Laws.{LinksAreRead, LinksAreOne}
 use Rattle.cedar_grammar.proofs.BoundTrees.{body-bound}
 use Rattle.cedar_grammar.proofs.Kept.{stay, keeps, Keeps, Moves, kept-as, ahead, ids-keep, entity-keeps, entity-before, items-keep, within-moves}
-use Rattle.cedar_grammar.proofs.PoliciesGrow.{one_policies}
+use Rattle.cedar_grammar.proofs.Laws.{one_policies}
 
 entity-bound : (o : Option Uid) (u : Uid) → the_entity u ≡ bound_target o (the_entity u)
 entity-bound None u = refl

@@ -1,6 +1,7 @@
 -- Converting a loose tree to the syntax that it writes, where it writes any. (Cedar language reference, "Grammar specification" and "Policy syntax".)
 use Rattle.std.specs.Prelude.{ℕ, zero, suc, ◌^◌, nat_lt, nat_le, pos, neg_ℤ, List, [], ◌∷◌, ◌++◌, Option, Some, None, Result, Ok, Err, Bool, true, false}
 use Rattle.std.specs.Prelude as prelude
+use Rattle.cedar_language.specs.Slots.{tree_slots}
 use Rattle.cedar_language.specs.Uid.{Text, Name, Uid}
 use Rattle.cedar_language.specs.Tree as tree
 use Rattle.cedar_language.specs.Tree.{Tree, Lit, Var, If, Apply, Like, Is, MakeSet, GetAttr, Variable, Literal}
@@ -12,8 +13,7 @@ use Rattle.cedar_grammar.specs.Build.{truth, long, trees, unary, binary, conjunc
 use Rattle.cedar_grammar.specs.Build as build
 use Rattle.cedar_grammar.specs.Policy.{Effect, Target, the_entity, the_slot, Constraint, anything, equals, within, of_type, of_type_within, ActionConstraint, any_action, action_equals, action_within_any, Policy}
 use Rattle.cedar_grammar.specs.Policies.{ends_in_action, body_of, effect_of}
-use Rattle.cedar_grammar.specs.Reading.{◌>>=◌, without_slots}
-use Rattle.cedar_grammar.specs.ReadingPolicies.{owns}
+use Rattle.cedar_grammar.specs.Steps.{◌>>=◌}
 use Rattle.cedar_grammar.specs.Loose as loose
 use Rattle.cedar_grammar.specs.LooseReading.{Fault}
 
@@ -176,6 +176,14 @@ called names (an_attribute a s) xs = method names s a xs
 abbrev pub record_tree : List (Keyed Tree) → Option Tree
 record_tree es = prelude.cond (are_distinct (keys es)) (Some (record_of es)) None
 
+abbrev pub if_none : {A : Type 0} → List tree.SlotId → A → Option A
+if_none [] a = Some a
+if_none (s ∷ ss) a = None
+
+-- a tree in which no slot stands
+abbrev pub without_slots : Tree → Option Tree
+without_slots t = if_none (tree_slots t) t
+
 -- ---- expressions
 
 module _ (names : Names) where
@@ -322,6 +330,12 @@ asked own None None = Some anything
 asked own None (Some x) = target own x.1 >>= compared_with x.0
 asked own (Some t) None = type_of t >>= λ p. Some (of_type p)
 asked own (Some t) (Some x) = type_of t >>= λ p. target own x.1 >>= typed_within p x.0
+
+-- the word of a variable that has a slot, and the same word
+abbrev pub owns : Word → Word → Bool
+owns token.Principal token.Principal = true
+owns token.Resource token.Resource = true
+owns v w = false
 
 abbrev pub constraint : Word → loose.VariableDef → Option Constraint
 constraint own (loose.variable_def (loose.ident w) None t c) = prelude.cond (owns own w) (asked own t c) None

@@ -8,9 +8,8 @@ pub mod Policy
 pub mod Policies
 pub mod Nesting
 pub mod Gaps
-pub mod Reading
-pub mod ReadingPolicies
 pub mod Laws
+pub mod Steps
 pub mod Loose
 pub mod LooseReading
 pub mod Converting

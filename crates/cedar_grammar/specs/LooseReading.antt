@@ -2,8 +2,7 @@
 use Rattle.std.specs.Prelude.{ℕ, zero, suc, ◌^◌, nat_lt, List, [], ◌∷◌, length, map, Option, Some, None, Result, Ok, Err, Bool, true, false, cond}
 use Rattle.cedar_grammar.specs.Token as token
 use Rattle.cedar_grammar.specs.Token.{Word, Mark, Token, word, number, text, slot, mark, spelled}
-use Rattle.cedar_grammar.specs.Reading.{eat, eat_in, eat_then, eat_else, text_read, signs_of}
-use Rattle.cedar_grammar.specs.ReadingPolicies.{word_read, begins_annotation, is_more}
+use Rattle.cedar_grammar.specs.Steps.{eat, eat_in, eat_then, eat_else, word_read, text_read, begins_annotation, is_more, signs_of}
 use Rattle.cedar_grammar.specs.Loose as loose
 use Rattle.cedar_grammar.specs.Loose.{Ident, ident, Name, name, Ref, uid, ref, RefInit, ref_init, Literal, Slot, RelOp, AddOp, MultOp, NegOp, Expr, or_expr, if_expr, Or, or, And, and, Relation, common, Add, add, Mult, mult, Unary, unary, Member, member, MemAccess, field, call, index, Primary, RecInit, rec_init, ands, relations, adds, mults, unaries, accesses, exprs, rec_inits, Annotation, annotation, VariableDef, variable_def, Cond, Policy, policy, Policies, policies}
 

@@ -2,8 +2,7 @@
 use Rattle.std.proofs.Common.{◌≡◌, ℕ, zero, suc, ◌<◌, true, false, ◌-◌, List, [], ◌∷◌, length, Option, Some, None, Result, Ok, Err, refl, sym, ap, ◌∙◌, subst, arith}
 use Rattle.cedar_grammar.specs.Token as token
 use Rattle.cedar_grammar.specs.Token.{Word, Mark, Token, word, number, text, slot, mark}
-use Rattle.cedar_grammar.specs.Reading.{eat}
-use Rattle.cedar_grammar.specs.ReadingPolicies.{word_read}
+use Rattle.cedar_grammar.specs.Steps.{eat, word_read}
 use Rattle.cedar_grammar.proofs.Parts.{eat-is}
 use Rattle.cedar_grammar.specs.Loose as loose
 use Rattle.cedar_grammar.specs.Loose.{Expr, Add, Primary}

@@ -2,8 +2,7 @@
 use Rattle.std.proofs.Common.{◌≡◌, ℕ, suc, ◌<◌, List, ◌∷◌, length, Ok, refl, ap, arith}
 use Rattle.cedar_grammar.specs.Token as token
 use Rattle.cedar_grammar.specs.Token.{Token, word, mark}
-use Rattle.cedar_grammar.specs.Reading.{eat}
-use Rattle.cedar_grammar.specs.ReadingPolicies.{word_read, begins_annotation}
+use Rattle.cedar_grammar.specs.Steps.{eat, word_read, begins_annotation}
 use Rattle.cedar_grammar.proofs.Parts.{eat-is}
 use Rattle.cedar_grammar.specs.Loose as loose
 use Rattle.cedar_grammar.specs.LooseReading.{◌>>◌, needed, annotated, annotation_of, braced, begins_cond, cond_of, variable_def_of, policy_of, expr_at}

@@ -4,7 +4,7 @@ use Rattle.cedar_language.specs.Uid.{Text}
 use Rattle.cedar_grammar.specs.Token.{Token}
 use Rattle.cedar_grammar.specs.LooseLaws.{PoliciesStay, PoliciesNest, OpenersHavePlaces}
 use Rattle.cedar_grammar.specs.Loose as loose
-use Rattle.cedar_grammar.specs.ReadingPolicies.{is_more}
+use Rattle.cedar_grammar.specs.Steps.{is_more}
 use Rattle.cedar_grammar.specs.LooseReading.{◌>>◌, mapped, whole, each_of, policy_of, read_policies}
 use Rattle.cedar_loose.specs.declared.error.ReadError.{ReadError}
 use Rattle.cedar_loose.specs.declared.policy_reader.PolicyReader.{PolicyReader}

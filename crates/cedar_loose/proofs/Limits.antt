@@ -8,8 +8,7 @@ use Rattle.cedar_grammar.specs.Token as token
 use Rattle.cedar_grammar.specs.Token.{Token}
 use Rattle.cedar_grammar.specs.Tokens.{IsTokens}
 use Rattle.cedar_grammar.specs.Nesting.{loose_nesting}
-use Rattle.cedar_grammar.specs.Reading.{eat}
-use Rattle.cedar_grammar.specs.ReadingPolicies.{word_read, is_more}
+use Rattle.cedar_grammar.specs.Steps.{eat, word_read, is_more}
 use Rattle.cedar_grammar.proofs.TokensComplete.{one_list}
 use Rattle.cedar_grammar.specs.Loose as loose
 use Rattle.cedar_grammar.specs.LooseReading.{Fault, syntax, depth, Reading, ◌>>◌, mapped, needed, whole, openers, each_of, name_of, ref_of, ref_rest, primary_of, expr_at, policy_of, policy_at, policies_at, read_policies, read_policy, read_primary, read_ref, read_name, read_ident}

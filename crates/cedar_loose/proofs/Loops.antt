@@ -3,7 +3,7 @@ use Rattle.std.proofs.Common.{◌≡◌, ℕ, zero, suc, ◌<◌, Bool, true, fa
 use Rattle.std.proofs.lemmas.List.{append-nil, append_assoc}
 use Rattle.cedar_grammar.specs.Token as token
 use Rattle.cedar_grammar.specs.Token.{Mark, Token, mark}
-use Rattle.cedar_grammar.specs.Reading.{eat}
+use Rattle.cedar_grammar.specs.Steps.{eat}
 use Rattle.cedar_grammar.proofs.Parts.{eat-is}
 use Rattle.cedar_grammar.specs.LooseReading.{Fault, Reading, Reader, ◌>>◌, mapped, needed, each_at, each_of, items_at, items_of, operator_at, before_rest, chain_at, links_of, chain_of}
 use Rattle.cedar_grammar.proofs.Rests as rests

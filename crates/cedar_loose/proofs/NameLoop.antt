@@ -2,7 +2,7 @@
 use Rattle.std.proofs.Common.{◌≡◌, ℕ, zero, suc, ◌<◌, List, [], ◌∷◌, ◌++◌, length, Option, Some, None, Ok, Err, refl, sym, ap, ◌∙◌, arith}
 use Rattle.std.proofs.lemmas.List.{append-nil, append_assoc}
 use Rattle.cedar_grammar.specs.Token.{Word, Token}
-use Rattle.cedar_grammar.specs.ReadingPolicies.{word_read}
+use Rattle.cedar_grammar.specs.Steps.{word_read}
 use Rattle.cedar_grammar.specs.Loose.{Ident, ident, Name, missing_name, name}
 use Rattle.cedar_grammar.specs.LooseReading.{Fault, syntax, Reading, ◌>>◌, mapped, needed, next_word, qualified, name_next, name_at, name_of}
 use Rattle.cedar_grammar.proofs.Basics.{ok_pair, word_read-is, next_word-is}

@@ -2,8 +2,7 @@
 use Rattle.std.proofs.Common.{◌≡◌, ℕ, suc, ◌+◌, add-one, List, Option, Some, None, Result, Ok, Err, refl, sym, ap}
 use Rattle.cedar_grammar.specs.Token as token
 use Rattle.cedar_grammar.specs.Token.{Word, Token}
-use Rattle.cedar_grammar.specs.Reading.{eat, text_read}
-use Rattle.cedar_grammar.specs.ReadingPolicies.{word_read, begins_annotation}
+use Rattle.cedar_grammar.specs.Steps.{eat, word_read, text_read, begins_annotation}
 use Rattle.cedar_grammar.specs.Loose as loose
 use Rattle.cedar_grammar.specs.LooseReading.{Fault, Reading, Reader, ◌>>◌, mapped, needed, each_of, items_of, operator_at, rel_op, name_of, add_of, expr_at, eat_is, optional, compared_step, annotated, annotation_of, variable_def_of, braced, cond_of, begins_cond, policy_of}
 use Rattle.cedar_loose.specs.Parts.{valued, value_of, inside, clause_of}

@@ -4,7 +4,7 @@ use Rattle.std.specs.Prelude.{min}
 use Rattle.std.proofs.lemmas.Bool.{lt-ltb, le-ltb}
 use Rattle.cedar_grammar.specs.Token as token
 use Rattle.cedar_grammar.specs.Token.{Mark, Token, mark}
-use Rattle.cedar_grammar.specs.Reading.{eat, is_mark, signs_of}
+use Rattle.cedar_grammar.specs.Steps.{is_mark, eat, signs_of}
 use Rattle.cedar_grammar.specs.Loose as loose
 use Rattle.cedar_grammar.specs.Loose.{Expr}
 use Rattle.cedar_grammar.specs.LooseReading.{Reader, mapped, member_of, after_bangs, after_dashes, unary_of}

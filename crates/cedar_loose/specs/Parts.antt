@@ -2,7 +2,7 @@
 use Rattle.std.specs.Prelude.{List, Option, Some, None, Ok}
 use Rattle.cedar_grammar.specs.Token as token
 use Rattle.cedar_grammar.specs.Token.{Token}
-use Rattle.cedar_grammar.specs.Reading.{eat, text_read}
+use Rattle.cedar_grammar.specs.Steps.{eat, text_read}
 use Rattle.cedar_grammar.specs.Loose as loose
 use Rattle.cedar_grammar.specs.LooseReading.{Reading, Reader, ◌>>◌, needed}
 use Rattle.cedar_cst.specs.declared.node.Node.{Node}

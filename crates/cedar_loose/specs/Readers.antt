@@ -4,7 +4,7 @@ use Rattle.cedar_language.specs.Uid.{Text}
 use Rattle.cedar_grammar.specs.Token.{Token}
 use Rattle.cedar_grammar.specs.Tokens.{IsTokens}
 use Rattle.cedar_grammar.specs.Loose as loose
-use Rattle.cedar_grammar.specs.ReadingPolicies.{is_more}
+use Rattle.cedar_grammar.specs.Steps.{is_more}
 use Rattle.cedar_grammar.specs.LooseReading.{each_of, policy_of, read_policies}
 use Rattle.cedar_cst.specs.declared.node.Node.{Node}
 use Rattle.cedar_cst.specs.declared.cst.Policy.{Policy}

@@ -2,7 +2,7 @@
 use Rattle.std.specs.Prelude.{List, [], ◌∷◌, Option, Some, None, Result, Ok, Err, Bool, true, false}
 use Rattle.cedar_grammar.specs.Token as token
 use Rattle.cedar_grammar.specs.Token.{Mark, Token, word, number, text, slot}
-use Rattle.cedar_grammar.specs.Reading.{is_mark, eat, eat_in}
+use Rattle.cedar_grammar.specs.Steps.{is_mark, eat, eat_in}
 use Rattle.cedar_grammar.specs.Loose.{Slot, Expr, Add, Relation, common, adds}
 use Rattle.cedar_grammar.specs.LooseReading.{slot_of, Fault, syntax, Reader, ◌>>◌, mapped, needed, links_of, rel_op, add_of, is_step}
 

@@ -1,6 +1,5 @@
 // What ends a group or an access, behind the expression in it, if there is one.
-ghost use Rattle.cedar_grammar.specs.Reading.{eat};
-ghost use Rattle.cedar_grammar.specs.ReadingPolicies.{word_read};
+ghost use Rattle.cedar_grammar.specs.Steps.{eat, word_read};
 ghost use Rattle.cedar_grammar.specs.Token as token;
 ghost use Rattle.cedar_grammar.specs.Loose as loose;
 ghost use Rattle.cedar_grammar.specs.LooseReading.{mapped, needed};

@@ -1,8 +1,7 @@
 // The tokens that are left to read.
 ghost use Rattle.std.specs.Prelude.{◌≡◌, [], Some, IfOk, IfSome};
 ghost use Rattle.std.specs.Str.{chars};
-ghost use Rattle.cedar_grammar.specs.Reading.{eat, eat_in, eat_then, eat_else, text_read};
-ghost use Rattle.cedar_grammar.specs.ReadingPolicies.{word_read, is_more, begins_annotation};
+ghost use Rattle.cedar_grammar.specs.Steps.{eat, eat_in, eat_then, eat_else, word_read, text_read, begins_annotation, is_more};
 ghost use Rattle.cedar_tokens.specs.Spelling.{IsSpelled, IsSpelledWord};
 ghost use Rattle.cedar_tokens.specs.Unread.{without_first};
 ghost use Rattle.cedar_tokens.specs.View.{mark_view, word_view};

@@ -2,8 +2,7 @@
 ghost use Rattle.std.specs.Prelude.{◌≡◌, IfOk};
 ghost use Rattle.cedar_tokens.specs.Spelling.{IsSpelledWord};
 ghost use Rattle.cedar_tokens.specs.View.{word_view};
-ghost use Rattle.cedar_grammar.specs.Reading.{text_read};
-ghost use Rattle.cedar_grammar.specs.ReadingPolicies.{word_read};
+ghost use Rattle.cedar_grammar.specs.Steps.{word_read, text_read};
 ghost use Rattle.cedar_grammar.specs.Token.{spelled};
 ghost use Rattle.cedar_grammar.specs.Loose as loose;
 ghost use Rattle.cedar_grammar.specs.LooseReading.{mapped, needed, literal_of, slot_of};

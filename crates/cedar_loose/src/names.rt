@@ -1,6 +1,6 @@
 // Names and entities.
 ghost use Rattle.std.specs.Prelude.{◌≡◌, map, None};
-ghost use Rattle.cedar_grammar.specs.Reading.{eat};
+ghost use Rattle.cedar_grammar.specs.Steps.{eat};
 ghost use Rattle.cedar_grammar.specs.Loose.{Expr};
 ghost use Rattle.cedar_grammar.specs.LooseReading.{Reader, primary_of, name_of, ref_init_of, items_of, ref_rest, ref_of, named_of};
 ghost use Rattle.cedar_grammar.specs.Token as token;

@@ -2,7 +2,7 @@
 ghost use Rattle.std.specs.Prelude.{◌≡◌, min};
 ghost use Rattle.std.specs.Option.{option_map};
 ghost use Rattle.cedar_tokens.specs.View.{mark_view};
-ghost use Rattle.cedar_grammar.specs.Reading.{signs_of};
+ghost use Rattle.cedar_grammar.specs.Steps.{signs_of};
 ghost use Rattle.cedar_grammar.specs.Loose.{Expr, unary};
 ghost use Rattle.cedar_grammar.specs.LooseReading.{Reader, mapped, operator_at, or_op, and_op, rel_op, add_op, mult_op, member_of, unary_of};
 ghost use Rattle.cedar_cst.specs.LeafView.{view_rel_op, view_add_op, view_mult_op, view_neg_op};

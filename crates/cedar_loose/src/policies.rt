@@ -1,8 +1,7 @@
 // Policies: one reader for each rule of the loose grammar.
 ghost use Rattle.std.specs.Prelude.{map, ◌+◌, ◌<◌, ◌^◌};
 ghost use Rattle.std.specs.Option.{option_map};
-ghost use Rattle.cedar_grammar.specs.Reading.{eat};
-ghost use Rattle.cedar_grammar.specs.ReadingPolicies.{begins_annotation, is_more};
+ghost use Rattle.cedar_grammar.specs.Steps.{eat, begins_annotation, is_more};
 ghost use Rattle.cedar_grammar.specs.Token as token;
 ghost use Rattle.cedar_grammar.specs.LooseReading.{each_of, items_of, optional, eat_is, operator_at, rel_op, compared_step, name_of, add_of, expr_at, begins_cond, annotation_of, variable_def_of, cond_of, policy_of};
 ghost use Rattle.cedar_cst.specs.LeafView.{shown_str, shown_name, view_rel_op};

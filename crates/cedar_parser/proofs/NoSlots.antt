@@ -5,7 +5,8 @@ use Rattle.std.specs.List.{list_any}
 use Rattle.cedar_language.specs.Slots.{tree_slots}
 use Rattle.cedar_language.specs.Tree.{SlotId, PrincipalSlot, ResourceSlot, Tree}
 use Rattle.cedar_grammar.specs.Policy.{is_slot}
-use Rattle.cedar_grammar.specs.Reading.{◌>>=◌, if_none, without_slots}
+use Rattle.cedar_grammar.specs.Steps.{◌>>=◌}
+use Rattle.cedar_grammar.specs.Converting.{if_none, without_slots}
 use Rattle.cedar_shapes.specs.Leaves.{slots_among}
 use Rattle.cedar_shapes.specs.Positions.{positions}
 use Rattle.cedar_shapes.proofs.HeldSlots.{slots_met}

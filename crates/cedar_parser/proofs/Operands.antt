@@ -6,8 +6,8 @@ use Rattle.cedar_grammar.specs.Grammar.{IsLiteral}
 use Rattle.cedar_grammar.specs.Laws.{OneList}
 use Rattle.cedar_grammar.specs.Names.{Names}
 use Rattle.cedar_grammar.specs.Token.{Token}
-use Rattle.cedar_grammar.specs.Reading.{◌>>=◌, without_slots}
-use Rattle.cedar_grammar.specs.Converting.{converted, expr_tree, and_tree, primary_tree}
+use Rattle.cedar_grammar.specs.Steps.{◌>>=◌}
+use Rattle.cedar_grammar.specs.Converting.{converted, expr_tree, and_tree, primary_tree, without_slots}
 use Rattle.cedar_grammar.specs.Loose as loose
 use Rattle.cedar_grammar.specs.LooseLaws.{LiteralsConvert, LiteralsStand}
 use Rattle.cedar_grammar.specs.LooseReading.{Fault, read_primary}

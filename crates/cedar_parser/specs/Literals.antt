@@ -3,11 +3,11 @@ use Rattle.std.specs.Prelude.{◌≡◌, ℕ, List, Option, Some, None, Result, 
 use Rattle.cedar_language.specs.Uid.{Text}
 use Rattle.cedar_language.specs.Tree as tree
 use Rattle.cedar_language.specs.Tree.{Tree, Lit}
-use Rattle.cedar_grammar.specs.Converting.{converted, primary_tree}
+use Rattle.cedar_grammar.specs.Converting.{converted, primary_tree, without_slots}
 use Rattle.cedar_grammar.specs.Grammar.{IsLiteral}
 use Rattle.cedar_grammar.specs.Loose as loose
 use Rattle.cedar_grammar.specs.LooseReading.{read_primary}
-use Rattle.cedar_grammar.specs.Reading.{◌>>=◌, without_slots}
+use Rattle.cedar_grammar.specs.Steps.{◌>>=◌}
 use Rattle.cedar_grammar.specs.Names.{Names}
 use Rattle.cedar_grammar.specs.Token.{Token}
 use Rattle.cedar_grammar.specs.Tokens.{IsTokens}

@@ -1,7 +1,7 @@
 // Slots of templates, where none may stand.
 ghost use Rattle.std.specs.Prelude.{◌≡◌, [], IfOk, IfErr, MatchOption, Some};
 ghost use Rattle.std.specs.Option.{option_copied};
-ghost use Rattle.cedar_grammar.specs.Reading.{without_slots};
+ghost use Rattle.cedar_grammar.specs.Converting.{without_slots};
 ghost use Rattle.cedar_language.specs.Slots.{tree_slots};
 ghost use Rattle.cedar_trees.specs.Bare.{bare};
 ghost use Rattle.cedar_parser.specs.Faults.{IsSlotFault, slots_show, TellOnly};

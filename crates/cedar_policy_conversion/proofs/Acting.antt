@@ -5,7 +5,7 @@ use Rattle.std.specs.Prelude.{◌↔◌, ◌-◌, ◌++◌, suc, cond, IsTrue, s
 use Rattle.std.specs.Cmp.Lexicographic.{bytes_decides}
 use Rattle.cedar_language.specs.Uid.{Text, Name, Uid}
 use Rattle.cedar_grammar.specs.Policies.{ends_in_action}
-use Rattle.cedar_grammar.specs.Reading.{◌>>=◌}
+use Rattle.cedar_grammar.specs.Steps.{◌>>=◌}
 use Rattle.cedar_grammar.specs.Loose as loose
 use Rattle.cedar_grammar.specs.Converting.{each, inside_parens, primary_action, action, actions, actions_among}
 use Rattle.cedar_policy_parts.specs.Actions.{held_uids}

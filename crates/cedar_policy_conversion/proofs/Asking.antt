@@ -3,7 +3,7 @@ use Rattle.std.proofs.Common.{◌≡◌, Option, Some, None, refl, ap, ◌∙◌
 use Rattle.std.specs.Option.{option_map}
 use Rattle.cedar_language.specs.Tree as tree
 use Rattle.cedar_grammar.specs.Policy.{Target}
-use Rattle.cedar_grammar.specs.Reading.{◌>>=◌}
+use Rattle.cedar_grammar.specs.Steps.{◌>>=◌}
 use Rattle.cedar_grammar.specs.Token.{Word}
 use Rattle.cedar_grammar.specs.Loose as loose
 use Rattle.cedar_grammar.specs.Converting.{type_of, target, typed_within, asked, constraint, action_asked, action_constraint}

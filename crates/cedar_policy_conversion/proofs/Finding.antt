@@ -1,7 +1,7 @@
 -- What is found of several parts together.
 use Rattle.std.proofs.Common.{◌≡◌, List, [], ◌∷◌, ◌++◌, Option, Some, None, Result, Ok, Err, refl, sym, ap, subst}
 use Rattle.std.specs.Prelude.{⊤, IsErr, IsErrAnd}
-use Rattle.cedar_grammar.specs.Reading.{◌>>=◌}
+use Rattle.cedar_grammar.specs.Steps.{◌>>=◌}
 use Rattle.cedar_faults.specs.declared.errors.ConversionError.{ConversionError}
 use Rattle.cedar_faults.specs.declared.errors.ConversionError.TheVariants as error
 use Rattle.cedar_faults.specs.Reasons.{Reason, IsFault, gathered, means_nothing, refused, out_of_memory, reason}

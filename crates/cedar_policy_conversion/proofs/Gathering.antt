@@ -2,7 +2,7 @@
 use Rattle.std.proofs.Common.{◌≡◌, ◌+◌, ◌<◌, ℕ, List, [], ◌∷◌, ◌++◌, map, take, length, get_or, Option, Some, None, Result, Ok, Err, refl, sym, ap, ◌∙◌, subst}
 use Rattle.std.proofs.lemmas.List.{map-append, take_more}
 use Rattle.std.specs.Prelude.{IsErr, IsErrAnd}
-use Rattle.cedar_grammar.specs.Reading.{◌>>=◌}
+use Rattle.cedar_grammar.specs.Steps.{◌>>=◌}
 use Rattle.cedar_faults.specs.declared.errors.ConversionError.{ConversionError}
 use Rattle.cedar_faults.specs.declared.errors.ConversionError.TheVariants as error
 use Rattle.cedar_faults.specs.Reasons.{Reason, means_nothing, refused, out_of_memory, reason, IsFault, Gathers}

@@ -11,7 +11,7 @@ use Rattle.cedar_language.specs.Uid.{Text}
 use Rattle.cedar_names.specs.declared.places.Place.{Place}
 use Rattle.cedar_grammar.specs.Names.{is_among}
 use Rattle.cedar_grammar.specs.Build.{Keyed, keys, put}
-use Rattle.cedar_grammar.specs.Reading.{◌>>=◌}
+use Rattle.cedar_grammar.specs.Steps.{◌>>=◌}
 use Rattle.cedar_grammar.specs.Converting.{ident_spelling}
 use Rattle.cedar_grammar.specs.Loose as loose
 use Rattle.cedar_cst.specs.LeafView.{shown_ident, shown_str}

@@ -10,7 +10,7 @@ use Rattle.std.specs.Ordering.{nat_cmp, is_lt, is_eq, match_ordering}
 use Rattle.cedar_language.specs.Uid.{Text}
 use Rattle.cedar_grammar.specs.Names.{is_text, is_among}
 use Rattle.cedar_grammar.specs.Build.{Keyed, keys, put}
-use Rattle.cedar_grammar.specs.Reading.{◌>>=◌}
+use Rattle.cedar_grammar.specs.Steps.{◌>>=◌}
 use Rattle.cedar_grammar.specs.Converting.{each}
 use Rattle.cedar_cst.specs.declared.cst.Annotation.{Annotation}
 use Rattle.cedar_cst.specs.declared.node.Node.{Node}

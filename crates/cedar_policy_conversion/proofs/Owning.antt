@@ -7,10 +7,9 @@ use Rattle.cedar_grammar.specs.Token as token
 use Rattle.cedar_grammar.specs.Token.{Word}
 use Rattle.cedar_grammar.specs.Names.{variable_of}
 use Rattle.cedar_grammar.specs.Policy as policy
-use Rattle.cedar_grammar.specs.Reading.{◌>>=◌}
-use Rattle.cedar_grammar.specs.ReadingPolicies.{owns}
+use Rattle.cedar_grammar.specs.Steps.{◌>>=◌}
 use Rattle.cedar_grammar.specs.Loose as loose
-use Rattle.cedar_grammar.specs.Converting.{is_own, asked, constraint, action_asked, action_constraint}
+use Rattle.cedar_grammar.specs.Converting.{is_own, asked, constraint, action_asked, action_constraint, owns}
 use Rattle.cedar_cst.specs.Slots.{own_slot}
 use Rattle.cedar_policy_parts.specs.Asked.{variable_asked}
 use Rattle.cedar_policy_parts.specs.declared.constraints.PrincipalOrResource.{PrincipalOrResource}

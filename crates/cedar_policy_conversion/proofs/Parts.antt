@@ -8,7 +8,7 @@ use Rattle.std.proofs.lemmas.Option.{slice_get_past, slice_get_read, slice_get-m
 use Rattle.cedar_grammar.specs.Token as token
 use Rattle.cedar_grammar.specs.Policy as policy
 use Rattle.cedar_grammar.specs.Policy.{Constraint}
-use Rattle.cedar_grammar.specs.Reading.{◌>>=◌}
+use Rattle.cedar_grammar.specs.Steps.{◌>>=◌}
 use Rattle.cedar_grammar.specs.Loose as loose
 use Rattle.cedar_grammar.specs.Converting.{constraint, action_constraint, scope_syntax}
 use Rattle.cedar_policy_parts.specs.Actions.{action_of}

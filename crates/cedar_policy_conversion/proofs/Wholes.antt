@@ -8,7 +8,7 @@ use Rattle.cedar_grammar.specs.Build.{Keyed, by_key}
 use Rattle.cedar_grammar.specs.Names.{Names}
 use Rattle.cedar_grammar.specs.Policies.{body_of}
 use Rattle.cedar_grammar.specs.Policy.{Constraint, ActionConstraint, Policy}
-use Rattle.cedar_grammar.specs.Reading.{◌>>=◌}
+use Rattle.cedar_grammar.specs.Steps.{◌>>=◌}
 use Rattle.cedar_grammar.specs.Converting.{each, annotation_syntax, clause, distinct_keys, effect, policy_syntax, scope_syntax}
 use Rattle.cedar_grammar.specs.Loose as loose
 use Rattle.cedar_policy_conversion.specs.Clauses.{clauses_of}

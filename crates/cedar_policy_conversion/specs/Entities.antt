@@ -2,7 +2,7 @@
 use Rattle.std.specs.Prelude.{Bool, not, cond, List, [], ◌∷◌, filter, Option, Some, None}
 use Rattle.cedar_language.specs.Uid.{Uid}
 use Rattle.cedar_grammar.specs.Policies.{ends_in_action}
-use Rattle.cedar_grammar.specs.Reading.{◌>>=◌}
+use Rattle.cedar_grammar.specs.Steps.{◌>>=◌}
 use Rattle.cedar_grammar.specs.Loose as loose
 use Rattle.cedar_grammar.specs.Converting.{ref_entity, inside_parens}
 use Rattle.cedar_policy_conversion.specs.declared.entities.OneOrMultipleRefs.{OneOrMultipleRefs}

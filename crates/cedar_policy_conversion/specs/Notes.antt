@@ -10,7 +10,7 @@ use Rattle.cedar_language.specs.Uid.{Text}
 use Rattle.cedar_names.specs.declared.places.Place.{Place}
 use Rattle.cedar_grammar.specs.Names.{is_among}
 use Rattle.cedar_grammar.specs.Build.{Keyed, keys, put, by_key}
-use Rattle.cedar_grammar.specs.Reading.{◌>>=◌}
+use Rattle.cedar_grammar.specs.Steps.{◌>>=◌}
 use Rattle.cedar_grammar.specs.Loose as loose
 use Rattle.cedar_grammar.specs.Converting.{each, ident_spelling, str_text, annotation_syntax, distinct_keys}
 use Rattle.cedar_cst.specs.View.{shown_annotation}

@@ -10,7 +10,7 @@ use Rattle.cedar_literals.specs.declared.variables.Var.TheVariants as var
 use Rattle.cedar_grammar.specs.Token as token
 use Rattle.cedar_grammar.specs.Token.{Word}
 use Rattle.cedar_grammar.specs.Names as names
-use Rattle.cedar_grammar.specs.Reading.{◌>>=◌}
+use Rattle.cedar_grammar.specs.Steps.{◌>>=◌}
 use Rattle.cedar_grammar.specs.Loose as loose
 use Rattle.cedar_grammar.specs.Converting.{ident_spelling, alone, inside_parens, is_own, effect}
 use Rattle.cedar_cst.specs.LeafView.{view_ident, view_rel_op}

@@ -6,7 +6,7 @@ use Rattle.std.proofs.lemmas.List.Elements.{filter_map-append}
 use Rattle.std.proofs.lemmas.List.Folds.{list_any-append}
 use Rattle.cedar_language.specs.Tree.{SlotId, Tree, Lit, Var, Slot, Unknown, If, And, Or, Apply, Trees, no_trees, a_tree}
 use Rattle.cedar_language.specs.Slots.{tree_slots, trees_slots}
-use Rattle.cedar_grammar.specs.Reading.{if_none, without_slots}
+use Rattle.cedar_grammar.specs.Converting.{if_none, without_slots}
 use Rattle.cedar_shapes.specs.Leaves.{slot_in, slots_among}
 use Rattle.cedar_shapes.specs.Positions.{positions, all_positions}
 

@@ -4,7 +4,7 @@ use Rattle.std.specs.Prelude.{IsSome}
 use Rattle.std.specs.Str.{chars}
 use Rattle.cedar_grammar.specs.Token.{Token}
 use Rattle.cedar_grammar.specs.Tokens.{AreTokens, none, next, after_blank, token_read, tokens_at, tokens_of}
-use Rattle.cedar_grammar.proofs.Follow.{some_pair}
+use Rattle.cedar_grammar.proofs.Parts.{some_pair}
 use Rattle.cedar_grammar.proofs.TokensComplete.{blank-complete, blank-nil, front-blank, front-complete, reads_tokens}
 use Rattle.cedar_tokens.specs.declared.tokens.Token as placed
 use Rattle.cedar_tokens.specs.View.{token_of}

@@ -8,11 +8,13 @@ use Rattle.cedar_grammar.specs.Token.{Token, word, mark, Permit, Principal, Acti
 use Rattle.cedar_grammar.specs.Tokens as tokens
 use Rattle.cedar_grammar.specs.Tokens.{tokens_of}
 use Rattle.cedar_grammar.specs.Names.{Names}
-use Rattle.cedar_grammar.specs.Reading as reading
-use Rattle.cedar_grammar.specs.Reading.{read_expr}
-use Rattle.cedar_grammar.specs.ReadingPolicies as policies
-use Rattle.cedar_grammar.specs.ReadingPolicies.{read_policies}
-use Rattle.cedar_grammar.specs.Laws.{ReadsTokens, ReadsExprs, ReadsPolicies, OneList, OneExpr, OnePolicies}
+use Rattle.cedar_grammar.specs.Steps as steps
+use Rattle.cedar_grammar.specs.LooseReading as loose
+use Rattle.cedar_grammar.specs.LooseReading.{read_expr, read_policies}
+use Rattle.cedar_grammar.specs.Converting as converting
+use Rattle.cedar_grammar.specs.Converting.{converted, free_tree, policies_syntax}
+use Rattle.cedar_grammar.specs.Laws.{ReadsTokens, OneList, OneExpr, OnePolicies}
+use Rattle.cedar_grammar.specs.LooseLaws.{ExprsConvert, PoliciesConvert}
 use Rattle.cedar_world.specs.Orders.{text_cmp}
 use Rattle.cedar_grammar.specs.Syntax.{PolicySyntax, numbered}
 use Rattle.cedar_grammar.specs.Functions.{Functions, policy_names, body_names}
@@ -42,8 +44,8 @@ braces_are : tokens_of (chars (codes "{}")) ≡ Some braces
 unfolding braces chars tokens_of tokens.tokens_at tokens.after_blank tokens.token_read tokens.run_of tokens.inside_of
 braces_are = refl
 
-braces_read : (names : Names) → read_expr names 256 braces ≡ Some (Apply (MakeRecord []) no_trees)
-unfolding braces reading.ids_at reading.ids_of reading.entity_of reading.items_at reading.items_of reading.entry_of reading.named_of reading.primary_of reading.accesses_at reading.member_of reading.signs_of reading.unary_of reading.chain_at reading.chain_of reading.relation_of reading.choice_of reading.expr_of reading.expr_at
+braces_read : (names : Names) → converted (free_tree names) (read_expr 256 braces) ≡ Some (Apply (MakeRecord []) no_trees)
+unfolding braces steps.signs_of loose.name_at loose.name_of loose.literal_of loose.ref_init_of loose.ref_rest loose.ref_of loose.named_of loose.rec_init_of loose.primary_of loose.access_of loose.member_of loose.unary_of loose.mult_of loose.add_of loose.relation_of loose.and_of loose.or_of loose.choice_of loose.expr_of loose.expr_at loose.each_at loose.each_of loose.items_at loose.items_of loose.chain_at loose.links_of loose.chain_of converting.expr_tree converting.or_tree converting.ands_tree converting.and_tree converting.relations_tree converting.relation_tree converting.adds_tree converting.add_tree converting.mults_tree converting.mult_tree converting.unaries_tree converting.unary_tree converting.member_tree converting.accesses_tree converting.access_head converting.primary_head converting.exprs_trees converting.rec_inits_trees converting.rec_init_tree
 braces_read names = refl
 
 brackets : List Token
@@ -53,8 +55,8 @@ brackets_are : tokens_of (chars (codes "[]")) ≡ Some brackets
 unfolding brackets chars tokens_of tokens.tokens_at tokens.after_blank tokens.token_read tokens.run_of tokens.inside_of
 brackets_are = refl
 
-brackets_read : (names : Names) → read_expr names 256 brackets ≡ Some (Apply MakeSet no_trees)
-unfolding brackets reading.ids_at reading.ids_of reading.entity_of reading.items_at reading.items_of reading.entry_of reading.named_of reading.primary_of reading.accesses_at reading.member_of reading.signs_of reading.unary_of reading.chain_at reading.chain_of reading.relation_of reading.choice_of reading.expr_of reading.expr_at
+brackets_read : (names : Names) → converted (free_tree names) (read_expr 256 brackets) ≡ Some (Apply MakeSet no_trees)
+unfolding brackets steps.signs_of loose.name_at loose.name_of loose.literal_of loose.ref_init_of loose.ref_rest loose.ref_of loose.named_of loose.rec_init_of loose.primary_of loose.access_of loose.member_of loose.unary_of loose.mult_of loose.add_of loose.relation_of loose.and_of loose.or_of loose.choice_of loose.expr_of loose.expr_at loose.each_at loose.each_of loose.items_at loose.items_of loose.chain_at loose.links_of loose.chain_of converting.expr_tree converting.or_tree converting.ands_tree converting.and_tree converting.relations_tree converting.relation_tree converting.adds_tree converting.add_tree converting.mults_tree converting.mult_tree converting.unaries_tree converting.unary_tree converting.member_tree converting.accesses_tree converting.access_head converting.primary_head converting.exprs_trees converting.rec_inits_trees converting.rec_init_tree
 brackets_read names = refl
 
 quote_is_none : tokens_of (chars (codes "\"")) ≡ None
@@ -68,8 +70,8 @@ permit_is : tokens_of (chars (codes "permit(principal, action, resource);")) ≡
 unfolding permit_for_all chars tokens_of tokens.tokens_at tokens.after_blank tokens.token_read tokens.run_of tokens.inside_of
 permit_is = refl
 
-permit_read : (names : Names) → read_policies names 256 permit_for_all ≡ Some (for_all ∷ [])
-unfolding permit_for_all reading.ids_at reading.ids_of reading.entity_of reading.items_at reading.items_of reading.entry_of reading.named_of reading.primary_of reading.accesses_at reading.member_of reading.signs_of reading.unary_of reading.chain_at reading.chain_of reading.relation_of reading.choice_of reading.expr_of reading.expr_at policies.each_at policies.each_of policies.annotation_of policies.target_at policies.constraint_of policies.action_at policies.action_of policies.clause_of policies.head_of policies.scope_of policies.clauses_of policies.policy_of
+permit_read : (names : Names) → converted (policies_syntax names) (read_policies 256 permit_for_all) ≡ Some (for_all ∷ [])
+unfolding permit_for_all steps.signs_of loose.name_at loose.name_of loose.literal_of loose.ref_init_of loose.ref_rest loose.ref_of loose.named_of loose.rec_init_of loose.primary_of loose.access_of loose.member_of loose.unary_of loose.mult_of loose.add_of loose.relation_of loose.and_of loose.or_of loose.choice_of loose.expr_of loose.expr_at loose.each_at loose.each_of loose.items_at loose.items_of loose.chain_at loose.links_of loose.chain_of converting.expr_tree converting.or_tree converting.ands_tree converting.and_tree converting.relations_tree converting.relation_tree converting.adds_tree converting.add_tree converting.mults_tree converting.mult_tree converting.unaries_tree converting.unary_tree converting.member_tree converting.accesses_tree converting.access_head converting.primary_head converting.exprs_trees converting.rec_inits_trees converting.rec_init_tree loose.annotation_of loose.variable_def_of loose.cond_of loose.policy_of loose.policy_at loose.policies_at converting.inside_parens converting.opened converting.policy_syntax converting.policies_syntax
 permit_read names = refl
 
 -- ---- steps
@@ -95,18 +97,18 @@ braces_are_utf8 : IsUtf8 (codes "{}")
 unfolding lib.Utf8.encode
 braces_are_utf8 = (codes "{}", (refl, refl))
 
-module _ (reads_tokens : ReadsTokens) (reads_exprs : ReadsExprs) (reads_policies : ReadsPolicies) (one_list : OneList) (one_expr : OneExpr) (one_policies : OnePolicies) (functions : Functions) where
+module _ (reads_tokens : ReadsTokens) (exprs_convert : ExprsConvert) (policies_convert : PoliciesConvert) (one_list : OneList) (one_expr : OneExpr) (one_policies : OnePolicies) (functions : Functions) where
   abbrev by : Setting
   by = record { functions = functions; depth = 256 }
 
   braces_within : IsBodyWithin by 256 (codes "{}") (Apply (MakeRecord []) no_trees)
-  braces_within = (braces, (reads_tokens (chars (codes "{}")) braces).1 braces_are, (reads_exprs (body_names functions) 256 braces (Apply (MakeRecord []) no_trees)).1 (braces_read (body_names functions)))
+  braces_within = (braces, (reads_tokens (chars (codes "{}")) braces).1 braces_are, (exprs_convert (body_names functions) 256 braces (Apply (MakeRecord []) no_trees)).1 (braces_read (body_names functions)))
 
   brackets_within : IsBodyWithin by 256 (codes "[]") (Apply MakeSet no_trees)
-  brackets_within = (brackets, (reads_tokens (chars (codes "[]")) brackets).1 brackets_are, (reads_exprs (body_names functions) 256 brackets (Apply MakeSet no_trees)).1 (brackets_read (body_names functions)))
+  brackets_within = (brackets, (reads_tokens (chars (codes "[]")) brackets).1 brackets_are, (exprs_convert (body_names functions) 256 brackets (Apply MakeSet no_trees)).1 (brackets_read (body_names functions)))
 
   permit_within : ArePoliciesWithin by 256 (codes "permit(principal, action, resource);") (for_all ∷ [])
-  permit_within = (permit_for_all, (reads_tokens (chars (codes "permit(principal, action, resource);")) permit_for_all).1 permit_is, (reads_policies (policy_names functions) 256 permit_for_all (for_all ∷ [])).1 (permit_read (policy_names functions)))
+  permit_within = (permit_for_all, (reads_tokens (chars (codes "permit(principal, action, resource);")) permit_for_all).1 permit_is, (policies_convert (policy_names functions) 256 permit_for_all (for_all ∷ [])).1 (permit_read (policy_names functions)))
 
   no_quote : (ss : List PolicySyntax) → ArePolicies by (codes "\"") ss → ⊥
   no_quote ss reads = not_none reads.1.0 (sym quote_is_none ∙ (reads_tokens (chars (codes "\"")) reads.1.0).0 reads.1.1)

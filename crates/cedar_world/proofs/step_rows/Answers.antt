@@ -4,6 +4,6 @@ use Rattle.cedar_world.proofs.step_rows.Goals as goal
 
 pub returns : goal.returns
 returns c functions =
-    let reads = c.reading_is_the_grammar.ensures in
+    let converts = c.converting_is_the_grammar.ensures in
     let one = c.at_most_one_meaning.ensures in
-    rows.step_rows reads.tokens reads.expressions reads.policies one.tokens one.expressions one.policies functions
+    rows.step_rows c.reading_gives_the_tokens.ensures converts.expressions converts.policies one.tokens one.expressions one.policies functions

@@ -1,7 +1,7 @@
 -- The tree of a node is what its construct makes of its parts; that of a chain is joined one part at a time.
 use Rattle.std.proofs.Common.{◌≡◌, ◌⊎◌, ◌<◌, Some, Ok, map, drop, [], ◌∷◌, refl, sym, ap, ◌∙◌, subst, arith, None, inl, inr}
 use Rattle.std.proofs.lemmas.Grind.{common_steps}
-use Rattle.cedar_grammar.specs.Reading.{◌>>=◌}
+use Rattle.cedar_grammar.specs.Steps.{◌>>=◌}
 use Rattle.std.specs.Rc.{rc_str_bytes}
 use Rattle.cedar_cst.specs.LeafView.{shown_name, shown_ident}
 use Rattle.cedar_grammar.specs.Loose as loose

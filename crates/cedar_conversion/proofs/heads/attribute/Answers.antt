@@ -1,6 +1,6 @@
 -- The tree before the dot is all that is built so far, so it alone may be refused.
 use Rattle.std.proofs.Common.{◌≡◌, Some, sym, ◌∙◌, subst, ◌⊎◌, ap}
-use Rattle.cedar_grammar.specs.Reading.{◌>>=◌}
+use Rattle.cedar_grammar.specs.Steps.{◌>>=◌}
 use Rattle.cedar_grammar.specs.Converting as converting
 use Rattle.cedar_grammar.specs.Converting.{head_tree}
 use Rattle.cedar_faults.specs.Reasons.{reason}

@@ -1,7 +1,7 @@
 -- The identifiers so far and those of the words left are those of all words, and none so far is reserved.
 use Rattle.std.proofs.Common.{◌≡◌, map, drop, Some, ◌++◌, false}
 use Rattle.cedar_names.specs.Names.{is_reserved_name}
-use Rattle.cedar_grammar.specs.Reading.{◌>>=◌}
+use Rattle.cedar_grammar.specs.Steps.{◌>>=◌}
 use Rattle.cedar_grammar.specs.Converting.{ident_text, each}
 use Rattle.cedar_cst.specs.LeafView.{shown_ident}
 use Rattle.cedar_conversion.proofs.names.to_path.Given as goal

@@ -3,7 +3,7 @@ use Rattle.std.proofs.Common.{◌≡◌, ◌<◌, length, [], ◌∷◌, map, sy
 use Rattle.std.specs.Prelude.{◌==◌, IfErr}
 use Rattle.cedar_grammar.specs.Loose as loose
 use Rattle.cedar_grammar.specs.Converting.{member_fields, primary_text}
-use Rattle.cedar_grammar.specs.Reading.{◌>>=◌}
+use Rattle.cedar_grammar.specs.Steps.{◌>>=◌}
 use Rattle.cedar_cst.specs.LeafView.{shown_name}
 use Rattle.cedar_cst.specs.declared.cst.Member.{out-Member}
 use Rattle.cedar_cst.specs.View.{view_member, shown_member, shown_primary, shown_mem_access}

@@ -1,7 +1,7 @@
 -- The words so far and those of the accesses that are left are the attributes of all accesses.
 use Rattle.std.proofs.Common.{◌≡◌, ◌++◌, map, drop, Some}
 use Rattle.std.specs.Rc.{rc_str_bytes}
-use Rattle.cedar_grammar.specs.Reading.{◌>>=◌}
+use Rattle.cedar_grammar.specs.Steps.{◌>>=◌}
 use Rattle.cedar_grammar.specs.Loose as loose
 use Rattle.cedar_grammar.specs.Converting.{fields}
 use Rattle.cedar_cst.specs.View.{shown_mem_access}

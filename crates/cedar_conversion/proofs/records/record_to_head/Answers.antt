@@ -1,6 +1,6 @@
 -- Expressions and trees stand beside the same keys, so both are put in the same order, or a key stands twice.
 use Rattle.std.proofs.Common.{◌≡◌, Some, ap, ◌∙◌, subst, inl, inr, sym}
-use Rattle.cedar_grammar.specs.Reading.{◌>>=◌}
+use Rattle.cedar_grammar.specs.Steps.{◌>>=◌}
 use Rattle.cedar_grammar.specs.Build.{keys, record_of}
 use Rattle.cedar_grammar.specs.Converting as converting
 use Rattle.cedar_grammar.specs.Converting.{record_tree}

@@ -1,7 +1,7 @@
 -- As ref_of does, of a word that stands as an identifier.
 use Rattle.std.proofs.Common.{sym}
 use Rattle.std.proofs.lemmas.Result.{err_from_is_err_and}
-use Rattle.cedar_grammar.specs.ReadingPolicies.{word_read}
+use Rattle.cedar_grammar.specs.Steps.{word_read}
 use Rattle.cedar_grammar.specs.Loose as loose
 use Rattle.cedar_grammar.specs.LooseReading.{mapped, needed, whole}
 use Rattle.cedar_cst.specs.LeafView.{shown_ident}

@@ -1,7 +1,7 @@
 -- Within no nesting nothing is read; else policies are read a level further in, and no token may be left.
 use Rattle.std.proofs.Common.{◌-◌, Ok, map, sym, ap, ◌∙◌}
 use Rattle.std.proofs.lemmas.Result.{err_from_is_err_and}
-use Rattle.cedar_grammar.specs.ReadingPolicies.{is_more}
+use Rattle.cedar_grammar.specs.Steps.{is_more}
 use Rattle.cedar_grammar.specs.Loose as loose
 use Rattle.cedar_grammar.specs.LooseReading.{◌>>◌, mapped, whole, each_of, policy_of, read_policies}
 use Rattle.cedar_cst.specs.View.{shown_policy, view_policies}

@@ -1,5 +1,5 @@
 use Rattle.std.proofs.Common.{map, length}
-use Rattle.cedar_grammar.specs.ReadingPolicies.{begins_annotation}
+use Rattle.cedar_grammar.specs.Steps.{begins_annotation}
 use Rattle.cedar_grammar.specs.LooseReading.{each_of, annotation_of}
 use Rattle.cedar_cst.specs.View.{shown_annotation}
 use Rattle.cedar_loose.specs.SoFar.{Each}

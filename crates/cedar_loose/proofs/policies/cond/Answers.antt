@@ -2,7 +2,7 @@
 use Rattle.std.proofs.Common.{Ok, sym, ap, ◌∙◌}
 use Rattle.std.proofs.lemmas.Result.{err_from_is_err_and}
 use Rattle.cedar_grammar.specs.Token as token
-use Rattle.cedar_grammar.specs.Reading.{eat}
+use Rattle.cedar_grammar.specs.Steps.{eat}
 use Rattle.cedar_grammar.specs.Loose as loose
 use Rattle.cedar_grammar.specs.LooseReading.{needed, expr_at, cond_of}
 use Rattle.cedar_cst.specs.View.{view_cond}

@@ -2,7 +2,7 @@
 use Rattle.std.proofs.Common.{map}
 use Rattle.std.proofs.lemmas.Result.{err_from_is_err_and}
 use Rattle.std.proofs.lemmas.List.{map_push}
-use Rattle.cedar_grammar.specs.ReadingPolicies.{is_more}
+use Rattle.cedar_grammar.specs.Steps.{is_more}
 use Rattle.cedar_grammar.specs.LooseReading.{each_of, policy_of}
 use Rattle.cedar_cst.specs.View.{shown_policy}
 use Rattle.cedar_loose.proofs.Loops.{each_start, each_done, each_fail, each_more}

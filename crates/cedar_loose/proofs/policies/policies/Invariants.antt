@@ -1,5 +1,5 @@
 use Rattle.std.proofs.Common.{map, length}
-use Rattle.cedar_grammar.specs.ReadingPolicies.{is_more}
+use Rattle.cedar_grammar.specs.Steps.{is_more}
 use Rattle.cedar_grammar.specs.LooseReading.{each_of, policy_of}
 use Rattle.cedar_cst.specs.View.{shown_policy}
 use Rattle.cedar_loose.specs.SoFar.{Each}

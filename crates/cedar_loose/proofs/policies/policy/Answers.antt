@@ -2,8 +2,7 @@
 use Rattle.std.proofs.Common.{◌+◌, refl, ◌∙◌}
 use Rattle.std.proofs.lemmas.Result.{err_from_is_err_and}
 use Rattle.cedar_grammar.specs.Token as token
-use Rattle.cedar_grammar.specs.Reading.{eat}
-use Rattle.cedar_grammar.specs.ReadingPolicies.{begins_annotation}
+use Rattle.cedar_grammar.specs.Steps.{eat, begins_annotation}
 use Rattle.cedar_grammar.specs.Loose as loose
 use Rattle.cedar_grammar.specs.LooseReading.{needed, each_of, items_of, annotation_of, variable_def_of, cond_of, begins_cond, policy_of}
 use Rattle.cedar_cst.specs.View.{view_policy}

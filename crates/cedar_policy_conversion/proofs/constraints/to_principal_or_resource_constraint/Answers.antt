@@ -1,7 +1,7 @@
 -- A part asks by its own variable, without a name behind `:`; of any other variable it asks nothing.
 use Rattle.std.proofs.Common.{◌≡◌, inr, true, Some, refl, sym, ap, ◌∙◌, subst}
 use Rattle.std.specs.Prelude.{IfErr}
-use Rattle.cedar_grammar.specs.Reading.{◌>>=◌}
+use Rattle.cedar_grammar.specs.Steps.{◌>>=◌}
 use Rattle.cedar_grammar.specs.Loose as loose
 use Rattle.cedar_cst.specs.LeafView.{shown_ident, shown_name}
 use Rattle.cedar_cst.specs.View.{shown_add, view_variable_def}

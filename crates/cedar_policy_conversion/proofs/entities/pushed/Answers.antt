@@ -1,7 +1,7 @@
 -- The longer list is found where the shorter one and the entity are, and lacks where one of the two does.
 use Rattle.std.proofs.Common.{◌≡◌, Some, Vec, Global, [], ◌∷◌, ◌++◌, sym, ap, ◌∙◌, rules}
 use Rattle.cedar_language.specs.Uid.{Uid}
-use Rattle.cedar_grammar.specs.Reading.{◌>>=◌}
+use Rattle.cedar_grammar.specs.Steps.{◌>>=◌}
 use Rattle.cedar_faults.proofs.Telling.{flat_tells, handed_on}
 use Rattle.cedar_policy_conversion.proofs.Finding.{passed, two_lack, two_found, found, early, late}
 use Rattle.cedar_policy_conversion.proofs.entities.pushed.Goals as goal

@@ -1,7 +1,7 @@
 -- An action is an entity that stands alone, and then is held to be one.
 use Rattle.std.proofs.Common.{ap, ◌∙◌}
 use Rattle.cedar_language.specs.Uid.{Uid}
-use Rattle.cedar_grammar.specs.Reading.{◌>>=◌}
+use Rattle.cedar_grammar.specs.Steps.{◌>>=◌}
 use Rattle.cedar_grammar.specs.Converting.{action}
 use Rattle.cedar_cst.specs.View.{shown_expr}
 use Rattle.cedar_faults.specs.Reasons.{reason}

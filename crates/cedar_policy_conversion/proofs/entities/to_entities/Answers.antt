@@ -2,7 +2,7 @@
 use Rattle.std.proofs.Common.{◌≡◌, inl, inr, ◌+◌, Some, Vec, Global, [], ◌∷◌, ◌++◌, map, take, sym, ap, ◌∙◌}
 use Rattle.std.proofs.lemmas.List.{map-append, take_more}
 use Rattle.cedar_language.specs.Uid.{Uid}
-use Rattle.cedar_grammar.specs.Reading.{◌>>=◌}
+use Rattle.cedar_grammar.specs.Steps.{◌>>=◌}
 use Rattle.cedar_grammar.specs.Loose as loose
 use Rattle.cedar_grammar.specs.Converting.{each}
 use Rattle.cedar_cst.specs.View.{shown_expr}

@@ -1,7 +1,7 @@
 -- The entities of a list are found first and then held to be actions; the entity that stands alone likewise.
 use Rattle.std.proofs.Common.{◌≡◌, ◌⊎◌, inr, Some, [], ◌∷◌, map, sym, ap, ◌∙◌, subst}
 use Rattle.std.specs.Prelude.{MatchOption}
-use Rattle.cedar_grammar.specs.Reading.{◌>>=◌}
+use Rattle.cedar_grammar.specs.Steps.{◌>>=◌}
 use Rattle.cedar_grammar.specs.Loose as loose
 use Rattle.cedar_grammar.specs.Converting.{alone, each, actions_among}
 use Rattle.cedar_cst.specs.View.{shown_expr}

@@ -3,7 +3,7 @@ use Rattle.std.proofs.Common.{map, drop, subst}
 use Rattle.std.specs.Prelude.{IfErr}
 use Rattle.cedar_grammar.specs.Token as token
 use Rattle.cedar_grammar.specs.Policy.{Constraint}
-use Rattle.cedar_grammar.specs.Reading.{◌>>=◌}
+use Rattle.cedar_grammar.specs.Steps.{◌>>=◌}
 use Rattle.cedar_grammar.specs.Converting.{constraint, action_constraint}
 use Rattle.cedar_cst.specs.View.{shown_variable_def}
 use Rattle.cedar_policy_parts.specs.Actions.{action_of}

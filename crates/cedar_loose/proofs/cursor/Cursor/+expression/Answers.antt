@@ -4,8 +4,7 @@ use Rattle.std.proofs.lemmas.Result.{err_from_is_err_and}
 use Rattle.std.proofs.lemmas.List.{map_push}
 use Rattle.cedar_tokens.specs.View.{mark_view}
 use Rattle.cedar_grammar.specs.Token as token
-use Rattle.cedar_grammar.specs.Reading.{eat}
-use Rattle.cedar_grammar.specs.ReadingPolicies.{word_read}
+use Rattle.cedar_grammar.specs.Steps.{eat, word_read}
 use Rattle.cedar_grammar.specs.Loose as loose
 use Rattle.cedar_grammar.specs.LooseReading.{◌>>◌, mapped, needed, links_of, chain_of, items_of, each_of, or_op, and_op, rel_op, add_op, mult_op, begins_access, or_of, and_of, relation_of, add_of, mult_of, unary_of, primary_of, access_of, rec_init_of, choice_of, expr_at}
 use Rattle.cedar_grammar.proofs.Rests.{and-leaves, relation-leaves, add-leaves, mult-leaves, unary-leaves, rec_init-leaves, expr_at-leaves}

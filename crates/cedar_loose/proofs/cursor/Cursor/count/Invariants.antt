@@ -1,7 +1,7 @@
 use Rattle.std.proofs.Common.{◌≡◌, ◌+◌, ◌≤◌, length}
 use Rattle.std.specs.Prelude.{min}
 use Rattle.cedar_tokens.specs.View.{mark_view}
-use Rattle.cedar_grammar.specs.Reading.{signs_of}
+use Rattle.cedar_grammar.specs.Steps.{signs_of}
 use Rattle.cedar_loose.proofs.cursor.Cursor.count.Given as goal
 
 abbrev pub invariant-marks : goal.invariant-marks

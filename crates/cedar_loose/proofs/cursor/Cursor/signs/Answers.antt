@@ -2,7 +2,7 @@
 use Rattle.std.proofs.Common.{◌≡◌, subst}
 use Rattle.std.specs.Prelude.{min}
 use Rattle.cedar_grammar.specs.Token as token
-use Rattle.cedar_grammar.specs.Reading.{signs_of}
+use Rattle.cedar_grammar.specs.Steps.{signs_of}
 use Rattle.cedar_loose.proofs.Signs.{over_bangs, bangs, over_dashes, dashes, unsigned, no_sign}
 use Rattle.cedar_loose.proofs.cursor.Cursor.signs.Goals as goal
 

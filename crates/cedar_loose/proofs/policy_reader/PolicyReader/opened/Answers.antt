@@ -2,7 +2,7 @@
 use Rattle.std.proofs.Common.{◌-◌, Result, Err, refl}
 use Rattle.std.proofs.lemmas.Result.{err_from_is_err_and}
 use Rattle.cedar_grammar.specs.Loose as loose
-use Rattle.cedar_grammar.specs.ReadingPolicies.{is_more}
+use Rattle.cedar_grammar.specs.Steps.{is_more}
 use Rattle.cedar_grammar.specs.LooseReading.{policy_of, read_policies}
 use Rattle.cedar_loose.specs.declared.error.ReadError.{ReadError}
 use Rattle.cedar_loose.specs.declared.error.ReadError.TheVariants.{Depth}
