@@ -133,7 +133,8 @@ impl Value {
         Value::new(ValueKind::record_arc(fields), loc)
     }
 
-    /// Whether the other one is the same value, written at the same place.
+    /// Whether the other one is the same value, written at the same place. No contract says more than
+    /// that it is the same value, since a value's view has no place.
     pub fn eq_and_same_source_loc(&self, other: &Value) -> bool
         ensures { IsTrue result → self.now ≡ other.now }
     {
