@@ -7,7 +7,7 @@ use std::rc::RcStr;
 use thiserror::Error;
 
 /// One key stands twice among the entries of a record.
-#[derive(Debug, PartialEq, Eq, Drop, Error)]
+#[derive(Debug, PartialEq, Eq, Clone, Drop, Error)]
 #[error("duplicate key `{key}` {context}")]
 pub struct DuplicateKeyError {
     pub key: RcStr,
@@ -44,7 +44,7 @@ impl DuplicateKeyError {
 
 /// Why no expression is made of its parts: a record refuses a key that stands twice, and every
 /// construct may want memory.
-#[derive(Debug, PartialEq, Eq, Drop, Error)]
+#[derive(Debug, PartialEq, Eq, Clone, Drop, Error)]
 pub enum ExpressionConstructionError {
     /// A record holds one key twice.
     #[error(transparent)]
