@@ -1,12 +1,9 @@
 -- Rows of partial evaluation, each by computing.
 use Rattle.std.proofs.Common.{◌≡◌, pos, true, false, Some, [], ◌∷◌, refl, ap, ◌∙◌, subst}
-use Rattle.cedar_language.specs.WellFormed.{IsWellFormed}
 use Rattle.cedar_partial_evaluation.specs.Filling.{IsFilling}
-use Rattle.std.specs.FinMap as finite
 use Rattle.cedar_partial_evaluation.specs.MadeAgain.{IsMadeAgain, AreMadeAgain, HoldsMade}
 use Rattle.cedar_language.specs.Facts.{Function}
 use Rattle.std.specs.Prelude.{codes}
-use Rattle.cedar_language.specs.Uid.{Text}
 use Rattle.cedar_language.specs.Tree.{Boolean, Long, String, Entity, Principal, Resource, Context, Equal, Add, In, HasAttr, Lit, Var, And}
 use Rattle.cedar_language.specs.Tree as tree
 use Rattle.cedar_language.specs.Value.{Value, Plain, ExtensionOf, TypeError, EntityDoesNotExist, RecordAttrDoesNotExist, UnlinkedSlot, Values, no_values, a_value, RecordOf}
@@ -82,9 +79,9 @@ other_type_told_settles_nothing : (told : Told) → IsToldAs told (codes "princi
     settles typed_principal told (one (tree.Is (codes "User" ∷ [])) (Var Principal)) ≡ Open
 other_type_told_settles_nothing told h = rw h refl
 
-a_filling : (told : Told) → IsToldAs told (codes "principal") (Plain (Entity user)) → ((n : Text) (v : Value) → finite.get told n ≡ Some v → IsWellFormed v) →
+a_filling : (told : Told) → IsToldAs told (codes "principal") (Plain (Entity user)) →
     IsFilling nothing_held typed_principal told (record { principal = user; action = user; resource = user; context = RecordOf [] no_values })
-a_filling told h values = record { principal = (h, refl); action = refl; resource = refl; context = (refl, tt, refl); values = values }
+a_filling told h = record { principal = (h, refl); action = refl; resource = refl; context = (refl, tt, refl) }
 
 long_is_open : (told : Told) → IsUntold told (codes "x") → standing_of_answer (answers no_entries told (two Equal a_long (Lit (Entity user)))) ≡ Residual
 long_is_open told h = rw h refl

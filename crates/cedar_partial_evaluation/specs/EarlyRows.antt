@@ -6,7 +6,6 @@ use Rattle.cedar_language.specs.Tree.{Boolean, Long, String, Entity, Principal, 
 use Rattle.cedar_language.specs.Tree as tree
 use Rattle.cedar_language.specs.Value.{Extension, Value, Plain, ExtensionOf, TypeError, EntityDoesNotExist, RecordAttrDoesNotExist, UnlinkedSlot, Values, no_values, a_value, RecordOf}
 use Rattle.cedar_language.specs.Order.{same_text, same_name}
-use Rattle.cedar_language.specs.WellFormed.{IsWellFormed}
 use Rattle.cedar_language.specs.Facts.{Function, Facts}
 use Rattle.cedar_language.specs.Answering.{Residual}
 use Rattle.cedar_partial_evaluation.specs.MadeAgain.{HoldsMade}
@@ -198,7 +197,6 @@ pub record EarlyRows : Type 0 where
       settles typed_principal told (one (tree.Is (codes "User" ∷ [])) (Var Principal)) ≡ Open
   -- a filling of this question
   pub a_filling : (told : Told) → IsToldAs told (codes "principal") (Plain (Entity user)) →
-      ((n : Text) (v : Value) → finite.get told n ≡ Some v → IsWellFormed v) →
       IsFilling nothing_held typed_principal told (record { principal = user; action = user; resource = user; context = RecordOf [] no_values })
   pub long_is_open : (told : Told) → IsUntold told (codes "x") →
       standing_of_answer (answers no_entries told (two Equal a_long (Lit (Entity user)))) ≡ Residual

@@ -4,7 +4,6 @@ use Rattle.std.specs.FinMap as finite
 use Rattle.cedar_language.specs.Uid.{Text, Uid}
 use Rattle.cedar_language.specs.Tree.{Entity, ValueType, RecordType, MakeRecord, Tree, Apply, Trees}
 use Rattle.cedar_language.specs.Value.{Value, Plain, TypeError, NonValue, Outcome, Gives, Fails, RecordOf, no_values}
-use Rattle.cedar_language.specs.WellFormed.{IsWellFormed}
 use Rattle.cedar_language.specs.Facts.{Facts}
 use Rattle.cedar_language.specs.Meaning.{Slots, slot_outcome, variable_of, Request, meaning}
 use Rattle.cedar_language.specs.Authorization as authorization
@@ -60,7 +59,6 @@ pub record IsFilling (facts : Facts) (q : Question) (filling : Told) (known : au
   pub action : FillsPart q.action (finite.get filling (codes "action")) known.action
   pub resource : FillsPart q.resource (finite.get filling (codes "resource")) known.resource
   pub context : FillsContext facts q.context filling known.context
-  pub values : (n : Text) (v : Value) → finite.get filling n ≡ Some v → IsWellFormed v
 
 -- the known question, in which unknowns have the values of the filling
 abbrev pub request_filled : authorization.Known → Slots → Told → Request

@@ -1,5 +1,5 @@
 -- Questions in which nothing is unknown: each has its request.
-use Rattle.std.proofs.Common.{◌≡◌, ◌∙◌, refl, ap, sym, subst, Bool, true, false, ◌&&◌, ◌||◌, Option, Some, None, is_some, codes, true≢false}
+use Rattle.std.proofs.Common.{◌≡◌, ◌∙◌, refl, ap, sym, subst, Bool, true, false, ◌&&◌, ◌||◌, Option, is_some, codes, true≢false}
 use Rattle.std.specs.FinMap as map
 use Rattle.std.specs.FinMap.{get-empty}
 use Rattle.cedar_language.specs.Uid.{Text, Uid}
@@ -87,9 +87,6 @@ module _ (by : Setting) where
   fills_given : (p : Part) (o : Option Value) (u : Uid) → p ≡ Given u → early.FillsPart p o u
   fills_given p o u e = subst (λ x. early.FillsPart x o u) (sym e) refl
 
-  nothing_given : (n : Text) (v : Value) → map.get {X = Value} {R = text_cmp} map.empty n ≡ Some v → ⊥
-  nothing_given n v h = let both : ◌≡◌ {A = Option Value} None (Some v) = sym (get-empty text_cmp n) ∙ h in cc
-
   -- a question whose context means a record, where it has no names, has a request where it is known
   pub has_request : (q : Question) → IsData q.context → MeansRecord by q.context → HasRequest by q
   has_request q d m known =
@@ -105,7 +102,6 @@ module _ (by : Setting) where
             action = fills_given q.action _ a is_a;
             resource = fills_given q.resource _ r is_r;
             context = fills;
-            values = λ n v h. absurd (nothing_given n v h);
           };
         },
       )

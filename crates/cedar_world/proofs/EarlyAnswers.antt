@@ -75,7 +75,6 @@ filling_there facts others same q filling known fills = record {
   action = fills.action;
   resource = fills.resource;
   context = context_filled facts others same q.context filling known.context fills.context;
-  values = fills.values;
 }
 
 -- ---- standings of answers

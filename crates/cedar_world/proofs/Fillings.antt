@@ -51,7 +51,6 @@ module _ (facts others : Facts) (same : (name : Name) → facts.function name �
     action = fills.action;
     resource = fills.resource;
     context = context_there q.context filling known.context fills.context;
-    values = fills.values;
   }
 
 nothing_told : (n : Text) (v : Value) → finite.get {R = text_cmp} finite.empty n ≢ Some v

@@ -1,11 +1,11 @@
 -- What an evaluation answers, or leaves of a tree, is no higher than the tree may grow.
-use Rattle.std.proofs.Common.{◌≡◌, ◌≤◌, ◌+◌, ℕ, suc, max, Bool, true, false, cond, Option, Some, None, List, [], ◌∷◌, refl, sym, ◌∙◌, subst, arith, ℤ, ◌+ℤ◌, ◌-ℤ◌, ◌*ℤ◌, neg_ℤ, Ordering}
+use Rattle.std.proofs.Common.{◌≡◌, ◌≤◌, ◌+◌, ℕ, suc, max, Bool, true, false, cond, Option, Some, None, List, [], ◌∷◌, refl, sym, ◌∙◌, subst, arith, ℤ, ◌+ℤ◌, ◌-ℤ◌, ◌*ℤ◌, neg_ℤ, Ordering, codes}
 use Rattle.std.proofs.Math.Nat.{le-max_left, le-max_right, max-le}
 use Rattle.std.specs.Option.{option_map}
 use Rattle.std.specs.declared.cmp.Ordering.TheVariants as ordering
 use Rattle.cedar_language.specs.Uid.{Text, Name, Uid}
 use Rattle.cedar_language.specs.Tree as tree
-use Rattle.cedar_language.specs.Tree.{Boolean, Long, String, Entity, PatternElem, Operator, Not, Neg, IsEmpty, Equal, Less, LessEq, Add, Sub, Mul, In, Contains, ContainsAll, ContainsAny, GetTag, HasTag, GetAttr, HasAttr, HasPath, Like, MakeSet, MakeRecord, Call, Tree, Lit, Var, Slot, Unknown, If, And, Or, Apply, Trees, no_trees, a_tree, EntityType}
+use Rattle.cedar_language.specs.Tree.{Boolean, Long, String, Entity, PatternElem, Operator, Not, Neg, IsEmpty, Equal, Less, LessEq, Add, Sub, Mul, In, Contains, ContainsAll, ContainsAny, GetTag, HasTag, GetAttr, HasAttr, HasPath, Like, MakeSet, MakeRecord, Call, Tree, Lit, Var, Slot, Unknown, If, And, Or, Apply, Trees, no_trees, a_tree, EntityType, Principal, Action, Resource, Context}
 use Rattle.cedar_language.specs.Value.{Value, Plain, SetOf, RecordOf, ExtensionOf, Values, no_values, a_value, Kind, TypeError, IntegerOverflow, Outcome, Gives, Fails}
 use Rattle.cedar_language.specs.Order.{same_text, rising, put, placed, value_cmp}
 use Rattle.cedar_language.specs.Facts.{Held, Function, Facts}
@@ -201,36 +201,39 @@ constructed_high (a_value (Plain (Entity u)) (a_value (Plain (Boolean b)) vs)) n
     by_key None l = omega arith
 constructed_high _ n h = omega arith
 
-module _ (h : Heights) (facts : Facts) (holds : LeafAnswers) (within : AreWithin h facts holds) where
-  attribute_held_high : (u : Uid) (a : Text) (o : Option Held) → facts.entity u ≡ o → value_in (op.attribute_held a o) ≤ h.held
-  attribute_held_high u a None e = omega arith
-  attribute_held_high u a (Some d) e = or_fails_high _ (d.attribute a) h.held (option_high (d.attribute a) h.held (λ v i. within.attribute u d a v e i))
+module _ (h : Heights) (limit : ℕ) (facts : Facts) (holds : LeafAnswers) (within : AreWithin h limit facts holds) where
+  attribute_held_high : (u : Uid) (a : Text) (o : Option Held) → facts.entity u ≡ o → h.held a ≤ limit → value_in (op.attribute_held a o) ≤ h.held a
+  attribute_held_high u a None e m = omega arith
+  attribute_held_high u a (Some d) e m = or_fails_high _ (d.attribute a) (h.held a) (option_high (d.attribute a) (h.held a) (λ v i. within.attribute u d a v e i m))
 
-  tag_held_high : (u : Uid) (a : Text) (o : Option Held) → facts.entity u ≡ o → value_in (op.tag_held a o) ≤ h.held
-  tag_held_high u a None e = omega arith
-  tag_held_high u a (Some d) e = or_fails_high _ (d.tag a) h.held (option_high (d.tag a) h.held (λ v i. within.tag u d a v e i))
+  tag_held_high : (u : Uid) (a : Text) (o : Option Held) → facts.entity u ≡ o → h.tagged ≤ limit → value_in (op.tag_held a o) ≤ h.tagged
+  tag_held_high u a None e m = omega arith
+  tag_held_high u a (Some d) e m = or_fails_high _ (d.tag a) h.tagged (option_high (d.tag a) h.tagged (λ v i. within.tag u d a v e i m))
 
-  attribute_high : (a : Text) (v : Value) (n : ℕ) → value_height v ≤ n → value_in (op.attribute facts a v) ≤ max h.held (suc n)
-  attribute_high a (RecordOf ks vs) n l =
-      or_fails_high _ (found ks vs a) _ (omega (arith, found_high ks vs a (value_heights vs) (omega arith), l, le-max_right h.held (suc n)))
-  attribute_high a (Plain (Entity u)) n l = omega (arith, attribute_held_high u a (facts.entity u) refl, le-max_left h.held (suc n))
-  attribute_high a _ n l = omega arith
+  left_within : (r n : ℕ) → max r (suc n) ≤ limit → r ≤ limit
+  left_within r n m = omega (arith, le-max_left r (suc n))
 
-  attribute_of_high : (a : Text) (vs : Values) (n : ℕ) → value_heights vs ≤ n → value_in (op.attribute_of facts a vs) ≤ max h.held (suc n)
-  attribute_of_high a (a_value v no_values) n l = attribute_high a v n (first_high v no_values n l)
-  attribute_of_high a no_values n l = omega arith
-  attribute_of_high a (a_value v (a_value w ws)) n l = omega arith
+  attribute_high : (a : Text) (v : Value) (n : ℕ) → value_height v ≤ n → max (h.held a) (suc n) ≤ limit → value_in (op.attribute facts a v) ≤ max (h.held a) (suc n)
+  attribute_high a (RecordOf ks vs) n l m =
+      or_fails_high _ (found ks vs a) _ (omega (arith, found_high ks vs a (value_heights vs) (omega arith), l, le-max_right (h.held a) (suc n)))
+  attribute_high a (Plain (Entity u)) n l m = omega (arith, attribute_held_high u a (facts.entity u) refl (left_within (h.held a) n m), le-max_left (h.held a) (suc n))
+  attribute_high a _ n l m = omega arith
 
-  tag_high : (vs : Values) (n : ℕ) → value_in (op.tag_of facts vs) ≤ max h.held (suc n)
-  tag_high (a_value (Plain (Entity u)) (a_value (Plain (String a)) no_values)) n = omega (arith, tag_held_high u a (facts.entity u) refl, le-max_left h.held (suc n))
-  tag_high _ n = omega arith
+  attribute_of_high : (a : Text) (vs : Values) (n : ℕ) → value_heights vs ≤ n → max (h.held a) (suc n) ≤ limit → value_in (op.attribute_of facts a vs) ≤ max (h.held a) (suc n)
+  attribute_of_high a (a_value v no_values) n l m = attribute_high a v n (first_high v no_values n l) m
+  attribute_of_high a no_values n l m = omega arith
+  attribute_of_high a (a_value v (a_value w ws)) n l m = omega arith
 
-  by_function : (f : Name) (b : Bool) → is_the_constructor f ≡ b → (o : Option Function) → facts.function f ≡ o → (vs : Values) (n : ℕ) → value_heights vs ≤ n → value_in (called o vs) ≤ max (cond b 0 h.answered) (suc n)
-  by_function f b is None e vs n l = omega arith
-  by_function f false is (Some g) e vs n l =
+  tag_high : (vs : Values) (n : ℕ) → max h.tagged (suc n) ≤ limit → value_in (op.tag_of facts vs) ≤ max h.tagged (suc n)
+  tag_high (a_value (Plain (Entity u)) (a_value (Plain (String a)) no_values)) n m = omega (arith, tag_held_high u a (facts.entity u) refl (left_within h.tagged n m), le-max_left h.tagged (suc n))
+  tag_high _ n m = omega arith
+
+  by_function : (f : Name) (b : Bool) → is_the_constructor f ≡ b → (o : Option Function) → facts.function f ≡ o → (vs : Values) (n : ℕ) → value_heights vs ≤ n → max (cond b 0 h.answered) (suc n) ≤ limit → value_in (called o vs) ≤ max (cond b 0 h.answered) (suc n)
+  by_function f b is None e vs n l m = omega arith
+  by_function f false is (Some g) e vs n l m =
       cond_high (op.takes g.takes (op.count vs)) _ _ _
-      (or_fails_high _ (g.answer vs) _ (omega (arith, option_high (g.answer vs) h.answered (λ v i. within.function f g vs v is e i), le-max_left h.answered (suc n)))) (omega arith)
-  by_function f true is (Some g) e vs n l =
+      (or_fails_high _ (g.answer vs) _ (omega (arith, option_high (g.answer vs) h.answered (λ v i. within.function f g vs v is e i (left_within h.answered n m)), le-max_left h.answered (suc n)))) (omega arith)
+  by_function f true is (Some g) e vs n l m =
       cond_high (op.takes g.takes (op.count vs)) _ _ _
       (or_fails_high _ (g.answer vs) _ (subst (λ (c : Function). value_of (c.answer vs) ≤ max 0 (suc n)) (constructor_is g e) (omega (arith, constructed_high vs n l, le-max_right 0 (suc n))))) (omega arith)
     where
@@ -243,30 +246,30 @@ module _ (h : Heights) (facts : Facts) (holds : LeafAnswers) (within : AreWithin
   low_by : (o : Outcome) (r n : ℕ) → IsLow o → value_in o ≤ max r (suc n)
   low_by o r n l = omega (arith, low o n l, le-max_right r (suc n))
 
-  applied_high : (o : Operator) (vs : Values) (n : ℕ) → value_heights vs ≤ n → value_in (applied facts o vs) ≤ max (read_height h o) (suc n)
-  applied_high Not vs n l = low_by (applied facts Not vs) 0 n (not_low vs)
-  applied_high Neg vs n l = low_by (applied facts Neg vs) 0 n (negated_low vs)
-  applied_high IsEmpty vs n l = low_by (applied facts IsEmpty vs) 0 n (empty_low vs)
-  applied_high Equal vs n l = low_by (applied facts Equal vs) 0 n (equal_low vs)
-  applied_high Less vs n l = low_by (applied facts Less vs) 0 n (less_low vs)
-  applied_high LessEq vs n l = low_by (applied facts LessEq vs) 0 n (less_eq_low vs)
-  applied_high Add vs n l = low_by (applied facts Add vs) 0 n (arithmetic_low (λ x y. x +ℤ y) vs)
-  applied_high Sub vs n l = low_by (applied facts Sub vs) 0 n (arithmetic_low (λ x y. x -ℤ y) vs)
-  applied_high Mul vs n l = low_by (applied facts Mul vs) 0 n (arithmetic_low (λ x y. x *ℤ y) vs)
-  applied_high In vs n l = low_by (applied facts In vs) 0 n (in_low facts vs)
-  applied_high Contains vs n l = low_by (applied facts Contains vs) 0 n (contains_low vs)
-  applied_high ContainsAll vs n l = low_by (applied facts ContainsAll vs) 0 n (two_sets_low op.has_all vs)
-  applied_high ContainsAny vs n l = low_by (applied facts ContainsAny vs) 0 n (two_sets_low op.has_some vs)
-  applied_high GetTag vs n l = tag_high vs n
-  applied_high HasTag vs n l = low_by (applied facts HasTag vs) 0 n (is_there_low (op.tag_of facts vs))
-  applied_high (GetAttr a) vs n l = attribute_of_high a vs n l
-  applied_high (HasAttr a) vs n l = low_by (applied facts (HasAttr a) vs) 0 n (has_low facts a vs)
-  applied_high (HasPath a as') vs n l = low_by (applied facts (HasPath a as') vs) 0 n (has_path_low facts a as' vs)
-  applied_high (Like ps) vs n l = low_by (applied facts (Like ps) vs) 0 n (like_low ps vs)
-  applied_high (tree.Is ty) vs n l = low_by (applied facts (tree.Is ty) vs) 0 n (is_low ty vs)
-  applied_high MakeSet vs n l = omega (arith, rising_high vs n l, le-max_right 0 (suc n))
-  applied_high (MakeRecord ks) vs n l = omega (arith, l, le-max_right 0 (suc n))
-  applied_high (Call f) vs n l = by_function f (is_the_constructor f) refl (facts.function f) refl vs n l
+  applied_high : (o : Operator) (vs : Values) (n : ℕ) → value_heights vs ≤ n → max (read_height h o) (suc n) ≤ limit → value_in (applied facts o vs) ≤ max (read_height h o) (suc n)
+  applied_high Not vs n l m = low_by (applied facts Not vs) 0 n (not_low vs)
+  applied_high Neg vs n l m = low_by (applied facts Neg vs) 0 n (negated_low vs)
+  applied_high IsEmpty vs n l m = low_by (applied facts IsEmpty vs) 0 n (empty_low vs)
+  applied_high Equal vs n l m = low_by (applied facts Equal vs) 0 n (equal_low vs)
+  applied_high Less vs n l m = low_by (applied facts Less vs) 0 n (less_low vs)
+  applied_high LessEq vs n l m = low_by (applied facts LessEq vs) 0 n (less_eq_low vs)
+  applied_high Add vs n l m = low_by (applied facts Add vs) 0 n (arithmetic_low (λ x y. x +ℤ y) vs)
+  applied_high Sub vs n l m = low_by (applied facts Sub vs) 0 n (arithmetic_low (λ x y. x -ℤ y) vs)
+  applied_high Mul vs n l m = low_by (applied facts Mul vs) 0 n (arithmetic_low (λ x y. x *ℤ y) vs)
+  applied_high In vs n l m = low_by (applied facts In vs) 0 n (in_low facts vs)
+  applied_high Contains vs n l m = low_by (applied facts Contains vs) 0 n (contains_low vs)
+  applied_high ContainsAll vs n l m = low_by (applied facts ContainsAll vs) 0 n (two_sets_low op.has_all vs)
+  applied_high ContainsAny vs n l m = low_by (applied facts ContainsAny vs) 0 n (two_sets_low op.has_some vs)
+  applied_high GetTag vs n l m = tag_high vs n m
+  applied_high HasTag vs n l m = low_by (applied facts HasTag vs) 0 n (is_there_low (op.tag_of facts vs))
+  applied_high (GetAttr a) vs n l m = attribute_of_high a vs n l m
+  applied_high (HasAttr a) vs n l m = low_by (applied facts (HasAttr a) vs) 0 n (has_low facts a vs)
+  applied_high (HasPath a as') vs n l m = low_by (applied facts (HasPath a as') vs) 0 n (has_path_low facts a as' vs)
+  applied_high (Like ps) vs n l m = low_by (applied facts (Like ps) vs) 0 n (like_low ps vs)
+  applied_high (tree.Is ty) vs n l m = low_by (applied facts (tree.Is ty) vs) 0 n (is_low ty vs)
+  applied_high MakeSet vs n l m = omega (arith, rising_high vs n l, le-max_right 0 (suc n))
+  applied_high (MakeRecord ks) vs n l m = omega (arith, l, le-max_right 0 (suc n))
+  applied_high (Call f) vs n l m = by_function f (is_the_constructor f) refl (facts.function f) refl vs n l m
 
   -- ---- answers
 
@@ -331,27 +334,38 @@ module _ (h : Heights) (facts : Facts) (holds : LeafAnswers) (within : AreWithin
   next_grows (ResidualTree r) (SomeResiduals rs) n a b = max-le a b
   next_grows (ResidualTree r) (SomeFailed k) n a b = omega arith
 
-  built_grows : (o : Operator) (ps : Answers) (n : ℕ) → grown_answers ps ≤ n → grown_answer h (built_answer facts o ps) ≤ max (read_height h o) (suc n)
-  built_grows o (AllEvaluated vs) n l = answer_grows (applied facts o vs) _ (applied_high o vs n l)
-  built_grows o (SomeResiduals rs) n l = max-le (le-max_left (read_height h o) (suc n)) (omega (arith, l, le-max_right (read_height h o) (suc n)))
-  built_grows o (SomeFailed k) n l = omega arith
+  built_grows : (o : Operator) (ps : Answers) (n : ℕ) → grown_answers ps ≤ n → max (read_height h o) (suc n) ≤ limit → grown_answer h (built_answer facts o ps) ≤ max (read_height h o) (suc n)
+  built_grows o (AllEvaluated vs) n l m = answer_grows (applied facts o vs) _ (applied_high o vs n l m)
+  built_grows o (SomeResiduals rs) n l m = max-le (le-max_left (read_height h o) (suc n)) (omega (arith, l, le-max_right (read_height h o) (suc n)))
+  built_grows o (SomeFailed k) n l m = omega arith
+
+  all_within : (r n : ℕ) → max r (suc n) ≤ limit → n ≤ limit
+  all_within r n m = omega (arith, le-max_right r (suc n))
+
+  first_within : (t : Tree) (ts : Trees) → max (grown h t) (all_grown h ts) ≤ limit → grown h t ≤ limit
+  first_within t ts m = omega (arith, le-max_left (grown h t) (all_grown h ts))
+
+  rest_within : (t : Tree) (ts : Trees) → max (grown h t) (all_grown h ts) ≤ limit → all_grown h ts ≤ limit
+  rest_within t ts m = omega (arith, le-max_right (grown h t) (all_grown h ts))
 
   mutual
-    pub projected_grows : (t : Tree) → grown_answer h (projected_in facts holds t) ≤ grown h t
-    projected_grows (Lit l) = omega arith
-    projected_grows (Var v) = within.variable v
-    projected_grows (Unknown n ty) = within.unknown n ty
-    projected_grows (Apply o ts) = built_grows o (all_projected_in facts holds ts) (all_grown h ts) (all_projected_grow ts)
-    projected_grows (Slot s) = omega arith
-    projected_grows (If a b c) = omega arith
-    projected_grows (And a b) = omega arith
-    projected_grows (Or a b) = omega arith
+    pub projected_grows : (t : Tree) → grown h t ≤ limit → grown_answer h (projected_in facts holds t) ≤ grown h t
+    projected_grows (Lit l) m = omega arith
+    projected_grows (Var v) m = within.variable v m
+    projected_grows (Unknown n ty) m = within.unknown n ty
+    projected_grows (Apply o ts) m =
+        built_grows o (all_projected_in facts holds ts) (all_grown h ts) (all_projected_grow ts (all_within (read_height h o) (all_grown h ts) m)) m
+    projected_grows (Slot s) m = omega arith
+    projected_grows (If a b c) m = omega arith
+    projected_grows (And a b) m = omega arith
+    projected_grows (Or a b) m = omega arith
 
-    pub all_projected_grow : (ts : Trees) → grown_answers (all_projected_in facts holds ts) ≤ all_grown h ts
-    all_projected_grow no_trees = omega arith
-    all_projected_grow (a_tree t ts) =
+    pub all_projected_grow : (ts : Trees) → all_grown h ts ≤ limit → grown_answers (all_projected_in facts holds ts) ≤ all_grown h ts
+    all_projected_grow no_trees m = omega arith
+    all_projected_grow (a_tree t ts) m =
         next_grows (projected_in facts holds t) (all_projected_in facts holds ts) _
-        (omega (arith, projected_grows t, le-max_left (grown h t) (all_grown h ts))) (omega (arith, all_projected_grow ts, le-max_right (grown h t) (all_grown h ts)))
+        (omega (arith, projected_grows t (first_within t ts m), le-max_left (grown h t) (all_grown h ts)))
+        (omega (arith, all_projected_grow ts (rest_within t ts m), le-max_right (grown h t) (all_grown h ts)))
 
   -- an entry of a record is lower
   abbrev grown_entry : Option Tree → ℕ
@@ -368,17 +382,17 @@ module _ (h : Heights) (facts : Facts) (holds : LeafAnswers) (within : AreWithin
   entry_grows (k ∷ ks) (a_tree t ts) a =
       entry_step (same_text k a) t (found_tree ks ts a) _ (le-max_left (grown h t) (all_grown h ts)) (omega (arith, entry_grows ks ts a, le-max_right (grown h t) (all_grown h ts)))
 
-  entry_answer_grows : (a : Text) (r : Tree) (b : Bool) (o : Option Tree) → grown_entry o ≤ grown h r → grown_answer h (entry_answer facts holds a r b o) ≤ max h.held (suc (max (grown h r) 0))
-  entry_answer_grows a r b None l = omega arith
-  entry_answer_grows a r true (Some t) l = omega (arith, projected_grows t, l, le-max_right h.held (suc (max (grown h r) 0)), le-max_left (grown h r) 0)
-  entry_answer_grows a r false (Some t) l = omega arith
+  entry_answer_grows : (a : Text) (r : Tree) (b : Bool) (o : Option Tree) → grown_entry o ≤ grown h r → grown h r ≤ limit → grown_answer h (entry_answer facts holds a r b o) ≤ max (h.held a) (suc (max (grown h r) 0))
+  entry_answer_grows a r b None l m = omega arith
+  entry_answer_grows a r true (Some t) l m = omega (arith, projected_grows t (omega arith), l, le-max_right (h.held a) (suc (max (grown h r) 0)), le-max_left (grown h r) 0)
+  entry_answer_grows a r false (Some t) l m = omega arith
 
   record_entry_grows : (ks : List Text) (rs : Trees) (a : Text) → grown_entry (found_tree ks rs a) ≤ grown h (Apply (MakeRecord ks) rs)
   record_entry_grows ks rs a = omega (arith, entry_grows ks rs a, le-max_right 0 (suc (all_grown h rs)))
 
-  attribute_left_grows : (a : Text) (r : Tree) → grown_answer h (attribute_answer facts holds a r) ≤ max h.held (suc (max (grown h r) 0))
-  attribute_left_grows a (Apply (MakeRecord ks) rs) = entry_answer_grows a (Apply (MakeRecord ks) rs) (are_projectable rs) (found_tree ks rs a) (record_entry_grows ks rs a)
-  attribute_left_grows a _ = omega arith
+  attribute_left_grows : (a : Text) (r : Tree) → grown h r ≤ limit → grown_answer h (attribute_answer facts holds a r) ≤ max (h.held a) (suc (max (grown h r) 0))
+  attribute_left_grows a (Apply (MakeRecord ks) rs) m = entry_answer_grows a (Apply (MakeRecord ks) rs) (are_projectable rs) (found_tree ks rs a) (record_entry_grows ks rs a) m
+  attribute_left_grows a _ m = omega arith
 
   has_entry_grows : (a : Text) (r : Tree) (b : Bool) (o : Option Tree) → grown_answer h (has_entry_answer a r b o) ≤ max 0 (suc (max (grown h r) 0))
   has_entry_grows a r true (Some t) = omega arith
@@ -397,21 +411,25 @@ module _ (h : Heights) (facts : Facts) (holds : LeafAnswers) (within : AreWithin
   equal_left_grows true r s = omega arith
   equal_left_grows false r s = omega arith
 
-  left_grows : (o : Operator) (rs : Trees) → grown_answer h (residual_answer facts holds o rs) ≤ grown h (Apply o rs)
-  left_grows (GetAttr a) (a_tree r no_trees) = attribute_left_grows a r
-  left_grows (HasAttr a) (a_tree r no_trees) = has_left_grows a r
-  left_grows (tree.Is ty) (a_tree r no_trees) = is_left_grows ty r
-  left_grows Equal (a_tree r (a_tree s no_trees)) = equal_left_grows (types_differ (stated_type r) (stated_type s)) r s
-  left_grows _ _ = omega arith
+  left_grows : (o : Operator) (rs : Trees) → all_grown h rs ≤ limit → grown_answer h (residual_answer facts holds o rs) ≤ grown h (Apply o rs)
+  left_grows (GetAttr a) (a_tree r no_trees) m = attribute_left_grows a r (first_within r no_trees m)
+  left_grows (HasAttr a) (a_tree r no_trees) m = has_left_grows a r
+  left_grows (tree.Is ty) (a_tree r no_trees) m = is_left_grows ty r
+  left_grows Equal (a_tree r (a_tree s no_trees)) m = equal_left_grows (types_differ (stated_type r) (stated_type s)) r s
+  left_grows _ _ m = omega arith
 
-  apply_grows : (o : Operator) (ps : Answers) (n : ℕ) → grown_answers ps ≤ n → grown_answer h (apply_answer facts holds o ps) ≤ max (read_height h o) (suc n)
-  apply_grows o (AllEvaluated vs) n l = answer_grows (applied facts o vs) _ (applied_high o vs n l)
-  apply_grows o (SomeResiduals rs) n l = omega (arith, left_grows o rs, l, le-max_left (read_height h o) (suc n), le-max_right (read_height h o) (suc n))
-  apply_grows o (SomeFailed k) n l = omega arith
+  apply_grows : (o : Operator) (ps : Answers) (n : ℕ) → grown_answers ps ≤ n → max (read_height h o) (suc n) ≤ limit → grown_answer h (apply_answer facts holds o ps) ≤ max (read_height h o) (suc n)
+  apply_grows o (AllEvaluated vs) n l m = answer_grows (applied facts o vs) _ (applied_high o vs n l m)
+  apply_grows o (SomeResiduals rs) n l m =
+      omega (arith, left_grows o rs (omega (arith, all_within (read_height h o) n m)), l, le-max_left (read_height h o) (suc n), le-max_right (read_height h o) (suc n))
+  apply_grows o (SomeFailed k) n l m = omega arith
 
   pub some_grown : (t : Tree) → 1 ≤ grown h t
   some_grown (Lit l) = omega arith
-  some_grown (Var v) = within.some_held
+  some_grown (Var Principal) = within.some_named (codes "principal")
+  some_grown (Var Action) = within.some_named (codes "action")
+  some_grown (Var Resource) = within.some_named (codes "resource")
+  some_grown (Var Context) = within.some_context
   some_grown (Slot s) = omega arith
   some_grown (Unknown n ty) = within.some_named n
   some_grown (If a b c) = omega arith
@@ -423,7 +441,7 @@ module _ (h : Heights) (facts : Facts) (holds : LeafAnswers) (within : AreWithin
     -- what isn't written into stays as high
     pub height_grows : (t : Tree) → height t ≤ grown h t
     height_grows (Lit l) = omega arith
-    height_grows (Var v) = within.some_held
+    height_grows (Var v) = some_grown (Var v)
     height_grows (Slot s) = omega arith
     height_grows (Unknown n ty) = within.some_named n
     height_grows (If a b c) = omega (arith, height_grows a, height_grows b, height_grows c)
@@ -435,26 +453,37 @@ module _ (h : Heights) (facts : Facts) (holds : LeafAnswers) (within : AreWithin
     heights_grow no_trees = omega arith
     heights_grow (a_tree t ts) = omega (arith, height_grows t, heights_grow ts)
 
-  mutual
-    pub grows : (t : Tree) → grown_answer h (partial_in facts holds t) ≤ grown h t
-    grows (Lit l) = omega arith
-    grows (Var v) = within.variable v
-    grows (Slot s) = within.slot s
-    grows (Unknown n ty) = within.unknown n ty
-    grows (If a b c) =
-        if_grows (partial_in facts holds a) (partial_in facts holds b) (partial_in facts holds c) b c (max (grown h a) (max (grown h b) (grown h c)))
-        (omega (arith, grows a)) (omega (arith, grows b)) (omega (arith, grows c)) (omega arith) (omega arith)
-    grows (And a b) =
-        and_grows (partial_in facts holds a) (partial_in facts holds b) b (max (grown h a) (grown h b)) (omega (arith, grows a)) (omega (arith, grows b)) (omega arith) (omega (arith, some_grown a))
-    grows (Or a b) =
-        or_grows (partial_in facts holds a) (partial_in facts holds b) b (max (grown h a) (grown h b)) (omega (arith, grows a)) (omega (arith, grows b)) (omega arith) (omega (arith, some_grown a))
-    grows (Apply o ts) = apply_grows o (all_partial_in facts holds ts) (all_grown h ts) (all_grow ts)
+  two_within : (x y : ℕ) → suc (max x y) ≤ limit → (x ≤ limit) × (y ≤ limit)
+  two_within x y m = (omega (arith, le-max_left x y), omega (arith, le-max_right x y))
 
-    pub all_grow : (ts : Trees) → grown_answers (all_partial_in facts holds ts) ≤ all_grown h ts
-    all_grow no_trees = omega arith
-    all_grow (a_tree t ts) =
+  three_within : (x y z : ℕ) → suc (max x (max y z)) ≤ limit → (x ≤ limit) × (y ≤ limit) × (z ≤ limit)
+  three_within x y z m =
+      (omega (arith, le-max_left x (max y z)), omega (arith, le-max_right x (max y z), le-max_left y z), omega (arith, le-max_right x (max y z), le-max_right y z))
+
+  mutual
+    pub grows : (t : Tree) → grown h t ≤ limit → grown_answer h (partial_in facts holds t) ≤ grown h t
+    grows (Lit l) m = omega arith
+    grows (Var v) m = within.variable v m
+    grows (Slot s) m = within.slot s
+    grows (Unknown n ty) m = within.unknown n ty
+    grows (If a b c) m =
+        let (x, y, z) = three_within (grown h a) (grown h b) (grown h c) m in
+        if_grows (partial_in facts holds a) (partial_in facts holds b) (partial_in facts holds c) b c (max (grown h a) (max (grown h b) (grown h c)))
+        (omega (arith, grows a x)) (omega (arith, grows b y)) (omega (arith, grows c z)) (omega arith) (omega arith)
+    grows (And a b) m =
+        let (x, y) = two_within (grown h a) (grown h b) m in
+        and_grows (partial_in facts holds a) (partial_in facts holds b) b (max (grown h a) (grown h b)) (omega (arith, grows a x)) (omega (arith, grows b y)) (omega arith) (omega (arith, some_grown a))
+    grows (Or a b) m =
+        let (x, y) = two_within (grown h a) (grown h b) m in
+        or_grows (partial_in facts holds a) (partial_in facts holds b) b (max (grown h a) (grown h b)) (omega (arith, grows a x)) (omega (arith, grows b y)) (omega arith) (omega (arith, some_grown a))
+    grows (Apply o ts) m = apply_grows o (all_partial_in facts holds ts) (all_grown h ts) (all_grow ts (all_within (read_height h o) (all_grown h ts) m)) m
+
+    pub all_grow : (ts : Trees) → all_grown h ts ≤ limit → grown_answers (all_partial_in facts holds ts) ≤ all_grown h ts
+    all_grow no_trees m = omega arith
+    all_grow (a_tree t ts) m =
         next_grows (partial_in facts holds t) (all_partial_in facts holds ts) _
-        (omega (arith, grows t, le-max_left (grown h t) (all_grown h ts))) (omega (arith, all_grow ts, le-max_right (grown h t) (all_grown h ts)))
+        (omega (arith, grows t (first_within t ts m), le-max_left (grown h t) (all_grown h ts)))
+        (omega (arith, all_grow ts (rest_within t ts m), le-max_right (grown h t) (all_grown h ts)))
 
 pub answers_stay_within : AnswersStayWithin
-answers_stay_within h facts holds within t = grows h facts holds within t
+answers_stay_within h limit facts holds within t m = grows h limit facts holds within t m

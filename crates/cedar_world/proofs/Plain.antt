@@ -1,5 +1,5 @@
 -- Where scopes alone decide.
-use Rattle.std.proofs.Common.{◌≡◌, Bool, inl, inr, true, false, Option, Some, None, List, [], map, refl, sym, ap, ◌∙◌, subst, is_some, true≢false}
+use Rattle.std.proofs.Common.{◌≡◌, Bool, inl, inr, true, false, Option, Some, None, List, [], map, refl, sym, ap, ◌∙◌, subst, is_some}
 use Rattle.cedar_world.specs.Question.{IsKnown}
 use Rattle.cedar_world.specs.Orders.{text_cmp}
 use Rattle.cedar_world.specs.Fillings.{IsFilling}
@@ -7,7 +7,7 @@ use Rattle.std.specs.FinMap as finite
 use Rattle.std.proofs.lemmas.List.Elements.{All-map}
 use Rattle.cedar_language.specs.Uid.{Text, Uid}
 use Rattle.cedar_language.specs.Tree.{Principal, Action, Resource, Context, no_trees}
-use Rattle.cedar_language.specs.Value.{RecordOf, no_values, Kind, Value}
+use Rattle.cedar_language.specs.Value.{RecordOf, no_values, Kind}
 use Rattle.cedar_language.specs.Order.{same_uid}
 use Rattle.cedar_language.specs.Facts.{Facts}
 use Rattle.cedar_language.specs.Operators.{is_within}
@@ -39,9 +39,6 @@ given : (p : Part) → is_given p ≡ true → (u : Uid) × (p ≡ Given u)
 given (Given u) h = (u, refl)
 given (Missing type) h = cc
 
-not_told : (n : Text) (v : Value) → finite.get {R = text_cmp} finite.empty n ≡ Some v → ⊥
-not_told n v h = true≢false (sym (ap is_some h) ∙ ap is_some (finite.get-empty text_cmp n))
-
 fills : (by : Setting) (q : Question) (request : Known) → IsKnown q → q.principal ≡ Given request.principal → q.action ≡ Given request.action → q.resource ≡ Given request.resource →
     q.context ≡ WithEntries [] no_trees → request.context ≡ RecordOf [] no_values → IsFilling by q finite.empty request
 fills by q request known p a r c is = record {
@@ -51,7 +48,6 @@ fills by q request known p a r c is = record {
     action = rw a refl;
     resource = rw r refl;
     context = rw (c, is) (refl, tt, refl);
-    values = λ n v h. absurd (not_told n v h);
   };
 }
 

@@ -1,6 +1,7 @@
 -- What is held of a question, once no more than this is told, is no higher than what may be written into a condition.
-use Rattle.std.proofs.Common.{◌≡◌, ◌≤◌, ◌<◌, ◌+◌, ℕ, suc, Bool, true, false, cond, Option, Some, None, refl, sym, ◌∙◌, subst, arith, codes}
+use Rattle.std.proofs.Common.{◌≡◌, ◌≤◌, ◌<◌, ◌+◌, ◌⊎◌, inl, inr, ℕ, suc, Bool, true, false, cond, Option, Some, None, refl, sym, ◌∙◌, subst, arith, codes}
 use Rattle.std.proofs.Math.Nat.{le-max_right}
+use Rattle.std.proofs.lemmas.Bool.{cases_lt}
 use Rattle.std.specs.FinMap as finite
 use Rattle.cedar_language.specs.Uid.{Text, Uid}
 use Rattle.cedar_language.specs.Tree.{Variable, Principal, Action, Resource, Context, ValueType, SlotId, Operator, GetTag, GetAttr, MakeRecord, Call, Tree, Lit, Var, Slot, Unknown, If, And, Or, Apply, Trees, no_trees, a_tree}
@@ -15,7 +16,7 @@ use Rattle.cedar_partial_evaluation.specs.Partial.{LeafAnswers, answer_of}
 use Rattle.cedar_partial_evaluation.specs.Question.{Part, Given, Missing, entity_type, value_held, name_held, part_held, held_names, context_held, variable_held, held_of}
 use Rattle.cedar_partial_evaluation.specs.Unknowns.{fits}
 use Rattle.cedar_world.specs.Asking.{Entries, NoContext, WithEntries, Question, Told}
-use Rattle.cedar_world.specs.Heights.{value_height, Heights, read_height, grown, all_grown, grown_answer, AreWithin, told_height, context_height, AreHeights, HeldIsWithin, GrowsByHeld}
+use Rattle.cedar_world.specs.Heights.{value_height, Heights, read_height, grown, all_grown, grown_answer, AreWithin, told_height, context_height, AreHeights, HeldIsWithin, AreAtMost, GrowsByHighest, variable_height}
 use Rattle.cedar_world.specs.Question.{Extends}
 use Rattle.cedar_world.specs.Setting.{Setting}
 use Rattle.cedar_world.specs.World.{World, EntityData, seen}
@@ -62,35 +63,55 @@ module _ (by : Setting) (world : World) (q : Question) (told : Told) (h : Height
   some_context NoContext = some_named (codes "context")
   some_context (WithEntries ks ts) = omega (arith, le-max_right 0 (suc (all_grown h ts)))
 
-  some_held : 1 ≤ h.held
-  some_held = omega (arith, some_context q.context, are.context)
+  some_held : 1 ≤ h.context
+  some_held = either_way (cases_lt by.depth h.context)
+    where
+      either_way : (by.depth < h.context) ⊎ (h.context ≤ by.depth) → 1 ≤ h.context
+      either_way (inl high) = omega arith
+      either_way (inr low) = omega (arith, some_context q.context, are.context low)
+
+  some_variable : (v : Variable) → 1 ≤ variable_height h v
+  some_variable Principal = some_named (codes "principal")
+  some_variable Action = some_named (codes "action")
+  some_variable Resource = some_named (codes "resource")
+  some_variable Context = some_held
 
   -- ---- the highest of what is written
 
-  read_low : (op : Operator) → read_height h op ≤ h.held
-  read_low GetTag = omega arith
-  read_low (GetAttr a) = omega arith
-  read_low (Call f) = either_low (is_the_constructor f)
-    where
-      either_low : (b : Bool) → cond b 0 h.answered ≤ h.held
-      either_low true = omega arith
-      either_low false = are.answered
-  read_low _ = omega arith
+  module _ (most : ℕ) (at_most : AreAtMost h most) where
+    some_most : 1 ≤ most
+    some_most = omega (arith, some_held, at_most.context)
 
-  mutual
-    pub grows_by : (t : Tree) → grown h t < height t + h.held
-    grows_by (Lit l) = omega (arith, some_held)
-    grows_by (Var v) = omega arith
-    grows_by (Slot s) = omega (arith, some_held)
-    grows_by (Unknown n ty) = omega (arith, are.named n)
-    grows_by (If a b c) = omega (arith, grows_by a, grows_by b, grows_by c)
-    grows_by (And a b) = omega (arith, grows_by a, grows_by b)
-    grows_by (Or a b) = omega (arith, grows_by a, grows_by b)
-    grows_by (Apply op ts) = omega (arith, read_low op, all_grow_by ts)
+    variable_low : (v : Variable) → variable_height h v ≤ most
+    variable_low Principal = at_most.named (codes "principal")
+    variable_low Action = at_most.named (codes "action")
+    variable_low Resource = at_most.named (codes "resource")
+    variable_low Context = at_most.context
 
-    all_grow_by : (ts : Trees) → all_grown h ts < heights ts + h.held
-    all_grow_by no_trees = omega (arith, some_held)
-    all_grow_by (a_tree t ts) = omega (arith, grows_by t, all_grow_by ts)
+    read_low : (op : Operator) → read_height h op ≤ most
+    read_low GetTag = at_most.tagged
+    read_low (GetAttr a) = at_most.held a
+    read_low (Call f) = either_low (is_the_constructor f)
+      where
+        either_low : (b : Bool) → cond b 0 h.answered ≤ most
+        either_low true = omega arith
+        either_low false = at_most.answered
+    read_low _ = omega arith
+
+    mutual
+      pub grows_by : (t : Tree) → grown h t < height t + most
+      grows_by (Lit l) = omega (arith, some_most)
+      grows_by (Var v) = omega (arith, variable_low v)
+      grows_by (Slot s) = omega (arith, some_most)
+      grows_by (Unknown n ty) = omega (arith, at_most.named n)
+      grows_by (If a b c) = omega (arith, grows_by a, grows_by b, grows_by c)
+      grows_by (And a b) = omega (arith, grows_by a, grows_by b)
+      grows_by (Or a b) = omega (arith, grows_by a, grows_by b)
+      grows_by (Apply op ts) = omega (arith, read_low op, all_grow_by ts)
+
+      all_grow_by : (ts : Trees) → all_grown h ts < heights ts + most
+      all_grow_by no_trees = omega (arith, some_most)
+      all_grow_by (a_tree t ts) = omega (arith, grows_by t, all_grow_by ts)
 
   -- ---- what is held
 
@@ -98,55 +119,58 @@ module _ (by : Setting) (world : World) (q : Question) (told : Told) (h : Height
     pub earlier_within : (n : Text) → told_height (finite.get earlier n) ≤ h.named n
     earlier_within n = omega (arith, earlier_height (finite.get earlier n) (finite.get told n) (extends n), are.value_told n)
 
-    abbrev AttributeIsLow : (Text → Option Value) → Type 0
-    AttributeIsLow attribute = (a : Text) (v : Value) → attribute a ≡ Some v → value_height v ≤ h.held
+    abbrev AreLow : (Text → Option Value) → (Text → ℕ) → Type 0
+    AreLow values most = (a : Text) (v : Value) → values a ≡ Some v → most a ≤ by.depth → value_height v ≤ most a
 
-    seen_attribute : (u : Uid) (o : Option EntityData) → finite.get world.entities u ≡ o → (e : language.Held) → seen o ≡ Some e → AttributeIsLow e.attribute
-    seen_attribute u None at e is a v here = cc
-    seen_attribute u (Some d) at e is a v here = are.attribute u d a v at (subst (λ (x : Option language.Held). attribute_in x a ≡ Some v) (sym is) here)
+    seen_attribute : (u : Uid) (o : Option EntityData) → finite.get world.entities u ≡ o → (e : language.Held) → seen o ≡ Some e → AreLow e.attribute h.held
+    seen_attribute u None at e is a v here low = cc
+    seen_attribute u (Some d) at e is a v here low = are.attribute u d a v at (subst (λ (x : Option language.Held). attribute_in x a ≡ Some v) (sym is) here) low
 
-    seen_tag : (u : Uid) (o : Option EntityData) → finite.get world.entities u ≡ o → (e : language.Held) → seen o ≡ Some e → AttributeIsLow e.tag
-    seen_tag u None at e is a v here = cc
-    seen_tag u (Some d) at e is a v here = are.tag u d a v at (subst (λ (x : Option language.Held). tag_in x a ≡ Some v) (sym is) here)
+    seen_tag : (u : Uid) (o : Option EntityData) → finite.get world.entities u ≡ o → (e : language.Held) → seen o ≡ Some e → AreLow e.tag (λ a. h.tagged)
+    seen_tag u None at e is a v here low = cc
+    seen_tag u (Some d) at e is a v here low = are.tag u d a v at (subst (λ (x : Option language.Held). tag_in x a ≡ Some v) (sym is) here) low
 
-    within_by : (holds : LeafAnswers) → ((v : Variable) → grown_answer h (holds.variable v) ≤ h.held) → ((n : Text) (ty : Option ValueType) → grown_answer h (holds.unknown n ty) ≤ h.named n)
-        → ((s : SlotId) → grown_answer h (holds.slot s) ≤ 1) → AreWithin h facts holds
+    within_by : (holds : LeafAnswers) → ((v : Variable) → variable_height h v ≤ by.depth → grown_answer h (holds.variable v) ≤ variable_height h v)
+        → ((n : Text) (ty : Option ValueType) → grown_answer h (holds.unknown n ty) ≤ h.named n)
+        → ((s : SlotId) → grown_answer h (holds.slot s) ≤ 1) → AreWithin h by.depth facts holds
     within_by holds variable unknown slot = record {
-      some_held = some_held;
       some_named = some_named;
+      some_context = some_held;
       variable = variable;
       unknown = unknown;
       slot = slot;
-      attribute = λ u e a v at here. seen_attribute u (finite.get world.entities u) refl e (sym (facts_are.entity u) ∙ at) a v here;
-      tag = λ u e a v at here. seen_tag u (finite.get world.entities u) refl e (sym (facts_are.entity u) ∙ at) a v here;
+      attribute = λ u e a v at here low. seen_attribute u (finite.get world.entities u) refl e (sym (facts_are.entity u) ∙ at) a v here low;
+      tag = λ u e a v at here low. seen_tag u (finite.get world.entities u) refl e (sym (facts_are.entity u) ∙ at) a v here low;
       constructor = λ n is. facts_are.function n ∙ chosen (is_the_constructor n) (Some constructor_function) (function_of by.functions n) is;
-      function = λ n f vs v is at here. are.function n f vs v is (sym (facts_are.function n) ∙ at) here;
+      function = λ n f vs v is at here low. are.function n f vs v is (sym (facts_are.function n) ∙ at) here low;
     }
 
     -- of names alone
-    pub names_within : AreWithin h facts (held_names earlier)
-    names_within = within_by (held_names earlier) (λ v. omega arith) (λ n ty. name_within h (finite.get earlier n) n ty (earlier_within n)) (λ s. omega arith)
+    pub names_within : AreWithin h by.depth facts (held_names earlier)
+    names_within = within_by (held_names earlier) (λ v low. omega arith) (λ n ty. name_within h (finite.get earlier n) n ty (earlier_within n)) (λ s. omega arith)
 
-    part_within : (p : Part) (n : Text) → grown_answer h (part_held p (finite.get earlier n) n) ≤ h.held
-    part_within (Given u) n = some_held
-    part_within (Missing ty) n = omega (arith, name_within h (finite.get earlier n) n (entity_type ty) (earlier_within n), are.named n)
+    part_within : (p : Part) (n : Text) → grown_answer h (part_held p (finite.get earlier n) n) ≤ h.named n
+    part_within (Given u) n = some_named n
+    part_within (Missing ty) n = name_within h (finite.get earlier n) n (entity_type ty) (earlier_within n)
 
-    pub context_within : (c : Entries) → grown_answer h (context_held facts earlier c) ≤ context_height h c
-    context_within NoContext = name_within h (finite.get earlier (codes "context")) (codes "context") None (earlier_within (codes "context"))
-    context_within (WithEntries ks ts) = grows h facts (held_names earlier) names_within (Apply (MakeRecord ks) ts)
+    pub context_within : (c : Entries) → context_height h c ≤ by.depth → grown_answer h (context_held facts earlier c) ≤ context_height h c
+    context_within NoContext low = name_within h (finite.get earlier (codes "context")) (codes "context") None (earlier_within (codes "context"))
+    context_within (WithEntries ks ts) low = grows h by.depth facts (held_names earlier) names_within (Apply (MakeRecord ks) ts) low
 
-    variable_within : (v : Variable) → grown_answer h (variable_held facts q earlier v) ≤ h.held
-    variable_within Principal = part_within q.principal (codes "principal")
-    variable_within Action = part_within q.action (codes "action")
-    variable_within Resource = part_within q.resource (codes "resource")
-    variable_within Context = omega (arith, context_within q.context, are.context)
+    variable_within : (v : Variable) → variable_height h v ≤ by.depth → grown_answer h (variable_held facts q earlier v) ≤ variable_height h v
+    variable_within Principal low = part_within q.principal (codes "principal")
+    variable_within Action low = part_within q.action (codes "action")
+    variable_within Resource low = part_within q.resource (codes "resource")
+    variable_within Context low =
+        let high = are.context low in
+        omega (arith, context_within q.context (omega arith))
 
-    pub question_within : (slots : Slots) → AreWithin h facts (held_of facts q slots earlier)
+    pub question_within : (slots : Slots) → AreWithin h by.depth facts (held_of facts q slots earlier)
     question_within slots =
         within_by (held_of facts q slots earlier) variable_within (λ n ty. name_within h (finite.get earlier n) n ty (earlier_within n)) (λ s. slot_within h (slots s))
 
 pub held_is_within : HeldIsWithin
 held_is_within by world facts q told earlier slots h facts_are are extends = question_within by world q told h are facts facts_are earlier extends slots
 
-pub grows_by_held : GrowsByHeld
-grows_by_held by world q told h are t = grows_by by world q told h are t
+pub grows_by_highest : GrowsByHighest
+grows_by_highest by world q told h most are at_most t = grows_by by world q told h are most at_most t
