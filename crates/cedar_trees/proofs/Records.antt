@@ -18,6 +18,7 @@ use Rattle.cedar_grammar.specs.Build.{Keyed, keys, put, by_key}
 use Rattle.cedar_trees.specs.Bare.{bare, bare_entries, record_tree}
 use Rattle.cedar_trees.specs.Records.{repeated_after, repeated, unless_repeated, record_made, entries_made}
 use Rattle.cedar_trees.specs.declared.expr.Expr.{Expr}
+use Rattle.cedar_lemmas.proofs.Booleans.{or_first as or_false_left, or_second as or_false_right, or_swapped as or_swap}
 
 abbrev order : Text → Text → Ordering
 order = slice_cmp nat_cmp
@@ -32,19 +33,6 @@ put_at : {A : Type 0} (o : Ordering) (x y z : A) → is_eq o ≡ false → match
 put_at Less x y z h = refl
 put_at Equal x y z h = cc
 put_at Greater x y z h = refl
-
-or_false_left : (a b : Bool) → (a || b) ≡ false → a ≡ false
-or_false_left false b h = refl
-or_false_left true b h = h
-
-or_false_right : (a b : Bool) → (a || b) ≡ false → b ≡ false
-or_false_right false b h = h
-or_false_right true b h = cc
-
-or_swap : (a b c : Bool) → (a || (b || c)) ≡ (b || (a || c))
-or_swap true true c = refl
-or_swap true false c = refl
-or_swap false b c = refl
 
 module _ {T : Type 0} where
   pub insert_is_put : (k : RcStr Global) (x : Expr T) (es : List (RcStr Global × Expr T)) → is_among (rc_str_bytes k) (keys (bare_entries es)) ≡ false

@@ -1,0 +1,2 @@
+//! Lemmas of Booleans that several rooms cite; it holds no code.
+#![tactic(auto)]
