@@ -3,9 +3,9 @@ use Rattle.std.proofs.Common.{◌≡◌, Some, rules}
 use Rattle.cedar_language.specs.Order.{all_of}
 use Rattle.cedar_language.specs.Tree.{Boolean}
 use Rattle.cedar_language.specs.Value.{Plain}
-use Rattle.cedar_operators.proofs.ByOperand.{empty_gives}
-use Rattle.cedar_operators.specs.Operands.{members_in}
-use Rattle.cedar_operators.proofs.unary.is_empty.Goals as goal
+use Rattle.cedar_value_operators.proofs.ByOperand.{empty_gives}
+use Rattle.cedar_value_operators.specs.Operands.{members_in}
+use Rattle.cedar_value_operators.proofs.unary.is_empty.Goals as goal
 
 pub returns : goal.returns
 returns c =

@@ -5,7 +5,7 @@ use Rattle.cedar_language.specs.Tree.{Boolean, Long, String, Entity}
 use Rattle.cedar_language.specs.Value.{Value, Plain, SetOf, RecordOf, ExtensionOf, Values, no_values, a_value, Outcome, Gives}
 use Rattle.cedar_language.specs.Order.{all_of}
 use Rattle.cedar_language.specs.Operators.{truth, checked, not_of, negated, is_empty, arithmetic}
-use Rattle.cedar_operators.specs.Operands.{boolean_in, long_in, members_in, at_operand}
+use Rattle.cedar_value_operators.specs.Operands.{boolean_in, long_in, members_in, at_operand}
 
 pub not_at : (v : Value) → not_of (a_value v no_values) ≡ at_operand (λ b. truth (not b)) (boolean_in v)
 not_at (Plain (Boolean b)) = refl

@@ -3,7 +3,7 @@ ghost use Rattle.cedar_language.specs.Operators.{applied, not_of, negated, is_em
 ghost use Rattle.cedar_language.specs.Facts.{Facts};
 ghost use Rattle.cedar_literals.specs.Operators.{unary_operator_of};
 ghost use Rattle.cedar_extensions.specs.Giving.{Gives};
-ghost use Rattle.cedar_operators.specs.Operands.{one};
+ghost use Rattle.cedar_value_operators.specs.Operands.{one};
 
 use crate::operands::{copied, get_as_bool, get_as_long, get_as_set};
 use cedar_extensions::evaluation_error::EvaluationError;

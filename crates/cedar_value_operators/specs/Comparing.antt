@@ -7,8 +7,8 @@ use Rattle.cedar_language.specs.Operators.{are_comparable}
 use Rattle.cedar_language.specs.Order.{text_cmp}
 use Rattle.cedar_literals.specs.declared.operators.BinaryOp.{BinaryOp}
 use Rattle.cedar_literals.specs.declared.operators.BinaryOp.TheVariants.{Eq, Less, LessEq}
-use Rattle.cedar_operators.specs.declared.comparing.Comparison.{Comparison}
-use Rattle.cedar_operators.specs.Operands.{long_in, extension_in}
+use Rattle.cedar_value_operators.specs.declared.comparing.Comparison.{Comparison}
+use Rattle.cedar_value_operators.specs.Operands.{long_in, extension_in}
 
 abbrev pub is_relation : BinaryOp → Bool
 is_relation Eq = true

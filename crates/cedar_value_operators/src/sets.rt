@@ -5,7 +5,7 @@ ghost use Rattle.cedar_language.specs.Operators.{applied, has_some};
 ghost use Rattle.cedar_language.specs.Order.{all_of};
 ghost use Rattle.cedar_language.specs.Tree.{Contains, ContainsAll, ContainsAny};
 ghost use Rattle.cedar_extensions.specs.Giving.{Gives};
-ghost use Rattle.cedar_operators.specs.Operands.{two};
+ghost use Rattle.cedar_value_operators.specs.Operands.{two};
 
 use crate::operands::get_as_set;
 use cedar_extensions::evaluation_error::EvaluationError;

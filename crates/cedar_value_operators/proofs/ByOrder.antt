@@ -6,8 +6,8 @@ use Rattle.cedar_language.specs.Tree.{Boolean, Long, String, Entity}
 use Rattle.cedar_language.specs.Value.{Value, Plain, SetOf, RecordOf, ExtensionOf, no_values, a_value, TypeError, Outcome, Fails}
 use Rattle.cedar_language.specs.Operators.{truth, less_of, less_eq_of, are_comparable}
 use Rattle.cedar_language.specs.Order.{text_cmp}
-use Rattle.cedar_operators.specs.Operands.{at_operand}
-use Rattle.cedar_operators.specs.Comparing.{Below, order_of}
+use Rattle.cedar_value_operators.specs.Operands.{at_operand}
+use Rattle.cedar_value_operators.specs.Comparing.{Below, order_of}
 
 chosen : (b : Bool) (f : Below → Outcome) (o : Below) → cond b (f o) (Fails TypeError) ≡ at_operand f (option_or None (cond b (Some o) None))
 chosen true f o = refl

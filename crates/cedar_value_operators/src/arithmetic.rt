@@ -6,7 +6,7 @@ ghost use Rattle.cedar_language.specs.Value.{IntegerOverflow};
 ghost use Rattle.cedar_literals.specs.Operators.{binary_operator_of};
 ghost use Rattle.cedar_extensions.specs.Failures.{OfKind, failure_of};
 ghost use Rattle.cedar_extensions.specs.Giving.{Gives};
-ghost use Rattle.cedar_operators.specs.Operands.{two, is_arithmetic};
+ghost use Rattle.cedar_value_operators.specs.Operands.{two, is_arithmetic};
 
 use crate::operands::{copied, get_as_long};
 use cedar_extensions::evaluation_error::EvaluationError;

@@ -7,8 +7,8 @@ ghost use Rattle.cedar_literals.specs.Operators.{binary_operator_of};
 ghost use Rattle.cedar_language.specs.Value.{TypeError};
 ghost use Rattle.cedar_extensions.specs.Failures.{OfKind, failure_of};
 ghost use Rattle.cedar_extensions.specs.Giving.{Gives};
-ghost use Rattle.cedar_operators.specs.Operands.{two, long_in, extension_in, IsOperand};
-ghost use Rattle.cedar_operators.specs.Comparing.{is_relation, order_of_longs, order_of_extensions, order_of, seen};
+ghost use Rattle.cedar_value_operators.specs.Operands.{two, long_in, extension_in, IsOperand};
+ghost use Rattle.cedar_value_operators.specs.Comparing.{is_relation, order_of_longs, order_of_extensions, order_of, seen};
 
 use cedar_extensions::evaluation_error::EvaluationError;
 use cedar_extensions::extensions::Extensions;

@@ -6,7 +6,7 @@ ghost use Rattle.cedar_language.specs.Operators.{applied};
 ghost use Rattle.cedar_language.specs.Pattern.{matches};
 ghost use Rattle.cedar_language.specs.Tree.{Like, Is};
 ghost use Rattle.cedar_extensions.specs.Giving.{Gives};
-ghost use Rattle.cedar_operators.specs.Operands.{one};
+ghost use Rattle.cedar_value_operators.specs.Operands.{one};
 
 use crate::operands::{get_as_entity, get_as_string};
 use cedar_extensions::evaluation_error::EvaluationError;

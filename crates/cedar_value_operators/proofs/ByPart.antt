@@ -1,12 +1,12 @@
 -- `like` and `is`, by what their operands are.
-use Rattle.std.proofs.Common.{◌≡◌, ◌↔◌, IsTrue, Bool, true, false, List, refl, sym, chars}
+use Rattle.std.proofs.Common.{◌≡◌, List, refl, chars}
 use Rattle.cedar_language.specs.Uid.{Name}
 use Rattle.cedar_language.specs.Order.{same_name}
 use Rattle.cedar_language.specs.Pattern.{matches}
 use Rattle.cedar_language.specs.Tree.{Boolean, Long, String, Entity, PatternElem}
 use Rattle.cedar_language.specs.Value.{Value, Plain, SetOf, RecordOf, ExtensionOf, no_values, a_value}
 use Rattle.cedar_language.specs.Operators.{truth, like_of, is_of}
-use Rattle.cedar_operators.specs.Operands.{text_in, uid_in, at_operand}
+use Rattle.cedar_value_operators.specs.Operands.{text_in, uid_in, at_operand}
 
 pub like_at : (ps : List PatternElem) (v : Value) → like_of ps (a_value v no_values) ≡ at_operand (λ s. truth (matches ps (chars s))) (text_in v)
 like_at ps (Plain (Boolean b)) = refl
@@ -25,10 +25,3 @@ is_at n (Plain (Entity u)) = refl
 is_at n (SetOf vs) = refl
 is_at n (RecordOf ks vs) = refl
 is_at n (ExtensionOf e) = refl
-
--- two tests of one thing
-pub tests_agree : {P : Type 0} (b c : Bool) → (IsTrue b ↔ P) → (IsTrue c ↔ P) → b ≡ c
-tests_agree true true h k = refl
-tests_agree true false h k = sym (k.1 (h.0 refl))
-tests_agree false true h k = h.1 (k.0 refl)
-tests_agree false false h k = refl

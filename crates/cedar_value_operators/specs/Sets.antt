@@ -2,7 +2,7 @@
 use Rattle.std.specs.Prelude.{Bool}
 use Rattle.cedar_language.specs.Value.{Value, Values, Outcome}
 use Rattle.cedar_language.specs.Operators.{truth}
-use Rattle.cedar_operators.specs.Operands.{members_in, at_operand}
+use Rattle.cedar_value_operators.specs.Operands.{members_in, at_operand}
 
 -- what `f` says of two sets
 abbrev pub at_two_sets : (Values → Values → Bool) → Value → Value → Outcome

@@ -5,7 +5,7 @@ ghost use Rattle.std.specs.Rc.{rc_str_bytes};
 ghost use Rattle.cedar_language.specs.Order.{all_of};
 ghost use Rattle.cedar_language.specs.Tree.{EntityType};
 ghost use Rattle.cedar_literals.specs.Types.{value_type_of};
-ghost use Rattle.cedar_operators.specs.Operands.{boolean_in, long_in, text_in, uid_in, members_in, IsOperand};
+ghost use Rattle.cedar_value_operators.specs.Operands.{boolean_in, long_in, text_in, uid_in, members_in, IsOperand};
 
 use cedar_extensions::evaluation_error::EvaluationError;
 use cedar_literals::literals::Integer;
@@ -17,7 +17,7 @@ use cedar_values::values::{Set, Value};
 use std::alloc::{AllocError, Global};
 use std::rc::{Rc, RcStr};
 
-/// The Boolean that a value has to be. It errs with `TypeError` where it is none, and for memory.
+/// The Boolean that an operand has to be. It errs with `TypeError` where it is none, and for memory.
 pub fn get_as_bool(alloc: Global, value: &Value) -> Result<bool, EvaluationError>
     ensures { IsOperand (λ b. b) (boolean_in value.now) result }
 {
@@ -28,7 +28,7 @@ pub fn get_as_bool(alloc: Global, value: &Value) -> Result<bool, EvaluationError
 }
 
 // The long that an operand has to be.
-pub fn get_as_long(alloc: Global, value: &Value) -> Result<Integer, EvaluationError>
+pub(crate) fn get_as_long(alloc: Global, value: &Value) -> Result<Integer, EvaluationError>
     ensures { IsOperand (λ n. n) (long_in value.now) result }
 {
     match value.as_long() {
@@ -37,7 +37,7 @@ pub fn get_as_long(alloc: Global, value: &Value) -> Result<Integer, EvaluationEr
     }
 }
 
-// The string that an operand has to be.
+/// The string that an operand has to be. It errs with `TypeError` where it is none, and for memory.
 pub fn get_as_string(alloc: Global, value: &Value) -> Result<&RcStr, EvaluationError>
     ensures { IsOperand (λ text. rc_str_bytes text.now) (text_in value.now) result }
 {
@@ -48,7 +48,7 @@ pub fn get_as_string(alloc: Global, value: &Value) -> Result<&RcStr, EvaluationE
 }
 
 // The set that an operand has to be.
-pub fn get_as_set(alloc: Global, value: &Value) -> Result<&Set, EvaluationError>
+pub(crate) fn get_as_set(alloc: Global, value: &Value) -> Result<&Set, EvaluationError>
     ensures { IsOperand (λ set. all_of set.now) (members_in value.now) result }
 {
     match value.as_set() {
@@ -57,7 +57,7 @@ pub fn get_as_set(alloc: Global, value: &Value) -> Result<&Set, EvaluationError>
     }
 }
 
-// The entity that an operand has to be.
+/// The entity that an operand has to be. It errs with `TypeError` where it is none, and for memory.
 pub fn get_as_entity(alloc: Global, value: &Value) -> Result<&Rc<EntityUID>, EvaluationError>
     ensures { IsOperand (λ uid. uid.now.value) (uid_in value.now) result }
 {
@@ -67,14 +67,14 @@ pub fn get_as_entity(alloc: Global, value: &Value) -> Result<&Rc<EntityUID>, Eva
     }
 }
 
-// What errors call the type of all entities; refused for memory alone.
+/// What errors call the type of all entities. Refused for want of memory alone.
 pub fn any_entity_type(alloc: Global) -> Result<Type, AllocError>
     ensures { IfOk result (λ ty. value_type_of ty ≡ EntityType (codes "any_entity_type" ∷ [])) }
 {
     Ok(Type::entity_type(Name::of_identifier(alloc, "any_entity_type")?))
 }
 
-// A copy of a place; refused for memory alone.
+/// A copy of a place, if there is one. Refused for want of memory alone.
 pub fn copied(alloc: Global, loc: Option<&Loc>) -> Result<Option<Loc>, AllocError>
     ensures { IfOk result (λ copy. copy ≡ option_copied loc.entry) }
 {

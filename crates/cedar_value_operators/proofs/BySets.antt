@@ -3,8 +3,8 @@ use Rattle.std.proofs.Common.{◌≡◌, Bool, true, false, not, refl, ap, ◌�
 use Rattle.cedar_language.specs.Tree.{Boolean, Long, String, Entity}
 use Rattle.cedar_language.specs.Value.{Value, Plain, SetOf, RecordOf, ExtensionOf, Values, no_values, a_value}
 use Rattle.cedar_language.specs.Operators.{truth, contains_of, of_two_sets, has_member}
-use Rattle.cedar_operators.specs.Operands.{members_in, at_operand}
-use Rattle.cedar_operators.specs.Sets.{at_two_sets}
+use Rattle.cedar_value_operators.specs.Operands.{members_in, at_operand}
+use Rattle.cedar_value_operators.specs.Sets.{at_two_sets}
 
 pub contains_at : (v w : Value) → contains_of (a_value v (a_value w no_values)) ≡ at_operand (λ vs. truth (has_member vs w)) (members_in v)
 contains_at (Plain (Boolean b)) w = refl
