@@ -13,9 +13,6 @@ mod Sameness
 mod ByUid
 mod Passing
 mod Edited
-mod Giving
-mod Refusing
-mod Joined
 pub mod Untouched
 mod Beside
 pub mod Gathering

@@ -12,7 +12,3 @@ pub mod Modes
 pub mod Children
 pub mod Store
 pub mod InPlace
-pub mod Evaluated
-pub mod Refused
-pub mod Calls
-pub mod Validated

@@ -14,7 +14,7 @@ use Rattle.cedar_extensions.specs.Failures.{Failure, OfKind, LimitMet, MemoryRan
 use Rattle.cedar_extensions.specs.Giving.{FailsBy, fails_on}
 use Rattle.cedar_extensions.specs.declared.evaluation_error.EvaluationError.{EvaluationError}
 use Rattle.cedar_interpreter.specs.Meeting.{IsLimit}
-use Rattle.cedar_operators.specs.Operands.{boolean_in, IsOperand}
+use Rattle.cedar_value_operators.specs.Operands.{boolean_in, IsOperand}
 use Rattle.cedar_evaluator.specs.Evaluating.{found_by, JudgesAt, JudgesReadAt, standing_by, StandsBy, StandsAt}
 use Rattle.cedar_evaluator.specs.Evaluations.{Erred, Finds, found_read}
 use Rattle.cedar_evaluator.specs.Grouping.{found_in, IsKeepable}

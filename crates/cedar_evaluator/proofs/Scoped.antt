@@ -17,7 +17,7 @@ use Rattle.cedar_partial_evaluation.proofs.Scopes.{entity_equal, conjoined, enti
 use Rattle.cedar_policy_parts.specs.References.{target_bound}
 use Rattle.cedar_entities.specs.Data.{EntityData}
 use Rattle.cedar_entities.specs.declared.store.Entities.{Entities}
-use Rattle.cedar_operators.specs.Operands.{two}
+use Rattle.cedar_value_operators.specs.Operands.{two}
 use Rattle.cedar_operators.specs.Hierarchy.{is_within_entity}
 use Rattle.cedar_operators.specs.Store.{HasFacts}
 use Rattle.cedar_interpreter.specs.Seen.{IsSeen}

@@ -14,7 +14,7 @@ use Rattle.cedar_literals.specs.Variables.{variable_text}
 use Rattle.cedar_restricted.specs.PartialValues.{partial_of}
 use Rattle.cedar_substitution.specs.Told.{told_for}
 use Rattle.cedar_extensions.specs.Table.{Table}
-use Rattle.cedar_operators.specs.Operands.{uid_in}
+use Rattle.cedar_value_operators.specs.Operands.{uid_in}
 use Rattle.cedar_requests.specs.Contexts.{context_part}
 use Rattle.cedar_requests.specs.Creating.{is_record_value}
 use Rattle.cedar_requests.specs.Holding.{RequestParts, request_parts}

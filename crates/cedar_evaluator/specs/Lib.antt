@@ -17,9 +17,9 @@ pub mod Scopes
 pub mod Candidates
 pub mod IdsLeft
 pub mod Questions
-pub use Rattle.cedar_operators.specs.Operands
-pub use Rattle.cedar_operators.specs.Comparing
-pub use Rattle.cedar_operators.specs.Sets
+pub use Rattle.cedar_value_operators.specs.Operands
+pub use Rattle.cedar_value_operators.specs.Comparing
+pub use Rattle.cedar_value_operators.specs.Sets
 pub use Rattle.cedar_operators.specs.Store
 pub use Rattle.cedar_operators.specs.StoreLaws
 pub use Rattle.cedar_operators.specs.Hierarchy

@@ -3,7 +3,7 @@ ghost use Rattle.std.specs.Prelude.{◌≡◌, false, Some, IfOk, MatchOption, o
 ghost use Rattle.std.specs.Option.{option_copied};
 ghost use Rattle.cedar_language.specs.Value.{RecordOf};
 ghost use Rattle.cedar_extensions.specs.Table.{as_table};
-ghost use Rattle.cedar_operators.specs.Operands.{uid_in};
+ghost use Rattle.cedar_value_operators.specs.Operands.{uid_in};
 ghost use Rattle.cedar_partial_evaluation.specs.Question.{Missing};
 ghost use Rattle.cedar_restricted.specs.PartialValues.{partial_of};
 ghost use Rattle.cedar_values.specs.Kinds.{keys_of, values_of};

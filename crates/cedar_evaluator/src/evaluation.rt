@@ -14,11 +14,11 @@ ghost use Rattle.cedar_evaluator.specs.Evaluating.{condition_of, JudgesAt, Judge
 use cedar_extensions::evaluation_error::EvaluationError;
 use cedar_extensions::objects::ExtensionFunctionObject;
 use cedar_interpreter::Evaluator;
-use cedar_operators::get_as_bool;
 use cedar_partial_evaluation::unknowns_are_read;
 use cedar_policies::policies::Policy;
 use cedar_restricted::partial_values::PartialValue;
 use cedar_trees::expr::Expr;
+use cedar_value_operators::get_as_bool;
 use cedar_values::values::Value;
 use either::Either;
 use std::alloc::Global;

@@ -2,12 +2,12 @@
 use cedar_expressions::ast::{BinaryOp, EntityType, UnaryOp, Value};
 use cedar_expressions::evaluator::EvaluationError;
 use cedar_expressions::{Extensions, FromNormalizedStr};
-use cedar_operators::{
+use cedar_rows::trees::pattern;
+use cedar_rows::{Answer, no_case};
+use cedar_value_operators::{
     binary_arith, binary_relation, contains, contains_all, contains_any, is_like, is_of_type,
     unary_app,
 };
-use cedar_rows::trees::pattern;
-use cedar_rows::{Answer, no_case};
 use std::alloc::Global;
 
 /// The value, or the kind of the error.

@@ -17,7 +17,7 @@ use Rattle.cedar_entities.specs.Store.{held_at}
 use Rattle.cedar_grammar.specs.Build.{unary, binary}
 use Rattle.cedar_literals.specs.Heads.{order_decides}
 use Rattle.cedar_literals.proofs.Sameness.{uids_same}
-use Rattle.cedar_operators.specs.Operands.{one, two}
+use Rattle.cedar_value_operators.specs.Operands.{one, two}
 use Rattle.cedar_operators.specs.Store.{HasFacts}
 use Rattle.cedar_interpreter.specs.Glancing.{value_lent, least_depth, Tells}
 use Rattle.cedar_interpreter.specs.Holding.{held_by, variable_held}

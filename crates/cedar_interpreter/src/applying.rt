@@ -11,7 +11,7 @@ ghost use Rattle.cedar_shapes.specs.Parts.{parts as parts_of};
 ghost use Rattle.cedar_trees.specs.Bare.{bare, bare_entries};
 ghost use Rattle.cedar_extensions.specs.Giving.{Gives};
 ghost use Rattle.cedar_extensions.specs.Table.{as_table};
-ghost use Rattle.cedar_operators.specs.Operands.{one, two};
+ghost use Rattle.cedar_value_operators.specs.Operands.{one, two};
 ghost use Rattle.cedar_operators.specs.Store.{HasFacts};
 ghost use Rattle.cedar_interpreter.specs.Forms.{unary_operator, is_of_list};
 ghost use Rattle.cedar_interpreter.specs.Meeting.{MeetsAt};
@@ -27,13 +27,14 @@ use cedar_extensions::extensions::Extensions;
 use cedar_extensions::objects::ExtensionFunctionObject;
 use cedar_literals::operators::BinaryOp;
 use cedar_names::places::Loc;
-use cedar_operators::{
-    binary_arith, binary_relation, contains, contains_all, contains_any, get_tag, has_attr,
-    has_path, has_tag, is_in, is_like, is_of_type, unary_app,
-};
+use cedar_operators::{get_tag, has_attr, has_path, has_tag, is_in};
 use cedar_restricted::partial_values::PartialValue;
 use cedar_restricted_evaluation::{call, keyed};
 use cedar_trees::expr::{Expr, ExprKind};
+use cedar_value_operators::{
+    binary_arith, binary_relation, contains, contains_all, contains_any, is_like, is_of_type,
+    unary_app,
+};
 use cedar_values::values::Value;
 use std::alloc::{AllocError, Global};
 use std::collections::BTreeMap;

@@ -12,7 +12,7 @@ ghost use Rattle.cedar_trees.specs.Bare.{bare};
 ghost use Rattle.cedar_restricted.specs.PartialValues.{partial_of};
 ghost use Rattle.cedar_extensions.specs.Failures.{OfKind, failure_of};
 ghost use Rattle.either.specs.declared.Either.{Either};
-ghost use Rattle.cedar_operators.specs.Operands.{one};
+ghost use Rattle.cedar_value_operators.specs.Operands.{one};
 ghost use Rattle.cedar_operators.specs.Store.{HasFacts};
 ghost use Rattle.cedar_interpreter.specs.Meeting.{MeetsAt, part_answer};
 ghost use Rattle.cedar_interpreter.specs.Projecting.{ProjectsAt, ProjectsOf, TakesOf};

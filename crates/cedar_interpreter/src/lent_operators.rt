@@ -6,7 +6,7 @@ ghost use Rattle.cedar_language.specs.Operators.{applied, truth, like_of, is_of,
 ghost use Rattle.cedar_language.specs.Order.{same, all_of};
 ghost use Rattle.cedar_language.specs.Pattern.{matches};
 ghost use Rattle.cedar_literals.specs.Operators.{binary_operator_of};
-ghost use Rattle.cedar_operators.specs.Operands.{one, two};
+ghost use Rattle.cedar_value_operators.specs.Operands.{one, two};
 ghost use Rattle.cedar_operators.specs.Store.{HasFacts};
 ghost use Rattle.cedar_interpreter.specs.Forms.{unary_operator};
 ghost use Rattle.cedar_interpreter.specs.Glancing.{value_lent};

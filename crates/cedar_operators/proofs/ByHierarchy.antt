@@ -11,7 +11,7 @@ use Rattle.cedar_language.specs.Operators.{truth, and_uid, uids_in, is_within, i
 use Rattle.cedar_language.specs.Facts.{Facts}
 use Rattle.cedar_entities.specs.Data.{EntityData}
 use Rattle.cedar_entities.specs.declared.store.Entities.{Entities}
-use Rattle.cedar_operators.specs.Operands.{uid_in, members_in, at_operand, two}
+use Rattle.cedar_value_operators.specs.Operands.{uid_in, members_in, at_operand, two}
 use Rattle.cedar_operators.specs.Store.{HasFacts, IsFound}
 use Rattle.cedar_operators.specs.Hierarchy.{is_within_entity, within_of}
 use Rattle.cedar_operators.proofs.ByStore.{within_is}

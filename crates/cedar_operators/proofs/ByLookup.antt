@@ -23,7 +23,7 @@ use Rattle.cedar_restricted.specs.declared.partial_values.PartialValue.TheVarian
 use Rattle.cedar_trees.specs.Bare.{bare}
 use Rattle.cedar_trees.specs.declared.expr.Expr.{Expr}
 use Rattle.cedar_entities.specs.Attributes.{Attribute}
-use Rattle.cedar_operators.specs.Operands.{uid_in}
+use Rattle.cedar_value_operators.specs.Operands.{uid_in}
 use Rattle.cedar_operators.specs.Lookups.{Record, record_in, Shows}
 use Rattle.cedar_operators.specs.declared.lookups.Lookup.{Lookup}
 use Rattle.cedar_operators.specs.declared.lookups.Lookup.TheVariants as looked

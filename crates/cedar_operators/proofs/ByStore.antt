@@ -3,6 +3,7 @@ use Rattle.std.proofs.Common.{◌≡◌, true, false, true≢false, ◌||◌, Op
 use Rattle.std.specs.Borrow.{Bor}
 use Rattle.std.specs.Option.{option_copied, option_map_or}
 use Rattle.std.specs.FinSet as set
+use Rattle.std.proofs.lemmas.Bool.Decides.{same_from_decides}
 use Rattle.cedar_language.specs.Uid.{Uid}
 use Rattle.cedar_language.specs.Order.{same_uid, uid_cmp}
 use Rattle.cedar_language.specs.Operators.{is_within}
@@ -14,7 +15,6 @@ use Rattle.cedar_entities.specs.Store.{held_at}
 use Rattle.cedar_entities.specs.declared.store.Entities.{Entities}
 use Rattle.cedar_operators.specs.Store.{HasFacts, IsShown, AreAttributes, IsFound}
 use Rattle.cedar_operators.specs.Hierarchy.{is_within_entity}
-use Rattle.cedar_operators.proofs.ByPart.{tests_agree}
 
 -- ---- entities
 
@@ -50,8 +50,8 @@ no_ancestor held a b e (edge h) = no_parent (held a) b e h
 no_ancestor held a b e (further {b = c} h r) = no_parent (held a) c e h
 
 reached : (s : Entities) (facts : Facts) → HasFacts s facts → (a : Uid) (o : Option (Bor EntityData)) → IsFound s a o → (b : Uid) → option_map_or (λ e. set.contains (ancestors_of e) b) (option_copied o) false ≡ facts.reaches a b
-reached s facts f a None h b = tests_agree false (facts.reaches a b) (λ e. absurd (true≢false (sym e)), λ r. absurd (no_ancestor (held_at s) a b h r)) (f.reaches a b)
-reached s facts f a (Some e) h b = tests_agree (set.contains (ancestors_of e.now) b) (facts.reaches a b) (h.2 f.closed b) (f.reaches a b)
+reached s facts f a None h b = same_from_decides false (facts.reaches a b) (λ e. absurd (true≢false (sym e)), λ r. absurd (no_ancestor (held_at s) a b h r)) (f.reaches a b)
+reached s facts f a (Some e) h b = same_from_decides (set.contains (ancestors_of e.now) b) (facts.reaches a b) (h.2 f.closed b) (f.reaches a b)
 
 pub within_is : (s : Entities) (facts : Facts) → HasFacts s facts → (a : Uid) (o : Option (Bor EntityData)) → IsFound s a o → (b : Uid) → is_within_entity a (option_copied o) b ≡ is_within facts a b
 within_is s facts f a o h b = ap (λ x. same_uid a b || x) (reached s facts f a o h b)

@@ -11,7 +11,7 @@ use Rattle.cedar_extensions.specs.Failures.{failure_of}
 use Rattle.cedar_extensions.specs.Giving.{Gives, GivesBy, fails_on}
 use Rattle.cedar_extensions.specs.declared.evaluation_error.EvaluationError.{EvaluationError}
 use Rattle.cedar_entities.specs.Attributes.{Attribute}
-use Rattle.cedar_operators.specs.Operands.{uid_in, text_in, at_operand, two}
+use Rattle.cedar_value_operators.specs.Operands.{uid_in, text_in, at_operand, two}
 use Rattle.cedar_operators.proofs.ByLookup.{written}
 
 entity_at : (facts : Facts) (u : Uid) (w : Value) → tag_of facts (two (Plain (Entity u)) w) ≡ at_operand (λ s. tag_held s (facts.entity u)) (text_in w)

@@ -1,8 +1,4 @@
 pub mod Passing
-pub mod ByOperand
-pub mod ByOrder
-pub mod BySets
-pub mod ByPart
 pub mod ByStore
 pub mod ByHierarchy
 pub mod ByLookup

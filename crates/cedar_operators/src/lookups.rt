@@ -17,7 +17,6 @@ ghost use Rattle.cedar_operators.specs.Store.{HasFacts};
 ghost use Rattle.cedar_operators.specs.Lookups.{record_in, Shows};
 
 use crate::held::held;
-use crate::operands::any_entity_type;
 use cedar_entities::entity::Entity;
 use cedar_entities::store::Entities;
 use cedar_extensions::evaluation_error::EvaluationError;
@@ -26,6 +25,7 @@ use cedar_literals::uids::EntityUID;
 use cedar_restricted::partial_values::PartialValue;
 use cedar_trees::expr::Expr;
 use cedar_trees::unknowns::NonEmpty;
+use cedar_value_operators::any_entity_type;
 use cedar_values::values::{Value, ValueKind};
 use std::alloc::{AllocError, Global};
 use std::collections::BTreeMap;

@@ -8,9 +8,9 @@ pub use Rattle.cedar_entities.specs.Kept
 pub use Rattle.cedar_entities.specs.Modes
 pub use Rattle.cedar_entities.specs.Refusals
 pub use Rattle.cedar_entities.specs.Store
-pub use Rattle.cedar_entities.specs.Evaluated
-pub use Rattle.cedar_entities.specs.Calls
-pub use Rattle.cedar_entities.specs.Validated as ValidatedCalls
+pub use Rattle.cedar_entity_evaluation.specs.Evaluated
+pub use Rattle.cedar_entity_evaluation.specs.Calls
+pub use Rattle.cedar_entity_evaluation.specs.Validated as ValidatedCalls
 pub use Rattle.cedar_policy_parts.specs.Effects
 pub use Rattle.cedar_policy_parts.specs.Annotations
 pub use Rattle.cedar_policy_parts.specs.Actions

@@ -7,9 +7,9 @@ pub use crate::merging::Merging;
 pub use crate::renaming::{Renaming, renamed_id, renaming_of};
 pub use cedar_entities::attributes::Attributes;
 pub use cedar_entities::entity::{Ancestors, Entity};
-pub use cedar_entities::{
-    EntityAttrEvaluationError, EntityCreationError, EntityUIDs, EntityValidation, EvaluateEntity,
-    Uids,
+pub use cedar_entities::{EntityUIDs, Uids};
+pub use cedar_entity_evaluation::{
+    EntityAttrEvaluationError, EntityCreationError, EntityValidation, EvaluateEntity,
 };
 pub use cedar_literals::slots::{Slot, SlotId};
 pub use cedar_literals::uids::{ACTION_ENTITY_TYPE, Eid, EntityType, EntityUID, EntityUIDImpl};

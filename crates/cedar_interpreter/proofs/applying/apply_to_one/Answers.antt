@@ -1,6 +1,6 @@
 -- Each operator by its function.
 use Rattle.cedar_language.specs.Operators.{applied}
-use Rattle.cedar_operators.specs.Operands.{one}
+use Rattle.cedar_value_operators.specs.Operands.{one}
 use Rattle.cedar_interpreter.specs.Forms.{unary_operator}
 use Rattle.cedar_interpreter.proofs.applying.apply_to_one.Goals as goal
 

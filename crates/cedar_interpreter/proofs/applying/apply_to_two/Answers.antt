@@ -1,7 +1,7 @@
 -- Each operator by its function.
 use Rattle.cedar_language.specs.Operators.{applied}
 use Rattle.cedar_literals.specs.Operators.{binary_operator_of}
-use Rattle.cedar_operators.specs.Operands.{two}
+use Rattle.cedar_value_operators.specs.Operands.{two}
 use Rattle.cedar_interpreter.proofs.applying.apply_to_two.Goals as goal
 
 pub returns-in-Eq : goal.returns-in-Eq

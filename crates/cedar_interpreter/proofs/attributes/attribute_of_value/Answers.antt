@@ -2,7 +2,7 @@
 use Rattle.std.specs.Rc.{rc_str_bytes}
 use Rattle.cedar_language.specs.Operators.{applied}
 use Rattle.cedar_language.specs.Tree.{GetAttr}
-use Rattle.cedar_operators.specs.Operands.{one}
+use Rattle.cedar_value_operators.specs.Operands.{one}
 use Rattle.cedar_partial_evaluation.specs.Partial.{answer_of}
 use Rattle.cedar_interpreter.proofs.attributes.attribute_of_value.Goals as goal
 

@@ -3,7 +3,7 @@ use Rattle.std.proofs.Common.{◌≡◌, ap, sym, ◌∙◌, rules}
 use Rattle.cedar_language.specs.Tree.{Boolean}
 use Rattle.cedar_language.specs.Value.{Plain, Gives, Fails}
 use Rattle.cedar_language.specs.Operators.{truth}
-use Rattle.cedar_operators.specs.Operands.{at_operand}
+use Rattle.cedar_value_operators.specs.Operands.{at_operand}
 use Rattle.cedar_operators.proofs.ByHierarchy.{in_held, in_others}
 use Rattle.cedar_operators.proofs.Passing.{passed}
 use Rattle.cedar_operators.proofs.hierarchy.is_in.Goals as goal

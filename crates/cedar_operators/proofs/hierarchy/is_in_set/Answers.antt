@@ -3,7 +3,7 @@ use Rattle.std.proofs.Common.{◌≡◌, Some, None, ap, sym, subst, refl, ◌�
 use Rattle.std.specs.Option.{option_copied}
 use Rattle.cedar_language.specs.Order.{all_of}
 use Rattle.cedar_language.specs.Value.{Value, TypeError}
-use Rattle.cedar_operators.specs.Operands.{IsOperand}
+use Rattle.cedar_value_operators.specs.Operands.{IsOperand}
 use Rattle.cedar_operators.specs.Hierarchy.{is_within_entity, within_of}
 use Rattle.cedar_operators.proofs.ByHierarchy.{within_set, within_others}
 use Rattle.cedar_operators.proofs.Passing.{fails_as}

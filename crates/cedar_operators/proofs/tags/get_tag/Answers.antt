@@ -5,7 +5,7 @@ use Rattle.cedar_language.specs.Value.{EntityDoesNotExist, Fails}
 use Rattle.cedar_language.specs.Operators.{tag_of, tag_held}
 use Rattle.cedar_extensions.specs.Giving.{Gives}
 use Rattle.cedar_entities.specs.Held.{held_of}
-use Rattle.cedar_operators.specs.Operands.{two}
+use Rattle.cedar_value_operators.specs.Operands.{two}
 use Rattle.cedar_operators.specs.Store.{IsFound}
 use Rattle.cedar_operators.proofs.ByStore.{held_known, none_known}
 use Rattle.cedar_operators.proofs.ByTag.{tag_is}

@@ -1,0 +1,4 @@
+pub mod Evaluated
+pub mod Refused
+pub mod Calls
+pub mod Validated

@@ -1,0 +1,4 @@
+mod ByOperand
+mod ByOrder
+mod BySets
+mod ByPart
