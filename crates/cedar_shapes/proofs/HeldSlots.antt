@@ -9,12 +9,7 @@ use Rattle.cedar_language.specs.Slots.{tree_slots, trees_slots}
 use Rattle.cedar_grammar.specs.Converting.{if_none, without_slots}
 use Rattle.cedar_shapes.specs.Leaves.{slot_in, slots_among}
 use Rattle.cedar_shapes.specs.Positions.{positions, all_positions}
-
-turned : (a b : Bool) → (a || b) ≡ (b || a)
-turned true true = refl
-turned true false = refl
-turned false true = refl
-turned false false = refl
+use Rattle.cedar_lemmas.proofs.Booleans.{or_turned as turned}
 
 all_turned : (a b c : Bool) → ((a || b) || c) ≡ (c || (b || a))
 all_turned a b c = turned (a || b) c ∙ ap (λ d. c || d) (turned a b)

@@ -10,6 +10,7 @@ use Rattle.cedar_shapes.specs.Leaves.{is_unknown_tree, holds_unknown}
 use Rattle.cedar_shapes.specs.Parts.{listed, parts}
 use Rattle.cedar_shapes.specs.Positions.{positions, all_positions, waiting, need, needs, need_all}
 use Rattle.cedar_shapes.specs.Stack.{stack_of}
+use Rattle.cedar_lemmas.proofs.Booleans.{or_true, or_nothing as or_none, or_grouped as or_or}
 
 all_wait : (ts : Trees) → all_positions ts ≡ waiting (listed ts)
 all_wait no_trees = refl
@@ -109,18 +110,6 @@ module _ {T : Type 0} where
       turn_rises = rw (stack_pushed new old e pop, push, ← stack_length new) (need_rises (stack_of new) (bare e.now))
 
 -- ---- whether a position holds an unknown
-
-or_true : (b : Bool) → (b || true) ≡ true
-or_true true = refl
-or_true false = refl
-
-or_none : (b : Bool) → (b || false) ≡ b
-or_none true = refl
-or_none false = refl
-
-or_or : (a b c : Bool) → (a || (b || c)) ≡ ((a || b) || c)
-or_or true b c = refl
-or_or false b c = refl
 
 any_more : (p : Tree → Bool) (xs ys : List Tree) → list_any p (xs ++ ys) ≡ (list_any p xs || list_any p ys)
 any_more p [] ys = refl

@@ -1,5 +1,6 @@
 // Walks over the positions of an expression.
 ghost use Rattle.std.specs.Prelude.{◌≡◌, ◌+◌, ◌≤◌, ◌++◌, length, IfOk};
+ghost use Rattle.std.specs.Option.{option_copied};
 ghost use Rattle.std.specs.Vec.{vec_len, vec_capacity};
 ghost use Rattle.cedar_trees.specs.Bare.{bare};
 ghost use Rattle.cedar_shapes.specs.Leaves.{slots_among, unknowns_among};
@@ -26,7 +27,8 @@ fn push_parts<'a, T>(ahead: &mut Vec<&'a Expr<T>>, expr: &'a Expr<T>)
 }
 
 /// A walk over an expression and all that are in it: each position once, an expression before those
-/// in it, its last part before its first. It ends, and takes no memory after `new`.
+/// in it, its last part before its first. It ends, and takes no memory after `new`. Contracts see the
+/// tree of each; that it is this position's own, with its place and its data, rows show.
 #[derive(Drop)]
 pub struct ExprIterator<'a, T = ()> {
     ahead: Vec<&'a Expr<T>>,
@@ -83,7 +85,8 @@ pub struct SlotRef<'a> {
 impl SlotRef<'_> {
     /// The slot, with a copy of its place; refused for memory alone.
     pub fn to_slot(&self, alloc: Global) -> Result<Slot, AllocError>
-        ensures { IfOk result (λ slot. slot.id ≡ self.now.id) }
+        ensures slot { IfOk result (λ slot. slot.id ≡ self.now.id) }
+        ensures place { IfOk result (λ slot. slot.loc ≡ option_copied self.now.loc) }
     {
         let loc = match self.loc {
             None => None,

@@ -12,6 +12,7 @@ ghost use Rattle.cedar_shapes.specs.ShapesOnly.{only_shape};
 use crate::order::{compare, feed};
 use cedar_trees::expr::Expr;
 use std::cmp::Ordering;
+use std::fmt;
 use std::hash::{Hash, Hasher};
 
 /// What compares expressions by their shapes: by their constructs and parts, and not by places and
@@ -96,6 +97,12 @@ impl<'a, T> ExprShapeOnly<'a, T> {
             Held::Borrowed(expr) => expr,
             Held::Owned(expr) => expr,
         }
+    }
+}
+
+impl<T> fmt::Debug for ExprShapeOnly<'_, T> {
+    fn fmt<W: fmt::Write>(&self, f: &mut fmt::Formatter<W>) -> fmt::Result {
+        fmt::Debug::fmt(self.expr(), f)
     }
 }
 
