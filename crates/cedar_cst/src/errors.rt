@@ -42,6 +42,18 @@ impl<K: Drop> PlacedError<K> {
     }
 }
 
+/// The kind is shared.
+impl<K: Drop> Clone for PlacedError<K> {
+    ghost is_clone = { λ error copy. copy ≡ error };
+
+    fn clone(&self) -> Result<PlacedError<K>, AllocError> {
+        Ok(PlacedError {
+            kind: self.kind.clone()?,
+            loc: self.loc.as_ref().cloned()?,
+        })
+    }
+}
+
 impl<K> PlacedError<K> {
     /// The kind.
     pub fn kind(&self) -> &K
@@ -60,7 +72,7 @@ impl<K: fmt::Display> fmt::Display for PlacedError<K> {
 impl<K: Error> Error for PlacedError<K> {}
 
 /// Why a node doesn't give its value.
-#[derive(Debug, PartialEq, Eq, Drop, Error)]
+#[derive(Debug, PartialEq, Eq, Clone, Drop, Error)]
 pub enum EmptyNodeError {
     /// The node is empty. It stands at this place, if that is known.
     #[error("a part of the text was not read")]

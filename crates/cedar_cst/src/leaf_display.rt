@@ -3,7 +3,7 @@ use crate::leaves::{AddOp, Ident, Literal, MultOp, Name, NegOp, Ref, RefInit, Re
 use crate::node::Node;
 use std::fmt;
 
-/// Writes what the node holds; `[error]` where it is empty.
+/// Writes what the node holds; `[error]` where it is empty. What is printed of trees is only tested.
 pub fn write_part<T: fmt::Display, W: fmt::Write>(
     f: &mut fmt::Formatter<W>,
     part: &Node<Option<T>>,
@@ -14,8 +14,8 @@ pub fn write_part<T: fmt::Display, W: fmt::Write>(
     }
 }
 
-/// Writes what the nodes hold, with a comma between each two. It takes the `Vec` that a tree holds,
-/// and no slice, since printing a tree leads back here.
+/// Writes what the nodes hold, with a comma between each two, which is only tested. It takes the `Vec` that a
+/// tree holds, and no slice, since printing a tree leads back here.
 pub fn write_list<T: fmt::Display, W: fmt::Write>(
     f: &mut fmt::Formatter<W>,
     parts: &Vec<Node<Option<T>>>,

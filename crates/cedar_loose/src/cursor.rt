@@ -85,13 +85,13 @@ impl<'t> Cursor<'t> {
         }
     }
 
-    /// Where the next token starts, or where the text ends.
+    /// Where the next token starts, or where the text ends. No contract tells places: they are only tested.
     pub fn start(&self) -> usize {
         self.span().start
     }
 
     /// That the next token can't stand there. Behind a name a `::` may stand, so the fault is then what
-    /// follows it.
+    /// follows it. No contract tells what is met, where, and what was expected: they are only tested.
     #[inline(never)]
     pub fn unexpected(&self) -> Unexpected {
         let expected = self.expected.get();
@@ -135,7 +135,7 @@ impl<'t> Cursor<'t> {
     }
 
     /// The value, at the place from `start` up to the end of the last token that was taken; refused
-    /// for memory alone.
+    /// for memory alone. No contract tells the place: it is only tested.
     pub fn node<T: Drop>(&self, start: usize, value: T) -> Result<Node<Option<T>>, AllocError>
         ensures { IfOk result (λ node. node.node ≡ Some value) }
     {

@@ -91,6 +91,18 @@ impl ToCSTError {
     }
 }
 
+impl Clone for ToCSTError {
+    ghost is_clone = { λ error copy. copy ≡ error };
+
+    fn clone(&self) -> Result<ToCSTError, AllocError> {
+        Ok(ToCSTError {
+            met: self.met,
+            loc: Clone::clone(&self.loc)?,
+            expected: self.expected,
+        })
+    }
+}
+
 impl Error for ToCSTError {}
 
 impl fmt::Display for ToCSTError {
@@ -107,7 +119,7 @@ impl fmt::Display for ToCSTError {
 }
 
 /// Why a text has no loose tree.
-#[derive(Debug, PartialEq, Eq, Drop, Error)]
+#[derive(Debug, PartialEq, Eq, Clone, Drop, Error)]
 pub enum LooseError {
     /// The text is outside the loose grammar.
     #[error(transparent)]

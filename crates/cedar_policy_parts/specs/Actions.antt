@@ -10,6 +10,7 @@ use Rattle.cedar_names.specs.Names.{basename_of}
 use Rattle.cedar_grammar.specs.Policy as policy
 use Rattle.cedar_policy_parts.specs.declared.actions.ActionConstraint.{ActionConstraint}
 use Rattle.cedar_policy_parts.specs.declared.actions.ActionConstraint.TheVariants.{Any, In, Eq}
+use Rattle.cedar_policy_parts.specs.declared.policies.InvalidActionType as refusal
 use Rattle.cedar_policy_parts.specs.declared.errors.ActionTypeError.{ActionTypeError}
 use Rattle.cedar_policy_parts.specs.declared.errors.ActionTypeError.TheVariants.{InvalidActionType, Memory}
 
@@ -40,8 +41,18 @@ is_other u = not (same_text (basename_of u.type_name) (codes "Action"))
 abbrev pub others : List Uid → List Uid
 others us = filter is_other us
 
+-- the uids that a refusal tells
+abbrev pub uids_refused : refusal.InvalidActionType → List Uid
+uids_refused e = e.euids.head.value ∷ held_uids e.euids.tail.items
+
 -- refused with these, where there are any, or for memory
 abbrev pub RefusesOthers : {A : Type 0} → List Uid → Result A ActionTypeError → Type 0
 RefusesOthers us (Ok a) = us ≡ []
-RefusesOthers us (Err (InvalidActionType e)) = us ≡ e.euids.head.value ∷ held_uids e.euids.tail.items
+RefusesOthers us (Err (InvalidActionType e)) = us ≡ uids_refused e
 RefusesOthers us (Err (Memory m)) = ⊤
+
+-- the same is refused, with the same uids
+abbrev pub TellsSame : ActionTypeError → ActionTypeError → Type 0
+TellsSame (InvalidActionType e) (InvalidActionType f) = uids_refused f ≡ uids_refused e
+TellsSame (Memory m) (Memory n) = ⊤
+TellsSame e f = ⊥

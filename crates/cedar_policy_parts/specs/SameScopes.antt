@@ -12,6 +12,7 @@ use Rattle.std.specs.Cmp.{IsEquivalence, IsTotalOrder, decided, first_so, second
 use Rattle.std.specs.Cmp.Lexicographic.{pointwise, pointwise_decides, bytes_decides}
 use Rattle.cedar_language.specs.Uid.{Text, Name, Uid}
 use Rattle.std.proofs.lemmas.Cmp.{on_total}
+use Rattle.std.proofs.lemmas.Bool.{and_from}
 use Rattle.cedar_language.specs.Order.{Head, head, head_cmp, same_name, same_uid}
 use Rattle.cedar_literals.specs.Uids.{uid_hash}
 use Rattle.cedar_literals.specs.Heads.{head_cmp_total, order_decides, by_head_same}
@@ -55,16 +56,13 @@ same_action _ _ = false
 names_decide : (p q : Name) → Decides (same_name p q) (p ≡ q)
 names_decide = pointwise_decides bytes_decides
 
-both_true : (x y : Bool) → x ≡ true → y ≡ true → (x && y) ≡ true
-both_true x y h k = rw (h, k) refl
-
 uid_from : (u v : Uid) → u.type_name ≡ v.type_name → u.id ≡ v.id → u ≡ v
 uid_from u v p q = λ i. record { type_name = p i; id = q i }
 
 pub uids_decide : (u v : Uid) → Decides (same_uid u v) (u ≡ v)
 uids_decide u v = (
   λ h. uid_from u v ((names_decide _ _).0 (first_so _ _ h)) ((bytes_decides u.id v.id).0 (second_so _ _ h)),
-  λ e. both_true _ _ ((names_decide _ _).1 (ap (λ (w : Uid). w.type_name) e)) ((bytes_decides u.id v.id).1 (ap (λ (w : Uid). w.id) e)),
+  λ e. and_from _ _ ((names_decide _ _).1 (ap (λ (w : Uid). w.type_name) e)) ((bytes_decides u.id v.id).1 (ap (λ (w : Uid). w.id) e)),
 )
 
 abbrev first_name : List Name → Name
@@ -127,7 +125,7 @@ constraint_itself anything = refl
 constraint_itself (equals e) = target_itself e
 constraint_itself (within e) = target_itself e
 constraint_itself (of_type p) = (names_decide p p).1 refl
-constraint_itself (of_type_within p e) = both_true _ _ ((names_decide p p).1 refl) (target_itself e)
+constraint_itself (of_type_within p e) = and_from _ _ ((names_decide p p).1 refl) (target_itself e)
 
 pub constraints_decide : (c d : Constraint) → Decides (same_constraint c d) (c ≡ d)
 constraints_decide c d = (constraint_is c d, λ h. subst (λ (g : Constraint). same_constraint c g ≡ true) h (constraint_itself c))
@@ -179,7 +177,7 @@ bindings_are b c h =
 pub bindings_decide : (b c : Bindings) → Decides (same_bindings b c) (b ≡ c)
 bindings_decide b c = (
   bindings_are b c,
-  λ e. subst (λ (d : Bindings). same_bindings b d ≡ true) e (both_true _ _ (entity_itself b.principal) (entity_itself b.resource)),
+  λ e. subst (λ (d : Bindings). same_bindings b d ≡ true) e (and_from _ _ (entity_itself b.principal) (entity_itself b.resource)),
 )
 
 pub same_bindings_equiv : IsEquivalence same_bindings

@@ -146,7 +146,10 @@ fn literals(alloc: Global, euids: &[Rc<EntityUID>]) -> Result<Vec<Expr>, AllocEr
 }
 
 // Copies that share the uids.
-fn cloned(alloc: Global, euids: &[Rc<EntityUID>]) -> Result<Vec<Rc<EntityUID>>, AllocError>
+pub(crate) fn cloned(
+    alloc: Global,
+    euids: &[Rc<EntityUID>],
+) -> Result<Vec<Rc<EntityUID>>, AllocError>
     ensures { IfOk result (λ copies. held_uids copies.items ≡ held_uids euids.now) }
 {
     let mut copies = Vec::new(alloc);

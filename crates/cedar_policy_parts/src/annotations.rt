@@ -67,7 +67,7 @@ impl Annotation {
         self.val.as_str()
     }
 
-    /// Where it was read, if it was.
+    /// Where it was read, if it was. No contract tells places: they are only tested.
     pub fn loc(&self) -> Option<&Loc> {
         self.loc.as_ref()
     }
@@ -224,6 +224,15 @@ impl Annotations {
         ensures { result ≡ (length self.now == 0) }
     {
         self.entries.is_empty()
+    }
+
+    /// A copy that shares the texts and the keys; refused for memory alone.
+    pub fn clone(&self, _alloc: Global) -> Result<Annotations, AllocError>
+        ensures { IfOk result (λ copy. copy ≡ self.now) }
+    {
+        Ok(Annotations {
+            entries: self.entries.clone()?,
+        })
     }
 }
 

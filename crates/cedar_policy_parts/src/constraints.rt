@@ -262,7 +262,7 @@ impl PrincipalOrResourceConstraint {
         }
     }
 
-    /// How it is written, of this variable; refused for memory alone.
+    /// How it is written, of this variable, which is only tested; refused for memory alone.
     pub fn display(&self, alloc: Global, v: PrincipalOrResource) -> Result<String, AllocError> {
         Displayed {
             constraint: self,

@@ -1,12 +1,15 @@
 // Why a constraint is refused.
+ghost use Rattle.std.specs.Prelude.{IfOk};
+ghost use Rattle.cedar_policy_parts.specs.Actions.{TellsSame};
+
 use crate::ExpectedStaticPolicy;
 pub use crate::InvalidActionType;
 use cedar_literals::slots::Slot;
-use std::alloc::{AllocError, AllocFailed};
+use std::alloc::{AllocError, AllocFailed, Global};
 use thiserror::Error;
 
 /// A slot stands where none may.
-#[derive(Debug, PartialEq, Eq, Drop, Error)]
+#[derive(Debug, PartialEq, Eq, Clone, Drop, Error)]
 pub enum UnexpectedSlotError {
     /// This one.
     #[error("found slot `{}` where slots are not allowed", .0.id)]
@@ -64,6 +67,20 @@ pub enum ActionTypeError {
     /// Memory ran out.
     #[error(transparent)]
     Memory(AllocError),
+}
+
+impl ActionTypeError {
+    /// A copy that shares the uids; refused for memory alone.
+    pub fn clone(&self, alloc: Global) -> Result<ActionTypeError, AllocError>
+        ensures { IfOk result (TellsSame self.now) }
+    {
+        match self {
+            ActionTypeError::InvalidActionType(error) => {
+                Ok(ActionTypeError::InvalidActionType(error.clone(alloc)?))
+            }
+            ActionTypeError::Memory(_) => Ok(ActionTypeError::Memory(AllocError)),
+        }
+    }
 }
 
 impl From<AllocError> for ActionTypeError {

@@ -1,7 +1,12 @@
 // Policies and templates that aren't what they should be.
+ghost use Rattle.std.specs.Prelude.{◌≡◌, IfOk};
+ghost use Rattle.cedar_policy_parts.specs.Actions.{uids_refused};
+
+use crate::actions::cloned;
 use cedar_literals::slots::Slot;
 use cedar_literals::uids::EntityUID;
 use cedar_trees::unknowns::NonEmpty;
+use std::alloc::{AllocError, Global};
 use std::error::Error;
 use std::fmt;
 use std::rc::Rc;
@@ -12,6 +17,19 @@ use thiserror::Error;
 pub struct InvalidActionType {
     /// Those whose type's last identifier isn't `Action`.
     pub euids: NonEmpty<Rc<EntityUID>>,
+}
+
+impl InvalidActionType {
+    /// A copy that shares the uids; refused for memory alone.
+    pub fn clone(&self, alloc: Global) -> Result<InvalidActionType, AllocError>
+        ensures { IfOk result (λ copy. uids_refused copy ≡ uids_refused self.now) }
+    {
+        let euids = NonEmpty {
+            head: self.euids.head.clone()?,
+            tail: cloned(alloc, &self.euids.tail)?,
+        };
+        Ok(InvalidActionType { euids })
+    }
 }
 
 impl fmt::Display for InvalidActionType {
@@ -39,7 +57,7 @@ impl fmt::Display for InvalidActionType {
 impl Error for InvalidActionType {}
 
 /// A slot stands in a clause. It may, so nothing tells this; callers may match on it still.
-#[derive(Debug, PartialEq, Eq, Drop, Error)]
+#[derive(Debug, PartialEq, Eq, Clone, Drop, Error)]
 #[error("found template slot {} in a `{clause_type}` clause", .slot.id)]
 pub struct SlotsInConditionClause {
     /// The slot.
@@ -49,7 +67,7 @@ pub struct SlotsInConditionClause {
 }
 
 /// A template stands where a static policy should.
-#[derive(Debug, PartialEq, Eq, Drop, Error)]
+#[derive(Debug, PartialEq, Eq, Clone, Drop, Error)]
 #[error("expected a static policy, got a template containing the slot {}", .slot.id)]
 pub struct ExpectedStaticPolicy {
     /// The first slot of the template.
