@@ -14,22 +14,12 @@ use Rattle.cedar_extensions.specs.Defining.{defined}
 use Rattle.cedar_extensions.specs.declared.functions.Function.{Function}
 use Rattle.cedar_extensions.specs.declared.functions.Function.TheVariants.{Unknown, Callers}
 use Rattle.cedar_extensions.specs.declared.functions.ExtensionFunction.{ExtensionFunction}
+pub use Rattle.cedar_lemmas.proofs.Booleans.{and_first as and_left, and_second as and_right}
+use Rattle.cedar_lemmas.proofs.Booleans.{not_is_true as not_true}
 
 means_unknown : {F : Type 0} (answers : F → FunctionAnswers) (g : Function F) → names_unknown g ≡ true → meaning_in answers g ≡ unknown_function
 means_unknown answers Unknown h = refl
 means_unknown answers (Callers f) h = cc
-
-pub and_left : (a b : Bool) → (a && b) ≡ true → a ≡ true
-and_left true b h = refl
-and_left false b h = h
-
-pub and_right : (a b : Bool) → (a && b) ≡ true → b ≡ true
-and_right true b h = h
-and_right false b h = cc
-
-not_true : (a : Bool) → not a ≡ true → a ≡ false
-not_true true h = cc
-not_true false h = refl
 
 -- a function is the built-in one exactly where it has its name
 pub named_so : {F : Type 0} (f : ExtensionFunction F) (u : Bool) → is_unknown f ≡ u → is_named f ≡ true → is_the_unknown (function_name f) ≡ u

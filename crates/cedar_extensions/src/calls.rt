@@ -12,7 +12,7 @@ use std::alloc::{AllocError, Global};
 use thiserror::Error;
 
 /// A function was called with another number of arguments than it takes.
-#[derive(Debug, PartialEq, Eq, Drop, Error)]
+#[derive(Debug, PartialEq, Eq, Clone, Drop, Error)]
 #[error("wrong number of arguments provided to extension function `{function_name}`: expected {expected}, got {actual}")]
 pub struct WrongNumArgumentsError {
     pub(crate) function_name: Name,
@@ -43,7 +43,7 @@ impl WrongNumArgumentsError {
 }
 
 /// A function was called and said that it has no answer.
-#[derive(Debug, PartialEq, Eq, Drop, Error)]
+#[derive(Debug, PartialEq, Eq, Clone, Drop, Error)]
 #[error("error while evaluating `{extension_name}` extension function: {msg}")]
 pub struct ExtensionFunctionExecutionError {
     pub(crate) extension_name: Name,

@@ -1,5 +1,5 @@
 // Why an expression has no value.
-ghost use Rattle.std.specs.Prelude.{◌≡◌, false};
+ghost use Rattle.std.specs.Prelude.{◌≡◌, IfOk, false};
 ghost use Rattle.std.specs.Option.{option_copied};
 ghost use Rattle.cedar_extensions.specs.Causes.{hides_memory, cause_of, place_of, place_kept, lookup_cause, lookup_place, overflow_cause, overflow_place};
 
@@ -13,12 +13,12 @@ use crate::operands::{
 };
 use crate::unevaluated::{NonValueError, RecursionLimitError, UnlinkedSlotError};
 use cedar_names::places::Loc;
-use std::alloc::{AllocError, AllocFailed};
+use std::alloc::{AllocError, AllocFailed, Global};
 use thiserror::Error;
 
 /// Why an evaluation gives no value. `==` compares all that an error tells, its place too.
 /// (Cedar language reference, "Semantics of operators".)
-#[derive(Debug, PartialEq, Eq, Error)]
+#[derive(Debug, PartialEq, Eq, Clone, Error)]
 pub enum EvaluationError {
     /// An entity was looked up that isn't held.
     #[error(transparent)]
@@ -97,6 +97,16 @@ impl EvaluationError {
             EvaluationError::RecursionLimit(error) => error.source_loc.as_ref(),
             EvaluationError::Memory => None,
         }
+    }
+
+    /// A copy, which shares what it tells but for the text of `FailedExtensionFunctionExecution`; refused
+    /// for memory alone.
+    pub fn clone(&self, _alloc: Global) -> Result<EvaluationError, AllocError>
+        ensures cause { IfOk result (λ copy. cause_of copy ≡ cause_of self.now) }
+        ensures place { IfOk result (λ copy. place_of copy ≡ place_of self.now) }
+        ensures memory { IfOk result (λ copy. hides_memory copy ≡ hides_memory self.now) }
+    {
+        Clone::clone(self)
     }
 
     /// The same error, met at another place, or at none. Want of memory has no place, and is no failed

@@ -11,6 +11,7 @@ use crate::functions::ExtensionFunction;
 use crate::iteration::ExtTypes;
 use crate::objects::NoFunction;
 use cedar_names::names::Name;
+use std::fmt;
 use std::slice::Iter;
 
 /// An extension: its functions, and those of its types whose values `<` and `<=` compare.
@@ -20,6 +21,13 @@ pub struct Extension<F = NoFunction> {
     name: Name,
     functions: Vec<ExtensionFunction<F>>,
     types_with_operator_overloading: Vec<Name>,
+}
+
+impl<F> fmt::Debug for Extension<F> {
+    fn fmt<W: fmt::Write>(&self, f: &mut fmt::Formatter<W>) -> fmt::Result {
+        let name = &self.name;
+        write!(f, "<extension {name}>")
+    }
 }
 
 impl<F> Extension<F> {

@@ -18,6 +18,7 @@ use cedar_literals::types::Type;
 use cedar_names::names::Name;
 use cedar_shapes::types::FunctionTypes;
 use std::alloc::{AllocError, Global};
+use std::fmt;
 use std::marker::PhantomData;
 
 /// The extension functions that texts may call and that an evaluation knows: one table for both. Those
@@ -32,6 +33,12 @@ pub struct Extensions<'a, F = NoFunction> {
     lender: PhantomData<&'a ()>,
     pub ghost named: { are_named (flat_map extension_functions extensions.items) ≡ true },
     pub ghost apart: { found_in (flat_map extension_functions extensions.items) the_constructor ≡ None },
+}
+
+impl<F> fmt::Debug for Extensions<'_, F> {
+    fn fmt<W: fmt::Write>(&self, f: &mut fmt::Formatter<W>) -> fmt::Result {
+        fmt::Debug::fmt(&self.extensions, f)
+    }
 }
 
 impl<'a> Extensions<'a> {

@@ -19,6 +19,7 @@ use cedar_names::names::Name;
 use cedar_trees::unknowns::Unknown;
 use cedar_values::values::Value;
 use std::alloc::{AllocError, Global};
+use std::fmt;
 use std::rc::RcStr;
 
 /// A type as extension functions state it.
@@ -35,7 +36,7 @@ pub enum CallStyle {
 
 /// What a call of an extension function gives: a value, or, from the built-in function `unknown` alone,
 /// an unknown. `==` looks past a value's place.
-#[derive(Debug, PartialEq, Eq, Drop)]
+#[derive(Debug, PartialEq, Eq, Clone, Drop)]
 pub enum ExtensionOutputValue {
     /// A value.
     Known(Value),
@@ -79,6 +80,13 @@ pub struct ExtensionFunction<F = NoFunction> {
     function: Function<F>,
     return_type: Option<SchemaType>,
     arg_types: Vec<SchemaType>,
+}
+
+impl<F> fmt::Debug for ExtensionFunction<F> {
+    fn fmt<W: fmt::Write>(&self, f: &mut fmt::Formatter<W>) -> fmt::Result {
+        let name = &self.name;
+        write!(f, "<extension function {name}>")
+    }
 }
 
 impl<F: Drop> ExtensionFunction<F> {

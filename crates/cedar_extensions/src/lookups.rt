@@ -9,7 +9,7 @@ use std::alloc::AllocError;
 use thiserror::Error;
 
 /// An extension function was looked up that no extension has.
-#[derive(Debug, PartialEq, Eq, Drop, Error)]
+#[derive(Debug, PartialEq, Eq, Clone, Drop, Error)]
 #[error("extension function `{name}` does not exist")]
 pub struct FuncDoesNotExistError {
     pub(crate) name: Name,
@@ -27,7 +27,7 @@ impl FuncDoesNotExistError {
 }
 
 /// Why an extension function isn't found.
-#[derive(Debug, PartialEq, Eq, Drop, Error)]
+#[derive(Debug, PartialEq, Eq, Clone, Drop, Error)]
 pub enum ExtensionFunctionLookupError {
     /// No extension has it.
     #[error(transparent)]

@@ -8,7 +8,7 @@ use std::rc::{Rc, RcStr};
 use thiserror::Error;
 
 /// An entity was looked up that isn't held.
-#[derive(Debug, PartialEq, Eq, Drop, Error)]
+#[derive(Debug, PartialEq, Eq, Clone, Drop, Error)]
 #[error("entity `{uid}` does not exist")]
 pub struct EntityDoesNotExistError {
     pub(crate) uid: Rc<EntityUID>,
@@ -32,7 +32,7 @@ impl fmt::Display for Named {
 }
 
 /// An entity that is held doesn't have an attribute, or a tag.
-#[derive(Debug, PartialEq, Eq, Drop, Error)]
+#[derive(Debug, PartialEq, Eq, Clone, Drop, Error)]
 #[error("`{entity}` does not have the {named} `{attr_or_tag}`")]
 pub struct EntityAttrDoesNotExistError {
     pub(crate) entity: Rc<EntityUID>,
@@ -42,7 +42,7 @@ pub struct EntityAttrDoesNotExistError {
 }
 
 /// A record doesn't have an attribute.
-#[derive(Debug, PartialEq, Eq, Drop, Error)]
+#[derive(Debug, PartialEq, Eq, Clone, Drop, Error)]
 #[error("record does not have the attribute `{attr}`")]
 pub struct RecordAttrDoesNotExistError {
     pub(crate) attr: RcStr,

@@ -46,6 +46,21 @@ pub trait ExtensionFunctionObject: Drop {
 /// hands out neither; so one that makes such a table takes its boxes.
 pub type BoxedFunction = Box<dyn ExtensionFunctionObject>;
 
+/// A boxed function, as `ExtensionFunction::nullary` takes it: it is called with no argument.
+pub type NullaryExtensionFunctionObject = BoxedFunction;
+
+/// A boxed function, as `ExtensionFunction::unary` takes it: it is called with one argument.
+pub type UnaryExtensionFunctionObject = BoxedFunction;
+
+/// A boxed function, as `ExtensionFunction::binary` takes it: it is called with two arguments.
+pub type BinaryExtensionFunctionObject = BoxedFunction;
+
+/// A boxed function, as `ExtensionFunction::ternary` takes it: it is called with three arguments.
+pub type TernaryExtensionFunctionObject = BoxedFunction;
+
+/// A boxed function, as `ExtensionFunction::variadic` takes it: it is called with any number of arguments.
+pub type VariadicExtensionFunctionObject = BoxedFunction;
+
 impl ExtensionFunctionObject for Box<dyn ExtensionFunctionObject> {
     ghost answers = { λ boxed. (ExtensionFunctionObject-box boxed).answers boxed.value };
 

@@ -17,7 +17,7 @@ use std::fmt;
 use thiserror::Error;
 
 /// A value is of another type than the operation takes.
-#[derive(Debug, PartialEq, Eq, Drop)]
+#[derive(Debug, PartialEq, Eq, Clone, Drop)]
 pub struct TypeError {
     pub(crate) expected: Shared<NonEmpty<Type>>,
     pub(crate) actual: Shared<Type>,
@@ -52,7 +52,7 @@ impl TypeError {
 }
 
 /// The result of an operator of two longs is no long.
-#[derive(Debug, PartialEq, Eq, Drop, Error)]
+#[derive(Debug, PartialEq, Eq, Clone, Drop, Error)]
 #[error("integer overflow while attempting to {verb} the values `{arg1}` and `{arg2}`", verb = verb_of_two(.op))]
 pub struct BinaryOpOverflowError {
     pub(crate) op: BinaryOp,
@@ -92,7 +92,7 @@ fn verb_of_two(op: &BinaryOp) -> &'static str {
 }
 
 /// The result of an operator of one long is no long.
-#[derive(Debug, PartialEq, Eq, Drop, Error)]
+#[derive(Debug, PartialEq, Eq, Clone, Drop, Error)]
 #[error("integer overflow while attempting to {verb} the value `{arg}`", verb = verb_of_one(.op))]
 pub struct UnaryOpOverflowError {
     pub(crate) op: UnaryOp,
@@ -127,7 +127,7 @@ fn verb_of_one(op: &UnaryOp) -> &'static str {
 }
 
 /// The result of an operator is no long.
-#[derive(Debug, PartialEq, Eq, Drop, Error)]
+#[derive(Debug, PartialEq, Eq, Clone, Drop, Error)]
 pub enum IntegerOverflowError {
     /// Of an operator of two operands.
     #[error(transparent)]

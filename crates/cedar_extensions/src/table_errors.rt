@@ -10,7 +10,7 @@ use thiserror::Error;
 
 /// Two functions of a table have one name, or one has that of the language's own constructor of extension
 /// values.
-#[derive(Debug, PartialEq, Eq, Drop, Error)]
+#[derive(Debug, PartialEq, Eq, Clone, Drop, Error)]
 #[error("extension function `{name}` is defined multiple times")]
 pub struct FuncMultiplyDefinedError {
     name: Name,
@@ -26,7 +26,7 @@ impl FuncMultiplyDefinedError {
 }
 
 /// Two functions of a table make values of one extension type from one text.
-#[derive(Debug, PartialEq, Eq, Drop, Error)]
+#[derive(Debug, PartialEq, Eq, Clone, Drop, Error)]
 #[error("multiple extension constructors for the same extension type {return_type}")]
 pub struct MultipleConstructorsSameSignatureError {
     return_type: SchemaType,
@@ -43,7 +43,7 @@ impl MultipleConstructorsSameSignatureError {
 
 /// Why no table is made of extensions: a name is defined twice, two functions make values of one extension
 /// type, or memory ran out.
-#[derive(Debug, PartialEq, Eq, Drop, Error)]
+#[derive(Debug, PartialEq, Eq, Clone, Drop, Error)]
 pub enum ExtensionInitializationError {
     /// Two functions have one name, or one has that of the language's own constructor.
     #[error(transparent)]

@@ -10,7 +10,7 @@ use std::fmt;
 use thiserror::Error;
 
 /// A slot of a template was met that no entity is linked to.
-#[derive(Debug, PartialEq, Eq, Drop, Error)]
+#[derive(Debug, PartialEq, Eq, Clone, Drop, Error)]
 #[error("template slot `{slot}` was not linked")]
 pub struct UnlinkedSlotError {
     pub(crate) slot: SlotId,
@@ -51,7 +51,7 @@ impl fmt::Display for Residual {
 }
 
 /// A value was asked for, and what is left of the expression depends on something unknown.
-#[derive(Debug, PartialEq, Eq, Drop, Error)]
+#[derive(Debug, PartialEq, Eq, Clone, Drop, Error)]
 #[error("the expression contains unknown(s): `{expr}`")]
 pub struct NonValueError {
     pub(crate) expr: Shared<Residual>,
@@ -59,7 +59,7 @@ pub struct NonValueError {
 }
 
 /// The limit on nested evaluations was met.
-#[derive(Debug, PartialEq, Eq, Drop, Error)]
+#[derive(Debug, PartialEq, Eq, Clone, Drop, Error)]
 #[error("recursion limit reached")]
 pub struct RecursionLimitError {
     pub(crate) source_loc: Option<Loc>,

@@ -8,7 +8,7 @@ use thiserror::Error;
 
 /// Why an expression isn't valid for a table: the first call, in the order of `ExprIterator`, of a
 /// function that the table lacks or with another number of arguments than it takes; or want of memory.
-#[derive(Debug, PartialEq, Eq, Drop, Error)]
+#[derive(Debug, PartialEq, Eq, Clone, Drop, Error)]
 pub enum ExprValidationError {
     /// A function is called that no extension has.
     #[error(transparent)]

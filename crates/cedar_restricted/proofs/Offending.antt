@@ -19,6 +19,8 @@ use Rattle.cedar_literals.specs.declared.operators.UnaryOp.TheVariants as unary_
 use Rattle.cedar_literals.specs.declared.operators.BinaryOp.{BinaryOp}
 use Rattle.cedar_literals.specs.declared.operators.BinaryOp.TheVariants as binary_op
 use Rattle.cedar_restricted.specs.Offences.{unless_refused, construct_feature, offence, offence_below, offence_among, seen_offence}
+use Rattle.cedar_lemmas.proofs.Booleans.{and_first as and_left, and_second as and_right}
+use Rattle.std.proofs.lemmas.Bool.{false_from_ne_true as not_true}
 
 none_first : (a b : Option (Text × Tree)) → option_or a b ≡ None → a ≡ None
 none_first None b h = refl
@@ -30,14 +32,6 @@ none_second (Some x) b h = cc
 
 none_both : (a b : Option (Text × Tree)) → a ≡ None → b ≡ None → option_or a b ≡ None
 none_both a b h k = rw (h, k) refl
-
-and_left : (a b : Bool) → (a && b) ≡ true → a ≡ true
-and_left true b h = refl
-and_left false b h = h
-
-and_right : (a b : Bool) → (a && b) ≡ true → b ≡ true
-and_right true b h = h
-and_right false b h = cc
 
 mutual
   unoffended : (t : Tree) → offence t ≡ None → is_restricted t ≡ true
@@ -121,10 +115,6 @@ seen_none (Some x) t h k = cc
 
 some_is_not : (o : Option (Text × Tree)) (x : Text × Tree) → Some x ≡ o → o ≡ None → ⊥
 some_is_not o x h k = cc
-
-not_true : (b : Bool) → (b ≡ true → ⊥) → b ≡ false
-not_true true h = absurd (h refl)
-not_true false h = refl
 
 pub seen_some : (o : Option Offence) (t : Tree) → option_map seen_offence o ≡ offence t → is_some o ≡ true → is_restricted t ≡ false
 seen_some (Some x) t h k = not_true (is_restricted t) (λ r. some_is_not (offence t) (seen_offence x) h (without_offence t r))

@@ -13,6 +13,7 @@ use Rattle.cedar_language.specs.WellFormed.{IsWellFormed, AreWellFormed}
 use Rattle.cedar_restricted.specs.Expressing.{is_ground, are_ground, Expresses, ExpressAll}
 use Rattle.cedar_restricted.specs.Reading.{both, value_in, values_in}
 use Rattle.cedar_restricted.specs.Laws.{holds_extension, hold_extension}
+use Rattle.cedar_lemmas.proofs.Booleans.{and_first as and_left, and_second as and_right, or_first as or_left, or_second as or_right}
 
 longs_ground : (bs : List ℕ) → are_ground (longs_of bs) ≡ true
 longs_ground [] = refl
@@ -31,14 +32,6 @@ mutual
   grounds (a_value v vs) no_trees h = absurd h
   grounds (a_value v vs) (a_tree t ts) h = rw (ground v t h.0) (grounds vs ts h.1)
 
-and_left : (a b : Bool) → (a && b) ≡ true → a ≡ true
-and_left true b h = refl
-and_left false b h = h
-
-and_right : (a b : Bool) → (a && b) ≡ true → b ≡ true
-and_right true b h = h
-and_right false b h = cc
-
 mutual
   pub restricted : (t : Tree) → is_ground t ≡ true → is_restricted t ≡ true
   restricted (Lit l) h = refl
@@ -51,14 +44,6 @@ mutual
   all_restricted : (ts : Trees) → are_ground ts ≡ true → are_restricted ts ≡ true
   all_restricted no_trees h = refl
   all_restricted (a_tree t ts) h = rw (restricted t (and_left _ _ h)) (all_restricted ts (and_right _ _ h))
-
-or_left : (a b : Bool) → (a || b) ≡ false → a ≡ false
-or_left false b h = refl
-or_left true b h = h
-
-or_right : (a b : Bool) → (a || b) ≡ false → b ≡ false
-or_right false b h = h
-or_right true b h = cc
 
 mutual
   pub back : SetsAreFinite → (v : Value) (t : Tree) → IsWellFormed v → Expresses v t → holds_extension v ≡ false → value_in t ≡ Some v

@@ -78,6 +78,11 @@ seen_offence o = (o.feature.now, bare o.expr.now)
 abbrev pub refused_offence : InvalidRestrictedExpressionError → Text × Tree
 refused_offence e = (e.feature.now, bare e.expr)
 
+-- what a refusal tells, want of memory aside
+abbrev pub offence_told : RestrictedExpressionError → Option (Text × Tree)
+offence_told (InvalidRestrictedExpression e) = Some (refused_offence e)
+offence_told (Memory e) = None
+
 -- what was made of a restricted tree, or the offence of one that isn't; want of memory says nothing
 abbrev pub Restricts : {E : Type 0} → (E → Tree) → Tree → Result E RestrictedExpressionError → Type 0
 Restricts view t (Ok e) = (view e ≡ t) × (is_restricted t ≡ true)

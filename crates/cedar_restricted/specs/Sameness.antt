@@ -20,6 +20,8 @@ use Rattle.cedar_restricted.specs.declared.conversions.PartialValueToRestrictedE
 use Rattle.cedar_restricted.specs.declared.conversions.PartialValueToRestrictedExprError.TheVariants as refusal
 use Rattle.cedar_restricted.specs.declared.partial_values.ContainsUnknown.{ContainsUnknown}
 use Rattle.cedar_restricted.specs.declared.partial_values.PartialValue.{PartialValue}
+use Rattle.cedar_restricted.specs.declared.partial_values.PartialValueToValueError.{PartialValueToValueError}
+use Rattle.cedar_restricted.specs.declared.partial_values.PartialValueToValueError.TheVariants as no_value
 
 abbrev pub same_tree : Tree → Tree → Bool
 same_tree = eq_by_cmp tree_cmp
@@ -73,6 +75,10 @@ same_unknown_part_equiv = on_equiv (λ e. bare e.residual) same_tree_equiv
 
 pub same_unknown_part_partial : IsPartialEquivalence same_unknown_part
 same_unknown_part_partial = partial_equiv_from_equiv same_unknown_part_equiv
+
+-- the tree of the residual that is no value
+abbrev pub residual_met : PartialValueToValueError → Tree
+residual_met (no_value.ContainsUnknown e) = bare e.residual
 
 -- the tree of the residual, where memory didn't run out
 abbrev pub refused_residual : PartialValueToRestrictedExprError → Option Tree

@@ -16,7 +16,7 @@ use std::rc::{Rc, RcStr};
 use thiserror::Error;
 
 /// Why an expression is no value. `==` compares places too.
-#[derive(Debug, PartialEq, Eq, Drop, Error)]
+#[derive(Debug, PartialEq, Eq, Clone, Drop, Error)]
 pub enum NotValue {
     /// Some part of it is no literal, no set and no record.
     #[error("not a value")]

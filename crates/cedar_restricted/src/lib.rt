@@ -5,6 +5,7 @@
 pub mod borrowed;
 pub mod constructing;
 pub mod conversions;
+mod copies;
 pub mod elements;
 pub mod errors;
 pub mod from_expr;
