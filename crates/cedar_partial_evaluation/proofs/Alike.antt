@@ -1,5 +1,6 @@
 -- Answers that are the same stay so under every construct, and what is projected is evaluated again.
 use Rattle.std.proofs.Common.{◌≡◌, true, false, refl, sym, ◌∙◌, ap, subst, List, [], ◌∷◌, Bool}
+use Rattle.std.proofs.lemmas.Bool.{and_parts}
 use Rattle.std.specs.Prelude.{Option, Some, None, cond}
 use Rattle.cedar_language.specs.Uid.{Text, Name}
 use Rattle.cedar_language.specs.Tree.{Boolean, Operator, Equal, GetAttr, HasAttr, Is, MakeSet, MakeRecord, Call, Tree, Lit, Var, Unknown, If, And, Or, Apply, Trees, no_trees, a_tree}
@@ -10,7 +11,6 @@ use Rattle.cedar_language.specs.Operators.{applied}
 use Rattle.cedar_partial_evaluation.specs.MadeAgain.{tree_of, trees_of}
 use Rattle.cedar_partial_evaluation.specs.Partial.{Answer, Evaluated, ResidualTree, Failed, Answers, AllEvaluated, SomeResiduals, SomeFailed, answer_of, best_effort, last_answer, and_answer, or_answer, if_answer, and_next, LeafAnswers, is_projectable, are_projectable, built_answer, projected_in, all_projected_in, found_tree, entry_answer, attribute_answer, has_entry_answer, has_answer, is_answer, stated_type, types_differ, equal_answer, residual_answer, apply_answer, partial_in, all_partial_in}
 use Rattle.cedar_partial_evaluation.specs.Alike.{AlikeBut, itself, differing, if_alike, and_alike, or_alike, apply_alike, AllAlikeBut, none_alike, more_alike, SameBut, AllSameBut, ProjectingIsEvaluating, gathered, is_some_left, WriteEach, GatheredAlwaysSplits}
-use Rattle.cedar_partial_evaluation.proofs.Sound.{and_true}
 
 -- a tree that partial evaluation doesn't look into
 abbrev pub is_opaque : Tree → Bool
@@ -69,7 +69,7 @@ module _ (facts : Facts) (Differ : Tree → Tree → Type 0) (opaque : (s t : Tr
     all_one_alike : {ts us : Trees} → AllAlikeBut Differ ts us → are_projectable ts ≡ true → ts ≡ us
     all_one_alike none_alike p = refl
     all_one_alike (more_alike {t} {u} {ts} {us} h i) p =
-        rw (one_alike h (and_true (is_projectable t) (are_projectable ts) p).0, all_one_alike i (and_true (is_projectable t) (are_projectable ts) p).1) refl
+        rw (one_alike h (and_parts (is_projectable t) (are_projectable ts) p).0, all_one_alike i (and_parts (is_projectable t) (are_projectable ts) p).1) refl
 
   -- ---- answers
 
@@ -296,8 +296,8 @@ module _ (facts : Facts) where
       all_projected_are : (ts : Trees) → are_projectable ts ≡ true → all_projected_in facts holds ts ≡ all_partial_in facts holds ts
       all_projected_are no_trees h = refl
       all_projected_are (a_tree t ts) h =
-          ap (λ a. and_next facts a (all_projected_in facts holds ts)) (projected_is t (and_true (is_projectable t) (are_projectable ts) h).0)
-          ∙ ap (and_next facts (partial_in facts holds t)) (all_projected_are ts (and_true (is_projectable t) (are_projectable ts) h).1)
+          ap (λ a. and_next facts a (all_projected_in facts holds ts)) (projected_is t (and_parts (is_projectable t) (are_projectable ts) h).0)
+          ∙ ap (and_next facts (partial_in facts holds t)) (all_projected_are ts (and_parts (is_projectable t) (are_projectable ts) h).1)
 
 -- ---- operands
 

@@ -1,5 +1,6 @@
 -- Data errs where some part of it does.
 use Rattle.std.proofs.Common.{◌≡◌, ◌⊎◌, inl, inr, Bool, true, false, cond, Option, Some, None, refl, sym, ◌∙◌, ap}
+use Rattle.std.proofs.lemmas.Bool.{and_parts}
 use Rattle.std.specs.FinMap as finite
 use Rattle.cedar_language.specs.Uid.{Text}
 use Rattle.cedar_language.specs.Tree.{Operator, MakeSet, MakeRecord, Call, Tree, Lit, Unknown, Apply, Trees, no_trees, a_tree, ValueType}
@@ -13,7 +14,6 @@ use Rattle.cedar_partial_evaluation.specs.Unknowns.{fits, EachUnknown, EachUnkno
 use Rattle.cedar_partial_evaluation.specs.Question.{Told, value_held, name_held, held_names}
 use Rattle.cedar_partial_evaluation.specs.Filling.{name_outcome, names_told}
 use Rattle.cedar_partial_evaluation.specs.DataErrors.{IsPart, whole, inside, IsPartOfOne, of_first, of_later, FailsOnceTold, HasErringPart, DataErrsInParts}
-use Rattle.cedar_partial_evaluation.proofs.Sound.{and_true}
 use Rattle.cedar_partial_evaluation.proofs.Question.{next_known}
 
 abbrev answers_of : Outcomes → Answers
@@ -67,7 +67,7 @@ module _ (facts : Facts) (told : Told) where
     all_data_answer : (ts : Trees) → are_restricted ts ≡ true → EachUnknownOf IsTold ts → all_partial_in facts holds ts ≡ answers_of (meanings facts (names_told told) ts)
     all_data_answer no_trees h given = refl
     all_data_answer (a_tree t ts) h (now, later) =
-        let (ht, hts) = and_true (is_restricted t) (are_restricted ts) h in
+        let (ht, hts) = and_parts (is_restricted t) (are_restricted ts) h in
         rw (data_answer t ht now, all_data_answer ts hts later) (more_answers (meaning facts (names_told told) t) (meanings facts (names_told told) ts))
 
   -- ---- data that is evaluated
@@ -94,7 +94,7 @@ module _ (facts : Facts) (told : Told) where
     all_evaluated_told : (ts : Trees) → are_restricted ts ≡ true → (vs : Values) → all_partial_in facts holds ts ≡ AllEvaluated vs → EachUnknownOf IsTold ts
     all_evaluated_told no_trees r vs h = tt
     all_evaluated_told (a_tree t ts) r vs h =
-        let (rt, rts) = and_true (is_restricted t) (are_restricted ts) r in
+        let (rt, rts) = and_parts (is_restricted t) (are_restricted ts) r in
         let (v, ws, now, later, is) = next_known facts (partial_in facts holds t) (all_partial_in facts holds ts) vs h in
         (evaluated_told t rt v now, all_evaluated_told ts rts ws later)
 
@@ -159,7 +159,7 @@ module _ (facts : Facts) (told : Told) where
     one_refused : (ts : Trees) → are_restricted ts ≡ true → (k : Kind) → all_partial_in facts holds ts ≡ SomeFailed k → OneErrs ts
     one_refused no_trees r k h = cc
     one_refused (a_tree t ts) r k h =
-        let (rt, rts) = and_true (is_restricted t) (are_restricted ts) r in
+        let (rt, rts) = and_parts (is_restricted t) (are_restricted ts) r in
         of_two t ts (λ e. refused t rt k e) (λ e. one_refused ts rts k e) (next_failed (partial_in facts holds t) (all_partial_in facts holds ts) k h)
 
   -- ---- a part that errs
@@ -178,10 +178,10 @@ module _ (facts : Facts) (told : Told) where
 
     one_fails : {p : Tree} {ts : Trees} → IsPartOfOne p ts → are_restricted ts ≡ true → FailsOnceTold facts told p → (k : Kind) × (all_partial_in facts holds ts ≡ SomeFailed k)
     one_fails (of_first {t = t} {ts = ts} i) r fails =
-        let (k, e) = part_fails i (and_true (is_restricted t) (are_restricted ts) r).0 fails in
+        let (k, e) = part_fails i (and_parts (is_restricted t) (are_restricted ts) r).0 fails in
         (k, ap (λ p. and_next facts p (all_partial_in facts holds ts)) e)
     one_fails (of_later {t = t} {ts = ts} i) r fails =
-        let (k, e) = one_fails i (and_true (is_restricted t) (are_restricted ts) r).1 fails in
+        let (k, e) = one_fails i (and_parts (is_restricted t) (are_restricted ts) r).1 fails in
         let (j, f) = later_fails (partial_in facts holds t) k in
         (j, ap (and_next facts (partial_in facts holds t)) e ∙ f)
 

@@ -21,7 +21,7 @@ use Rattle.cedar_partial_evaluation.specs.Question.{Part, Given, Missing, Entrie
 use Rattle.cedar_partial_evaluation.specs.Filling.{GivesEach, TellsEach, FillsPart, FillsContext, IsFilling, name_outcome, request_filled, filled}
 use Rattle.cedar_partial_evaluation.specs.Early.{judged_filled, standing_of_answer, judged_early, standing_settled, judged_settled, GivesPolicies, EarlyAnswersAreFair, EarlyAnswersArePrompt, EarlyKindsAreSettled, AllToldIsKnown, LastAnswersAreExact, FilledIsKnown}
 use Rattle.cedar_partial_evaluation.proofs.Known.{answered_at}
-use Rattle.cedar_partial_evaluation.proofs.Seam.{below_refl, below_trans}
+use Rattle.cedar_partial_evaluation.proofs.Carried.{below_refl, below_trans}
 use Rattle.cedar_partial_evaluation.proofs.Prompt.{is_prompt}
 use Rattle.cedar_partial_evaluation.proofs.Question.{meets_below, settled_mono, names_made, names_shown}
 use Rattle.cedar_partial_evaluation.proofs.Filling.{below_closed, means_filled, context_not, answers_are_fair, answers_prompt, context_filled}

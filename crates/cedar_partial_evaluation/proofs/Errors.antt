@@ -1,5 +1,6 @@
 -- Settling to an error, and to a kind of error.
 use Rattle.std.proofs.Common.{◌≡◌, ◌≢◌, Bool, true, false, ◌&&◌, Option, Some, None, List, [], ◌∷◌, refl, sym, ◌∙◌, ap}
+use Rattle.std.proofs.lemmas.Bool.{and_parts}
 use Rattle.std.specs.FinMap as finite
 use Rattle.std.specs.Prelude.{codes}
 use Rattle.cedar_language.specs.Uid.{Text, Name}
@@ -21,7 +22,7 @@ use Rattle.cedar_partial_evaluation.specs.Filling.{ErrsEverywhere}
 use Rattle.cedar_partial_evaluation.specs.Mentions.{mentions_only, all_mention_only, is_known}
 use Rattle.cedar_partial_evaluation.specs.Leaves.{HasGiven}
 use Rattle.cedar_partial_evaluation.specs.Errors.{SettlingIsOne}
-use Rattle.cedar_partial_evaluation.proofs.Sound.{and_true, errs_more, not_found_is_at, type_errs}
+use Rattle.cedar_partial_evaluation.proofs.Sound.{errs_more, not_found_is_at, type_errs}
 use Rattle.cedar_partial_evaluation.proofs.Known.{and_not, or_not, if_not, boolean_not, never_open, is_value, are_values, unbound_is}
 use Rattle.cedar_partial_evaluation.proofs.Leaves.{mentioned_settles, all_mentioned_settle, variable_result}
 
@@ -321,13 +322,13 @@ module _ (facts : Facts) (q : Question) (slots : Slots) (told : Told) (everywher
     not_open t m h = never_open (means t) (sym (mentioned_settles facts q slots told known given t m) ∙ h)
 
     of_two : (a b : Tree) → (mentions_only (is_known q) true a && mentions_only (is_known q) true b) ≡ true → Mentioned a × Mentioned b
-    of_two a b m = and_true (mentions_only (is_known q) true a) (mentions_only (is_known q) true b) m
+    of_two a b m = and_parts (mentions_only (is_known q) true a) (mentions_only (is_known q) true b) m
 
     of_three : (a b c : Tree) → Mentioned (If a b c) → Mentioned a × Mentioned b × Mentioned c
-    of_three a b c m = let (x, yz) = and_true (mentions_only (is_known q) true a) (mentions_only (is_known q) true b && mentions_only (is_known q) true c) m in let (y, z) = of_two b c yz in (x, y, z)
+    of_three a b c m = let (x, yz) = and_parts (mentions_only (is_known q) true a) (mentions_only (is_known q) true b && mentions_only (is_known q) true c) m in let (y, z) = of_two b c yz in (x, y, z)
 
     of_more : (t : Tree) (ts : Trees) → AllMentioned (a_tree t ts) → Mentioned t × AllMentioned ts
-    of_more t ts m = and_true (mentions_only (is_known q) true t) (all_mention_only (is_known q) true ts) m
+    of_more t ts m = and_parts (mentions_only (is_known q) true t) (all_mention_only (is_known q) true ts) m
 
     mutual
       fails : {t : Tree} {k : Kind} → ErrsAs facts (settled_of facts q slots told) everywhere t k → Mentioned t → means t ≡ Fails k
@@ -346,7 +347,7 @@ module _ (facts : Facts) (q : Question) (slots : Slots) (told : Told) (everywher
       fails (if_else {t = t} {y = y} {n = n} e h) m = rw (value_at t _ (of_three t y n m).0 e) (fails h (of_three t y n m).2)
       fails (operands h) m = rw (first_fails h m) refl
       fails (operator {ts = ts} {vs = vs} e f) m = rw (values_at ts vs m e) f
-      fails (no_entry {a = a} e) m = missing_fails facts told q.context a known.context e (variable_result facts q slots told known given Context (and_true (is_known q Context) true m).0)
+      fails (no_entry {a = a} e) m = missing_fails facts told q.context a known.context e (variable_result facts q slots told known given Context (and_parts (is_known q Context) true m).0)
 
       first_fails : {ts : Trees} {k : Kind} → FirstErrsAs facts (settled_of facts q slots told) everywhere ts k → AllMentioned ts → meanings facts (request_at known slots) ts ≡ OneFails k
       first_fails (here {t = t} {ts = ts} h) m = rw (fails h (of_more t ts m).0) refl

@@ -1,6 +1,6 @@
 -- What is settled and answered under a filling.
 use Rattle.std.proofs.Common.{◌≡◌, ◌≢◌, Option, refl, sym, ◌∙◌, true, ap}
-use Rattle.cedar_partial_evaluation.proofs.Sound.{and_true}
+use Rattle.std.proofs.lemmas.Bool.{and_parts}
 use Rattle.std.specs.FinMap as finite
 use Rattle.std.specs.Prelude.{codes}
 use Rattle.cedar_language.specs.Uid.{Text, Uid}
@@ -43,7 +43,7 @@ module _ (facts : Facts) (filling : Told) where
     all_data_settle : (ts : Trees) → are_restricted ts ≡ true → GivesEachOf filling ts → all_settled_in facts (settled_names filling) ts ≡ kindless_all (meanings facts (names_told filling) ts)
     all_data_settle no_trees h given = refl
     all_data_settle (a_tree t ts) h (here, more) =
-        let (ht, hts) = and_true (is_restricted t) (are_restricted ts) h in
+        let (ht, hts) = and_parts (is_restricted t) (are_restricted ts) h in
         rw (data_settles t ht here, all_data_settle ts hts more) (more_is (meaning facts (names_told filling) t) (meanings facts (names_told filling) ts))
 
 pub context_filled : (facts : Facts) (c : Entries) (filling : Told) (w : Value) → FillsContext facts c filling w → context_settled facts filling c ≡ Is w

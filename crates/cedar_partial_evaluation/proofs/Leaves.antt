@@ -1,5 +1,6 @@
 -- What a tree doesn't mention has nothing to do with it.
 use Rattle.std.proofs.Common.{◌≡◌, ◌≢◌, ap, Bool, true, false, ◌&&◌, Option, Some, None, List, ◌∷◌, refl, sym, ◌∙◌}
+use Rattle.std.proofs.lemmas.Bool.{and_parts}
 use Rattle.std.specs.FinMap as finite
 use Rattle.cedar_language.specs.Uid.{Text, Name, Uid}
 use Rattle.cedar_language.specs.Tree.{Boolean, Entity, Variable, Principal, Action, Resource, Context, Operator, GetAttr, HasAttr, MakeRecord, Tree, Lit, Var, Slot, Unknown, If, And, Or, Apply, Trees, no_trees, a_tree}
@@ -15,7 +16,6 @@ use Rattle.cedar_partial_evaluation.specs.Question.{Part, Given, Missing, Entrie
 use Rattle.cedar_partial_evaluation.specs.Filling.{names_told, FillsPart, FillsContext, IsFilling}
 use Rattle.cedar_partial_evaluation.specs.Mentions.{mentions_only, all_mention_only, is_given, is_known_context, is_known}
 use Rattle.cedar_partial_evaluation.specs.Leaves.{is_left, AreKnown, AnswerAlike, SettleAlike, AskAlike, KnownIsNeverLeft, LeavesDontMatter, HasPart, HasContext, HasGiven, MentionedIsMeant}
-use Rattle.cedar_partial_evaluation.proofs.Sound.{and_true}
 use Rattle.cedar_partial_evaluation.proofs.Known.{known_is_meaning, meaning_is_settled, all_settled_is, kindless_all}
 
 -- ---- nothing is left
@@ -76,21 +76,21 @@ module _ (facts : Facts) where
       never_left (Slot s) h = known.slot s h
       never_left (Unknown n ty) h = cc
       never_left (If t y n) h =
-          let (ht, rest) = and_true (mentions_only mentioned slots t) (mentions_only mentioned slots y && mentions_only mentioned slots n) h in
-          let (hy, hn) = and_true (mentions_only mentioned slots y) (mentions_only mentioned slots n) rest in
+          let (ht, rest) = and_parts (mentions_only mentioned slots t) (mentions_only mentioned slots y && mentions_only mentioned slots n) h in
+          let (hy, hn) = and_parts (mentions_only mentioned slots y) (mentions_only mentioned slots n) rest in
           if_known _ _ _ y n (never_left t ht) (never_left y hy) (never_left n hn)
       never_left (And l r) h =
-          let (hl, hr) = and_true (mentions_only mentioned slots l) (mentions_only mentioned slots r) h in
+          let (hl, hr) = and_parts (mentions_only mentioned slots l) (mentions_only mentioned slots r) h in
           and_known _ _ r (never_left l hl) (never_left r hr)
       never_left (Or l r) h =
-          let (hl, hr) = and_true (mentions_only mentioned slots l) (mentions_only mentioned slots r) h in
+          let (hl, hr) = and_parts (mentions_only mentioned slots l) (mentions_only mentioned slots r) h in
           or_known _ _ r (never_left l hl) (never_left r hr)
       never_left (Apply op ts) h = apply_known op (all_partial_in facts a ts) (all_never_left ts h)
 
       all_never_left : (ts : Trees) → all_mention_only mentioned slots ts ≡ true → some_left (all_partial_in facts a ts) ≡ false
       all_never_left no_trees h = refl
       all_never_left (a_tree t ts) h =
-          let (ht, hts) = and_true (mentions_only mentioned slots t) (all_mention_only mentioned slots ts) h in
+          let (ht, hts) = and_parts (mentions_only mentioned slots t) (all_mention_only mentioned slots ts) h in
           next_known _ _ (never_left t ht) (all_never_left ts hts)
 
     -- ---- answers
@@ -108,21 +108,21 @@ module _ (facts : Facts) where
         one_answer (Slot s) h = alike.slot s h
         one_answer (Unknown n ty) h = cc
         one_answer (If t y n) h =
-            let (ht, rest) = and_true (mentions_only mentioned slots t) (mentions_only mentioned slots y && mentions_only mentioned slots n) h in
-            let (hy, hn) = and_true (mentions_only mentioned slots y) (mentions_only mentioned slots n) rest in
+            let (ht, rest) = and_parts (mentions_only mentioned slots t) (mentions_only mentioned slots y && mentions_only mentioned slots n) h in
+            let (hy, hn) = and_parts (mentions_only mentioned slots y) (mentions_only mentioned slots n) rest in
             rw (one_answer t ht, one_answer y hy, one_answer n hn) refl
         one_answer (And l r) h =
-            let (hl, hr) = and_true (mentions_only mentioned slots l) (mentions_only mentioned slots r) h in
+            let (hl, hr) = and_parts (mentions_only mentioned slots l) (mentions_only mentioned slots r) h in
             rw (one_answer l hl, one_answer r hr) refl
         one_answer (Or l r) h =
-            let (hl, hr) = and_true (mentions_only mentioned slots l) (mentions_only mentioned slots r) h in
+            let (hl, hr) = and_parts (mentions_only mentioned slots l) (mentions_only mentioned slots r) h in
             rw (one_answer l hl, one_answer r hr) refl
         one_answer (Apply op ts) h = apply_alike op (all_partial_in facts a ts) (all_never_left ts h) ∙ ap (apply_answer facts b op) (all_one_answer ts h)
 
         all_one_answer : (ts : Trees) → all_mention_only mentioned slots ts ≡ true → all_partial_in facts a ts ≡ all_partial_in facts b ts
         all_one_answer no_trees h = refl
         all_one_answer (a_tree t ts) h =
-            let (ht, hts) = and_true (mentions_only mentioned slots t) (all_mention_only mentioned slots ts) h in
+            let (ht, hts) = and_parts (mentions_only mentioned slots t) (all_mention_only mentioned slots ts) h in
             rw (one_answer t ht, all_one_answer ts hts) refl
 
   -- ---- what is settled
@@ -152,8 +152,8 @@ module _ (facts : Facts) where
 
     entry_alike : (op : Operator) (ts : Trees) → all_mention_only mentioned slots ts ≡ true →
         or_entry a op ts (apply_settled facts op (all_settled_in facts a ts)) ≡ or_entry b op ts (apply_settled facts op (all_settled_in facts a ts))
-    entry_alike (GetAttr n) (a_tree (Var Context) no_trees) h = attribute_alike n (a.variable Context) (and_true (mentioned Context) true h).0 refl
-    entry_alike (HasAttr n) (a_tree (Var Context) no_trees) h = has_alike n (a.variable Context) (and_true (mentioned Context) true h).0 refl
+    entry_alike (GetAttr n) (a_tree (Var Context) no_trees) h = attribute_alike n (a.variable Context) (and_parts (mentioned Context) true h).0 refl
+    entry_alike (HasAttr n) (a_tree (Var Context) no_trees) h = has_alike n (a.variable Context) (and_parts (mentioned Context) true h).0 refl
     entry_alike op ts h = refl
 
     variable_typed : (v : Variable) (x : Settling) → mentioned v ≡ true → a.variable v ≡ x → type_known x (a.variable_type v) ≡ type_known x (b.variable_type v)
@@ -179,14 +179,14 @@ module _ (facts : Facts) where
       one_result (Slot s) h = alike.slot s h
       one_result (Unknown n ty) h = cc
       one_result (If t y n) h =
-          let (ht, rest) = and_true (mentions_only mentioned slots t) (mentions_only mentioned slots y && mentions_only mentioned slots n) h in
-          let (hy, hn) = and_true (mentions_only mentioned slots y) (mentions_only mentioned slots n) rest in
+          let (ht, rest) = and_parts (mentions_only mentioned slots t) (mentions_only mentioned slots y && mentions_only mentioned slots n) h in
+          let (hy, hn) = and_parts (mentions_only mentioned slots y) (mentions_only mentioned slots n) rest in
           rw (one_result t ht, one_result y hy, one_result n hn) refl
       one_result (And l r) h =
-          let (hl, hr) = and_true (mentions_only mentioned slots l) (mentions_only mentioned slots r) h in
+          let (hl, hr) = and_parts (mentions_only mentioned slots l) (mentions_only mentioned slots r) h in
           rw (one_result l hl, one_result r hr) refl
       one_result (Or l r) h =
-          let (hl, hr) = and_true (mentions_only mentioned slots l) (mentions_only mentioned slots r) h in
+          let (hl, hr) = and_parts (mentions_only mentioned slots l) (mentions_only mentioned slots r) h in
           rw (one_result l hl, one_result r hr) refl
       one_result (Apply op ts) h =
           ap (or_type op (types_in facts a ts)) (entry_alike op ts h ∙ ap (λ xs. or_entry b op ts (apply_settled facts op xs)) (all_one_result ts h))
@@ -195,13 +195,13 @@ module _ (facts : Facts) where
       pub all_one_result : (ts : Trees) → all_mention_only mentioned slots ts ≡ true → all_settled_in facts a ts ≡ all_settled_in facts b ts
       all_one_result no_trees h = refl
       all_one_result (a_tree t ts) h =
-          let (ht, hts) = and_true (mentions_only mentioned slots t) (all_mention_only mentioned slots ts) h in
+          let (ht, hts) = and_parts (mentions_only mentioned slots t) (all_mention_only mentioned slots ts) h in
           rw (one_result t ht, all_one_result ts hts) refl
 
       all_one_type : (ts : Trees) → all_mention_only mentioned slots ts ≡ true → types_in facts a ts ≡ types_in facts b ts
       all_one_type no_trees h = refl
       all_one_type (a_tree t ts) h =
-          let (ht, hts) = and_true (mentions_only mentioned slots t) (all_mention_only mentioned slots ts) h in
+          let (ht, hts) = and_parts (mentions_only mentioned slots t) (all_mention_only mentioned slots ts) h in
           ap (λ (o : Option Name). o ∷ types_in facts a ts) (one_type t ht (one_result t ht))
           ∙ ap (λ (os : List (Option Name)). type_known (settled_in facts b t) (stated_in b t) ∷ os) (all_one_type ts hts)
 
@@ -215,21 +215,21 @@ module _ (facts : Facts) where
       one_meaning (Slot s) h = ap slot_outcome (alike.slot s h)
       one_meaning (Unknown n ty) h = cc
       one_meaning (If t y n) h =
-          let (ht, rest) = and_true (mentions_only mentioned slots t) (mentions_only mentioned slots y && mentions_only mentioned slots n) h in
-          let (hy, hn) = and_true (mentions_only mentioned slots y) (mentions_only mentioned slots n) rest in
+          let (ht, rest) = and_parts (mentions_only mentioned slots t) (mentions_only mentioned slots y && mentions_only mentioned slots n) h in
+          let (hy, hn) = and_parts (mentions_only mentioned slots y) (mentions_only mentioned slots n) rest in
           rw (one_meaning t ht, one_meaning y hy, one_meaning n hn) refl
       one_meaning (And l r) h =
-          let (hl, hr) = and_true (mentions_only mentioned slots l) (mentions_only mentioned slots r) h in
+          let (hl, hr) = and_parts (mentions_only mentioned slots l) (mentions_only mentioned slots r) h in
           rw (one_meaning l hl, one_meaning r hr) refl
       one_meaning (Or l r) h =
-          let (hl, hr) = and_true (mentions_only mentioned slots l) (mentions_only mentioned slots r) h in
+          let (hl, hr) = and_parts (mentions_only mentioned slots l) (mentions_only mentioned slots r) h in
           rw (one_meaning l hl, one_meaning r hr) refl
       one_meaning (Apply op ts) h = ap (apply_of facts op) (all_one_meaning ts h)
 
       all_one_meaning : (ts : Trees) → all_mention_only mentioned slots ts ≡ true → meanings facts a ts ≡ meanings facts b ts
       all_one_meaning no_trees h = refl
       all_one_meaning (a_tree t ts) h =
-          let (ht, hts) = and_true (mentions_only mentioned slots t) (all_mention_only mentioned slots ts) h in
+          let (ht, hts) = and_parts (mentions_only mentioned slots t) (all_mention_only mentioned slots ts) h in
           rw (one_meaning t ht, all_one_meaning ts hts) refl
 
 pub known_is_never_left : KnownIsNeverLeft

@@ -2,6 +2,7 @@ mod Known
 mod MadeAgain
 mod Sound
 mod Prompt
+mod Carried
 mod Seam
 mod Question
 mod Filling

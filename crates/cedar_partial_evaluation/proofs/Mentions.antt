@@ -1,5 +1,6 @@
 -- Trees that mention nothing unknown settle.
 use Rattle.std.proofs.Common.{◌≡◌, ap, ◌≢◌, Bool, true, false, ◌&&◌, Option, Some, None, refl}
+use Rattle.std.proofs.lemmas.Bool.{and_parts}
 use Rattle.cedar_partial_evaluation.specs.Filling.{GivesEach, GivesEachOf}
 use Rattle.cedar_language.specs.Meaning.{Request, apply_of, meaning, meanings}
 use Rattle.cedar_language.specs.Value.{Outcome}
@@ -11,7 +12,7 @@ use Rattle.cedar_language.specs.Meaning.{slot_outcome}
 use Rattle.cedar_partial_evaluation.specs.Settling.{Settling, Open, Errs, Is, kindless, apply_settled, LeafSettlings, or_entry, settled_in, all_settled_in, types_in}
 use Rattle.cedar_partial_evaluation.specs.Question.{Part, Given, Missing, Entries, NoContext, WithEntries, Question, Told, settled_names, part_settled, context_settled, variable_settled, settled_of}
 use Rattle.cedar_partial_evaluation.specs.Mentions.{WithoutUnknowns, mentions_only, all_mention_only, is_given, is_known_context, is_known, KnownTreesSettle, with_names, NamesDontMatter}
-use Rattle.cedar_partial_evaluation.proofs.Sound.{and_true, is_closed, are_closed, and_closed, or_closed, if_closed, more_closed, apply_closed, types_closed}
+use Rattle.cedar_partial_evaluation.proofs.Sound.{is_closed, are_closed, and_closed, or_closed, if_closed, more_closed, apply_closed, types_closed}
 
 entry_closed : (around : LeafSettlings) (op : Operator) (ts : Trees) (x : Settling) → is_closed x ≡ true → is_closed (or_entry around op ts x) ≡ true
 entry_closed around (GetAttr a) (a_tree (Var Context) no_trees) Open h = cc
@@ -27,14 +28,14 @@ module _ (facts : Facts) (around : LeafSettlings) (f : Variable → Bool) (slots
     closed_at (Slot s) h = slot s h
     closed_at (Unknown n ty) h = cc
     closed_at (If t y n) h =
-        let (ht, rest) = and_true (mentions_only f slots t) (mentions_only f slots y && mentions_only f slots n) h in
-        let (hy, hn) = and_true (mentions_only f slots y) (mentions_only f slots n) rest in
+        let (ht, rest) = and_parts (mentions_only f slots t) (mentions_only f slots y && mentions_only f slots n) h in
+        let (hy, hn) = and_parts (mentions_only f slots y) (mentions_only f slots n) rest in
         if_closed _ _ _ (closed_at t ht) (closed_at y hy) (closed_at n hn)
     closed_at (And l r) h =
-        let (hl, hr) = and_true (mentions_only f slots l) (mentions_only f slots r) h in
+        let (hl, hr) = and_parts (mentions_only f slots l) (mentions_only f slots r) h in
         and_closed _ _ (closed_at l hl) (closed_at r hr)
     closed_at (Or l r) h =
-        let (hl, hr) = and_true (mentions_only f slots l) (mentions_only f slots r) h in
+        let (hl, hr) = and_parts (mentions_only f slots l) (mentions_only f slots r) h in
         or_closed _ _ (closed_at l hl) (closed_at r hr)
     closed_at (Apply op ts) h =
         types_closed op (types_in facts around ts) (or_entry around op ts (apply_settled facts op (all_settled_in facts around ts))) (entry_closed around op ts _ (apply_closed facts op (all_settled_in facts around ts) (all_closed_at ts h)))
@@ -42,7 +43,7 @@ module _ (facts : Facts) (around : LeafSettlings) (f : Variable → Bool) (slots
     all_closed_at : (ts : Trees) → all_mention_only f slots ts ≡ true → are_closed (all_settled_in facts around ts) ≡ true
     all_closed_at no_trees h = refl
     all_closed_at (a_tree t ts) h =
-        let (ht, hts) = and_true (mentions_only f slots t) (all_mention_only f slots ts) h in
+        let (ht, hts) = and_parts (mentions_only f slots t) (all_mention_only f slots ts) h in
         more_closed _ _ (closed_at t ht) (all_closed_at ts hts)
 
 part_closed : (p : Part) (o : Option Value) → is_given p ≡ true → is_closed (part_settled p o) ≡ true
@@ -81,21 +82,21 @@ module _ (facts : Facts) (request : Request) (names : Text → Option ValueType 
     same_meaning (Slot s) h = refl
     same_meaning (Unknown n ty) h = cc
     same_meaning (If t y n) h =
-        let (ht, rest) = and_true (mentions_only (λ v. true) true t) (mentions_only (λ v. true) true y && mentions_only (λ v. true) true n) h in
-        let (hy, hn) = and_true (mentions_only (λ v. true) true y) (mentions_only (λ v. true) true n) rest in
+        let (ht, rest) = and_parts (mentions_only (λ v. true) true t) (mentions_only (λ v. true) true y && mentions_only (λ v. true) true n) h in
+        let (hy, hn) = and_parts (mentions_only (λ v. true) true y) (mentions_only (λ v. true) true n) rest in
         rw (same_meaning t ht, same_meaning y hy, same_meaning n hn) refl
     same_meaning (And l r) h =
-        let (hl, hr) = and_true (mentions_only (λ v. true) true l) (mentions_only (λ v. true) true r) h in
+        let (hl, hr) = and_parts (mentions_only (λ v. true) true l) (mentions_only (λ v. true) true r) h in
         rw (same_meaning l hl, same_meaning r hr) refl
     same_meaning (Or l r) h =
-        let (hl, hr) = and_true (mentions_only (λ v. true) true l) (mentions_only (λ v. true) true r) h in
+        let (hl, hr) = and_parts (mentions_only (λ v. true) true l) (mentions_only (λ v. true) true r) h in
         rw (same_meaning l hl, same_meaning r hr) refl
     same_meaning (Apply op ts) h = ap (apply_of facts op) (same_meanings ts h)
 
     same_meanings : (ts : Trees) → all_mention_only (λ v. true) true ts ≡ true → meanings facts request ts ≡ meanings facts (with_names names request) ts
     same_meanings no_trees h = refl
     same_meanings (a_tree t ts) h =
-        let (ht, hts) = and_true (mentions_only (λ v. true) true t) (all_mention_only (λ v. true) true ts) h in
+        let (ht, hts) = and_parts (mentions_only (λ v. true) true t) (all_mention_only (λ v. true) true ts) h in
         rw (same_meaning t ht, same_meanings ts hts) refl
 
 pub names_dont_matter : NamesDontMatter
@@ -109,16 +110,16 @@ module _ (told : Told) (f : Variable → Bool) (slots : Bool) where
     gives (Slot s) h = tt
     gives (Unknown n ty) h = cc
     gives (If t y n) h =
-        let (ht, rest) = and_true (mentions_only f slots t) (mentions_only f slots y && mentions_only f slots n) h in
-        let (hy, hn) = and_true (mentions_only f slots y) (mentions_only f slots n) rest in
+        let (ht, rest) = and_parts (mentions_only f slots t) (mentions_only f slots y && mentions_only f slots n) h in
+        let (hy, hn) = and_parts (mentions_only f slots y) (mentions_only f slots n) rest in
         (gives t ht, gives y hy, gives n hn)
-    gives (And l r) h = let (hl, hr) = and_true (mentions_only f slots l) (mentions_only f slots r) h in (gives l hl, gives r hr)
-    gives (Or l r) h = let (hl, hr) = and_true (mentions_only f slots l) (mentions_only f slots r) h in (gives l hl, gives r hr)
+    gives (And l r) h = let (hl, hr) = and_parts (mentions_only f slots l) (mentions_only f slots r) h in (gives l hl, gives r hr)
+    gives (Or l r) h = let (hl, hr) = and_parts (mentions_only f slots l) (mentions_only f slots r) h in (gives l hl, gives r hr)
     gives (Apply op ts) h = all_give ts h
 
     all_give : (ts : Trees) → all_mention_only f slots ts ≡ true → GivesEachOf told ts
     all_give no_trees h = tt
-    all_give (a_tree t ts) h = let (ht, hts) = and_true (mentions_only f slots t) (all_mention_only f slots ts) h in (gives t ht, all_give ts hts)
+    all_give (a_tree t ts) h = let (ht, hts) = and_parts (mentions_only f slots t) (all_mention_only f slots ts) h in (gives t ht, all_give ts hts)
 
 pub without_unknowns : WithoutUnknowns
 without_unknowns told f slots t h = gives told f slots t h

@@ -1,5 +1,6 @@
 -- Telling more values carries on what is settled.
 use Rattle.std.proofs.Common.{◌≡◌, ◌≢◌, Bool, true, false, cond, ◌&&◌, Option, Some, None, List, [], ◌∷◌, refl, sym, ◌∙◌, ap}
+use Rattle.std.proofs.lemmas.Bool.{and_parts, and_from}
 use Rattle.std.specs.FinMap as finite
 use Rattle.cedar_language.specs.Uid.{Text, Name, Uid}
 use Rattle.cedar_language.specs.Tree.{Boolean, Long, String, Entity, Variable, Principal, Action, Resource, Context, SlotId, Operator, GetAttr, HasAttr, MakeSet, MakeRecord, Tree, Lit, Var, Slot, Unknown, If, And, Or, Apply, Trees, no_trees, a_tree, ValueType, EntityType, Equal}
@@ -24,8 +25,9 @@ use Rattle.cedar_partial_evaluation.specs.Unknowns.{fits, types_differ}
 use Rattle.cedar_partial_evaluation.specs.Filling.{filled}
 use Rattle.cedar_partial_evaluation.proofs.MadeAgain.{made, value_again}
 use Rattle.cedar_partial_evaluation.proofs.Alike.{projected_is}
-use Rattle.cedar_partial_evaluation.proofs.Sound.{and_true, tree_of_is, type_meant}
-use Rattle.cedar_partial_evaluation.proofs.Seam.{BelowAll, below_refl, below_is, below_trans, and_mono, or_mono, if_mono, more_mono, apply_mono, raised_in, residuals_settle, plain_carried}
+use Rattle.cedar_partial_evaluation.proofs.Sound.{tree_of_is, type_meant}
+use Rattle.cedar_partial_evaluation.proofs.Carried.{BelowAll, below_refl, below_is, below_trans, and_mono, or_mono, if_mono, more_mono, apply_mono, raised_in}
+use Rattle.cedar_partial_evaluation.proofs.Seam.{residuals_settle, plain_carried}
 use Rattle.cedar_partial_evaluation.proofs.Prompt.{is_prompt}
 
 -- where less is known of the leaves, less is settled
@@ -313,34 +315,31 @@ module _ (facts : Facts) (good : HoldsMade facts) (q : Question) (slots : Slots)
   simple_name n ty (Some v) f h = let e : finite.get later n ≡ Some v = f v refl in simple_value (fits ty v) v (rw e at h)
   simple_name n ty None f h = refl
 
-  both_true : (x y : Bool) → x ≡ true → y ≡ true → (x && y) ≡ true
-  both_true x y h k = rw (h, k) refl
-
   next_plain : (p : Answer) (ps : Answers) → IsPlainAnswer p → ArePlainAnswers ps → ArePlainAnswers (and_next facts p ps)
-  next_plain (Evaluated v) (AllEvaluated vs) h k = both_true _ _ h k
-  next_plain (Evaluated v) (SomeResiduals rs) h k = both_true _ _ h k
+  next_plain (Evaluated v) (AllEvaluated vs) h k = and_from _ _ h k
+  next_plain (Evaluated v) (SomeResiduals rs) h k = and_from _ _ h k
   next_plain (Evaluated v) (SomeFailed e) h k = k
-  next_plain (ResidualTree r) (AllEvaluated vs) h k = both_true _ _ h k
-  next_plain (ResidualTree r) (SomeResiduals rs) h k = both_true _ _ h k
+  next_plain (ResidualTree r) (AllEvaluated vs) h k = and_from _ _ h k
+  next_plain (ResidualTree r) (SomeResiduals rs) h k = and_from _ _ h k
   next_plain (ResidualTree r) (SomeFailed e) h k = k
   next_plain (Failed e) ps h k = absurd h
 
   placed_plain : (o : Ordering) (v w : Value) (ws vs : Values) → is_projectable (tree_of facts v) ≡ true → (is_projectable (tree_of facts w) ≡ true) × (are_projectable (trees_of facts ws) ≡ true) → are_projectable (trees_of facts vs) ≡ true →
       are_projectable (trees_of facts (placed o v w ws vs)) ≡ true
-  placed_plain ordering.Less v w ws vs h (i, j) k = both_true _ _ h (both_true _ _ i j)
-  placed_plain ordering.Equal v w ws vs h (i, j) k = both_true _ _ i j
-  placed_plain ordering.Greater v w ws vs h (i, j) k = both_true _ _ i k
+  placed_plain ordering.Less v w ws vs h (i, j) k = and_from _ _ h (and_from _ _ i j)
+  placed_plain ordering.Equal v w ws vs h (i, j) k = and_from _ _ i j
+  placed_plain ordering.Greater v w ws vs h (i, j) k = and_from _ _ i k
 
   put_plain : (v : Value) (ws : Values) → is_projectable (tree_of facts v) ≡ true → are_projectable (trees_of facts ws) ≡ true → are_projectable (trees_of facts (put v ws)) ≡ true
-  put_plain v no_values h k = both_true _ _ h k
+  put_plain v no_values h k = and_from _ _ h k
   put_plain v (a_value w ws) h k =
-      let two = and_true (is_projectable (tree_of facts w)) (are_projectable (trees_of facts ws)) k in
+      let two = and_parts (is_projectable (tree_of facts w)) (are_projectable (trees_of facts ws)) k in
       placed_plain (value_cmp v w) v w ws (put v ws) h two (put_plain v ws h two.1)
 
   rising_plain : (vs : Values) → are_projectable (trees_of facts vs) ≡ true → are_projectable (trees_of facts (rising vs)) ≡ true
   rising_plain no_values h = h
   rising_plain (a_value v vs) h =
-      let two = and_true (is_projectable (tree_of facts v)) (are_projectable (trees_of facts vs)) h in
+      let two = and_parts (is_projectable (tree_of facts v)) (are_projectable (trees_of facts vs)) h in
       put_plain v (rising vs) two.0 (rising_plain vs two.1)
 
   set_plain : (ps : Answers) → ArePlainAnswers ps → IsPlainAnswer (apply_answer facts (held_names told) MakeSet ps)
@@ -364,7 +363,7 @@ module _ (facts : Facts) (good : HoldsMade facts) (q : Question) (slots : Slots)
     all_simple_plain : (ts : Trees) → are_simple facts later ts ≡ true → ArePlainAnswers (all_partial_in facts (held_names told) ts)
     all_simple_plain no_trees h = refl
     all_simple_plain (a_tree t ts) h =
-        let (ht, hts) = and_true (is_simple facts later t) (are_simple facts later ts) h in
+        let (ht, hts) = and_parts (is_simple facts later t) (are_simple facts later ts) h in
         next_plain (partial_in facts (held_names told) t) (all_partial_in facts (held_names told) ts) (simple_plain t ht) (all_simple_plain ts hts)
 
   -- an entry of operands that are all known
@@ -486,7 +485,7 @@ module _ (facts : Facts) (good : HoldsMade facts) (q : Question) (slots : Slots)
     found_simple [] ts t h e = cc
     found_simple (k ∷ ks) no_trees t h e = cc
     found_simple (k ∷ ks) (a_tree s ts) t h e =
-        let (hs, hts) = and_true (is_simple facts later s) (are_simple facts later ts) h in
+        let (hs, hts) = and_parts (is_simple facts later s) (are_simple facts later ts) h in
         simple_step (same_text k a) s t (found_tree ks ts a) hs (found_simple ks ts t hts) e
       where
         simple_step : (b : Bool) (s t : Tree) (o : Option Tree) → is_simple facts later s ≡ true → (o ≡ Some t → is_simple facts later t ≡ true) → cond b (Some s) o ≡ Some t → is_simple facts later t ≡ true

@@ -1,15 +1,11 @@
 -- Reading calls as unknowns.
 use Rattle.std.proofs.Common.{◌≡◌, Bool, true, false, ◌||◌, refl, sym, ◌∙◌, ap}
+use Rattle.std.proofs.lemmas.Bool.{and_parts, or_parts}
 use Rattle.cedar_language.specs.Uid.{Name}
 use Rattle.cedar_language.specs.Tree.{Boolean, Long, String, Entity, Operator, MakeSet, MakeRecord, Call, Tree, Lit, Var, Slot, Unknown, If, And, Or, Apply, Trees, no_trees, a_tree}
 use Rattle.cedar_language.specs.Order.{same_name}
 use Rattle.cedar_language.specs.Restricted.{is_restricted, are_restricted}
 use Rattle.cedar_partial_evaluation.specs.ReadUnknowns.{unknown_function, unknown_or_call, read_call, read_unknowns, all_read, is_unknown_call, calls_unknown, some_calls_unknown, ReadsData, UnknownsAreRead}
-use Rattle.cedar_partial_evaluation.proofs.Sound.{and_true}
-
-both_false : (a b : Bool) → (a || b) ≡ false → (a ≡ false) × (b ≡ false)
-both_false true b h = cc
-both_false false b h = (refl, h)
 
 -- ---- no call
 
@@ -29,18 +25,18 @@ mutual
   without (Slot s) h = refl
   without (Unknown n ty) h = refl
   without (If t y n) h =
-      let (ht, rest) = both_false (calls_unknown t) (calls_unknown y || calls_unknown n) h in
-      let (hy, hn) = both_false (calls_unknown y) (calls_unknown n) rest in
+      let (ht, rest) = or_parts (calls_unknown t) (calls_unknown y || calls_unknown n) h in
+      let (hy, hn) = or_parts (calls_unknown y) (calls_unknown n) rest in
       rw (without t ht, without y hy, without n hn) refl
-  without (And l r) h = let (hl, hr) = both_false (calls_unknown l) (calls_unknown r) h in rw (without l hl, without r hr) refl
-  without (Or l r) h = let (hl, hr) = both_false (calls_unknown l) (calls_unknown r) h in rw (without l hl, without r hr) refl
+  without (And l r) h = let (hl, hr) = or_parts (calls_unknown l) (calls_unknown r) h in rw (without l hl, without r hr) refl
+  without (Or l r) h = let (hl, hr) = or_parts (calls_unknown l) (calls_unknown r) h in rw (without l hl, without r hr) refl
   without (Apply op ts) h =
-      let (here, inside) = both_false (is_unknown_call op) (some_calls_unknown ts) h in
+      let (here, inside) = or_parts (is_unknown_call op) (some_calls_unknown ts) h in
       ap (read_call op) (all_without ts inside) ∙ other_applied op ts here
 
   all_without : (ts : Trees) → some_calls_unknown ts ≡ false → all_read ts ≡ ts
   all_without no_trees h = refl
-  all_without (a_tree t ts) h = let (ht, hts) = both_false (calls_unknown t) (some_calls_unknown ts) h in rw (without t ht, all_without ts hts) refl
+  all_without (a_tree t ts) h = let (ht, hts) = or_parts (calls_unknown t) (some_calls_unknown ts) h in rw (without t ht, all_without ts hts) refl
 
 -- ---- once
 
@@ -99,7 +95,7 @@ module _ (read : Tree → Tree) (read_all : Trees → Trees) (reads : ReadsData 
     all_alone : (ts : Trees) → are_restricted ts ≡ true → read_all ts ≡ all_read ts
     all_alone no_trees h = reads.nothing
     all_alone (a_tree t ts) h =
-        let (ht, hts) = and_true (is_restricted t) (are_restricted ts) h in
+        let (ht, hts) = and_parts (is_restricted t) (are_restricted ts) h in
         reads.more t ts ∙ ap (λ u. a_tree u (read_all ts)) (alone t ht) ∙ ap (a_tree (read_unknowns t)) (all_alone ts hts)
 
 pub unknowns_are_read : UnknownsAreRead

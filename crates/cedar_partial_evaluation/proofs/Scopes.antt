@@ -1,5 +1,6 @@
 -- How the parts of a scope evaluate: an entity, a conjunction, a list of entities.
 use Rattle.std.proofs.Common.{◌≡◌, ◌↔◌, Bool, true, false, ◌||◌, Option, Some, None, IsTrue, List, [], ◌∷◌, map, refl, sym, ◌∙◌, ap, subst}
+use Rattle.std.proofs.lemmas.Bool.{and_from, and_parts}
 use Rattle.std.specs.List.{list_any}
 use Rattle.std.specs.declared.cmp.Ordering.{Ordering}
 use Rattle.std.specs.declared.cmp.Ordering.TheVariants as ordering
@@ -14,7 +15,6 @@ use Rattle.cedar_language.specs.Facts.{Facts}
 use Rattle.cedar_language.specs.Operators.{and_uid, uids_in, is_within, is_within_some}
 use Rattle.cedar_partial_evaluation.specs.Partial.{Evaluated, Answers, AllEvaluated, and_answer, and_next, LeafAnswers, partial_in, all_partial_in}
 use Rattle.cedar_grammar.specs.Build.{trees, conjunction}
-use Rattle.cedar_language.proofs.Booleans.{and_left, and_right, and_both}
 
 -- ---- entities
 
@@ -24,10 +24,10 @@ name_decides a b = pointwise_decides bytes_decides a b
 pub decides_equality : (a b : Uid) → IsTrue (same_uid a b) ↔ (a ≡ b)
 decides_equality a b = (
   λ h.
-      let types : a.type_name ≡ b.type_name = (name_decides a.type_name b.type_name).0 (and_left (same_name a.type_name b.type_name) _ h) in
-      let ids : a.id ≡ b.id = (bytes_decides a.id b.id).0 (and_right (same_name a.type_name b.type_name) _ h) in
+      let types : a.type_name ≡ b.type_name = (name_decides a.type_name b.type_name).0 (and_parts (same_name a.type_name b.type_name) _ h).0 in
+      let ids : a.id ≡ b.id = (bytes_decides a.id b.id).0 (and_parts (same_name a.type_name b.type_name) _ h).1 in
       λ i. record { type_name = types i; id = ids i },
-  λ e. and_both (same_name a.type_name b.type_name) (same_text a.id b.id) ((name_decides a.type_name b.type_name).1 (ap (λ (u : Uid). u.type_name) e)) ((bytes_decides a.id b.id).1 (ap (λ (u : Uid). u.id) e)),
+  λ e. and_from (same_name a.type_name b.type_name) (same_text a.id b.id) ((name_decides a.type_name b.type_name).1 (ap (λ (u : Uid). u.type_name) e)) ((bytes_decides a.id b.id).1 (ap (λ (u : Uid). u.id) e)),
 )
 
 pub entity_equal : (a b : Uid) → same (Plain (Entity a)) (Plain (Entity b)) ≡ same_uid a b

@@ -1,5 +1,5 @@
 -- What trees for values settle to, and what is settled where nothing is open.
-use Rattle.std.proofs.Common.{◌≡◌, ◌≢◌, ℕ, Bool, true, false, not, cond, ◌&&◌, Option, Some, None, List, [], ◌∷◌, refl, sym, ◌∙◌, ap}
+use Rattle.std.proofs.Common.{◌≡◌, ◌≢◌, ℕ, Bool, true, false, not, cond, Option, Some, None, List, [], ◌∷◌, refl, sym, ◌∙◌, ap}
 use Rattle.cedar_language.specs.Uid.{Text, Name, Uid}
 use Rattle.cedar_language.specs.Tree.{Boolean, Entity, Operator, Equal, Tree, Trees, no_trees, a_tree}
 use Rattle.cedar_language.specs.Tree as tree
@@ -148,10 +148,6 @@ not_found_step false s o v p f e = f e
 pub kindless_answer : (facts : Facts) (around : LeafSettlings) (o : Outcome) → kindless o ≡ read facts around (answer_of o)
 kindless_answer facts around (Gives v) = refl
 kindless_answer facts around (Fails k) = refl
-
-pub and_true : (x y : Bool) → (x && y) ≡ true → (x ≡ true) × (y ≡ true)
-and_true true y h = (refl, h)
-and_true false y h = cc
 
 -- operands that are looked at as the entries of a record
 pub found_is_at : (facts : Facts) (around : LeafSettlings) (ks : List Text) (ts : Trees) (vs : Values) (a : Text) (t : Tree) → all_settled_in facts around ts ≡ AllAre vs →

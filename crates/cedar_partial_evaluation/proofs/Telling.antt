@@ -1,5 +1,6 @@
 -- Residuals and contexts evaluated again.
 use Rattle.std.proofs.Common.{◌≡◌, true, Option, Some, None, List, refl, sym, ◌∙◌, Bool, false, ap}
+use Rattle.std.proofs.lemmas.Bool.{and_parts}
 use Rattle.std.specs.FinMap as finite
 use Rattle.cedar_language.specs.Uid.{Text, Name}
 use Rattle.cedar_language.specs.Tree.{MakeSet, MakeRecord, Call, Tree, Lit, Unknown, Apply, Trees, no_trees, a_tree, ValueType}
@@ -16,9 +17,9 @@ use Rattle.cedar_partial_evaluation.specs.Unknowns.{fits}
 use Rattle.cedar_partial_evaluation.specs.Filling.{request_filled, filled}
 use Rattle.cedar_language.specs.Meaning.{meaning}
 use Rattle.cedar_partial_evaluation.specs.Telling.{ToldAreRead, SettledIsMeant, LaterAnswersAreFair, LaterAnswersArePrompt, ContextsStay}
-use Rattle.cedar_partial_evaluation.proofs.Sound.{and_true}
 use Rattle.cedar_partial_evaluation.proofs.MadeAgain.{AreMadeAnswers, made, all_made, value_again, values_again}
-use Rattle.cedar_partial_evaluation.proofs.Seam.{below_is, below_trans, residuals_settle}
+use Rattle.cedar_partial_evaluation.proofs.Carried.{below_is, below_trans}
+use Rattle.cedar_partial_evaluation.proofs.Seam.{residuals_settle}
 use Rattle.cedar_partial_evaluation.proofs.Question.{meets_below, telling_carries, held_made, names_made}
 use Rattle.cedar_partial_evaluation.proofs.Filling.{below_closed, means_filled, reads_below, answers_are_fair, answers_prompt}
 
@@ -120,7 +121,7 @@ module _ (facts : Facts) (good : HoldsMade facts) (told later : Told) (extends :
     all_again : (ts : Trees) → are_restricted ts ≡ true → StandAgain ts (all_partial_in facts (held_names told) ts)
     all_again no_trees h = refl
     all_again (a_tree t ts) h =
-        let (ht, hts) = and_true (is_restricted t) (are_restricted ts) h in
+        let (ht, hts) = and_parts (is_restricted t) (are_restricted ts) h in
         next_again t ts (partial_in facts (held_names told) t) (all_partial_in facts (held_names told) ts) (was_made t)
         (all_made facts good (held_names told) (names_made facts told are_made) ts) (again t ht) (all_again ts hts)
 

@@ -1,17 +1,16 @@
 -- What later values settle of residuals without slots.
-use Rattle.std.proofs.Common.{◌≡◌, ◌⊎◌, Bool, true, false, not, Option, Some, None, List, [], ◌∷◌, refl, sym, ap, subst, inl, inr, ◌∙◌}
+use Rattle.std.proofs.Common.{◌≡◌, ◌⊎◌, Bool, true, false, not, Option, Some, None, List, refl, sym, ap, subst, inl, inr, ◌∙◌}
 use Rattle.cedar_language.specs.Uid.{Text, Name, Uid}
 use Rattle.cedar_language.specs.Tree.{Boolean, Context, Operator, Equal, GetAttr, HasAttr, MakeRecord, Tree, Lit, Var, Slot, Unknown, If, And, Or, Apply, Trees, no_trees, a_tree}
 use Rattle.cedar_language.specs.Tree as tree
 use Rattle.cedar_language.specs.Value.{Plain, no_values, UnlinkedSlot}
 use Rattle.cedar_language.specs.Order.{same_name}
 use Rattle.cedar_language.specs.Facts.{Facts}
-use Rattle.cedar_language.specs.Operators.{applied}
 use Rattle.cedar_language.specs.Meaning.{Slots, slot_outcome, meaning}
-use Rattle.cedar_partial_evaluation.specs.Settling.{Settling, Open, Errs, Is, Settlings, SomeErrs, AllAre, kindless, Below, boolean, apply_settled, LeafSettlings, or_entry, stated_in, type_known, equal_by_types, or_type, settled_in, all_settled_in, types_in}
+use Rattle.cedar_partial_evaluation.specs.Settling.{Settling, Open, Errs, Is, SomeErrs, kindless, Below, apply_settled, LeafSettlings, or_entry, stated_in, or_type, settled_in, all_settled_in, types_in}
 use Rattle.cedar_partial_evaluation.specs.MadeAgain.{HoldsMade}
-use Rattle.cedar_partial_evaluation.specs.Partial.{Answer, Evaluated, ResidualTree, Failed, Answers, AllEvaluated, SomeResiduals, SomeFailed, answer_of, best_effort, last_answer, and_answer, or_answer, if_answer, and_next, are_projectable, LeafAnswers, built_answer, projected_in, all_projected_in, found_tree, entry_answer, attribute_answer, types_differ, residual_answer, apply_answer, partial_in, all_partial_in}
-use Rattle.cedar_partial_evaluation.specs.Fair.{read, read_all, IsMadeAnswer, AreMadeLeaves}
+use Rattle.cedar_partial_evaluation.specs.Partial.{Answer, ResidualTree, Failed, Answers, AllEvaluated, SomeResiduals, SomeFailed, answer_of, and_next, are_projectable, LeafAnswers, built_answer, projected_in, all_projected_in, found_tree, entry_answer, attribute_answer, residual_answer, apply_answer, partial_in}
+use Rattle.cedar_partial_evaluation.specs.Fair.{read, AreMadeLeaves}
 use Rattle.cedar_partial_evaluation.specs.Seam.{Carries}
 use Rattle.cedar_partial_evaluation.specs.Unbound.{unbound, UnboundAnswersAreFair}
 use Rattle.cedar_partial_evaluation.specs.UnboundSeam.{CarriesUnbound, UnboundResidualsSettle, UnboundAnswersArePrompt}
@@ -21,9 +20,9 @@ use Rattle.cedar_partial_evaluation.specs.Linking.{no_slots}
 use Rattle.cedar_partial_evaluation.specs.Question.{Question, Told, Extends, AreMadeTold, IsAccepted, settled_of, held_of, variable_held}
 use Rattle.cedar_partial_evaluation.proofs.Question.{meets_below, weak_carries, telling_carries, held_made}
 use Rattle.cedar_partial_evaluation.proofs.Filling.{below_closed, context_not, means_filled, reads_below, answers_prompt}
-use Rattle.cedar_partial_evaluation.proofs.MadeAgain.{AreMadeAnswers, made, all_made}
-use Rattle.cedar_partial_evaluation.proofs.Sound.{tree_of_is, trees_of_are, kindless_answer, errs_more, type_errs}
-use Rattle.cedar_partial_evaluation.proofs.Seam.{BelowAll, below_refl, below_is, below_trans, boolean_mono, and_mono, or_mono, if_mono, refused_more, more_mono, apply_mono, answer_type, type_carried, leaf_stated, is_answered, equal_answered, left_carries}
+use Rattle.cedar_partial_evaluation.proofs.Sound.{errs_more, type_errs}
+use Rattle.cedar_partial_evaluation.proofs.Seam.{is_answered, equal_answered, left_carries}
+use Rattle.cedar_partial_evaluation.proofs.Carried.{below_trans, answer_type, carried}
 use Rattle.cedar_partial_evaluation.proofs.Unbound.{Worse, AllWorse, and_worse, or_worse, if_worse, more_worse, apply_worse}
 
 still_below : (x y : Settling) → Below x Errs → Worse x y → Below x y
@@ -155,67 +154,6 @@ module _ (facts : Facts) (good : HoldsMade facts) (later : LeafSettlings) (holds
       Below (apply_settled facts op (all_settled_in facts (unbound later) rs)) (read facts (unbound later) (residual_answer facts holds op rs))
   left_below op rs = rw (left_same facts holds op rs) at (left_carries facts good (unbound later) (without holds) without_carries without_leaves op rs)
 
-  best_effort_carries : (q : Answer) (t : Tree) → IsMadeAnswer facts q → Below (settled_in facts later t) (read facts (unbound later) q) →
-      Below (settled_in facts later t) (settled_in facts (unbound later) (best_effort facts q t))
-  best_effort_carries (Evaluated v) t m h = rw (tree_of_is facts (unbound later) v m) h
-  best_effort_carries (ResidualTree r) t m h = h
-  best_effort_carries (Failed k) t m h = still_below _ _ h (worse t)
-
-  last_carries : (f : Tree → Tree) (y : Settling) (q : Answer) →
-      ((t : Tree) → settled_in facts (unbound later) (f t) ≡ boolean (settled_in facts (unbound later) t)) →
-      Below y (read facts (unbound later) q) → Below (boolean y) (read facts (unbound later) (last_answer f q))
-  last_carries f y (Evaluated (Plain (Boolean b))) e h = boolean_mono y (Is (Plain (Boolean b))) h
-  last_carries f y (Evaluated v) e h = boolean_mono y (Is v) h
-  last_carries f y (ResidualTree l) e h = rw (e l) (boolean_mono y (settled_in facts (unbound later) l) h)
-  last_carries f y (Failed k) e h = boolean_mono y Errs h
-
-  and_carries : (p q : Answer) (l r : Tree) → IsMadeAnswer facts q → Below (settled_in facts later l) (read facts (unbound later) p) → Below (settled_in facts later r) (read facts (unbound later) q) →
-      Below (settled_in facts later (And l r)) (read facts (unbound later) (and_answer facts p q r))
-  and_carries (ResidualTree s) q l r m h k = and_mono _ _ _ _ h (best_effort_carries q r m k)
-  and_carries (Evaluated (Plain (Boolean true))) q l r m h k =
-      below_trans _ (boolean (settled_in facts later r)) _ (and_mono _ _ (Is (Plain (Boolean true))) _ h (below_refl (settled_in facts later r)))
-      (last_carries (And (Lit (Boolean true))) (settled_in facts later r) q (λ t. refl) k)
-  and_carries (Evaluated (Plain (Boolean false))) q l r m h k = and_mono _ _ (Is (Plain (Boolean false))) _ h k
-  and_carries (Evaluated v) q l r m h k = and_mono _ _ (Is v) _ h k
-  and_carries (Failed e) q l r m h k = and_mono _ _ Errs _ h k
-
-  or_carries : (p q : Answer) (l r : Tree) → IsMadeAnswer facts q → Below (settled_in facts later l) (read facts (unbound later) p) → Below (settled_in facts later r) (read facts (unbound later) q) →
-      Below (settled_in facts later (Or l r)) (read facts (unbound later) (or_answer facts p q r))
-  or_carries (ResidualTree s) q l r m h k = or_mono _ _ _ _ h (best_effort_carries q r m k)
-  or_carries (Evaluated (Plain (Boolean false))) q l r m h k =
-      below_trans _ (boolean (settled_in facts later r)) _ (or_mono _ _ (Is (Plain (Boolean false))) _ h (below_refl (settled_in facts later r)))
-      (last_carries (Or (Lit (Boolean false))) (settled_in facts later r) q (λ t. refl) k)
-  or_carries (Evaluated (Plain (Boolean true))) q l r m h k = or_mono _ _ (Is (Plain (Boolean true))) _ h k
-  or_carries (Evaluated v) q l r m h k = or_mono _ _ (Is v) _ h k
-  or_carries (Failed e) q l r m h k = or_mono _ _ Errs _ h k
-
-  if_carries : (p q s : Answer) (t y n : Tree) → IsMadeAnswer facts q → IsMadeAnswer facts s → Below (settled_in facts later t) (read facts (unbound later) p) → Below (settled_in facts later y) (read facts (unbound later) q) →
-      Below (settled_in facts later n) (read facts (unbound later) s) → Below (settled_in facts later (If t y n)) (read facts (unbound later) (if_answer facts p q s y n))
-  if_carries (ResidualTree r) q s t y n m o h k l = if_mono _ _ _ _ _ _ h (best_effort_carries q y m k) (best_effort_carries s n o l)
-  if_carries (Evaluated (Plain (Boolean true))) q s t y n m o h k l = if_mono _ _ _ (Is (Plain (Boolean true))) _ _ h k l
-  if_carries (Evaluated (Plain (Boolean false))) q s t y n m o h k l = if_mono _ _ _ (Is (Plain (Boolean false))) _ _ h k l
-  if_carries (Evaluated v) q s t y n m o h k l = if_mono _ _ _ (Is v) _ _ h k l
-  if_carries (Failed e) q s t y n m o h k l = if_mono _ _ _ Errs _ _ h k l
-
-  more_carries : (p : Answer) (ps : Answers) (t : Tree) (ts : Trees) → IsMadeAnswer facts p → AreMadeAnswers facts good ps → Below (settled_in facts later t) (read facts (unbound later) p) →
-      BelowAll (all_settled_in facts later ts) (read_all facts (unbound later) ps) →
-      BelowAll (all_settled_in facts later (a_tree t ts)) (read_all facts (unbound later) (and_next facts p ps))
-  more_carries (Evaluated v) (AllEvaluated vs) t ts m n h k = more_mono _ _ _ _ h k
-  more_carries (Evaluated v) (SomeResiduals rs) t ts m n h k = rw (tree_of_is facts (unbound later) v m) (more_mono _ _ _ _ h k)
-  more_carries (Evaluated v) (SomeFailed e) t ts m n h k = more_mono _ (Is v) _ _ h k
-  more_carries (ResidualTree r) (AllEvaluated vs) t ts m n h k = rw (trees_of_are facts (unbound later) vs n) (more_mono _ _ _ _ h k)
-  more_carries (ResidualTree r) (SomeResiduals rs) t ts m n h k = more_mono _ _ _ _ h k
-  more_carries (ResidualTree r) (SomeFailed e) t ts m n h k = more_mono _ (settled_in facts (unbound later) r) _ _ h k
-  more_carries (Failed e) ps t ts m n h k = refused_more _ _ h
-
-  apply_carries : (op : Operator) (xs : Settlings) (ps : Answers) → BelowAll xs (read_all facts (unbound later) ps) →
-      Below (apply_settled facts op xs) (read facts (unbound later) (apply_answer facts holds op ps))
-  apply_carries op xs (AllEvaluated vs) h = below_trans _ _ _ (apply_mono facts op xs (AllAre vs) h) (below_is _ _ (kindless_answer facts (unbound later) (applied facts op vs)))
-  apply_carries op xs (SomeResiduals rs) h = below_trans _ _ _ (apply_mono facts op xs (all_settled_in facts (unbound later) rs) h) (left_below op rs)
-  apply_carries op xs (SomeFailed k) h = apply_mono facts op xs SomeErrs h
-
-  -- ---- what types settle is answered
-
   is_below : (ty u : Name) (p : Answer) → answer_type facts (unbound later) p ≡ Some u →
       Below (Is (Plain (Boolean (same_name u ty)))) (read facts (unbound later) (apply_answer facts holds (tree.Is ty) (and_next facts p (AllEvaluated no_values))))
   is_below ty u p h =
@@ -226,79 +164,10 @@ module _ (facts : Facts) (good : HoldsMade facts) (later : LeafSettlings) (holds
   equal_below u w p q h k d =
       rw (apply_same facts holds Equal (and_next facts p (and_next facts q (AllEvaluated no_values)))) at (equal_answered facts good (unbound later) (without holds) without_carries without_leaves u w p q h k d)
 
-  is_carried : (ty : Name) (s : Tree) (o : Option Name) (x : Settling) → ((u : Name) → o ≡ Some u → answer_type facts (unbound later) (partial_in facts holds s) ≡ Some u) →
-      Below x (read facts (unbound later) (apply_answer facts holds (tree.Is ty) (all_partial_in facts holds (a_tree s no_trees)))) →
-      Below (or_type (tree.Is ty) (o ∷ []) x) (read facts (unbound later) (apply_answer facts holds (tree.Is ty) (all_partial_in facts holds (a_tree s no_trees))))
-  is_carried ty s (Some u) Open f b = is_below ty u (partial_in facts holds s) (f u refl)
-  is_carried ty s None Open f b = tt
-  is_carried ty s o Errs f b = b
-  is_carried ty s o (Is v) f b = b
-
-  differing_carried : (s t : Tree) (b : Bool) (o p : Option Name) → types_differ o p ≡ b →
-      ((u : Name) → o ≡ Some u → answer_type facts (unbound later) (partial_in facts holds s) ≡ Some u) →
-      ((u : Name) → p ≡ Some u → answer_type facts (unbound later) (partial_in facts holds t) ≡ Some u) →
-      Below (equal_by_types b) (read facts (unbound later) (apply_answer facts holds Equal (all_partial_in facts holds (a_tree s (a_tree t no_trees)))))
-  differing_carried s t true (Some u) (Some w) e f g = equal_below u w (partial_in facts holds s) (partial_in facts holds t) (f u refl) (g w refl) e
-  differing_carried s t true (Some u) None e f g = cc
-  differing_carried s t true None p e f g = cc
-  differing_carried s t false o p e f g = tt
-
-  equal_carried : (s t : Tree) (o p : Option Name) (x : Settling) →
-      ((u : Name) → o ≡ Some u → answer_type facts (unbound later) (partial_in facts holds s) ≡ Some u) →
-      ((u : Name) → p ≡ Some u → answer_type facts (unbound later) (partial_in facts holds t) ≡ Some u) →
-      Below x (read facts (unbound later) (apply_answer facts holds Equal (all_partial_in facts holds (a_tree s (a_tree t no_trees))))) →
-      Below (or_type Equal (o ∷ p ∷ []) x) (read facts (unbound later) (apply_answer facts holds Equal (all_partial_in facts holds (a_tree s (a_tree t no_trees)))))
-  equal_carried s t o p Open f g b = differing_carried s t (types_differ o p) o p refl f g
-  equal_carried s t o p Errs f g b = b
-  equal_carried s t o p (Is v) f g b = b
-
-  -- of each operand the type that is known is known by its answer
-  abbrev TypesCarry : Trees → Type 0
-  TypesCarry no_trees = Unit {0}
-  TypesCarry (a_tree t ts) =
-      ((u : Name) → type_known (settled_in facts later t) (stated_in later t) ≡ Some u → answer_type facts (unbound later) (partial_in facts holds t) ≡ Some u) × TypesCarry ts
-
-  types_carried : (op : Operator) (ts : Trees) (x : Settling) → TypesCarry ts → Below x (read facts (unbound later) (apply_answer facts holds op (all_partial_in facts holds ts))) →
-      Below (or_type op (types_in facts later ts) x) (read facts (unbound later) (apply_answer facts holds op (all_partial_in facts holds ts)))
-  types_carried (tree.Is ty) (a_tree s no_trees) x f b = is_carried ty s (type_known (settled_in facts later s) (stated_in later s)) x f.0 b
-  types_carried Equal (a_tree s (a_tree t no_trees)) x f b =
-      equal_carried s t (type_known (settled_in facts later s) (stated_in later s)) (type_known (settled_in facts later t) (stated_in later t)) x f.0 f.1.0 b
-  types_carried op ts x f b = b
-
-  entry_carried : (op : Operator) (ts : Trees) (x : Settling) → Below x (read facts (unbound later) (apply_answer facts holds op (all_partial_in facts holds ts))) →
-      Below (or_entry later op ts x) (read facts (unbound later) (apply_answer facts holds op (all_partial_in facts holds ts)))
-  entry_carried (GetAttr a) (a_tree (Var Context) no_trees) Open m = carries.in_context a
-  entry_carried (HasAttr a) (a_tree (Var Context) no_trees) Open m = carries.has_in_context a
-  entry_carried op ts x m = m
-
-  mutual
-    carried : (t : Tree) → Below (settled_in facts later t) (read facts (unbound later) (partial_in facts holds t))
-    carried (Lit l) = refl
-    carried (Unknown n ty) = carries.unknown n ty
-    carried (Slot s) = carries.slot s
-    carried (Var v) = carries.variable v
-    carried (And l r) = and_carries (partial_in facts holds l) (partial_in facts holds r) l r (made facts good holds leaves r) (carried l) (carried r)
-    carried (Or l r) = or_carries (partial_in facts holds l) (partial_in facts holds r) l r (made facts good holds leaves r) (carried l) (carried r)
-    carried (If t y n) = if_carries (partial_in facts holds t) (partial_in facts holds y) (partial_in facts holds n) t y n (made facts good holds leaves y) (made facts good holds leaves n) (carried t) (carried y) (carried n)
-    carried (Apply op ts) =
-        types_carried op ts (or_entry later op ts (apply_settled facts op (all_settled_in facts later ts))) (all_types ts)
-        (entry_carried op ts (apply_settled facts op (all_settled_in facts later ts))
-        (apply_carries op (all_settled_in facts later ts) (all_partial_in facts holds ts) (all_carried ts)))
-
-    all_carried : (ts : Trees) → BelowAll (all_settled_in facts later ts) (read_all facts (unbound later) (all_partial_in facts holds ts))
-    all_carried no_trees = refl
-    all_carried (a_tree t ts) = more_carries (partial_in facts holds t) (all_partial_in facts holds ts) t ts (made facts good holds leaves t) (all_made facts good holds leaves ts) (carried t) (all_carried ts)
-
-    all_types : (ts : Trees) → TypesCarry ts
-    all_types no_trees = tt
-    all_types (a_tree t ts) = (
-      (λ u h. type_carried facts (unbound later) (partial_in facts holds t) u (settled_in facts later t) (stated_in later t)
-          (leaf_stated later (unbound later) holds carries.variable_type carries.untold facts t u) (carried t) h),
-      all_types ts,
-    )
-
 pub unbound_residuals_settle : UnboundResidualsSettle
-unbound_residuals_settle facts good later holds carries leaves t = carried facts good later holds carries leaves t
+unbound_residuals_settle facts good later holds carries leaves t =
+    carried facts good later (unbound later) (λ t h. still_below _ _ h (worse facts good later holds carries leaves t)) holds carries leaves
+    (left_below facts good later holds carries leaves) (is_below facts good later holds carries leaves) (equal_below facts good later holds carries leaves) t
 
 slot_below : (facts : Facts) (around : LeafSettlings) (o : Option Uid) → Below (kindless (slot_outcome o)) (read facts around (answer_of (slot_outcome o)))
 slot_below facts around (Some u) = refl

@@ -1,5 +1,6 @@
 -- What is left of a tree is left again until a name that stands in it has a value.
 use Rattle.std.proofs.Common.{◌≡◌, Bool, true, false, Option, Some, None, List, [], ◌∷◌, refl, sym, subst}
+use Rattle.std.proofs.lemmas.Bool.{and_parts}
 use Rattle.std.proofs.lemmas.List.Elements.{All-head, All-tail}
 use Rattle.std.specs.Prelude.{map, All, codes}
 use Rattle.std.specs.FinMap as finite
@@ -23,7 +24,6 @@ use Rattle.cedar_partial_evaluation.specs.Linking.{no_slots}
 use Rattle.cedar_partial_evaluation.specs.Early.{standing_of_answer, judged_early}
 use Rattle.cedar_partial_evaluation.specs.Reauthorizing.{condition_again, judged_again}
 use Rattle.cedar_partial_evaluation.specs.Waiting.{IsUntoldIn, IsData, WhatIsLeftWaits, WaitsStill, WaitingIsAnsweredAlike}
-use Rattle.cedar_partial_evaluation.proofs.Sound.{and_true}
 use Rattle.cedar_partial_evaluation.proofs.MadeAgain.{AreMadeAnswers, made, all_made, value_again, values_again}
 use Rattle.cedar_partial_evaluation.proofs.Seam.{plain_entry}
 use Rattle.cedar_partial_evaluation.proofs.Question.{names_made, held_made}
@@ -97,7 +97,7 @@ module _ (facts : Facts) (good : HoldsMade facts) (Untold : Text → Option Valu
       all_data_wait : (ts : Trees) → are_restricted ts ≡ true → AllWait (all_partial_in facts first ts)
       all_data_wait no_trees h = tt
       all_data_wait (a_tree t ts) h =
-          let (ht, hts) = and_true (is_restricted t) (are_restricted ts) h in
+          let (ht, hts) = and_parts (is_restricted t) (are_restricted ts) h in
           more_wait t ts (data_waits t ht) (all_data_wait ts hts)
 
     module _ (variable : (v : Variable) → Waits (first.variable v)) (slot : (s : SlotId) → Waits (first.slot s)) where
@@ -113,7 +113,7 @@ module _ (facts : Facts) (good : HoldsMade facts) (Untold : Text → Option Valu
         all_plain_wait : (ts : Trees) → are_projectable ts ≡ true → AllWait (all_partial_in facts first ts)
         all_plain_wait no_trees h = tt
         all_plain_wait (a_tree t ts) h =
-            let (ht, hts) = and_true (is_projectable t) (are_projectable ts) h in
+            let (ht, hts) = and_parts (is_projectable t) (are_projectable ts) h in
             more_wait t ts (plain_waits t ht) (all_plain_wait ts hts)
 
       -- ---- operators of which some operands are residuals
