@@ -24,6 +24,7 @@ use Rattle.cedar_faults.specs.Reasons.{IsFault, reason}
 use Rattle.cedar_conversion.specs.Entries.{keyed, ordered, meant, EachIsBuilt, PutsNot}
 pub use Rattle.cedar_conversion.specs.Heads.{given}
 use Rattle.cedar_conversion.proofs.Made.{built_none, built_more, built_apply}
+use Rattle.cedar_lemmas.proofs.Booleans.{or_first as or_false_left, or_second as or_false_right}
 
 abbrev order : Text → Text → Ordering
 order = slice_cmp nat_cmp
@@ -36,14 +37,6 @@ put_at : {A : Type 0} (o : Ordering) (x y z : A) → is_eq o ≡ false → match
 put_at Less x y z h = refl
 put_at Equal x y z h = cc
 put_at Greater x y z h = refl
-
-or_false_left : (a b : Bool) → (a || b) ≡ false → a ≡ false
-or_false_left false b h = refl
-or_false_left true b h = h
-
-or_false_right : (a b : Bool) → (a || b) ≡ false → b ≡ false
-or_false_right false b h = h
-or_false_right true b h = cc
 
 -- ---- a map's own insertion and look-up
 

@@ -13,40 +13,17 @@ use Rattle.cedar_grammar.specs.Names.{is_text, is_among, are_distinct}
 use Rattle.cedar_grammar.specs.Build.{Keyed, keys, put, by_key, trees, record_of}
 use Rattle.cedar_trees.specs.Records.{repeated, unless_repeated, record_made}
 use Rattle.cedar_trees.specs.RecordLaws.{distinct_records}
+use Rattle.cedar_lemmas.proofs.Booleans.{and_first as and_left, and_second as and_right, not_is_true as not_true, or_first as or_left, or_second as or_right}
+use Rattle.std.proofs.lemmas.Bool.{and_from as both_true}
+pub use Rattle.std.proofs.lemmas.Bool.{or_from as both_false}
 
 abbrev order : Text → Text → Ordering
 order = slice_cmp nat_cmp
 
 -- ---- truth values
 
-and_left : (a b : Bool) → (a && b) ≡ true → a ≡ true
-and_left true b h = refl
-and_left false b h = h
-
-and_right : (a b : Bool) → (a && b) ≡ true → b ≡ true
-and_right true b h = h
-and_right false b h = cc
-
-both_true : (a b : Bool) → a ≡ true → b ≡ true → (a && b) ≡ true
-both_true a b h i = rw h i
-
-not_true : (a : Bool) → not a ≡ true → a ≡ false
-not_true true h = cc
-not_true false h = refl
-
 not_false : (a : Bool) → a ≡ false → not a ≡ true
 not_false a h = ap not h
-
-or_left : (a b : Bool) → (a || b) ≡ false → a ≡ false
-or_left false b h = refl
-or_left true b h = h
-
-or_right : (a b : Bool) → (a || b) ≡ false → b ≡ false
-or_right false b h = h
-or_right true b h = cc
-
-pub both_false : (a b : Bool) → a ≡ false → b ≡ false → (a || b) ≡ false
-both_false a b h i = rw h i
 
 pub cond_holds : {A : Type 0} (P : A → Type 0) (b : Bool) (x y : A) → P x → P y → P (cond b x y)
 cond_holds P true x y p q = p

@@ -9,19 +9,8 @@ use Rattle.cedar_grammar.specs.Build.{Keyed, keys, put}
 use Rattle.cedar_faults.specs.declared.kinds.ToASTErrorKind.{ToASTErrorKind}
 use Rattle.cedar_conversion.specs.Entries.{StandsTwice, IsRepeated, repeated_key}
 use Rattle.cedar_conversion.proofs.Told.{in_some}
-
-or_either : (a b : Bool) → (a || b) ≡ true → (a ≡ true) ⊎ (b ≡ true)
-or_either true b h = inl refl
-or_either false b h = inr h
-
-or_later : (a b : Bool) → b ≡ true → (a || b) ≡ true
-or_later true b h = refl
-or_later false b h = h
-
-or_turn : (a b c : Bool) → (a || (b || c)) ≡ (b || (a || c))
-or_turn true true c = refl
-or_turn true false c = refl
-or_turn false b c = refl
+use Rattle.cedar_lemmas.proofs.Booleans.{or_either, or_swapped as or_turn}
+use Rattle.std.proofs.lemmas.Bool.{or_right as or_later}
 
 at_either : {A B : Type 0} (f : A → B) (b : Bool) (x y : A) (z : B) → f x ≡ z → f y ≡ z → f (cond b x y) ≡ z
 at_either f true x y z h k = h

@@ -39,7 +39,7 @@ fn weighed<T: Drop, E: Drop, F: Drop>(
 /// The expression that a loose tree writes, built by `B`; `styles` says what may be called.
 ///
 /// What is given has the builder's meaning of the tree that the loose tree converts to; faults stand exactly
-/// where it converts to none, one at least. The builder's own error, the first one where there are several,
+/// where it converts to none, one at least. The builder's own error, one of them where there are several,
 /// stands only where the loose tree converts to one that the builder's operations refuse, or for want of
 /// memory. Where the builder refuses a part, the loose tree is converted a second time, to look for faults.
 /// Each fault is of a kind that the loose tree shows.

@@ -14,7 +14,7 @@ use Rattle.cedar_trees.specs.Bare.{bare}
 use Rattle.cedar_trees.specs.declared.expr.Expr as code
 use Rattle.cedar_data.specs.Takes.{Takes, Reads}
 use Rattle.cedar_data.specs.Data.{IsData, ReadsData, ReadsBehind, ReadsPath}
-use Rattle.cedar_data.proofs.Words.{word_is}
+use Rattle.cedar_faults.proofs.Words.{word_is}
 
 abbrev Made : Type 0
 Made = code.Expr (Unit {0})

@@ -6,6 +6,7 @@ use Rattle.std.specs.Str.{chars, IsUtf8, IsCharBoundary}
 use Rattle.std.proofs.lemmas.List.{take-append-drop}
 use Rattle.std.proofs.lemmas.Bool.Decides.{nat_tests}
 use Rattle.std.proofs.lemmas.Str.{encode_ascii, encodes-chars, chars-append, IsUtf8-take, IsUtf8-drop, IsCharBoundary-before_ascii, IsCharBoundary-end}
+use Rattle.std.proofs.lemmas.Bool.{not-true, and_parts}
 use Rattle.cedar_grammar.specs.Escape.{Part, between, itself, before, parts_from, parts_of, string_chars, string_of}
 use Rattle.cedar_grammar.specs.Token.{text}
 use Rattle.cedar_grammar.specs.Tokens.{quote, backslash, carriage_return, Inside, closes, plain, Front, is_text}
@@ -16,28 +17,16 @@ use Rattle.cedar_data.proofs.Tokens.{in_front}
 
 -- ---- tests
 
-and_left : (a b : Bool) → (a && b) ≡ true → a ≡ true
-and_left true b h = refl
-and_left false b h = h
-
-and_right : (a b : Bool) → (a && b) ≡ true → b ≡ true
-and_right true b h = h
-and_right false b h = cc
-
-not_true : (a : Bool) → not a ≡ true → a ≡ false
-not_true true h = cc
-not_true false h = refl
-
 no_quote : (c : ℕ) → is_plain c ≡ true → (c == quote) ≡ false
-no_quote c h = not_true (c == quote) (and_left (not (c == quote)) (not (c == backslash) && not (c == carriage_return)) h)
+no_quote c h = not-true (c == quote) ((and_parts (not (c == quote)) (not (c == backslash) && not (c == carriage_return)) h).0)
 
 no_backslash : (c : ℕ) → is_plain c ≡ true → (c == backslash) ≡ false
 no_backslash c h =
-    not_true (c == backslash) (and_left (not (c == backslash)) (not (c == carriage_return)) (and_right (not (c == quote)) (not (c == backslash) && not (c == carriage_return)) h))
+    not-true (c == backslash) ((and_parts (not (c == backslash)) (not (c == carriage_return)) ((and_parts (not (c == quote)) (not (c == backslash) && not (c == carriage_return)) h).1)).0)
 
 no_return : (c : ℕ) → is_plain c ≡ true → (c == carriage_return) ≡ false
 no_return c h =
-    not_true (c == carriage_return) (and_right (not (c == backslash)) (not (c == carriage_return)) (and_right (not (c == quote)) (not (c == backslash) && not (c == carriage_return)) h))
+    not-true (c == carriage_return) ((and_parts (not (c == backslash)) (not (c == carriage_return)) ((and_parts (not (c == quote)) (not (c == backslash) && not (c == carriage_return)) h).1)).1)
 
 -- what isn't plain is ASCII
 others_ascii : (c : ℕ) → is_plain c ≡ false → c < 128
@@ -46,11 +35,11 @@ others_ascii c e = grind (arith, nat_tests)
 all_left : (test : ℕ → Bool) (xs ys : List ℕ) → list_all test (xs ++ ys) ≡ true → list_all test xs ≡ true
 all_left test [] ys h = refl
 all_left test (x ∷ xs) ys h =
-    rw (and_left (test x) (list_all test (xs ++ ys)) h) (all_left test xs ys (and_right (test x) (list_all test (xs ++ ys)) h))
+    rw ((and_parts (test x) (list_all test (xs ++ ys)) h).0) (all_left test xs ys ((and_parts (test x) (list_all test (xs ++ ys)) h).1))
 
 all_right : (test : ℕ → Bool) (xs ys : List ℕ) → list_all test (xs ++ ys) ≡ true → list_all test ys ≡ true
 all_right test [] ys h = h
-all_right test (x ∷ xs) ys h = all_right test xs ys (and_right (test x) (list_all test (xs ++ ys)) h)
+all_right test (x ∷ xs) ys h = all_right test xs ys ((and_parts (test x) (list_all test (xs ++ ys)) h).1)
 
 -- the bytes of a run pass its test
 run_passes : (test : ℕ → Bool) (bs : List ℕ) → list_all test (take (run_length test bs) bs) ≡ true
@@ -66,7 +55,7 @@ run_passes test (b ∷ bs) = by (run_passes test bs) (test b) refl
 character_plain : (c : ℕ) → list_all is_plain (encode_utf8 c) ≡ true → (t : Bool) → is_plain c ≡ t → is_plain c ≡ true
 character_plain c h true e = e
 character_plain c h false e =
-    and_left (is_plain c) true (ap (list_all is_plain) (sym (encode_ascii c (others_ascii c e))) ∙ h)
+    (and_parts (is_plain c) true (ap (list_all is_plain) (sym (encode_ascii c (others_ascii c e))) ∙ h)).0
 
 -- where the bytes are plain, so are the characters
 characters_plain : (cs : List ℕ) → list_all is_plain (encode_utf8_all cs) ≡ true → list_all is_plain cs ≡ true
@@ -78,8 +67,8 @@ characters_plain (c ∷ cs) h =
 inside_plain : (cs ds : List ℕ) → list_all is_plain cs ≡ true → Inside (cs ++ quote ∷ ds) cs ds
 inside_plain [] ds h = closes quote refl
 inside_plain (c ∷ cs) ds h =
-    let first = and_left (is_plain c) (list_all is_plain cs) h in
-    plain c (no_quote c first) (no_backslash c first) (inside_plain cs ds (and_right (is_plain c) (list_all is_plain cs) h))
+    let first = (and_parts (is_plain c) (list_all is_plain cs) h).0 in
+    plain c (no_quote c first) (no_backslash c first) (inside_plain cs ds ((and_parts (is_plain c) (list_all is_plain cs) h).1))
 
 -- ---- what they stand for
 
@@ -94,8 +83,8 @@ no_parts = refl
 parts_plain : (cs : List ℕ) → list_all is_plain cs ≡ true → parts_of cs ≡ Some (map itself cs)
 parts_plain [] h = no_parts
 parts_plain (c ∷ cs) h =
-    let first = and_left (is_plain c) (list_all is_plain cs) h in
-    part_plain c cs (no_backslash c first) (no_return c first) ∙ ap (before (Some (itself c))) (parts_plain cs (and_right (is_plain c) (list_all is_plain cs) h))
+    let first = (and_parts (is_plain c) (list_all is_plain cs) h).0 in
+    part_plain c cs (no_backslash c first) (no_return c first) ∙ ap (before (Some (itself c))) (parts_plain cs ((and_parts (is_plain c) (list_all is_plain cs) h).1))
 
 chars_themselves : (cs : List ℕ) → string_chars (map itself cs) ≡ Some cs
 chars_themselves [] = refl

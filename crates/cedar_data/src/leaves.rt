@@ -1,5 +1,5 @@
 // Numbers, names and entities.
-ghost use Rattle.std.specs.Prelude.{◌≡◌, ◌<◌, ◌≤◌, ◌^◌, ◌++◌, [], ◌∷◌, ℕ, suc, IfOk, IfSome, codes, cond, pos, neg_ℤ};
+ghost use Rattle.std.specs.Prelude.{◌≡◌, ◌≢◌, ◌<◌, ◌≤◌, ◌^◌, ◌++◌, [], ◌∷◌, ℕ, Bool, suc, IfOk, IfNone, IfSome, codes, cond, pos, neg_ℤ};
 ghost use Rattle.cedar_language.specs.Tree as tree;
 ghost use Rattle.cedar_grammar.specs.Build.{long};
 ghost use Rattle.cedar_literals.specs.Literals.{literal_of};
@@ -45,7 +45,8 @@ pub fn entity(alloc: Global, entity_type: Name, id: &str) -> Result<Expr, AllocE
 
 // The number, where it is a long.
 fn plus(number: u64) -> Option<Literal>
-    ensures { IfSome result (λ literal. (tree.Lit (literal_of literal) ≡ long (pos number)) × (number < 2 ^ 63)) }
+    ensures long { IfSome result (λ literal. (tree.Lit (literal_of literal) ≡ long (pos number)) × (number < 2 ^ 63)) }
+    ensures none { IfNone result (2 ^ 63 ≤ number) }
 {
     if number < TOO_LARGE {
         Some(Literal::Long(number as i64))
@@ -56,7 +57,8 @@ fn plus(number: u64) -> Option<Literal>
 
 // The number under a minus, where that is a long.
 fn minus(number: u64) -> Option<Literal>
-    ensures { IfSome result (λ literal. (tree.Lit (literal_of literal) ≡ long (neg_ℤ (pos number))) × (number ≤ 2 ^ 63)) }
+    ensures long { IfSome result (λ literal. (tree.Lit (literal_of literal) ≡ long (neg_ℤ (pos number))) × (number ≤ 2 ^ 63)) }
+    ensures none { IfNone result (2 ^ 63 < number) }
 {
     if number < TOO_LARGE {
         Some(Literal::Long(-(number as i64)))
@@ -85,9 +87,10 @@ fn name_of(alloc: Global, namespace: Vec<Id>, basename: Id) -> Result<Name, Unre
     }
 }
 
-/// The Boolean that is so written.
+/// The Boolean that is so written; none where none is.
 pub fn boolean(word: &str) -> Option<bool>
-    ensures { IfSome result (λ value. word.now ≡ cond value (codes "true") (codes "false")) }
+    ensures written { IfSome result (λ value. word.now ≡ cond value (codes "true") (codes "false")) }
+    ensures none { IfNone result ((value : Bool) → word.now ≢ cond value (codes "true") (codes "false")) }
 {
     match word {
         "true" => Some(true),

@@ -3,7 +3,8 @@ ghost use Rattle.cedar_faults.specs.Flat.{Flat, Flat3, Flat4};
 
 use crate::errors::ConversionError;
 
-/// Both, where both are there; else what the failing ones fail by together.
+/// Both, where both are there. Refused as the failing ones are together: for memory where one is, else with the
+/// faults of all in order, else as the builder refuses the first that it refuses.
 pub fn flatten_tuple_2<A: Drop, B: Drop, E: Drop>(
     first: Result<A, ConversionError<E>>,
     second: Result<B, ConversionError<E>>,
@@ -22,7 +23,7 @@ pub fn flatten_tuple_2<A: Drop, B: Drop, E: Drop>(
     }
 }
 
-/// All three, where all are there; else what the failing ones fail by together.
+/// All three, where all are there; refused as [`flatten_tuple_2`] refuses.
 pub fn flatten_tuple_3<A: Drop, B: Drop, C: Drop, E: Drop>(
     first: Result<A, ConversionError<E>>,
     second: Result<B, ConversionError<E>>,
@@ -42,7 +43,7 @@ pub fn flatten_tuple_3<A: Drop, B: Drop, C: Drop, E: Drop>(
     }
 }
 
-/// All four, where all are there; else what the failing ones fail by together.
+/// All four, where all are there; refused as [`flatten_tuple_2`] refuses.
 pub fn flatten_tuple_4<A: Drop, B: Drop, C: Drop, D: Drop, E: Drop>(
     first: Result<A, ConversionError<E>>,
     second: Result<B, ConversionError<E>>,

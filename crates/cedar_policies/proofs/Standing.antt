@@ -16,15 +16,11 @@ use Rattle.std.specs.Str.{IsUtf8}
 use Rattle.cedar_literals.proofs.Sameness.{uids_same}
 use Rattle.cedar_literals.proofs.Cutting.{types_alike, told_apart}
 use Rattle.cedar_policies.specs.Unknowns.{IsWrittenUid, is_memory, is_of_entities, stands_for, stands_for_found}
+use Rattle.cedar_lemmas.proofs.Booleans.{same_both}
 
 test : (b : Bool) → (b ≡ true) ⊎ (b ≡ false)
 test true = inl refl
 test false = inr refl
-
-same_both : (a b : Bool) → (a ≡ true → b ≡ true) → (b ≡ true → a ≡ true) → a ≡ b
-same_both true b h k = sym (h refl)
-same_both false true h k = k refl
-same_both false false h k = refl
 
 of_entities : (n : Text) (ty : Option ValueType) (u : Uid) → is_of_entities ty ≡ true → stands_for (n, ty) u ≡ same_text n (uid_text u)
 of_entities n ty u h = rw h refl

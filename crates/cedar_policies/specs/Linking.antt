@@ -34,3 +34,11 @@ ChecksArity lack more (Err (ArityError xs ys)) = (are_none lack more ≡ false) 
 ChecksArity lack more (Err (NoSuchTemplate id)) = ⊥
 ChecksArity lack more (Err (PolicyIdConflict id)) = ⊥
 ChecksArity lack more (Err (Memory e)) = ⊥
+
+-- the same is told
+abbrev pub TellsSame : LinkingError → LinkingError → Type 0
+TellsSame (ArityError lack more) (ArityError xs ys) = (xs.items ≡ lack.items) × (ys.items ≡ more.items)
+TellsSame (NoSuchTemplate id) (NoSuchTemplate other) = other ≡ id
+TellsSame (PolicyIdConflict id) (PolicyIdConflict other) = other ≡ id
+TellsSame (Memory e) (Memory f) = ⊤
+TellsSame e f = ⊥

@@ -47,6 +47,12 @@ pub record IsLink (t : Template) (new_id : Text) (b : Bindings) (p : Policy) : T
   pub link : link_of p ≡ Some new_id
   pub bindings : bindings_of p ≡ b
 
+-- a copy: of the same template, under the same id, with the same entities
+pub record IsCopy (p q : Policy) : Type 0 where
+  pub template : policy_template q ≡ policy_template p
+  pub link : link_of q ≡ link_of p
+  pub bindings : bindings_of q ≡ bindings_of p
+
 -- the template as a policy of its own, where it lists no slot; refused for the first that it lists otherwise, or for memory
 abbrev pub TakesOwn : Template → Result Policy UnexpectedSlotError → Type 0
 TakesOwn t (Ok p) = IsOwn (template_id t) (syntax_of t) p × (policy_template p ≡ t) × (listed_slots t ≡ [])

@@ -4,6 +4,7 @@ use Rattle.std.specs.Bool.{Decides}
 use Rattle.std.specs.Ordering.{eq_by_cmp}
 use Rattle.std.specs.Cmp.{IsEquivalence, decided, first_so, second_so, on_equiv, and_equiv}
 use Rattle.std.specs.Cmp.Lexicographic.{nat_list_eq_equiv}
+use Rattle.std.proofs.lemmas.Bool.{and_from}
 use Rattle.cedar_language.specs.Uid.{Text}
 use Rattle.cedar_language.specs.Order.{same_text}
 use Rattle.cedar_language.specs.Answering.{Effect, Permit, Forbid}
@@ -34,9 +35,6 @@ same_syntax p q =
     && same_clauses p.body q.body))))
 
 -- ---- the test holds of the same syntax alone
-
-both_true : (x y : Bool) → x ≡ true → y ≡ true → (x && y) ≡ true
-both_true x y h k = rw (h, k) refl
 
 effect_is : (e f : Effect) → same_effect e f ≡ true → e ≡ f
 effect_is Permit Permit h = refl
@@ -72,11 +70,11 @@ syntax_is p q h =
 
 syntax_itself : (p : Policy) → same_syntax p p ≡ true
 syntax_itself p =
-    both_true _ _ (effect_itself p.effect)
-    (both_true _ _ ((annotations_decide p.annotations p.annotations).1 refl)
-    (both_true _ _ ((constraints_decide p.principal p.principal).1 refl)
-    (both_true _ _ ((actions_decide p.action p.action).1 refl)
-    (both_true _ _ ((constraints_decide p.resource p.resource).1 refl) (clauses_themselves p.body)))))
+    and_from _ _ (effect_itself p.effect)
+    (and_from _ _ ((annotations_decide p.annotations p.annotations).1 refl)
+    (and_from _ _ ((constraints_decide p.principal p.principal).1 refl)
+    (and_from _ _ ((actions_decide p.action p.action).1 refl)
+    (and_from _ _ ((constraints_decide p.resource p.resource).1 refl) (clauses_themselves p.body)))))
 
 pub syntaxes_decide : (p q : Policy) → Decides (same_syntax p q) (p ≡ q)
 syntaxes_decide p q = (syntax_is p q, λ e. subst (λ (r : Policy). same_syntax p r ≡ true) e (syntax_itself p))

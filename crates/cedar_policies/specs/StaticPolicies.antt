@@ -1,17 +1,22 @@
 -- Policies without slots, as the grammar has them.
-use Rattle.std.specs.Prelude.{◌≡◌, ⊤, List, [], ◌∷◌, Result, Ok, Err}
+use Rattle.std.specs.Prelude.{◌≡◌, ⊤, List, [], ◌∷◌, Option, Result, Ok, Err}
 use Rattle.cedar_language.specs.Uid.{Text}
 use Rattle.cedar_language.specs.Tree.{SlotId}
 use Rattle.cedar_grammar.specs.Policy.{Policy, slots}
+use Rattle.cedar_names.specs.declared.places.Loc.{Loc}
 use Rattle.cedar_policy_parts.specs.declared.errors.UnexpectedSlotError.{UnexpectedSlotError}
 use Rattle.cedar_policy_parts.specs.declared.errors.UnexpectedSlotError.TheVariants.{FoundSlot, Memory}
-use Rattle.cedar_policies.specs.Bodies.{body_id, body_syntax}
+use Rattle.cedar_policies.specs.Bodies.{body_id, body_place, body_syntax}
 use Rattle.cedar_policies.specs.Templates.{template_id, syntax_of}
 use Rattle.cedar_policies.specs.declared.templates.Template.{Template}
 use Rattle.cedar_policies.specs.declared.static_policies.StaticPolicy.{StaticPolicy}
 
 abbrev pub static_id : StaticPolicy → Text
 static_id p = body_id p.body
+
+-- where it was read, if it was
+abbrev pub static_place : StaticPolicy → Option Loc
+static_place p = body_place p.body
 
 -- its syntax, without places
 abbrev pub static_syntax : StaticPolicy → Policy

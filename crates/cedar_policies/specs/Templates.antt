@@ -1,13 +1,18 @@
 -- Templates, as the grammar has them.
-use Rattle.std.specs.Prelude.{◌≡◌, List, [], cond}
+use Rattle.std.specs.Prelude.{◌≡◌, List, [], Option, cond}
 use Rattle.cedar_language.specs.Tree.{SlotId}
 use Rattle.cedar_language.specs.Uid.{Text}
 use Rattle.cedar_grammar.specs.Policy.{Policy, slots}
-use Rattle.cedar_policies.specs.Bodies.{body_id, body_syntax}
+use Rattle.cedar_names.specs.declared.places.Loc.{Loc}
+use Rattle.cedar_policies.specs.Bodies.{body_id, body_place, body_syntax}
 use Rattle.cedar_policies.specs.declared.templates.Template.{Template}
 
 abbrev pub template_id : Template → Text
 template_id t = body_id t.body
+
+-- where it was read, if it was
+abbrev pub template_place : Template → Option Loc
+template_place t = body_place t.body
 
 -- its syntax, without places
 abbrev pub syntax_of : Template → Policy

@@ -10,7 +10,7 @@ use Rattle.cedar_extensions.specs.Calls.{calls_in, call_fits, first_fault}
 use Rattle.cedar_extensions.specs.ValidationRefusals.{Refuses}
 use Rattle.cedar_extensions.specs.declared.validation_errors.ExprValidationError.{ExprValidationError}
 use Rattle.cedar_extensions.specs.declared.validation_errors.ExprValidationError.TheVariants as expression
-use Rattle.cedar_policy_parts.specs.Actions.{others, uids_of, held_uids}
+use Rattle.cedar_policy_parts.specs.Actions.{others, uids_of, uids_refused}
 use Rattle.cedar_policy_parts.specs.declared.errors.ActionTypeError.{ActionTypeError}
 use Rattle.cedar_policy_parts.specs.declared.errors.ActionTypeError.TheVariants as action
 use Rattle.cedar_policies.specs.declared.errors.TemplateValidationError.{TemplateValidationError}
@@ -53,8 +53,17 @@ ValidatesClauses table clauses (Err (Memory e)) = ⊤
 -- refused for the first of these that isn't so, or for memory.
 abbrev pub Validates : {A : Type 0} → Table → List SlotId → Policy → Result A TemplateValidationError → Type 0
 Validates table listed p (Ok a) = NamesActions p × (listed ≡ slots p) × (list_all (call_fits table) (clause_calls p.body) ≡ true)
-Validates table listed p (Err (InvalidActionType e)) = others (uids_of p.action) ≡ e.euids.head.value ∷ held_uids e.euids.tail.items
+Validates table listed p (Err (InvalidActionType e)) = others (uids_of p.action) ≡ uids_refused e
 Validates table listed p (Err (SlotsInConditionClause e)) = ⊥
 Validates table listed p (Err SlotCacheMismatch) = NamesActions p × (listed ≢ slots p)
 Validates table listed p (Err (InvalidExpression e)) = NamesActions p × (listed ≡ slots p) × Misfits (first_fault table (clause_calls p.body)) e
 Validates table listed p (Err (Memory e)) = ⊤
+
+-- the same is told
+abbrev pub TellsSame : TemplateValidationError → TemplateValidationError → Type 0
+TellsSame (InvalidActionType e) (InvalidActionType f) = uids_refused f ≡ uids_refused e
+TellsSame (SlotsInConditionClause e) (SlotsInConditionClause f) = f ≡ e
+TellsSame SlotCacheMismatch SlotCacheMismatch = ⊤
+TellsSame (InvalidExpression e) (InvalidExpression f) = f ≡ e
+TellsSame (Memory e) (Memory f) = ⊤
+TellsSame e f = ⊥

@@ -8,7 +8,7 @@ ghost use Rattle.cedar_grammar.specs.Policy.{constraint_tree, action_tree, condi
 ghost use Rattle.cedar_trees.specs.Bare.{bare};
 ghost use Rattle.cedar_policy_parts.specs.Effects.{effect_of};
 ghost use Rattle.cedar_policy_parts.specs.Actions.{action_of};
-ghost use Rattle.cedar_policies.specs.Bodies.{body_id, body_syntax, shared_tree};
+ghost use Rattle.cedar_policies.specs.Bodies.{body_id, body_place, body_syntax, shared_tree};
 ghost use Rattle.cedar_policies.specs.Same.{same_clauses, same_syntax};
 
 use cedar_names::identifiers::AnyId;
@@ -69,6 +69,7 @@ impl TemplateBody {
         non_scope_constraints: Option<Rc<Expr>>,
     ) -> TemplateBody
         ensures id { body_id result ≡ id }
+        ensures place { body_place result ≡ loc }
         ensures syntax { body_syntax result ≡ record {
           effect = effect_of effect;
           annotations = annotations.value;
@@ -103,6 +104,7 @@ impl TemplateBody {
         non_scope_constraints: Option<Expr>,
     ) -> Result<TemplateBody, AllocError>
         ensures id { IfOk result (λ made. body_id made ≡ id) }
+        ensures place { IfOk result (λ made. body_place made ≡ loc) }
         ensures syntax { IfOk result (λ made. body_syntax made ≡ record {
           effect = effect_of effect;
           annotations = annotations;
@@ -138,6 +140,7 @@ impl TemplateBody {
     /// The same body under another id; refused for memory alone.
     pub fn new_id(&self, alloc: Global, id: PolicyID) -> Result<TemplateBody, AllocError>
         ensures id { IfOk result (λ made. body_id made ≡ id) }
+        ensures place { IfOk result (λ made. body_place made ≡ body_place self.now) }
         ensures syntax { IfOk result (λ made. body_syntax made ≡ body_syntax self.now) }
     {
         let loc = match &self.loc {
@@ -163,13 +166,16 @@ impl TemplateBody {
     /// A copy that shares its parts; refused for memory alone.
     pub fn clone(&self, alloc: Global) -> Result<TemplateBody, AllocError>
         ensures id { IfOk result (λ copy. body_id copy ≡ body_id self.now) }
+        ensures place { IfOk result (λ copy. body_place copy ≡ body_place self.now) }
         ensures syntax { IfOk result (λ copy. body_syntax copy ≡ body_syntax self.now) }
     {
         self.new_id(alloc, self.id.clone()?)
     }
 
     /// Where it was read, if it was.
-    pub fn loc(&self) -> Option<&Loc> {
+    pub fn loc(&self) -> Option<&Loc>
+        ensures { option_copied result ≡ body_place self.now }
+    {
         self.loc.as_ref()
     }
 

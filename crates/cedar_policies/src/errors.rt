@@ -1,10 +1,14 @@
 // Why a template is refused, and why it isn't linked.
+ghost use Rattle.std.specs.Prelude.{◌≡◌, IfOk};
+ghost use Rattle.cedar_policies.specs.Linking as linking;
+ghost use Rattle.cedar_policies.specs.Validation as validation;
+
 use cedar_extensions::validation_errors::ExprValidationError;
 use cedar_literals::slots::SlotId;
 use cedar_policy_parts::PolicyID;
 pub use cedar_policy_parts::SlotsInConditionClause;
 use cedar_policy_parts::errors::{ActionTypeError, InvalidActionType};
-use std::alloc::{AllocError, AllocFailed};
+use std::alloc::{AllocError, AllocFailed, Global};
 use std::fmt;
 use thiserror::Error;
 
@@ -28,8 +32,29 @@ pub enum TemplateValidationError {
     Memory(AllocError),
 }
 
+impl TemplateValidationError {
+    /// A copy that shares the uids and names; refused for memory alone.
+    pub fn clone(&self, alloc: Global) -> Result<TemplateValidationError, AllocError>
+        ensures { IfOk result (validation.TellsSame self.now) }
+    {
+        Ok(match self {
+            TemplateValidationError::InvalidActionType(error) => {
+                TemplateValidationError::InvalidActionType(error.clone(alloc)?)
+            }
+            TemplateValidationError::SlotsInConditionClause(error) => {
+                TemplateValidationError::SlotsInConditionClause(error.clone()?)
+            }
+            TemplateValidationError::SlotCacheMismatch =>
+                TemplateValidationError::SlotCacheMismatch,
+            TemplateValidationError::InvalidExpression(error) => {
+                TemplateValidationError::InvalidExpression(error.clone()?)
+            }
+            TemplateValidationError::Memory(error) => TemplateValidationError::Memory(*error),
+        })
+    }
+}
+
 impl From<ActionTypeError> for TemplateValidationError {
-    ghost use Rattle.std.specs.Prelude.{◌≡◌};
     ghost use Rattle.cedar_policies.specs.Validation.{by_actions};
 
     ghost from_gives = { λ error made. made ≡ by_actions error };
@@ -45,7 +70,6 @@ impl From<ActionTypeError> for TemplateValidationError {
 }
 
 impl From<ExprValidationError> for TemplateValidationError {
-    ghost use Rattle.std.specs.Prelude.{◌≡◌};
     ghost use Rattle.cedar_policies.specs.Validation.{by_expression};
 
     ghost from_gives = { λ error made. made ≡ by_expression error };
@@ -59,7 +83,6 @@ impl From<ExprValidationError> for TemplateValidationError {
 }
 
 impl From<AllocError> for TemplateValidationError {
-    ghost use Rattle.std.specs.Prelude.{◌≡◌};
     ghost use Rattle.cedar_policies.specs.declared.errors.TemplateValidationError.TheVariants.{Memory};
 
     ghost from_gives = { λ error made. made ≡ Memory error };
@@ -91,6 +114,28 @@ pub enum LinkingError {
     },
     /// Memory ran out.
     Memory(AllocError),
+}
+
+impl LinkingError {
+    /// A copy; refused for memory alone.
+    pub fn clone(&self, alloc: Global) -> Result<LinkingError, AllocError>
+        ensures { IfOk result (linking.TellsSame self.now) }
+    {
+        Ok(match self {
+            LinkingError::ArityError {
+                unbound_values,
+                extra_values,
+            } => LinkingError::ArityError {
+                unbound_values: Vec::from_slice(alloc, unbound_values)?,
+                extra_values: Vec::from_slice(alloc, extra_values)?,
+            },
+            LinkingError::NoSuchTemplate { id } => LinkingError::NoSuchTemplate { id: id.clone()? },
+            LinkingError::PolicyIdConflict { id } => {
+                LinkingError::PolicyIdConflict { id: id.clone()? }
+            }
+            LinkingError::Memory(error) => LinkingError::Memory(*error),
+        })
+    }
 }
 
 impl fmt::Display for LinkingError {
@@ -149,7 +194,6 @@ fn write_separated<W: fmt::Write>(f: &mut fmt::Formatter<W>, slots: &[SlotId]) -
 }
 
 impl From<AllocError> for LinkingError {
-    ghost use Rattle.std.specs.Prelude.{◌≡◌};
     ghost use Rattle.cedar_policies.specs.declared.errors.LinkingError.TheVariants.{Memory};
 
     ghost from_gives = { λ error made. made ≡ Memory error };
@@ -160,7 +204,7 @@ impl From<AllocError> for LinkingError {
 }
 
 impl<T: Drop> From<AllocFailed<T>> for LinkingError {
-    ghost use Rattle.std.specs.Prelude.{◌≡◌, alloc_error};
+    ghost use Rattle.std.specs.Prelude.{alloc_error};
     ghost use Rattle.cedar_policies.specs.declared.errors.LinkingError.TheVariants.{Memory};
 
     ghost from_gives = { λ _ made. made ≡ Memory alloc_error };

@@ -10,7 +10,7 @@ ghost use Rattle.cedar_policy_parts.specs.Effects.{effect_of};
 ghost use Rattle.cedar_policy_parts.specs.Actions.{action_of};
 ghost use Rattle.cedar_policy_parts.specs.Bindings.{unbound};
 ghost use Rattle.cedar_policies.specs.Bodies.{shared_tree};
-ghost use Rattle.cedar_policies.specs.Templates.{syntax_of, listed_slots};
+ghost use Rattle.cedar_policies.specs.Templates.{template_place, syntax_of, listed_slots};
 
 use crate::templates::Template;
 use cedar_literals::slots::SlotId;
@@ -198,14 +198,12 @@ impl Policy {
     }
 
     /// A copy that shares its parts; refused for memory alone.
-    pub fn clone(&self, alloc: Global) -> Result<Policy, AllocError>
+    pub fn clone(&self, _alloc: Global) -> Result<Policy, AllocError>
         ensures template { IfOk result (λ copy. policy_template copy ≡ policy_template self.now) }
         ensures link { IfOk result (λ copy. link_of copy ≡ link_of self.now) }
         ensures bindings { IfOk result (λ copy. bindings_of copy ≡ bindings_of self.now) }
     {
-        let values = self.values.clone(alloc)?;
-        let link = self.link.clone()?;
-        Ok(Policy::new(self.template.clone()?, link, values))
+        Clone::clone(self)
     }
 
     /// Whether it is no link.
@@ -217,7 +215,9 @@ impl Policy {
     }
 
     /// Where it was read, if it was; of a link, where its template was.
-    pub fn loc(&self) -> Option<&Loc> {
+    pub fn loc(&self) -> Option<&Loc>
+        ensures { option_copied result ≡ template_place (policy_template self.now) }
+    {
         self.template.loc()
     }
 
@@ -302,6 +302,18 @@ impl Policy {
         ensures { IfOk result (λ made. bare made ≡ condition (policy_syntax self.now)) }
     {
         self.template.condition(alloc)
+    }
+}
+
+impl Clone for Policy {
+    ghost use Rattle.cedar_policies.specs.Policies.{IsCopy};
+
+    ghost is_clone = { IsCopy };
+
+    fn clone(&self) -> Result<Policy, AllocError> {
+        let values = Clone::clone(&self.values)?;
+        let link = self.link.clone()?;
+        Ok(Policy::new(self.template.clone()?, link, values))
     }
 }
 

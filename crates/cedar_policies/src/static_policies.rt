@@ -8,7 +8,7 @@ ghost use Rattle.cedar_grammar.specs.Policy.{condition, constraint_tree, action_
 ghost use Rattle.cedar_trees.specs.Bare.{bare};
 ghost use Rattle.cedar_policy_parts.specs.Effects.{effect_of};
 ghost use Rattle.cedar_policy_parts.specs.Actions.{action_of};
-ghost use Rattle.cedar_policies.specs.Bodies.{body_id, body_syntax};
+ghost use Rattle.cedar_policies.specs.Bodies.{body_id, body_place, body_syntax};
 
 use crate::bodies::TemplateBody;
 use crate::templates::Template;
@@ -41,7 +41,7 @@ impl Drop for StaticPolicy {
 }
 
 impl StaticPolicy {
-    ghost use Rattle.cedar_policies.specs.StaticPolicies.{static_id, static_syntax, MakesStatic, TakesStatic};
+    ghost use Rattle.cedar_policies.specs.StaticPolicies.{static_id, static_place, static_syntax, MakesStatic, TakesStatic};
 
     /// The policy of these parts; refused for the first slot of the scope and the clauses, or for memory.
     pub fn new(
@@ -92,6 +92,7 @@ impl StaticPolicy {
     /// Its body, lent: all that is written of it, under its id.
     pub fn body(&self) -> &TemplateBody
         ensures id { body_id result.now ≡ static_id self.now }
+        ensures place { body_place result.now ≡ static_place self.now }
         ensures syntax { body_syntax result.now ≡ static_syntax self.now }
         ensures no_slot { slots_of (static_syntax self.now) ≡ [] }
     {
@@ -101,6 +102,7 @@ impl StaticPolicy {
     /// Its body, given up without a copy.
     pub fn into_body(self) -> TemplateBody
         ensures id { body_id result ≡ static_id self }
+        ensures place { body_place result ≡ static_place self }
         ensures syntax { body_syntax result ≡ static_syntax self }
         ensures no_slot { slots_of (static_syntax self) ≡ [] }
     {
@@ -118,6 +120,7 @@ impl StaticPolicy {
     /// The same policy under another id; refused for memory alone.
     pub fn new_id(&self, alloc: Global, id: PolicyID) -> Result<StaticPolicy, AllocError>
         ensures id { IfOk result (λ made. static_id made ≡ id) }
+        ensures place { IfOk result (λ made. static_place made ≡ static_place self.now) }
         ensures syntax { IfOk result (λ made. static_syntax made ≡ static_syntax self.now) }
     {
         let body = self.body.new_id(alloc, id)?;
@@ -127,6 +130,7 @@ impl StaticPolicy {
     /// A copy that shares its parts; refused for memory alone.
     pub fn clone(&self, alloc: Global) -> Result<StaticPolicy, AllocError>
         ensures id { IfOk result (λ copy. static_id copy ≡ static_id self.now) }
+        ensures place { IfOk result (λ copy. static_place copy ≡ static_place self.now) }
         ensures syntax { IfOk result (λ copy. static_syntax copy ≡ static_syntax self.now) }
     {
         let body = self.body.clone(alloc)?;
@@ -134,7 +138,9 @@ impl StaticPolicy {
     }
 
     /// Where it was read, if it was.
-    pub fn loc(&self) -> Option<&Loc> {
+    pub fn loc(&self) -> Option<&Loc>
+        ensures { option_copied result ≡ static_place self.now }
+    {
         self.body.loc()
     }
 

@@ -7,7 +7,7 @@ ghost use Rattle.cedar_grammar.specs.Policy.{condition, scope_slots, slots as sl
 ghost use Rattle.cedar_trees.specs.Bare.{bare};
 ghost use Rattle.cedar_policy_parts.specs.Effects.{effect_of};
 ghost use Rattle.cedar_policy_parts.specs.Actions.{action_of};
-ghost use Rattle.cedar_policies.specs.Bodies.{body_id, body_syntax, shared_tree};
+ghost use Rattle.cedar_policies.specs.Bodies.{body_id, body_place, body_syntax, shared_tree};
 ghost use Rattle.cedar_policies.specs.Slots.{slot_ids};
 
 use crate::bodies::TemplateBody;
@@ -50,11 +50,12 @@ impl Drop for Template {
 }
 
 impl Template {
-    ghost use Rattle.cedar_policies.specs.Templates.{template_id, syntax_of, listed_slots};
+    ghost use Rattle.cedar_policies.specs.Templates.{template_id, template_place, syntax_of, listed_slots};
 
     /// The template with this body; refused for memory alone.
     pub fn from_body(alloc: Global, body: TemplateBody) -> Result<Template, AllocError>
         ensures id { IfOk result (λ made. template_id made ≡ body_id body) }
+        ensures place { IfOk result (λ made. template_place made ≡ body_place body) }
         ensures syntax { IfOk result (λ made. syntax_of made ≡ body_syntax body) }
         ensures lists { IfOk result (λ made. listed_slots made ≡ slots_of (body_syntax body)) }
     {
@@ -69,6 +70,7 @@ impl Template {
     /// The same template, which lists its slots, also where it was made of a clause alone. Takes no memory.
     pub fn listed(self) -> Template
         ensures id { template_id result ≡ template_id self }
+        ensures place { template_place result ≡ template_place self }
         ensures syntax { syntax_of result ≡ syntax_of self }
         ensures lists { listed_slots result ≡ slots_of (syntax_of self) }
     {
@@ -84,6 +86,7 @@ impl Template {
     pub(crate) fn unlisted(self) -> Template
         requires { scope_slots (syntax_of self) ≡ [] }
         ensures id { template_id result ≡ template_id self }
+        ensures place { template_place result ≡ template_place self }
         ensures syntax { syntax_of result ≡ syntax_of self }
         ensures lists { listed_slots result ≡ [] }
     {
@@ -108,6 +111,7 @@ impl Template {
         non_scope_constraint: Option<Expr>,
     ) -> Result<Template, AllocError>
         ensures id { IfOk result (λ made. template_id made ≡ id) }
+        ensures place { IfOk result (λ made. template_place made ≡ loc) }
         ensures syntax { IfOk result (λ made. syntax_of made ≡ record {
           effect = effect_of effect;
           annotations = annotations;
@@ -145,6 +149,7 @@ impl Template {
         non_scope_constraint: Option<Rc<Expr>>,
     ) -> Result<Template, AllocError>
         ensures id { IfOk result (λ made. template_id made ≡ id) }
+        ensures place { IfOk result (λ made. template_place made ≡ loc) }
         ensures syntax { IfOk result (λ made. syntax_of made ≡ record {
           effect = effect_of effect;
           annotations = annotations.value;
@@ -171,6 +176,7 @@ impl Template {
     /// Its body: all that is written of it, under its id.
     pub fn body(&self) -> &TemplateBody
         ensures id { body_id result.now ≡ template_id self.now }
+        ensures place { body_place result.now ≡ template_place self.now }
         ensures syntax { body_syntax result.now ≡ syntax_of self.now }
     {
         &self.body
@@ -194,6 +200,7 @@ impl Template {
     /// The same template under another id; refused for memory alone.
     pub fn new_id(&self, alloc: Global, id: PolicyID) -> Result<Template, AllocError>
         ensures id { IfOk result (λ made. template_id made ≡ id) }
+        ensures place { IfOk result (λ made. template_place made ≡ template_place self.now) }
         ensures syntax { IfOk result (λ made. syntax_of made ≡ syntax_of self.now) }
         ensures lists { IfOk result (λ made. listed_slots made ≡ listed_slots self.now) }
     {
@@ -207,6 +214,7 @@ impl Template {
     /// A copy that shares its parts; refused for memory alone.
     pub fn clone(&self, alloc: Global) -> Result<Template, AllocError>
         ensures id { IfOk result (λ copy. template_id copy ≡ template_id self.now) }
+        ensures place { IfOk result (λ copy. template_place copy ≡ template_place self.now) }
         ensures syntax { IfOk result (λ copy. syntax_of copy ≡ syntax_of self.now) }
         ensures lists { IfOk result (λ copy. listed_slots copy ≡ listed_slots self.now) }
     {
@@ -214,7 +222,9 @@ impl Template {
     }
 
     /// Where it was read, if it was.
-    pub fn loc(&self) -> Option<&Loc> {
+    pub fn loc(&self) -> Option<&Loc>
+        ensures { option_copied result ≡ template_place self.now }
+    {
         self.body.loc()
     }
 
@@ -326,6 +336,7 @@ impl Template {
     // Its body and the slots that it holds.
     pub(crate) fn into_parts(self) -> (TemplateBody, Vec<Slot>)
         ensures id { body_id result.0 ≡ template_id self }
+        ensures place { body_place result.0 ≡ template_place self }
         ensures syntax { body_syntax result.0 ≡ syntax_of self }
         ensures slots { slot_ids result.1.items ≡ slots_of (syntax_of self) }
     {

@@ -11,8 +11,8 @@ split_at-requires c =
     let first : get_or c.args.text.now 0 0 ≡ colon = omega arith in
     after_first c.args.text.now c.utf8.text (omega arith) (omega arith)
 
-pub returns : goal.returns
-returns c =
+pub returns-clause-taken : goal.returns-clause-taken
+returns-clause-taken c =
     let first : get_or c.args.text.now 0 0 ≡ colon = omega arith in
     let second : get_or c.args.text.now 1 0 ≡ colon → ⊥ = λ same. omega arith in
     takes_skips (mark Colon) c.args.text.now (drop 1 c.args.text.now) c.skip_blank.result.now (takes_colon c.args.text.now c.utf8.text first second)

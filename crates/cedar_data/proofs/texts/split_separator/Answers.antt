@@ -12,8 +12,8 @@ split_at-requires c =
     let second : get_or c.args.text.now 1 0 ≡ colon = omega arith in
     separator_boundary c.args.text.now c.utf8.text first second
 
-pub returns : goal.returns
-returns c =
+pub returns-clause-taken : goal.returns-clause-taken
+returns-clause-taken c =
     let first : get_or c.args.text.now 0 0 ≡ colon = omega arith in
     let second : get_or c.args.text.now 1 0 ≡ colon = omega arith in
     takes_skips (mark ColonColon) c.args.text.now (drop 2 c.args.text.now) c.skip_blank.result.now (takes_separator c.args.text.now c.utf8.text first second)

@@ -7,8 +7,8 @@ use Rattle.cedar_data.specs.Takes.{Skips, Takes}
 use Rattle.cedar_data.proofs.Tokens.{takes_word, takes_skips}
 use Rattle.cedar_data.proofs.texts.split_word.Goals as goal
 
-pub returns : goal.returns
-returns c =
+pub returns-clause-taken : goal.returns-clause-taken
+returns-clause-taken c =
     let bs = c.args.text.now in
     let begins : begins_word (get_or bs 0 0) ≡ true = ap begins_word (sym c.byte_at.ensures) ∙ sym c.begins_word.ensures ∙ c.if-not-begins_word.false in
     takes_skips _ bs (drop (run_length is_in_word bs) bs) c.skip_blank.result.now

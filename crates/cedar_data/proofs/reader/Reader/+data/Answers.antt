@@ -30,7 +30,7 @@ record-returns-in-Ok t c =
 
 pub named-returns-in-Some : goal.named-returns-in-Some
 named-returns-in-Some t c =
-    boolean_read c.val.result c.args.self.now c.word.new.self c.in_ok-word.word.now c.in-Some.value c.in_ok-word.ensures c.in-Some.ensures c.val.ensures c.args.styles.now c.args.levels
+    boolean_read c.val.result c.args.self.now c.word.new.self c.in_ok-word.word.now c.in-Some.value c.in_ok-word.ensures c.in-Some.ensures.written c.val.ensures c.args.styles.now c.args.levels
 
 pub used-returns-in_ok-entity-in-EntityType : goal.used-returns-in_ok-entity-in-EntityType
 used-returns-in_ok-entity-in-EntityType t c =

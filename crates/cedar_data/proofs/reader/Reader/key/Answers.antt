@@ -2,7 +2,7 @@
 use Rattle.std.specs.Str.{chars}
 use Rattle.cedar_grammar.specs.Token.{word, text, word_of}
 use Rattle.cedar_data.specs.Data.{id_key, text_key}
-use Rattle.cedar_data.proofs.Words.{word_is}
+use Rattle.cedar_faults.proofs.Words.{word_is}
 use Rattle.cedar_data.proofs.reader.Reader.key.Goals as goal
 
 pub returns-in_ok-raw : goal.returns-in_ok-raw

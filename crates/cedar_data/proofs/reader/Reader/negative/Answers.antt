@@ -5,4 +5,4 @@ use Rattle.cedar_data.proofs.reader.Reader.negative.Goals as goal
 
 pub returns-in-Some : goal.returns-in-Some
 returns-in-Some c =
-    negative_read c.val.result c.args.self.now c.number.new.self c.expect.new.self c.in_ok-number.number c.in_ok-expect.ensures c.in_ok-number.ensures c.in-Some.ensures.1 (c.val.ensures ∙ c.in-Some.ensures.0)
+    negative_read c.val.result c.args.self.now c.number.new.self c.expect.new.self c.in_ok-number.number c.in_ok-expect.ensures c.in_ok-number.ensures c.in-Some.ensures.long.1 (c.val.ensures ∙ c.in-Some.ensures.long.0)
