@@ -1,15 +1,10 @@
 -- The facts of a world, over the store that shows its entities and the table that has its functions.
-use Rattle.std.proofs.Common.{◌≡◌, ◌∙◌, ◌<◌, ℕ, refl, ap, sym, subst, true, false, cond, List, [], ◌∷◌, Option, Some, None, option_map}
-use Rattle.std.proofs.lemmas.Bool.{lt-ltb}
-use Rattle.std.specs.List.{AllByRecursion}
-use Rattle.std.specs.Prelude.{nat_lt}
+use Rattle.std.proofs.Common.{◌≡◌, ◌∙◌, refl, ap, sym, subst, false, Option, Some, None, option_map}
 use Rattle.std.specs.FinMap as finite
-use Rattle.cedar_language.specs.Constructing.{the_constructor, and_byte, bytes_of, constructor_function}
-use Rattle.cedar_language.specs.Operators.{called, or_fails}
-use Rattle.cedar_language.specs.Value.{Extension, Value, Plain, SetOf, RecordOf, ExtensionOf, Values, no_values, a_value, FailedExtensionFunctionExecution, Gives}
+use Rattle.cedar_language.specs.Constructing.{the_constructor}
 use Rattle.cedar_language.specs.Facts as language
 use Rattle.cedar_language.specs.Facts.{Facts}
-use Rattle.cedar_partial_evaluation.specs.MadeAgain.{long_values, parts_of, IsMadeAgain, AreMadeAgain, HoldsMade}
+use Rattle.cedar_partial_evaluation.specs.MadeAgain.{HoldsMade}
 use Rattle.cedar_world.specs.Setting.{Setting, functions_alone}
 use Rattle.cedar_world.specs.World.{World, EntityData, seen}
 use Rattle.cedar_world.specs.WorldFacts.{AreFactsOf}
@@ -20,8 +15,9 @@ use Rattle.cedar_held.specs.ShownApart.{attribute_at}
 use Rattle.cedar_held.proofs.Shown.{to_world, to_store}
 use Rattle.cedar_extensions.specs.Table.{Table}
 use Rattle.cedar_operators.specs.Store.{IsShown, HasFacts}
-use Rattle.cedar_held.specs.Built.{IsBuilt, AreBuilt, HoldBuilt, GivesBuilt}
+use Rattle.cedar_held.specs.Built.{HoldBuilt, GivesBuilt}
 use Rattle.cedar_restricted_evaluation.specs.Evaluations.{HasFunctions}
+use Rattle.cedar_restricted_evaluation.proofs.Made.{built_is_made}
 
 -- ---- the store
 
@@ -48,31 +44,6 @@ pub table_is_served : (by : Setting) (world : World) (facts : Facts) (table : Ta
 table_is_served by world facts table are has n = are.function n ∙ has n
 
 -- ---- what is held is made again
-
--- bytes are read of their longs
-byte_back : (b : ℕ) (bs : List ℕ) → nat_lt b 256 ≡ true → cond (nat_lt b 256) (Some (b ∷ bs)) None ≡ Some (b ∷ bs)
-byte_back b bs small = ap (λ x. cond x (Some (b ∷ bs)) None) small
-
-bytes_back : (bs : List ℕ) → AllByRecursion (λ b. b < 256) bs → bytes_of (long_values bs) ≡ Some bs
-bytes_back [] h = refl
-bytes_back (b ∷ bs) h = ap (and_byte b) (bytes_back bs h.1) ∙ byte_back b bs (lt-ltb b 256 h.0)
-
-module _ (facts : Facts) (constructs : facts.function the_constructor ≡ Some constructor_function) where
-  constructed_again : (e : Extension) → AllByRecursion (λ b. b < 256) e.key → called (facts.function the_constructor) (parts_of e) ≡ Gives (ExtensionOf e)
-  constructed_again e h =
-      ap (λ o. called o (parts_of e)) constructs
-      ∙ ap (λ o. or_fails FailedExtensionFunctionExecution (option_map (λ key. ExtensionOf (record { type_name = e.type_name; ordered = e.ordered; key = key })) o)) (bytes_back e.key h)
-
-  mutual
-    pub built_is_made : (v : Value) → IsBuilt v → IsMadeAgain facts v
-    built_is_made (Plain l) h = tt
-    built_is_made (SetOf vs) h = (h.0, built_are_made vs h.1)
-    built_is_made (RecordOf ks vs) h = built_are_made vs h
-    built_is_made (ExtensionOf e) h = constructed_again e h
-
-    pub built_are_made : (vs : Values) → AreBuilt vs → AreMadeAgain facts vs
-    built_are_made no_values h = tt
-    built_are_made (a_value v vs) h = (built_is_made v h.0, built_are_made vs h.1)
 
 pub of_seen : (o : Option EntityData) (h : language.Held) → seen o ≡ Some h → (d : EntityData) × (o ≡ Some d) × (h ≡ record { attribute = finite.get d.attributes; tag = finite.get d.tags })
 of_seen None h e = cc

@@ -91,7 +91,8 @@ use Rattle.cedar_asking.proofs.Exactness.{clause_calls}
 use Rattle.cedar_asking.proofs.InForce.{written_entry, is_bound, is_in_force}
 use Rattle.cedar_evaluator.proofs.KeptOf.{kept_of}
 use Rattle.cedar_evaluator.proofs.Taken.{clause_of, true_kept, is_left as is_taken_up}
-use Rattle.cedar_asking.proofs.Facts.{store_has_facts, table_is_served, built_is_made}
+use Rattle.cedar_restricted_evaluation.proofs.Made.{built_is_made}
+use Rattle.cedar_asking.proofs.Facts.{store_has_facts, table_is_served}
 use Rattle.cedar_asking.proofs.Known.{all_named_nothing}
 use Rattle.cedar_evaluator.proofs.Lists.{IsAmong}
 use Rattle.cedar_asking.proofs.Plainness.{functions_are_made, or_right}

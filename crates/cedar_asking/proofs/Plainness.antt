@@ -14,7 +14,7 @@ use Rattle.cedar_world.specs.PlainAnswers.{IsPlainAnswer}
 use Rattle.cedar_extensions.specs.Table.{Table}
 use Rattle.cedar_held.specs.Built.{GivesBuilt}
 use Rattle.cedar_restricted_evaluation.specs.Evaluations.{HasFunctions}
-use Rattle.cedar_asking.proofs.Facts.{built_is_made}
+use Rattle.cedar_restricted_evaluation.proofs.Made.{built_is_made}
 
 -- ---- functions without entities
 

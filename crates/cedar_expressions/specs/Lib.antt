@@ -57,6 +57,7 @@ pub use Rattle.cedar_restricted.specs.Converting
 pub use Rattle.cedar_restricted.specs.Left
 pub use Rattle.cedar_restricted.specs.Offences
 pub use Rattle.cedar_restricted.specs.Readers
+pub use Rattle.cedar_restricted.specs.Sameness as PartialValueSameness
 pub use Rattle.cedar_restricted.specs.ShapesOnly as RestrictedShapesOnly
 pub use Rattle.cedar_restricted.specs.Views
 pub use Rattle.cedar_extensions.specs.Answering as FunctionAnswering
@@ -71,6 +72,7 @@ pub use Rattle.cedar_extensions.specs.Holding
 pub use Rattle.cedar_extensions.specs.Lookups
 pub use Rattle.cedar_extensions.specs.TableRefusals as TableRefusals
 pub use Rattle.cedar_extensions.specs.Tables
+pub use Rattle.cedar_restricted_evaluation.specs.Built
 pub use Rattle.cedar_restricted_evaluation.specs.Evaluations
 pub use Rattle.cedar_extensions.specs.Calls
 pub use Rattle.cedar_extensions.specs.ValidationRefusals as Validating

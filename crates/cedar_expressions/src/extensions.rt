@@ -6,7 +6,9 @@ pub use cedar_extensions::extensions::Extensions;
 pub use cedar_extensions::iteration::{ExtNames, ExtTypes, Funcs, OrderedTypes};
 pub use cedar_extensions::lookups::{ExtensionFunctionLookupError, FuncDoesNotExistError};
 pub use cedar_extensions::objects::{
-    BoxedFunction, CallError, ExtensionFunctionObject, NoFunction,
+    BinaryExtensionFunctionObject, BoxedFunction, CallError, ExtensionFunctionObject, NoFunction,
+    NullaryExtensionFunctionObject, TernaryExtensionFunctionObject, UnaryExtensionFunctionObject,
+    VariadicExtensionFunctionObject,
 };
 pub use cedar_extensions::table_errors::{
     ExtensionInitializationError, FuncMultiplyDefinedError, MultipleConstructorsSameSignatureError,

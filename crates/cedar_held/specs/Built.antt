@@ -1,32 +1,12 @@
--- Values that their trees make again: their sets rise, and the keys of their extension values are bytes.
+-- Entities whose attributes and tags their trees make again.
 use Rattle.std.specs.Prelude.{◌≡◌, Some, List}
 use Rattle.std.specs.FinMap as finite
 use Rattle.std.specs.List.{AllByRecursion}
-use Rattle.either.specs.declared.Either.{Either}
-use Rattle.either.specs.declared.Either.TheVariants.{Left, Right}
-use Rattle.cedar_language.specs.Facts.{Function}
-use Rattle.cedar_language.specs.Tree.{Tree}
-use Rattle.cedar_language.specs.Uid.{Text, Name, Uid}
-use Rattle.cedar_language.specs.Value.{Value, Values}
+use Rattle.cedar_language.specs.Uid.{Text, Uid}
+use Rattle.cedar_language.specs.Value.{Value}
 use Rattle.cedar_world.specs.World as world
 use Rattle.cedar_world.specs.EntityEdits.{Version}
-use Rattle.cedar_extensions.specs.Table.{Table}
-pub use Rattle.cedar_extensions.specs.Answering.{IsBuilt, AreBuilt}
-
--- where it is a value
-abbrev pub IsBuiltPart : Either Value Tree → Type 0
-IsBuiltPart (Left v) = IsBuilt v
-IsBuiltPart (Right r) = Unit {0}
-
--- the value at each name
-abbrev pub AreBuiltEntries : List (Text × Value) → Type 0
-AreBuiltEntries es = AllByRecursion (λ (e : Text × Value). IsBuilt e.1) es
-
--- each value that a function of the table gives
-abbrev pub GivesBuilt : Table → Type 0
-GivesBuilt table = (n : Name) (f : Function) (vs : Values) (v : Value) → table.function n ≡ Some f → f.answer vs ≡ Some v → IsBuilt v
-
--- ---- entities
+pub use Rattle.cedar_restricted_evaluation.specs.Built.{IsBuilt, AreBuilt, IsBuiltPart, AreBuiltEntries, GivesBuilt}
 
 -- each attribute and tag is such a value
 pub record IsBuiltData (h : world.EntityData) : Type 0 where

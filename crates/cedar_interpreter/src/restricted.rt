@@ -15,6 +15,7 @@ use cedar_restricted::partial_values::PartialValue;
 use cedar_restricted_evaluation::interpret_restricted;
 use cedar_values::values::Value;
 use std::alloc::Global;
+use std::fmt;
 
 /// The functions by which restricted expressions are evaluated: these read neither a request nor
 /// entities. No evaluation nests deeper than a limit. Contracts see it by `table_of` and `limit_of`.
@@ -22,6 +23,15 @@ use std::alloc::Global;
 pub struct RestrictedEvaluator<'e, 'f, F = NoFunction> {
     extensions: &'e Extensions<'f, F>,
     depth: u32,
+}
+
+impl<F> fmt::Debug for RestrictedEvaluator<'_, '_, F> {
+    fn fmt<W: fmt::Write>(&self, f: &mut fmt::Formatter<W>) -> fmt::Result {
+        f.debug_struct("RestrictedEvaluator")
+            .field("extensions", &self.extensions)
+            .field("depth", &self.depth)
+            .finish()
+    }
 }
 
 impl<'e, 'f, F: ExtensionFunctionObject> RestrictedEvaluator<'e, 'f, F> {

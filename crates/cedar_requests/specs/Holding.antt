@@ -5,7 +5,8 @@ use Rattle.cedar_language.specs.Tree.{Tree}
 use Rattle.cedar_language.specs.Value.{Value}
 use Rattle.cedar_partial_evaluation.specs.Question.{Part, Given}
 use Rattle.cedar_requests.specs.Contexts.{context_part}
-use Rattle.cedar_requests.specs.Parts.{part_of}
+use Rattle.cedar_names.specs.declared.places.Loc.{Loc}
+use Rattle.cedar_requests.specs.Parts.{part_of, entry_place}
 use Rattle.cedar_requests.specs.declared.requests.Request.{Request}
 use Rattle.cedar_requests.specs.declared.requests.RequestType.{RequestType}
 
@@ -23,6 +24,15 @@ request_parts r = record {
   resource = part_of r.resource;
   context = option_map context_part r.context;
 }
+
+-- where its entities were read, if they were
+pub record RequestPlaces : Type 0 where
+  pub principal : Option Loc
+  pub action : Option Loc
+  pub resource : Option Loc
+
+abbrev pub request_places : Request → RequestPlaces
+request_places r = record { principal = entry_place r.principal; action = entry_place r.action; resource = entry_place r.resource }
 
 abbrev type_by : Part → Part → Part → Option RequestType
 type_by (Given p) (Given a) (Given r) = Some (record { principal = p.type_name; action = a; resource = r.type_name })

@@ -104,8 +104,8 @@ impl EntityUIDEntry {
     }
 
     /// What the variable `var` is evaluated to where this stands for it: the entity, or the unknown that
-    /// is named as the variable, of the type that is stated, at the entry's place. Refused for memory
-    /// alone. (Cedar language reference, "Partial evaluation".)
+    /// is named as the variable, of the type that is stated. It has the entry's place, of which no
+    /// contract speaks. Refused for memory alone. (Cedar language reference, "Partial evaluation".)
     pub fn evaluate(&self, alloc: Global, var: Var) -> Result<PartialValue, AllocError>
         ensures { IfOk result (λ found. part_answer (partial_of found) ≡
             part_held (part_of self.now) None (variable_text (variable_of var))) }
@@ -124,7 +124,8 @@ impl EntityUIDEntry {
 
     /// A copy that shares the uid; refused for memory alone.
     pub fn clone(&self, alloc: Global) -> Result<EntityUIDEntry, AllocError>
-        ensures { IfOk result (λ copy. part_of copy ≡ part_of self.now) }
+        ensures entity { IfOk result (λ copy. part_of copy ≡ part_of self.now) }
+        ensures place { IfOk result (λ copy. entry_place copy ≡ entry_place self.now) }
     {
         match self {
             EntityUIDEntry::Known { euid, loc } => Ok(EntityUIDEntry::Known {

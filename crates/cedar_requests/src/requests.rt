@@ -3,9 +3,9 @@ ghost use Rattle.std.specs.Prelude.{◌≡◌, IfOk, option_map, Some};
 ghost use Rattle.std.specs.Option.{option_copied};
 ghost use Rattle.cedar_partial_evaluation.specs.Question.{Given};
 ghost use Rattle.cedar_extensions.specs.Table.{as_table};
-ghost use Rattle.cedar_requests.specs.Parts.{part_of};
+ghost use Rattle.cedar_requests.specs.Parts.{part_of, entry_place};
 ghost use Rattle.cedar_requests.specs.Contexts.{context_part};
-ghost use Rattle.cedar_requests.specs.Holding.{request_parts, request_type};
+ghost use Rattle.cedar_requests.specs.Holding.{request_parts, request_places, request_type};
 ghost use Rattle.cedar_requests.specs.Asking.{IsAnswerOf, IsAcceptedBy, verdict};
 
 use crate::contexts::Context;
@@ -51,6 +51,21 @@ pub struct RequestType {
     pub resource: EntityType,
 }
 
+impl RequestType {
+    /// A copy that shares the names; refused for memory alone.
+    pub fn clone(&self, alloc: Global) -> Result<RequestType, AllocError>
+        ensures { IfOk result (λ copy. copy ≡ self.now) }
+    {
+        let principal = self.principal.clone(alloc)?;
+        let action = self.action.clone(alloc)?;
+        Ok(RequestType {
+            principal,
+            action,
+            resource: self.resource.clone(alloc)?,
+        })
+    }
+}
+
 impl Request {
     /// The request of these uids, each read at the place beside it, and of this context. Where a schema is
     /// given it is asked by `validate_request`. Refused with the schema's error, and for memory alone.
@@ -75,6 +90,8 @@ impl Request {
           resource = Given resource.0;
           context = Some (context_part context);
         }) (as_table F.answers extensions.now) result }
+        ensures places { IfOk result (λ request. request_places request ≡
+            record { principal = principal.1; action = action.1; resource = resource.1 }) }
     {
         let principal = EntityUIDEntry::known(alloc, principal.0, principal.1)?;
         let action = EntityUIDEntry::known(alloc, action.0, action.1)?;
@@ -108,6 +125,8 @@ impl Request {
           resource = part_of resource;
           context = option_map context_part context;
         }) (as_table F.answers extensions.now) (verdict result) }
+        ensures places { IfOk result (λ request. request_places request ≡
+            record { principal = entry_place principal; action = entry_place action; resource = entry_place resource }) }
     {
         let request = Request::new_unchecked(principal, action, resource, context);
         accepted(request, schema, extensions)
@@ -120,12 +139,14 @@ impl Request {
         resource: EntityUIDEntry,
         context: Option<Context>,
     ) -> Request
-        ensures { request_parts result ≡ record {
+        ensures held { request_parts result ≡ record {
           principal = part_of principal;
           action = part_of action;
           resource = part_of resource;
           context = option_map context_part context;
         } }
+        ensures places { request_places result ≡
+            record { principal = entry_place principal; action = entry_place action; resource = entry_place resource } }
     {
         Request {
             principal,
@@ -137,21 +158,24 @@ impl Request {
 
     /// Who asks.
     pub fn principal(&self) -> &EntityUIDEntry
-        ensures { part_of result.now ≡ (request_parts self.now).principal }
+        ensures entity { part_of result.now ≡ (request_parts self.now).principal }
+        ensures place { entry_place result.now ≡ (request_places self.now).principal }
     {
         &self.principal
     }
 
     /// What is to be done.
     pub fn action(&self) -> &EntityUIDEntry
-        ensures { part_of result.now ≡ (request_parts self.now).action }
+        ensures entity { part_of result.now ≡ (request_parts self.now).action }
+        ensures place { entry_place result.now ≡ (request_places self.now).action }
     {
         &self.action
     }
 
     /// What it is to be done to.
     pub fn resource(&self) -> &EntityUIDEntry
-        ensures { part_of result.now ≡ (request_parts self.now).resource }
+        ensures entity { part_of result.now ≡ (request_parts self.now).resource }
+        ensures place { entry_place result.now ≡ (request_places self.now).resource }
     {
         &self.resource
     }
@@ -186,7 +210,8 @@ impl Request {
 
     /// A copy that shares the uids and the context's entries; refused for memory alone.
     pub fn clone(&self, alloc: Global) -> Result<Request, AllocError>
-        ensures { IfOk result (λ copy. request_parts copy ≡ request_parts self.now) }
+        ensures held { IfOk result (λ copy. request_parts copy ≡ request_parts self.now) }
+        ensures places { IfOk result (λ copy. request_places copy ≡ request_places self.now) }
     {
         let principal = self.principal.clone(alloc)?;
         let action = self.action.clone(alloc)?;
@@ -206,6 +231,7 @@ fn accepted<S: RequestSchema, F: ExtensionFunctionObject>(
     extensions: &Extensions<'_, F>,
 ) -> Result<Request, S::Error>
     ensures held { IfOk result (λ kept. request_parts kept ≡ request_parts request) }
+    ensures places { IfOk result (λ kept. request_places kept ≡ request_places request) }
     ensures schema { IsAnswerOf S.validates (option_copied schema.entry) (request_parts request) (as_table F.answers extensions.now) (verdict result) }
 {
     let Some(schema) = schema else {

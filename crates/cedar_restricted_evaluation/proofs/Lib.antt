@@ -4,3 +4,5 @@ mod Gathering
 mod Arms
 mod Known
 mod Keying
+pub mod Built
+pub mod Made

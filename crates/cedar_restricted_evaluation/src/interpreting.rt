@@ -9,6 +9,7 @@ ghost use Rattle.cedar_restricted.specs.Views.{borrowed_tree};
 ghost use Rattle.cedar_trees.specs.Bare.{bare, bare_entries};
 ghost use Rattle.cedar_extensions.specs.Table.{as_table};
 ghost use Rattle.cedar_restricted_evaluation.specs.Evaluations.{MeansKnown, Answers, IsLeft};
+ghost use Rattle.cedar_restricted_evaluation.specs.Built.{IsBuiltPart};
 ghost use Rattle.cedar_restricted_evaluation.specs.Findings.{Evaluates, EvaluateAll};
 
 use crate::calls::call;
@@ -48,6 +49,7 @@ pub fn interpret_restricted<F: ExtensionFunctionObject>(
     ensures meaning { MeansKnown (as_table F.answers extensions.now) depth (borrowed_tree expr.entry) result }
     ensures answer { Answers (as_table F.answers extensions.now) depth (borrowed_tree expr.entry) result }
     ensures left { IfOk result (λ partial. IsLeft (partial_of partial)) }
+    ensures built { IfOk result (λ partial. IsBuiltPart (partial_of partial)) }
     ensures limit { IfOk result (λ partial. height (borrowed_tree expr.entry) ≤ depth) }
 {
     known_is_meaning();

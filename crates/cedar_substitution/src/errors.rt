@@ -6,7 +6,7 @@ use std::alloc::{AllocError, AllocFailed};
 use thiserror::Error;
 
 /// Why nothing is substituted: a told value has another type than its unknown states, or memory ran out.
-#[derive(Debug, PartialEq, Eq, Drop, Error)]
+#[derive(Debug, PartialEq, Eq, Clone, Drop, Error)]
 pub enum SubstitutionError {
     /// A value is told of another type than its unknown's.
     #[error("expected a value of type {expected}, got a value of type {actual}")]

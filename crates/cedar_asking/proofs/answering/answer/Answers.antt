@@ -2,7 +2,7 @@
 use Rattle.std.proofs.lemmas.Result.{err_from_is_err_and}
 use Rattle.cedar_extensions.specs.Table.{as_table}
 use Rattle.cedar_requests.specs.Holding.{request_parts}
-use Rattle.cedar_held.proofs.Built.{gives_built}
+use Rattle.cedar_restricted_evaluation.proofs.Built.{gives_built}
 use Rattle.cedar_evaluator.specs.Authorizing.{table_of, limit_of}
 use Rattle.cedar_asking.proofs.Answered.{responds_at, is_answered, not_answered}
 use Rattle.cedar_asking.proofs.answering.answer.Goals as goal

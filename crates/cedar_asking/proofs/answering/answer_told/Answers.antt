@@ -3,7 +3,7 @@ use Rattle.std.proofs.Common.{Ok, Err}
 use Rattle.std.proofs.lemmas.Result.{err_from_is_err_and}
 use Rattle.cedar_extensions.specs.Table.{as_table}
 use Rattle.cedar_replies.specs.Replies.{answer_of}
-use Rattle.cedar_held.proofs.Built.{gives_built}
+use Rattle.cedar_restricted_evaluation.proofs.Built.{gives_built}
 use Rattle.cedar_evaluator.specs.Authorizing.{table_of, limit_of}
 use Rattle.cedar_asking.proofs.AnsweredTold.{reauthorizes_at, tells_nothing, says_nothing}
 use Rattle.cedar_asking.proofs.answering.answer_told.Goals as goal

@@ -21,7 +21,7 @@ returns-in_err-principal g c =
     let principal_is : option_copied c.find_told.result ≡ told (codes "principal") = search rules in
     rw (p.1, p.2)
     (refused_at (as_table g.F.ExtensionFunctionObject.answers c.args.extensions.now) c.args.depth c.args.told.now.entries r Principal (next_principal (as_table g.F.ExtensionFunctionObject.answers c.args.extensions.now) c.args.depth c.args.told.now.entries r) c.in_err-principal.field-0.0
-    (told_part (codes "principal") _ r.principal _ (told (codes "principal")) (Err c.in_err-principal.field-0.0) c.principal.ensures principal_is c.in_err-principal.ensures))
+    (told_part (codes "principal") _ r.principal _ (told (codes "principal")) (Err c.in_err-principal.field-0.0) c.principal.ensures.entity principal_is c.in_err-principal.ensures))
 
 pub returns-in_err-action : goal.returns-in_err-action
 returns-in_err-action g c =
@@ -30,10 +30,10 @@ returns-in_err-action g c =
     let p = err_from_is_err_and c.from_residual-in_err-action.result c.from_residual-in_err-action.ensures.1 in
     let principal_is : option_copied c.find_told.result ≡ told (codes "principal") = search rules in
     let action_is : option_copied c.find_told-2.result ≡ told (codes "action") = search rules in
-    let principal = told_part (codes "principal") _ r.principal _ (told (codes "principal")) (Ok c.in_ok-principal.principal) c.principal.ensures principal_is c.in_ok-principal.ensures in
+    let principal = told_part (codes "principal") _ r.principal _ (told (codes "principal")) (Ok c.in_ok-principal.principal) c.principal.ensures.entity principal_is c.in_ok-principal.ensures in
     rw (p.1, p.2)
     (refused_at (as_table g.F.ExtensionFunctionObject.answers c.args.extensions.now) c.args.depth c.args.told.now.entries r Action (next_action (as_table g.F.ExtensionFunctionObject.answers c.args.extensions.now) c.args.depth c.args.told.now.entries r principal.0) c.in_err-action.field-0.0
-    (told_part (codes "action") _ r.action _ (told (codes "action")) (Err c.in_err-action.field-0.0) c.action.ensures action_is c.in_err-action.ensures))
+    (told_part (codes "action") _ r.action _ (told (codes "action")) (Err c.in_err-action.field-0.0) c.action.ensures.entity action_is c.in_err-action.ensures))
 
 pub returns-in_err-resource : goal.returns-in_err-resource
 returns-in_err-resource g c =
@@ -43,11 +43,11 @@ returns-in_err-resource g c =
     let principal_is : option_copied c.find_told.result ≡ told (codes "principal") = search rules in
     let action_is : option_copied c.find_told-2.result ≡ told (codes "action") = search rules in
     let resource_is : option_copied c.find_told-3.result ≡ told (codes "resource") = search rules in
-    let principal = told_part (codes "principal") _ r.principal _ (told (codes "principal")) (Ok c.in_ok-principal.principal) c.principal.ensures principal_is c.in_ok-principal.ensures in
-    let action = told_part (codes "action") _ r.action _ (told (codes "action")) (Ok c.in_ok-action.action) c.action.ensures action_is c.in_ok-action.ensures in
+    let principal = told_part (codes "principal") _ r.principal _ (told (codes "principal")) (Ok c.in_ok-principal.principal) c.principal.ensures.entity principal_is c.in_ok-principal.ensures in
+    let action = told_part (codes "action") _ r.action _ (told (codes "action")) (Ok c.in_ok-action.action) c.action.ensures.entity action_is c.in_ok-action.ensures in
     rw (p.1, p.2)
     (refused_at (as_table g.F.ExtensionFunctionObject.answers c.args.extensions.now) c.args.depth c.args.told.now.entries r Resource (next_resource (as_table g.F.ExtensionFunctionObject.answers c.args.extensions.now) c.args.depth c.args.told.now.entries r principal.0 action.0) c.in_err-resource.field-0.0
-    (told_part (codes "resource") _ r.resource _ (told (codes "resource")) (Err c.in_err-resource.field-0.0) c.resource.ensures resource_is c.in_err-resource.ensures))
+    (told_part (codes "resource") _ r.resource _ (told (codes "resource")) (Err c.in_err-resource.field-0.0) c.resource.ensures.entity resource_is c.in_err-resource.ensures))
 
 pub returns-in_err-context : goal.returns-in_err-context
 returns-in_err-context g c =
@@ -57,9 +57,9 @@ returns-in_err-context g c =
     let principal_is : option_copied c.find_told.result ≡ told (codes "principal") = search rules in
     let action_is : option_copied c.find_told-2.result ≡ told (codes "action") = search rules in
     let resource_is : option_copied c.find_told-3.result ≡ told (codes "resource") = search rules in
-    let principal = told_part (codes "principal") _ r.principal _ (told (codes "principal")) (Ok c.in_ok-principal.principal) c.principal.ensures principal_is c.in_ok-principal.ensures in
-    let action = told_part (codes "action") _ r.action _ (told (codes "action")) (Ok c.in_ok-action.action) c.action.ensures action_is c.in_ok-action.ensures in
-    let resource = told_part (codes "resource") _ r.resource _ (told (codes "resource")) (Ok c.in_ok-resource.resource) c.resource.ensures resource_is c.in_ok-resource.ensures in
+    let principal = told_part (codes "principal") _ r.principal _ (told (codes "principal")) (Ok c.in_ok-principal.principal) c.principal.ensures.entity principal_is c.in_ok-principal.ensures in
+    let action = told_part (codes "action") _ r.action _ (told (codes "action")) (Ok c.in_ok-action.action) c.action.ensures.entity action_is c.in_ok-action.ensures in
+    let resource = told_part (codes "resource") _ r.resource _ (told (codes "resource")) (Ok c.in_ok-resource.resource) c.resource.ensures.entity resource_is c.in_ok-resource.ensures in
     rw (p.1, p.2)
     (context_refused (as_table g.F.ExtensionFunctionObject.answers c.args.extensions.now) c.args.depth c.args.told.now.entries r principal.0 action.0 resource.0 c.in_err-context.field-0.0
     (subst (λ (x : Option (Either Value Tree)). TellsMaybeContext (as_table g.F.ExtensionFunctionObject.answers c.args.extensions.now) c.args.depth c.args.told.now.entries x (Err c.in_err-context.field-0.0)) c.context.ensures c.in_err-context.ensures))

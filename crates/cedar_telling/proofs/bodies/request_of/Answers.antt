@@ -49,5 +49,5 @@ returns g c = λ by serves.
     let asked = (goal.at.returns g c).In-Some in
     let lent = lent_body g asked in
     is_asked by table c.args.depth tree b (is_stated g asked) lent c.questions_are_asked.ensures c.new_unchecked.result
-    c.in_ok-principal.principal c.in_ok-action.action c.in_ok-resource.resource c.in_ok-context.context c.new_unchecked.ensures
+    c.in_ok-principal.principal c.in_ok-action.action c.in_ok-resource.resource c.in_ok-context.context c.new_unchecked.ensures.held
     c.in_ok-principal.ensures c.in_ok-action.ensures c.in_ok-resource.ensures (c.in_ok-context.ensures by (serves_written tree table by b.context lent serves))
