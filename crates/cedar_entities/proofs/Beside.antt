@@ -12,14 +12,7 @@ use Rattle.cedar_entities.specs.Held.{held_of}
 use Rattle.cedar_entities.specs.Kept.{Lookup, IsByUid}
 use Rattle.cedar_entities.specs.Beside.{among, IsSameBeside, Saved, AreSaved, among_saved}
 use Rattle.cedar_entities.proofs.UidLemmas.{uid_is}
-
-left_false : (a b : Bool) → (a || b) ≡ false → a ≡ false
-left_false true b h = h
-left_false false b h = refl
-
-right_false : (a b : Bool) → (a || b) ≡ false → b ≡ false
-right_false true b h = cc
-right_false false b h = h
+use Rattle.cedar_lemmas.proofs.Booleans.{or_first as left_false, or_second as right_false}
 
 -- ---- edits one after another
 

@@ -10,21 +10,11 @@ use Rattle.cedar_language.specs.Order.{uid_cmp, same_uid}
 use Rattle.cedar_literals.specs.Laws.{uid_cmp_total, uid_cmp_ties, same_uid_equiv}
 use Rattle.cedar_entities.specs.Lists.{UidSet, AreRising, AreInTurn}
 use Rattle.cedar_entities.proofs.UidSets.{contains-listed, contains-both}
+use Rattle.cedar_lemmas.proofs.Booleans.{or_first as left_false, or_second as right_false}
+use Rattle.std.proofs.lemmas.Bool.{or_right as or_else}
 
 pub rising_distinct : (us : List Uid) → AreRising us → IsDistinct same_uid us
 rising_distinct us rises = IsDistinct-from_apart same_uid us (λ i j d h k. uid_cmp_ties (slice_index_or us i d) (slice_index_or us j d) ∙ ap is_eq (Less-from_sorted uid_cmp us i j d rises h k))
-
-left_false : (a b : Bool) → (a || b) ≡ false → a ≡ false
-left_false true b h = h
-left_false false b h = refl
-
-right_false : (a b : Bool) → (a || b) ≡ false → b ≡ false
-right_false true b h = absurd (true≢false h)
-right_false false b h = h
-
-or_else : (a b : Bool) → b ≡ true → (a || b) ≡ true
-or_else true b h = refl
-or_else false b h = h
 
 apart_from : (x : Uid) (ys : List Uid) → list_any (same_uid x) ys ≡ false → AllByRecursion (λ y. same_uid x y ≡ false) ys
 apart_from x [] h = tt

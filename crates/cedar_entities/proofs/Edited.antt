@@ -22,6 +22,7 @@ use Rattle.cedar_entities.specs.declared.errors.EntitiesError.{EntitiesError}
 use Rattle.cedar_entities.specs.declared.errors.EntitiesError.TheVariants.{Duplicate, TransitiveClosureError, Memory}
 use Rattle.cedar_entities.specs.declared.store.Entities.{Entities}
 use Rattle.cedar_entities.proofs.Lookups.{held-added, held-first, held-removed, ancestors_same, reaches_along}
+use Rattle.cedar_lemmas.proofs.Booleans.{and_first as both_true}
 
 cycle_along : (P Q : Uid → Uid → Type 0) → ((a : Uid) → P a a → Q a a) → (e : TcError Uid) → IsCycle P e → IsCycle Q e
 cycle_along P Q on (closure.MissingTcEdge e) h = h
@@ -35,10 +36,6 @@ leaves edited held is (Err (TransitiveClosureError e)) h = cycle_along (IsAncest
 leaves edited held is (Err (Memory e)) h = h
 
 -- ---- a removal leaves no cycle where there was none
-
-both_true : (a b : Bool) → (a && b) ≡ true → a ≡ true
-both_true true b h = refl
-both_true false b h = absurd (true≢false (sym h))
 
 no_new_parent : (gone : UidSet) (x : Bool) (o : Option Held) (b : Uid) → set.contains (parents_of (cond x None (option_map (without_parents gone) o))) b ≡ true → set.contains (parents_of o) b ≡ true
 no_new_parent gone true o b h = absurd (true≢false (sym h ∙ set.contains-empty uid_cmp b))

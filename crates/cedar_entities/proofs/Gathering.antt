@@ -16,10 +16,7 @@ use Rattle.cedar_entities.proofs.UidLemmas.{uid_is, none_of_nothing, without_aga
 use Rattle.cedar_entities.proofs.Ordered.{written_at, keys_stand}
 use Rattle.cedar_entities.proofs.Sameness.{IsUnderway, goes_on}
 use Rattle.cedar_entities.proofs.Untouched.{untouched_cut}
-
-or_else : (a b : Bool) → b ≡ true → (a || b) ≡ true
-or_else true b h = refl
-or_else false b h = h
+use Rattle.std.proofs.lemmas.Bool.{or_right as or_else}
 
 -- ---- gathering
 

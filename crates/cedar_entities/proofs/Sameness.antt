@@ -10,10 +10,7 @@ use Rattle.cedar_entities.specs.Data.{EntityData, IsSameEntity}
 use Rattle.cedar_entities.proofs.UidLemmas.{uid_is}
 use Rattle.cedar_entities.proofs.Ordered.{keys_stand}
 use Rattle.cedar_entities.specs.Kept.{Lookup, in_map, IsSameAt, HoldsAllOf, HoldsUidsOf}
-
-or_more : (a b : Bool) → b ≡ true → (a || b) ≡ true
-or_more true b h = refl
-or_more false b h = h
+use Rattle.std.proofs.lemmas.Bool.{or_right as or_more}
 
 module _ (found others : Lookup) (uid : Uid) where
   none_there : (p : Option EntityData) → ¬ (IsSome p) → p ≡ None

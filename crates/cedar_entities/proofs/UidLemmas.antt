@@ -14,6 +14,7 @@ use Rattle.cedar_entities.specs.Lists.{AreRising, AreInTurn}
 use Rattle.cedar_entities.proofs.Distinct.{rising_distinct, members_in_turn, distinct_in_turn}
 pub use Rattle.cedar_entities.proofs.UidSets.{contains-listed, contains-items, same_uids, contains-both, uid_is, none_passes, difference_apart}
 use Rattle.cedar_entities.specs.Data.{EntityData, UidSet, IsListOf, IsSameEntity, ancestors_of, without}
+use Rattle.cedar_lemmas.proofs.Booleans.{or_nothing as or-none, or_swapped as or_last, same_both as equal_tests}
 
 -- the same uids in another order
 pub reordered : (us vs : List Uid) → ((q : Uid) → list_any (same_uid q) vs ≡ list_any (same_uid q) us) → set.from_list {R = uid_cmp} vs ≡ set.from_list us
@@ -21,18 +22,9 @@ reordered us vs h = same_uids _ _ (λ q. contains-listed vs q ∙ h q ∙ sym (c
 
 -- ---- unions
 
-or-none : (b : Bool) → (b || false) ≡ b
-or-none true = refl
-or-none false = refl
-
 -- nothing kept beside a set
 pub union-empty : (s : UidSet) → set.union s set.empty ≡ s
 union-empty s = same_uids _ _ (λ q. contains-both s set.empty q ∙ ap (λ b. set.contains s q || b) (set.contains-empty uid_cmp q) ∙ or-none (set.contains s q))
-
-or_last : (a b c : Bool) → (a || (b || c)) ≡ (b || (a || c))
-or_last true true c = refl
-or_last true false c = refl
-or_last false b c = refl
 
 -- a uid that is kept beside a set
 pub added_beside : (s t : UidSet) (k q : Uid) → set.contains (set.union s (set.insert t k)) q ≡ (same_uid q k || set.contains (set.union s t) q)
@@ -134,11 +126,6 @@ listed_all us rest all from s along none is h = listed_edges us s (λ q. ap (λ 
 
 abbrev pub IsWithin : UidSet → UidSet → Type 0
 IsWithin s t = (q : Uid) → set.contains s q ≡ true → set.contains t q ≡ true
-
-equal_tests : (a b : Bool) → (a ≡ true → b ≡ true) → (b ≡ true → a ≡ true) → a ≡ b
-equal_tests true b f g = sym (f refl)
-equal_tests false true f g = g refl
-equal_tests false false f g = refl
 
 pub within_both : (s t : UidSet) → IsWithin s t → IsWithin t s → t ≡ s
 within_both s t f g = same_uids t s (λ q. equal_tests _ _ (g q) (f q))

@@ -14,6 +14,7 @@ use Rattle.cedar_language.specs.Order.{text_cmp, name_cmp, uid_cmp, same_uid}
 use Rattle.cedar_language.specs.OrderLaws.{text_cmp_same, name_cmp_same}
 use Rattle.cedar_literals.specs.Laws.{uid_cmp_total, uid_cmp_ties}
 use Rattle.cedar_entities.specs.Lists.{UidSet, beside}
+use Rattle.cedar_lemmas.proofs.Booleans.{and_turned as turned, or_first as left_false, or_second as right_false}
 
 first_equal : (r s : Ordering) → ordering_then r s ≡ Equal → r ≡ Equal
 first_equal Equal s e = refl
@@ -59,12 +60,6 @@ uid_is u v e = uid_cmp_same u v (by_tie (uid_cmp u v) (sym (uid_cmp_ties u v) �
     by_tie Greater h = absurd (true≢false (sym h))
 
 -- ---- lists without some uids, or with more
-
-turned : (a b : Bool) → (a && b) ≡ (b && a)
-turned true true = refl
-turned true false = refl
-turned false true = refl
-turned false false = refl
 
 member-kept : (gone us : List Uid) (q : Uid) → list_any (same_uid q) (filter (λ u. not (list_any (same_uid u) gone)) us) ≡ (list_any (same_uid q) us && not (list_any (same_uid q) gone))
 member-kept gone us q =
@@ -118,14 +113,6 @@ joined us vs = same_uids _ _ (λ q.
     swapped false false = refl
 
 -- ---- a change of nothing
-
-left_false : (a b : Bool) → (a || b) ≡ false → a ≡ false
-left_false true b e = e
-left_false false b e = refl
-
-right_false : (a b : Bool) → (a || b) ≡ false → b ≡ false
-right_false true b e = absurd (true≢false e)
-right_false false b e = e
 
 -- what is true of no listed uid, and of each of which another test is true: that test fails too
 pub none_passes : (p r : Uid → Bool) → ((q : Uid) → r q ≡ true → p q ≡ true) → (ks : List Uid) → list_any p ks ≡ false → list_any r ks ≡ false

@@ -13,6 +13,7 @@ use Rattle.cedar_entities.specs.Edits.{last_by, first_by, or_first}
 use Rattle.cedar_entities.specs.Kept.{Lookup, held_in, kept_at, same, put_over, added_to, removed_from, KeepsAncestors, IsUntouched, Covers, KeepsBeside}
 use Rattle.cedar_entities.specs.Beside.{among, among_entities, CoversEntities, cut_from}
 use Rattle.cedar_entities.proofs.UidLemmas.{contains-listed, uid_is, none_passes, apart_stays}
+use Rattle.cedar_lemmas.proofs.Booleans.{or_first as left_false, or_second as right_false}
 
 module _ (old new : Lookup) (edited : List Uid) (keeps : KeepsAncestors old) (agrees : (uid : Uid) → IsUntouched old edited uid → new uid ≡ old uid) where
   to_new : (x m : Uid) → IsUntouched old edited x → IsParent (held_in old) x m → IsParent (held_in new) x m
@@ -46,14 +47,6 @@ module _ (old new : Lookup) (edited : List Uid) (keeps : KeepsAncestors old) (ag
   }
 
 -- ---- edits leave what they don't touch
-
-left_false : (a b : Bool) → (a || b) ≡ false → a ≡ false
-left_false true b h = h
-left_false false b h = refl
-
-right_false : (a b : Bool) → (a || b) ≡ false → b ≡ false
-right_false true b h = absurd (true≢false h)
-right_false false b h = h
 
 other : (e : EntityData) (es : List EntityData) (uid : Uid) → among_entities (e ∷ es) uid ≡ false → same_uid e.uid uid ≡ false
 other e es uid h = same_uid_equiv.symm e.uid uid ∙ left_false (same_uid uid e.uid) (among_entities es uid) h

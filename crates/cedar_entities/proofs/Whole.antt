@@ -11,10 +11,7 @@ use Rattle.cedar_literals.specs.Laws.{same_uid_equiv}
 use Rattle.cedar_entities.specs.Held.{parents_of, IsParent, IsAncestor}
 use Rattle.cedar_entities.specs.Kept.{Lookup, held_in, kept_at, IsKept, KeepsAncestors, IsWhole}
 use Rattle.cedar_entities.proofs.UidLemmas.{contains-items, uid_is}
-
-or_else : (a b : Bool) → b ≡ true → (a || b) ≡ true
-or_else true b h = refl
-or_else false b h = h
+use Rattle.std.proofs.lemmas.Bool.{or_right as or_else}
 
 -- ---- how many of some uids pass a test
 

@@ -13,6 +13,7 @@ use Rattle.cedar_extensions.specs.ValidationRefusals.{Refuses}
 use Rattle.cedar_extensions.specs.declared.validation_errors.ExprValidationError.{ExprValidationError}
 use Rattle.cedar_extensions.specs.declared.validation_errors.ExprValidationError.TheVariants.{FuncDoesNotExist, WrongNumArguments, Memory}
 use Rattle.cedar_entity_evaluation.specs.Validated.{ValidatesCalls}
+use Rattle.cedar_lemmas.proofs.Booleans.{and_first as left_true, and_second as right_true}
 
 -- nothing is wrong with what fits
 right_count : (n : Option ℕ) (c : Name × ℕ) → takes n c.1 ≡ true → fault_of_count n c ≡ None
@@ -22,14 +23,6 @@ right_count (Some m) c fits = ap (λ b. cond b None (Some (OtherCount c.0 m c.1)
 right_by : (f : Option Function) (c : Name × ℕ) → is_taken_by f c.1 ≡ true → fault_by f c ≡ None
 right_by None c fits = absurd (true≢false (sym fits))
 right_by (Some f) c fits = right_count f.takes c fits
-
-left_true : (a b : Bool) → (a && b) ≡ true → a ≡ true
-left_true true b h = refl
-left_true false b h = absurd (true≢false (sym h))
-
-right_true : (a b : Bool) → (a && b) ≡ true → b ≡ true
-right_true true b h = h
-right_true false b h = absurd (true≢false (sym h))
 
 module _ (table : Table) where
   no_fault : (cs : List (Name × ℕ)) → list_all (call_fits table) cs ≡ true → first_fault table cs ≡ None

@@ -15,6 +15,7 @@ use Rattle.cedar_value_operators.specs.Operands.{uid_in, members_in, at_operand,
 use Rattle.cedar_operators.specs.Store.{HasFacts, IsFound}
 use Rattle.cedar_operators.specs.Hierarchy.{is_within_entity, within_of}
 use Rattle.cedar_operators.proofs.ByStore.{within_is}
+use Rattle.cedar_lemmas.proofs.Booleans.{or_grouped as or_or, or_nothing as or_false}
 
 -- ---- what the right operand is
 
@@ -47,10 +48,6 @@ within_others test (ExtensionOf x) e f = refl
 -- the test held before, or holds of some uid that is left
 abbrev pub any_left : (Uid → Bool) → Bool → Values → Option Bool
 any_left test found vs = option_map (λ us. found || list_any test us) (uids_in vs)
-
-or_or : (b c d : Bool) → (b || (c || d)) ≡ ((b || c) || d)
-or_or true c d = refl
-or_or false c d = refl
 
 and_more : (test : Uid → Bool) (found : Bool) (u : Uid) (o : Option (List Uid)) → option_map (λ us. found || list_any test us) (and_uid (Plain (Entity u)) o) ≡ option_map (λ us. (found || test u) || list_any test us) o
 and_more test found u None = refl
@@ -89,10 +86,6 @@ or_then b t r e f = f ∙ e ∙ sym (ap (λ x. x || t) e)
 
 pub or_else : (b t r : Bool) → b ≡ false → r ≡ t → r ≡ (b || t)
 or_else b t r e f = f ∙ sym (ap (λ x. x || t) e)
-
-or_false : (b : Bool) → (b || false) ≡ b
-or_false true = refl
-or_false false = refl
 
 pub all_seen : (test : Uid → Bool) (found : Bool) (vs : List Value) → vs ≡ [] → any_left test found (all_of vs) ≡ Some found
 all_seen test found vs e = ap (λ x. any_left test found (all_of x)) e ∙ ap Some (or_false found)

@@ -13,15 +13,13 @@ use Rattle.cedar_partial_evaluation.specs.Mentions.{mentions_only, all_mention_o
 use Rattle.cedar_partial_evaluation.specs.Partial.{Answer, Evaluated, ResidualTree, Failed, Answers, AllEvaluated, SomeResiduals, SomeFailed, LeafAnswers, and_next, apply_answer, partial_in, all_partial_in}
 use Rattle.cedar_partial_evaluation.specs.Question.{Told, name_held, held_names}
 use Rattle.cedar_requests.proofs.ToldAnswers.{and_left, and_right}
+use Rattle.std.proofs.lemmas.Bool.{and_from as and_both}
 
 abbrev mentions_none : Tree → Bool
 mentions_none t = mentions_only (λ v. false) false t
 
 abbrev all_mention_none : Trees → Bool
 all_mention_none ts = all_mention_only (λ v. false) false ts
-
-and_both : (a b : Bool) → a ≡ true → b ≡ true → (a && b) ≡ true
-and_both a b h k = rw (h, k) refl
 
 module _ (facts : Facts) where
   abbrev KnownBy : Answer → Tree → Type 0

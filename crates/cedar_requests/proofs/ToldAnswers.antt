@@ -34,22 +34,8 @@ use Rattle.cedar_requests.specs.ToldContexts.{HoldTold, StatesNoType, ToldContex
 use Rattle.cedar_requests.specs.declared.contexts.Context.{Context}
 use Rattle.cedar_requests.proofs.PutIn.{put_in, all_put_in, substituted_is}
 use Rattle.cedar_requests.proofs.Untyped.{untyped_fits}
-
-pub and_left : (a b : Bool) → (a && b) ≡ true → a ≡ true
-and_left true b h = refl
-and_left false b h = h
-
-pub and_right : (a b : Bool) → (a && b) ≡ true → b ≡ true
-and_right true b h = h
-and_right false b h = cc
-
-or_left : (a b : Bool) → (a || b) ≡ false → a ≡ false
-or_left false b h = refl
-or_left true b h = h
-
-or_right : (a b : Bool) → (a || b) ≡ false → b ≡ false
-or_right false b h = h
-or_right true b h = cc
+pub use Rattle.cedar_lemmas.proofs.Booleans.{and_first as and_left, and_second as and_right}
+use Rattle.cedar_lemmas.proofs.Booleans.{or_first as or_left, or_second as or_right}
 
 -- ---- operators that build a value of all that they are given look at no leaves
 

@@ -12,6 +12,7 @@ use Rattle.cedar_partial_evaluation.specs.MadeAgain.{tree_of, trees_of}
 use Rattle.cedar_partial_evaluation.specs.Partial.{Answer, Evaluated, ResidualTree, Failed, Answers, AllEvaluated, SomeResiduals, SomeFailed, answer_of, LeafAnswers, and_next, apply_answer, partial_in, all_partial_in}
 use Rattle.cedar_partial_evaluation.specs.Unknowns.{EachUnknown, EachUnknownOf}
 use Rattle.cedar_requests.proofs.ToldAnswers.{and_left, and_right}
+use Rattle.std.proofs.lemmas.Bool.{and_from as and_both}
 
 abbrev pub Untyped : Tree → Type 0
 Untyped t = EachUnknown (λ n ty. ty ≡ None) t
@@ -34,9 +35,6 @@ abbrev AreDataAnswers : Answers → Type 0
 AreDataAnswers (AllEvaluated vs) = Unit {0}
 AreDataAnswers (SomeResiduals ts) = AreDataTrees ts
 AreDataAnswers (SomeFailed k) = Unit {0}
-
-and_both : (a b : Bool) → a ≡ true → b ≡ true → (a && b) ≡ true
-and_both a b h k = rw (h, k) refl
 
 more_data : (t : Tree) (ts : Trees) → IsDataTree t → AreDataTrees ts → AreDataTrees (a_tree t ts)
 more_data t ts h k = (and_both (is_restricted t) (are_restricted ts) h.0 k.0, (h.1, k.1))

@@ -40,6 +40,7 @@ use Rattle.cedar_restricted.specs.declared.partial_values.PartialValue.{PartialV
 use Rattle.cedar_restricted_evaluation.specs.Evaluations.{HasFunctions, nothing_told, one_text, name_called, named_or, answer_in, answers_in}
 use Rattle.cedar_restricted_evaluation.specs.Findings.{IsCalled, Calls, IsFound, Errs, Evaluates, AreFound, SomeErrs}
 use Rattle.cedar_restricted_evaluation.proofs.Gathering.{all_values, some_residuals, all_restricted, some_waits}
+use Rattle.cedar_lemmas.proofs.Booleans.{and_both as both_true}
 
 -- ---- leaves
 
@@ -134,10 +135,6 @@ none_named : (b : Bool) (o : Option Text) → ((n : Text) → b ≡ true → o �
 none_named false o h = refl
 none_named true None h = refl
 none_named true (Some n) h = absurd (h n refl refl)
-
-both_true : (a b : Bool) → (a && b) ≡ true → (a ≡ true) × (b ≡ true)
-both_true true b h = (refl, h)
-both_true false b h = cc
 
 module _ (table : Table) (f : Name) (ts : List Tree) (ps : List (Either Value Tree)) (found : AreFound table ts ps) where
   pub call_waits : (us : List Tree) → (list_any is_residual ps ≡ true) × ExpressEach ps us → IsFound table (Apply (Call f) (trees ts)) (Right (Apply (Call f) (trees us)))

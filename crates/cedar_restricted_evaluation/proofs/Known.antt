@@ -24,14 +24,7 @@ use Rattle.cedar_restricted_evaluation.specs.Evaluations.{HasFunctions, IsKnown,
 use Rattle.cedar_restricted_evaluation.specs.Findings.{IsFound, Errs, Evaluates}
 use Rattle.cedar_restricted_evaluation.proofs.Gathering.{part_is}
 use Rattle.cedar_restricted_evaluation.proofs.WrittenNames.{unnamed, written_names_are_read}
-
-and_left : (a b : Bool) → (a && b) ≡ true → a ≡ true
-and_left true b h = refl
-and_left false b h = h
-
-and_right : (a b : Bool) → (a && b) ≡ true → b ≡ true
-and_right true b h = h
-and_right false b h = cc
+use Rattle.cedar_lemmas.proofs.Booleans.{and_first as and_left, and_second as and_right}
 
 -- ---- nothing is named where `unknown` isn't called
 

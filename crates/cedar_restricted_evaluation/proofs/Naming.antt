@@ -26,12 +26,9 @@ use Rattle.cedar_restricted_evaluation.specs.Findings.{IsCalledBy}
 use Rattle.cedar_extensions.specs.Holding.{found_in, is_named, are_named}
 use Rattle.cedar_extensions.specs.declared.functions.Function.{Function}
 use Rattle.cedar_extensions.specs.declared.functions.ExtensionFunction.{ExtensionFunction}
+use Rattle.std.proofs.lemmas.Bool.{or_right}
 
 -- ---- the functions of a table
-
-or_right : (a b : Bool) → b ≡ true → (a || b) ≡ true
-or_right true b h = refl
-or_right false b h = h
 
 module _ {F : Type 0} (n : Name) (f : ExtensionFunction F) where
   named_here : (u : Bool) → is_unknown f ≡ u → (g : ExtensionFunction F) (gs : List (ExtensionFunction F)) → is_named g ≡ true → (found_in gs n ≡ Some f → is_the_unknown n ≡ u) → (b : Bool) → same_name (function_name g) n ≡ b → cond b (Some g) (found_in gs n) ≡ Some f → is_the_unknown n ≡ u

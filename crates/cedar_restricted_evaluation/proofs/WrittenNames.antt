@@ -12,22 +12,7 @@ use Rattle.cedar_grammar.specs.Functions.{is_the_unknown}
 use Rattle.cedar_extensions.specs.Table.{Table}
 use Rattle.cedar_restricted_evaluation.specs.Evaluations.{nothing_told, one_text, name_called, named_or, answer_in, answers_in, named_by, WrittenNamesAreRead}
 use Rattle.cedar_restricted_evaluation.proofs.Arms.{still_unknown, parts_answered}
-
-and_left : (a b : Bool) → (a && b) ≡ true → a ≡ true
-and_left true b h = refl
-and_left false b h = h
-
-and_right : (a b : Bool) → (a && b) ≡ true → b ≡ true
-and_right true b h = h
-and_right false b h = cc
-
-or_left : (a b : Bool) → (a || b) ≡ false → a ≡ false
-or_left false b h = refl
-or_left true b h = h
-
-or_right : (a b : Bool) → (a || b) ≡ false → b ≡ false
-or_right false b h = h
-or_right true b h = cc
+use Rattle.cedar_lemmas.proofs.Booleans.{and_first as and_left, and_second as and_right, or_first as or_left, or_second as or_right}
 
 -- ---- a table without `unknown`
 
