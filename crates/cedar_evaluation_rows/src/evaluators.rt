@@ -1,20 +1,40 @@
 // What evaluators answer of an expression.
-use crate::requests::{Requests, word_depth};
-use cedar_entities::store::Entities;
-use cedar_expressions::Extensions;
-use cedar_expressions::ast::{BorrowedRestrictedExpr, EntityUID, Expr};
+use crate::entities::user;
+use crate::requests::word_depth;
+use cedar_extensions::extensions::Extensions;
 use cedar_interpreter::{Evaluator, RestrictedEvaluator};
+use cedar_parser::ExtStyles;
+use cedar_parser::prelude::StylesOfExtensions;
+use cedar_parser::strict::parse_expr_strict;
 use cedar_policy_parts::bindings::SlotEnv;
 use cedar_requests::{Context, EntityUIDEntry, Request};
-use cedar_rows::{Answer, no_case, refused, show};
+use cedar_restricted::borrowed::BorrowedRestrictedExpr;
+use cedar_rows::{Answer, no_case, push, refused, show};
+use cedar_store::entities::Entities;
+use cedar_trees::expr::Expr;
 use std::alloc::{AllocError, Global};
+
+/// Puts the expression of a text on the stack. The words on both sides of a bar are one text.
+pub(crate) fn read(
+    alloc: Global,
+    verb: &str,
+    text: &str,
+    table: &Extensions<'_>,
+    exprs: &mut Vec<Expr>,
+) -> Answer {
+    let styles = ExtStyles::from_extensions(alloc, table)?;
+    match verb {
+        "text" => push(alloc, exprs, parse_expr_strict(alloc, text, &styles, 64)),
+        _ => no_case(alloc),
+    }
+}
 
 /// The user of this id, or unknown.
 fn part(alloc: Global, id: &str, is_missing: bool) -> Result<EntityUIDEntry, AllocError> {
     if is_missing {
         return Ok(EntityUIDEntry::unknown());
     }
-    match EntityUID::with_eid_and_type(alloc, "User", id) {
+    match user(alloc, id) {
         Ok(uid) => EntityUIDEntry::known(alloc, uid, None),
         Err(_error) => Ok(EntityUIDEntry::unknown()),
     }
@@ -54,48 +74,14 @@ pub(crate) fn answer(
     entities: &Entities,
     table: &Extensions<'_>,
 ) -> Answer {
-    let Some(depth) = word_depth(depth) else {
+    let (Some(depth), Some(expr)) = (word_depth(depth), exprs.pop()) else {
         return no_case(alloc);
     };
-    match question(alloc, missing)? {
-        Some(request) => of_request(alloc, verb, depth, exprs, &request, entities, table),
-        None => no_case(alloc),
-    }
-}
-
-/// What it is evaluated to for a request.
-fn of_request(
-    alloc: Global,
-    verb: &str,
-    depth: u32,
-    exprs: &mut Vec<Expr>,
-    request: &Request,
-    entities: &Entities,
-    table: &Extensions<'_>,
-) -> Answer {
-    let evaluator = Evaluator::new(alloc, request, entities, table, depth)?;
-    match exprs.pop() {
-        Some(expr) => of(alloc, verb, &evaluator, &expr),
-        None => no_case(alloc),
-    }
-}
-
-/// What it is evaluated to for the request that was made last.
-pub(crate) fn answer_of(
-    alloc: Global,
-    verb: &str,
-    depth: &str,
-    exprs: &mut Vec<Expr>,
-    requests: &Requests,
-    entities: &Entities,
-    table: &Extensions<'_>,
-) -> Answer {
-    match (word_depth(depth), requests.request()) {
-        (Some(depth), Some(request)) => {
-            of_request(alloc, verb, depth, exprs, request, entities, table)
-        }
-        _ => no_case(alloc),
-    }
+    let Some(request) = question(alloc, missing)? else {
+        return no_case(alloc);
+    };
+    let evaluator = Evaluator::new(alloc, &request, entities, table, depth)?;
+    of(alloc, verb, &evaluator, &expr)
 }
 
 /// What it is evaluated to as a restricted expression.
@@ -106,23 +92,11 @@ pub(crate) fn restricted(
     exprs: &mut Vec<Expr>,
     table: &Extensions<'_>,
 ) -> Answer {
-    let Some(depth) = word_depth(depth) else {
+    let (Some(depth), Some(expr)) = (word_depth(depth), exprs.pop()) else {
         return no_case(alloc);
     };
     let evaluator = RestrictedEvaluator::new(table, depth);
-    match exprs.pop() {
-        Some(expr) => of_restricted(alloc, verb, &evaluator, &expr),
-        None => no_case(alloc),
-    }
-}
-
-fn of_restricted(
-    alloc: Global,
-    verb: &str,
-    evaluator: &RestrictedEvaluator<'_, '_>,
-    expr: &Expr,
-) -> Answer {
-    match BorrowedRestrictedExpr::new(alloc, expr) {
+    match BorrowedRestrictedExpr::new(alloc, &expr) {
         Ok(expr) => match verb {
             "value" => show(alloc, evaluator.interpret(alloc, expr)),
             "partial" => show(alloc, evaluator.partial_interpret(alloc, expr)),

@@ -1,38 +1,35 @@
-//! What lines of steps of the layer of evaluation answer: a step is a section, a verb, and words with a bar
-//! between. What a step makes is kept, or stands on a stack; a line's answer is that of its last step.
+//! What lines of steps of the layer of entities, policies and evaluation answer: a step is a section, a verb, and words
+//! with a bar between. Expressions and policies are read from texts. What a step makes is kept, or stands on a stack; a
+//! line's answer is that of its last step.
 #![tactic(auto)]
 
-mod contexts;
+mod entities;
 mod evaluators;
-mod indexing;
-mod operators;
 mod policies;
 mod refusing;
 mod requests;
 mod responses;
-mod stores;
-mod telling;
+mod sets;
+mod templates;
 
+use crate::entities::Stores;
 use crate::requests::Requests;
-use crate::responses::Found;
-use crate::stores::Stores;
-use cedar_expressions::Extensions;
-use cedar_expressions::ast::{Expr, Value};
-use cedar_expressions_rows::{partial_values, substitution};
-use cedar_policy_set::sets::PolicySet;
-use cedar_rows::{Answer, Step, no_case, trees};
+use crate::sets::Sets;
+use cedar_extensions::extensions::Extensions;
+use cedar_restricted::from_expr::TryFromExpr;
+use cedar_rows::{Answer, Step, no_case, refused, tell};
+use cedar_trees::expr::Expr;
+use cedar_values::values::Value;
 use std::alloc::{AllocError, Global};
 use std::collections::BTreeMap;
 use std::rc::RcStr;
 
-/// What earlier steps left. The stacks, and what is told, are empty where a line begins.
+/// What earlier steps left. The stack of expressions, and what is told, are empty where a line begins.
 pub struct Held {
     stores: Stores,
-    policies: PolicySet,
-    found: Found,
+    sets: Sets,
     requests: Requests,
     exprs: Vec<Expr>,
-    values: Vec<Value>,
     told: BTreeMap<RcStr, Value>,
     table: Extensions<'static>,
 }
@@ -41,11 +38,9 @@ impl Drop for Held {
     fn drop(self) {
         let Held {
             stores: _,
-            policies: _,
-            found: _,
+            sets: _,
             requests: _,
             exprs: _,
-            values: _,
             told: _,
             table: _,
         } = self;
@@ -55,79 +50,67 @@ impl Drop for Held {
 /// Nothing was made yet. Refused for memory alone.
 pub fn none(alloc: Global) -> Result<Held, AllocError> {
     Ok(Held {
-        stores: stores::none(alloc),
-        policies: PolicySet::new(alloc),
-        found: responses::none(alloc),
+        stores: entities::none(alloc),
+        sets: sets::none(alloc),
         requests: requests::none(alloc),
         exprs: Vec::new(alloc),
-        values: Vec::new(alloc),
         told: BTreeMap::new(alloc),
         table: Extensions::all_available(alloc)?,
     })
 }
 
-/// The section that knows a verb of stores and of operators.
+/// Tells the value of this name that the expression on top writes.
+fn told(
+    alloc: Global,
+    name: &str,
+    exprs: &mut Vec<Expr>,
+    told: &mut BTreeMap<RcStr, Value>,
+) -> Answer {
+    let name = RcStr::from_str(alloc, name)?;
+    let Some(expr) = exprs.pop() else {
+        return no_case(alloc);
+    };
+    match Value::try_from_expr(alloc, &expr) {
+        Ok(value) => {
+            told.insert(name, value)?;
+            tell(alloc, told.len())
+        }
+        Err(error) => refused(alloc, error),
+    }
+}
+
+/// The section that knows a verb of entities, policies and their sets.
 fn stored(alloc: Global, section: &str, step: &Step<'_>, held: &mut Held) -> Answer {
     let (verb, one, other) = (step.verb, step.one.as_str(), step.other.as_str());
+    let (exprs, table, sets) = (&mut held.exprs, &held.table, &mut held.sets);
     match section {
-        "value" => stores::value(alloc, verb, one, other, &mut held.stores),
-        "hold" => stores::hold(alloc, verb, one, other, &mut held.stores),
-        "operate" => operators::operate(alloc, verb, one, &mut held.stores),
+        "expr" => evaluators::read(alloc, verb, one, table, exprs),
+        "part" => entities::part(alloc, verb, one, exprs, &mut held.stores),
+        "make" => entities::make(alloc, verb, one, other, table, &mut held.stores),
+        "entity" => entities::ask(alloc, verb, one, table, &mut held.stores),
+        "store" => entities::fill(alloc, verb, one, table, &mut held.stores),
+        "policies" if verb == "read" => sets::read(alloc, one, table, sets),
+        "edit" => sets::edit(alloc, verb, one, other, exprs, sets),
+        "set" => sets::ask(alloc, verb, table, sets),
+        "merged" => sets::merge(alloc, verb, sets),
+        "template" => templates::of_template(alloc, verb, one, table, sets),
+        "policy" => templates::of_policy(alloc, verb, one, sets),
         _ => evaluated(alloc, section, step, held),
     }
 }
 
-/// That of expressions, and of their evaluation.
+/// That of evaluations, requests and responses.
 fn evaluated(alloc: Global, section: &str, step: &Step<'_>, held: &mut Held) -> Answer {
     let (verb, one, other) = (step.verb, step.one.as_str(), step.other.as_str());
-    let exprs = &mut held.exprs;
+    let (exprs, store, table) = (&mut held.exprs, &held.stores.store, &held.table);
     match section {
-        "leaf" => trees::leaf(alloc, verb, one, other, exprs),
-        "ask" => trees::asked(alloc, verb, one, exprs),
-        "unary" => trees::unary(alloc, verb, one, exprs),
-        "binary" => trees::binary(alloc, verb, exprs),
-        "ternary" => trees::ternary(alloc, verb, exprs),
-        "attribute" => trees::attribute(alloc, verb, one, exprs),
-        "set" => trees::set(alloc, verb, exprs),
-        "record" => trees::record(alloc, verb, one, exprs),
-        "call" => trees::call(alloc, verb, one, exprs),
-        "evaluate" => {
-            let (store, table) = (&held.stores.store, &held.table);
-            evaluators::answer(alloc, verb, one, other, exprs, store, table)
-        }
-        "asked" => {
-            let (requests, store, table) = (&held.requests, &held.stores.store, &held.table);
-            evaluators::answer_of(alloc, verb, one, exprs, requests, store, table)
-        }
-        "restricted" => evaluators::restricted(alloc, verb, one, exprs, &held.table),
-        "policies" => {
-            let (store, table) = (&held.stores.store, &held.table);
-            policies::answer(alloc, verb, one, other, &mut held.policies, store, table)
-        }
-        _ => requested(alloc, section, step, held),
-    }
-}
-
-/// That of requests, of the values that are told, and of responses that are made by hand.
-fn requested(alloc: Global, section: &str, step: &Step<'_>, held: &mut Held) -> Answer {
-    let (verb, one, other) = (step.verb, step.one.as_str(), step.other.as_str());
-    let exprs = &mut held.exprs;
-    match section {
-        "edit" => indexing::edit(alloc, verb, one, other, exprs, &mut held.policies),
-        "given" => partial_values::value(alloc, verb, one, &mut held.values),
-        "tell" => substitution::tell_value(alloc, verb, &mut held.values, &mut held.told),
-        "told" => {
-            let (requests, told, set) = (&held.requests, &held.told, &held.policies);
-            let (store, table) = (&held.stores.store, &held.table);
-            telling::answer(alloc, verb, requests, told, set, store, table)
-        }
-        "request" => {
-            let (told, table, state) = (&held.told, &held.table, &mut held.requests);
-            requests::answer(alloc, verb, one, other, exprs, told, table, state)
-        }
-        "found" => responses::find(alloc, verb, one, &mut held.found),
-        "open" => responses::open(alloc, verb, one, exprs, &mut held.found),
-        "made" => responses::made(alloc, verb, one, &mut held.found),
+        "evaluate" => evaluators::answer(alloc, verb, one, other, exprs, store, table),
+        "restricted" => evaluators::restricted(alloc, verb, one, exprs, table),
+        "policies" => policies::answer(alloc, verb, one, other, &held.sets.set, store, table),
+        "told" => policies::told(alloc, verb, &held.told, &held.sets.set, store, table),
+        "made" => responses::answer(alloc, verb, one),
+        "request" => requests::answer(alloc, verb, one, other, exprs, &held.told, table, &mut held.requests),
+        "tell" => told(alloc, verb, exprs, &mut held.told),
         _ => no_case(alloc),
     }
 }
@@ -141,7 +124,6 @@ fn answered(alloc: Global, step: &str, held: &mut Held) -> Answer {
 /// What the last step of a line answers. Refused for memory alone.
 pub fn answer(alloc: Global, line: &str, held: &mut Held) -> Answer {
     held.exprs.clear();
-    held.values.clear();
     held.told.clear();
     let mut answer = String::new(alloc);
     for step in line.split("; ") {

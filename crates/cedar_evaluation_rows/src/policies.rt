@@ -1,62 +1,33 @@
 // What policies come to for a question, and what the authorizer responds.
 use crate::evaluators::question;
 use crate::requests::word_depth;
-use cedar_entities::store::Entities;
 use cedar_evaluator::authorizer::Authorizer;
 use cedar_evaluator::errors::AuthorizationError;
 use cedar_evaluator::evaluation::EvaluatePolicy;
 use cedar_evaluator::partial_response::PartialResponse;
 use cedar_evaluator::response::Response;
-use cedar_expressions::Extensions;
+use cedar_extensions::extensions::Extensions;
 use cedar_interpreter::Evaluator;
-use cedar_parser::ExtStyles;
-use cedar_parser::prelude::StylesOfExtensions;
-use cedar_parser::strict::parse_policyset_strict;
 use cedar_policies::policies::Policy;
 use cedar_policy_parts::PolicyID;
 use cedar_policy_set::sets::PolicySet;
-use cedar_requests::Request;
 use cedar_rows::{Answer, append, no_case, put, refused, said, show, tell};
+use cedar_store::entities::Entities;
+use cedar_values::values::Value;
 use either::Either;
 use std::alloc::{AllocError, Global};
-
-/// Reads the text of policies, which may call `unknown` if the verb lets them, in place of those that were
-/// read before, and answers how many there are.
-fn read(
-    alloc: Global,
-    verb: &str,
-    text: &str,
-    table: &Extensions<'_>,
-    set: &mut PolicySet,
-) -> Answer {
-    let styles = match verb {
-        "read" => ExtStyles::for_policies(alloc, table)?,
-        "read-open" => ExtStyles::from_extensions(alloc, table)?,
-        _ => return no_case(alloc),
-    };
-    match parse_policyset_strict(alloc, text, &styles, 64) {
-        Ok(policies) => {
-            *set = policies;
-            tell(alloc, set.len())
-        }
-        Err(errors) => refused(alloc, errors),
-    }
-}
+use std::collections::BTreeMap;
+use std::rc::RcStr;
 
 /// Whether a policy is satisfied, or what is left of its condition.
-fn left(alloc: Global, evaluator: &Evaluator<'_, '_, '_>, policy: &Policy) -> Answer {
+fn of(alloc: Global, verb: &str, evaluator: &Evaluator<'_, '_, '_>, policy: &Policy) -> Answer {
+    if verb == "value" {
+        return show(alloc, evaluator.evaluate(alloc, policy));
+    }
     match evaluator.partial_evaluate(alloc, policy) {
         Ok(Either::Left(satisfied)) => said(alloc, satisfied),
         Ok(Either::Right(rest)) => rest.to_string(alloc),
         Err(error) => refused(alloc, error),
-    }
-}
-
-fn of(alloc: Global, verb: &str, evaluator: &Evaluator<'_, '_, '_>, policy: &Policy) -> Answer {
-    match verb {
-        "value" => show(alloc, evaluator.evaluate(alloc, policy)),
-        "left" => left(alloc, evaluator, policy),
-        _ => no_case(alloc),
     }
 }
 
@@ -100,7 +71,7 @@ pub(crate) fn responded(alloc: Global, response: &PartialResponse) -> Answer {
 }
 
 /// Whether the request is allowed, the reasons, and the errors.
-pub(crate) fn answered(alloc: Global, response: &Response) -> Answer {
+fn answered(alloc: Global, response: &Response) -> Answer {
     let mut text = tell(alloc, response.decision)?;
     for id in &response.diagnostics.reason {
         put(&mut text, " ", id.to_string(alloc))?;
@@ -110,10 +81,10 @@ pub(crate) fn answered(alloc: Global, response: &Response) -> Answer {
     Ok(text)
 }
 
-/// What is left of a policy.
+/// What is left of a policy, behind its annotations.
 fn left_of(alloc: Global, policy: &Policy) -> Answer {
     let condition = policy.condition(alloc)?;
-    format!(in alloc; "{} {condition}", policy.id())
+    format!(in alloc; "{} {}{condition}", policy.id(), policy.annotations())
 }
 
 /// What is left of policies, one after another.
@@ -121,23 +92,6 @@ fn listed(alloc: Global, policies: Result<Vec<Policy>, AllocError>) -> Answer {
     let mut text = String::new(alloc);
     for policy in &policies? {
         append(&mut text, left_of(alloc, policy))?;
-    }
-    Ok(text)
-}
-
-fn annotations_of(alloc: Global, policy: &Policy) -> Answer {
-    let mut text = policy.id().to_string(alloc)?;
-    for (key, annotation) in policy.annotations().iter() {
-        write!(text, " @{key}({annotation})")?;
-    }
-    Ok(text)
-}
-
-/// The annotations of policies, one after another.
-fn annotated(alloc: Global, policies: Result<Vec<Policy>, AllocError>) -> Answer {
-    let mut text = String::new(alloc);
-    for policy in &policies? {
-        append(&mut text, annotations_of(alloc, policy))?;
     }
     Ok(text)
 }
@@ -150,21 +104,8 @@ fn named(alloc: Global, ids: Result<Vec<&PolicyID>, AllocError>) -> Answer {
     Ok(text)
 }
 
-fn condition(alloc: Global, policy: &Policy) -> Answer {
-    policy.condition(alloc)?.to_string(alloc)
-}
-
-/// What is left of the policy of an id.
-fn got(alloc: Global, response: &PartialResponse, id: &str) -> Answer {
-    let id = PolicyID::from_string(alloc, id)?;
-    match response.get(alloc, &id)? {
-        Some(policy) => condition(alloc, &policy),
-        None => no_case(alloc),
-    }
-}
-
 /// What a reader of the response gives.
-pub(crate) fn read_response(alloc: Global, reader: &str, response: &PartialResponse) -> Answer {
+fn read_response(alloc: Global, reader: &str, response: &PartialResponse) -> Answer {
     match reader {
         "satisfied" => listed(alloc, response.definitely_satisfied(alloc)),
         "must" => listed(alloc, response.must_be_determining(alloc)),
@@ -172,34 +113,10 @@ pub(crate) fn read_response(alloc: Global, reader: &str, response: &PartialRespo
         "open" => listed(alloc, response.nontrivial_residuals(alloc)),
         "open-forbids" => listed(alloc, response.nontrivial_forbids(alloc)),
         "all" => listed(alloc, response.all_residuals(alloc)),
-        "annotations" => annotated(alloc, response.all_residuals(alloc)),
         "open-ids" => named(alloc, response.nontrivial_residual_ids().collect(alloc)),
         "errored" => named(alloc, response.definitely_errored().collect(alloc)),
-        _ => got(alloc, response, reader),
+        _ => no_case(alloc),
     }
-}
-
-/// What the authorizer responds; without the policies that aren't satisfied, also what is left of the others.
-fn respond(
-    alloc: Global,
-    verb: &str,
-    authorizer: &Authorizer<'_, '_>,
-    request: Request,
-    set: &PolicySet,
-    entities: &Entities,
-) -> Answer {
-    if verb == "respond" {
-        let response = authorizer.is_authorized_core(alloc, request, set, entities)?;
-        return responded(alloc, &response);
-    }
-    let response = authorizer.is_authorized_without_false(alloc, request, set, entities)?;
-    responded_with_rest(alloc, &response)
-}
-
-fn responded_with_rest(alloc: Global, response: &PartialResponse) -> Answer {
-    let mut text = responded(alloc, response)?;
-    put(&mut text, ", left ", read_response(alloc, "all", response))?;
-    Ok(text)
 }
 
 /// What is read of the response for a question without a principal.
@@ -224,35 +141,25 @@ pub(crate) fn answer(
     verb: &str,
     one: &str,
     missing: &str,
-    set: &mut PolicySet,
-    entities: &Entities,
-    table: &Extensions<'_>,
-) -> Answer {
-    match (verb, word_depth(one)) {
-        ("read" | "read-open", _) => read(alloc, verb, one, table, set),
-        ("residuals", _) => residuals(alloc, one, set, entities, table),
-        (_, Some(depth)) => match question(alloc, missing)? {
-            Some(request) => asked(alloc, verb, depth, request, set, entities, table),
-            None => no_case(alloc),
-        },
-        _ => no_case(alloc),
-    }
-}
-
-/// What is asked of policies for a request.
-fn asked(
-    alloc: Global,
-    verb: &str,
-    depth: u32,
-    request: Request,
     set: &PolicySet,
     entities: &Entities,
     table: &Extensions<'_>,
 ) -> Answer {
+    if verb == "residuals" {
+        return residuals(alloc, one, set, entities, table);
+    }
+    let (Some(depth), Some(request)) = (word_depth(one), question(alloc, missing)?) else {
+        return no_case(alloc);
+    };
     let authorizer = Authorizer::new(table, depth);
     match verb {
-        "respond" | "respond-without-false" => {
-            respond(alloc, verb, &authorizer, request, set, entities)
+        "respond" => {
+            let response = authorizer.is_authorized_core(alloc, request, set, entities)?;
+            responded(alloc, &response)
+        }
+        "respond-without-false" => {
+            let response = authorizer.is_authorized_without_false(alloc, request, set, entities)?;
+            listed(alloc, response.all_residuals(alloc))
         }
         "answer" => {
             let response = authorizer.is_authorized(alloc, request, set, entities)?;
@@ -263,5 +170,25 @@ fn asked(
             of_each(alloc, verb, &evaluator, set)
         }
         _ => no_case(alloc),
+    }
+}
+
+/// What is decided, once the values are told, for a question of which the variable of this name is missing.
+pub(crate) fn told(
+    alloc: Global,
+    missing: &str,
+    told: &BTreeMap<RcStr, Value>,
+    set: &PolicySet,
+    entities: &Entities,
+    table: &Extensions<'_>,
+) -> Answer {
+    let authorizer = Authorizer::new(table, 9);
+    let Some(request) = question(alloc, missing)? else {
+        return no_case(alloc);
+    };
+    let first = authorizer.is_authorized_core(alloc, request, set, entities)?;
+    match first.reauthorize(alloc, told, &authorizer, entities) {
+        Ok(again) => responded(alloc, &again),
+        Err(error) => refused(alloc, error),
     }
 }

@@ -1,34 +1,30 @@
 // Entries, contexts and requests.
-use crate::contexts;
+use crate::entities::user;
 use crate::refusing::RefusesAll;
 use cedar_extensions::extensions::Extensions;
-use cedar_literals::uids::{EntityType, EntityUID};
+use cedar_literals::uids::EntityType;
 use cedar_names::conversions::FromIn;
-use cedar_names::errors::ParseNameError;
 use cedar_names::places::Loc;
 use cedar_names::reading::FromNormalizedStr;
 use cedar_requests::{
     Context, ContextCreationError, EntityUIDEntry, Request, RequestError, RequestSchema,
     RequestSchemaAllPass, UnwrapInfallible,
 };
-use cedar_restricted::borrowed::BorrowedRestrictedExpr;
-use cedar_restricted::errors::RestrictedExpressionError;
 use cedar_restricted::partial_values::PartialValue;
 use cedar_restricted::restricted::RestrictedExpr;
 use cedar_rows::stack::{is_place, place, told_place};
 use cedar_rows::trees::variable;
-use cedar_rows::{Answer, has_each, maybe, no_case, paired, said, show, taken, tell};
+use cedar_rows::{Answer, append, maybe, no_case, paired, said, show, tell};
 use cedar_trees::expr::Expr;
 use cedar_values::values::Value;
 use std::alloc::{AllocError, Global};
 use std::collections::BTreeMap;
 use std::rc::RcStr;
 
-/// What was made last: entries on a stack, a context, one that was put aside, and a request.
+/// What was made last: entries on a stack, a context, and a request.
 pub(crate) struct Requests {
     entries: Vec<EntityUIDEntry>,
     context: Option<Context>,
-    aside: Option<Context>,
     request: Option<Request>,
 }
 
@@ -37,16 +33,8 @@ impl Drop for Requests {
         let Requests {
             entries: _,
             context: _,
-            aside: _,
             request: _,
         } = self;
-    }
-}
-
-impl Requests {
-    /// The request that was made last, if one was.
-    pub(crate) fn request(&self) -> Option<&Request> {
-        self.request.as_ref()
     }
 }
 
@@ -55,7 +43,6 @@ pub(crate) fn none(alloc: Global) -> Requests {
     Requests {
         entries: Vec::new(alloc),
         context: None,
-        aside: None,
         request: None,
     }
 }
@@ -90,11 +77,11 @@ fn made(
 ) -> Answer {
     let loc: Option<Loc> = place(alloc, other)?;
     match verb {
-        "known" => match EntityUID::with_eid_and_type(alloc, "User", one) {
+        "known" => match user(alloc, one) {
             Ok(uid) => kept(alloc, entries, EntityUIDEntry::known(alloc, uid, loc)?),
             Err(error) => cedar_rows::refused(alloc, error),
         },
-        "from" => match EntityUID::with_eid_and_type(alloc, "User", one) {
+        "from" => match user(alloc, one) {
             Ok(uid) => kept(alloc, entries, EntityUIDEntry::from_in(alloc, uid)?),
             Err(error) => cedar_rows::refused(alloc, error),
         },
@@ -124,48 +111,48 @@ fn read(alloc: Global, verb: &str, word: &str, entries: &[EntityUIDEntry]) -> An
     }
 }
 
-fn restricted_of(
-    alloc: Global,
-    exprs: Vec<Expr>,
-) -> Result<Vec<RestrictedExpr>, RestrictedExpressionError> {
-    let mut restricted = Vec::new(alloc);
-    for expr in exprs {
-        restricted
-            .push(RestrictedExpr::new(alloc, expr)?)
-            .map_err(|_| { RestrictedExpressionError::Memory(AllocError) })?;
-    }
-    Ok(restricted)
-}
-
-/// The context of the expressions on top at these keys.
+/// The context of the expression on top at this key, twice where a second one is written.
 fn of_pairs(
     alloc: Global,
     keys: &str,
     depth: u32,
-    stack: &mut Vec<Expr>,
+    expr: RestrictedExpr,
     table: &Extensions<'_>,
 ) -> Result<Context, ContextCreationError> {
-    let exprs = taken(alloc, cedar_rows::count_of(keys), stack)?;
-    match restricted_of(alloc, exprs) {
-        Ok(items) => Context::from_pairs(alloc, paired(alloc, keys, items)?, table, depth),
-        Err(_error) => Ok(Context::empty(alloc)?),
+    let again = expr.clone(alloc)?;
+    let items = vec![in alloc; expr, again]?;
+    Context::from_pairs(alloc, paired(alloc, keys, items)?, table, depth)
+}
+
+/// Keeps the context of the expression on top: of its pairs, or at the keys that the word has.
+fn made_of(
+    alloc: Global,
+    keys: &str,
+    depth: u32,
+    exprs: &mut Vec<Expr>,
+    table: &Extensions<'_>,
+    at: &mut Option<Context>,
+) -> Answer {
+    let Some(expr) = exprs.pop() else {
+        return no_case(alloc);
+    };
+    match RestrictedExpr::new(alloc, expr) {
+        Ok(expr) if keys.is_empty() => {
+            let context = Context::from_expr(alloc, expr.as_borrowed(), table, depth);
+            held(alloc, at, context)
+        }
+        Ok(expr) => held(alloc, at, of_pairs(alloc, keys, depth, expr, table)),
+        Err(error) => cedar_rows::refused(alloc, error),
     }
 }
 
-/// The context of the expression on top.
-fn of_expr(
-    alloc: Global,
-    depth: u32,
-    stack: &[Expr],
-    table: &Extensions<'_>,
-) -> Result<Context, ContextCreationError> {
-    let Some(expr) = stack.last() else {
-        return Ok(Context::empty(alloc)?);
-    };
-    match BorrowedRestrictedExpr::new(alloc, expr) {
-        Ok(expr) => Context::from_expr(alloc, expr, table, depth),
-        Err(_error) => Ok(Context::empty(alloc)?),
+/// The keys of the context, each before its expression.
+fn listed(alloc: Global, context: Context) -> Answer {
+    let mut text = String::new(alloc);
+    for (key, expr) in context.into_iter(alloc)? {
+        append(&mut text, format!(in alloc; "{}: {expr}", key.as_str()))?;
     }
+    Ok(text)
 }
 
 /// Keeps a context, and answers its text with the number of its keys; or answers why it was not made.
@@ -207,6 +194,7 @@ fn of_context(
         },
         ("partial", _) => told_part(alloc, Ok(PartialValue::from(context))),
         ("restricted", _) => show(alloc, RestrictedExpr::from_in(alloc, context)),
+        ("entries", _) => listed(alloc, context),
         ("copy", _) => {
             let copy = context.clone(alloc)?;
             held(alloc, at, Ok(copy))
@@ -263,17 +251,8 @@ fn of_entries(alloc: Global, verb: &str, table: &Extensions<'_>, state: &mut Req
             Ok(request) => shown(alloc, &mut state.request, request),
             Err(error) => cedar_rows::refused(alloc, error),
         },
-        "unchecked" => shown(
-            alloc,
-            &mut state.request,
-            Request::new_unchecked(principal, action, resource, context),
-        ),
         _ => no_case(alloc),
     }
-}
-
-fn user(alloc: Global, id: &str) -> Result<EntityUID, ParseNameError> {
-    EntityUID::with_eid_and_type(alloc, "User", id)
 }
 
 /// The request of three uids and the context, of which this schema is asked, if any is.
@@ -387,21 +366,13 @@ pub(crate) fn answer(
         }
         ("uid" | "type" | "copied" | "evaluate", _, _) => read(alloc, verb, one, &state.entries),
         ("empty", _, _) => held(alloc, &mut state.context, Ok(Context::empty(alloc)?)),
-        ("pairs", _, Some(depth)) if has_each(one, stack) => {
-            let context = of_pairs(alloc, one, depth, stack, table);
-            held(alloc, &mut state.context, context)
+        ("context", _, Some(depth)) => {
+            made_of(alloc, one, depth, stack, table, &mut state.context)
         }
-        ("expr", Some(depth), _) => {
-            let context = of_expr(alloc, depth, stack, table);
-            held(alloc, &mut state.context, context)
-        }
-        ("substitute" | "partial" | "restricted" | "copy", depth, _) => {
+        ("substitute" | "partial" | "restricted" | "copy" | "entries", depth, _) => {
             of_context(alloc, verb, depth, told, table, &mut state.context)
         }
-        ("aside" | "same" | "entries", _, _) => {
-            contexts::answer(alloc, verb, &mut state.context, &mut state.aside)
-        }
-        ("unchecked" | "with-unknowns" | "refused", _, _) => of_entries(alloc, verb, table, state),
+        ("with-unknowns" | "refused", _, _) => of_entries(alloc, verb, table, state),
         ("new", _, _) => accepted(alloc, None, table, state),
         ("new-passes", _, _) => accepted(alloc, Some(&RequestSchemaAllPass), table, state),
         ("new-refused", _, _) => refused(alloc, table, state),

@@ -3,18 +3,23 @@
 //! next ones show, and a blank one.
 #![tactic(auto)]
 
+mod devices;
+mod ranks;
+mod runs;
+mod sessions;
+mod words;
+
+use crate::ranks::Tables;
 use cedar_rows::{Answer, no_case};
-use cedar_session_rows::Tables;
 use std::alloc::{AllocError, Global};
 use std::io;
 
 /// What earlier lines of each layer left.
 struct Held<'e, 'f> {
-    expressions: cedar_expressions_rows::Held,
+    expressions: cedar_rows::Held,
     parser: cedar_parser_rows::Held,
-    store: cedar_store_rows::Held,
     evaluation: cedar_evaluation_rows::Held,
-    session: cedar_session_rows::Held<'e, 'f>,
+    session: sessions::Held<'e, 'f>,
 }
 
 impl Drop for Held<'_, '_> {
@@ -22,7 +27,6 @@ impl Drop for Held<'_, '_> {
         let Held {
             expressions: _,
             parser: _,
-            store: _,
             evaluation: _,
             session: _,
         } = self;
@@ -31,12 +35,11 @@ impl Drop for Held<'_, '_> {
 
 fn beside<'e, 'f>(
     alloc: Global,
-    session: cedar_session_rows::Held<'e, 'f>,
+    session: sessions::Held<'e, 'f>,
 ) -> Result<Held<'e, 'f>, AllocError> {
     Ok(Held {
-        expressions: cedar_expressions_rows::none(alloc),
+        expressions: cedar_rows::none(alloc),
         parser: cedar_parser_rows::none(alloc),
-        store: cedar_store_rows::none(alloc)?,
         evaluation: cedar_evaluation_rows::none(alloc)?,
         session,
     })
@@ -45,11 +48,10 @@ fn beside<'e, 'f>(
 /// What the layer of this name answers.
 fn answered(alloc: Global, layer: &str, line: &str, held: &mut Held<'_, '_>) -> Answer {
     match layer {
-        "expressions" => cedar_expressions_rows::answer(alloc, line, &mut held.expressions),
+        "expressions" => cedar_rows::answer(alloc, line, &mut held.expressions),
         "parser" => cedar_parser_rows::answer(alloc, line, &mut held.parser),
-        "store" => cedar_store_rows::answer(alloc, line, &mut held.store),
         "evaluation" => cedar_evaluation_rows::answer(alloc, line, &mut held.evaluation),
-        "session" => cedar_session_rows::answer(alloc, line, &mut held.session),
+        "session" => sessions::answer(alloc, line, &mut held.session),
         _ => no_case(alloc),
     }
 }
@@ -58,7 +60,7 @@ fn main(rt: HostRuntime) -> io::Result<()> {
     let Ok(tables) = Tables::new(rt.alloc()) else {
         return println!(rt; "no tables");
     };
-    let Ok(session) = cedar_session_rows::none(rt.alloc(), &tables) else {
+    let Ok(session) = sessions::none(rt.alloc(), &tables) else {
         return println!(rt; "no session");
     };
     let mut held = beside(rt.alloc(), session)?;

@@ -1,9 +1,7 @@
 // Texts that are read and converted, and printed again; and texts that mean nothing, with their faults.
-use crate::refusing::NoCalls;
 use cedar_builders::own_builder::ExprBuilder;
-use cedar_conversion::{to_any_ident, to_expr, to_text, to_valid_ident};
+use cedar_conversion::{to_any_ident, to_expr, to_valid_ident};
 use cedar_cst::cst;
-use cedar_cst::cst::{Ident, Str};
 use cedar_cst::node::Node;
 use cedar_faults::{ConversionError, ExtStyles, ToASTError};
 use cedar_names::errors::ParseNameError;
@@ -22,7 +20,6 @@ use cedar_trees::errors::ExpressionConstructionError;
 use either::Either;
 use std::alloc::Global;
 use std::fmt::Display;
-use std::rc::RcStr;
 
 /// How deep a text may be nested.
 const DEPTH: u32 = 16;
@@ -65,16 +62,11 @@ fn names<T: FromNormalizedStr + Drop>(
     Ok(names)
 }
 
-/// The expression of a text, made by a builder that keeps it or by one that refuses calls.
-pub(crate) fn expression(alloc: Global, verb: &str, text: &str, styles: &ExtStyles) -> Answer {
-    let tree = match parse_expr(alloc, text, DEPTH) {
-        Ok(tree) => tree,
-        Err(errors) => return errors.to_string(alloc),
-    };
-    match verb {
-        "made" => converted(alloc, to_expr::<ExprBuilder>(alloc, &tree, styles)),
-        "refused" => converted(alloc, to_expr::<NoCalls>(alloc, &tree, styles)),
-        _ => no_case(alloc),
+/// The expression of a text.
+pub(crate) fn expression(alloc: Global, text: &str, styles: &ExtStyles) -> Answer {
+    match parse_expr(alloc, text, DEPTH) {
+        Ok(tree) => converted(alloc, to_expr::<ExprBuilder>(alloc, &tree, styles)),
+        Err(errors) => errors.to_string(alloc),
     }
 }
 
@@ -85,17 +77,12 @@ pub(crate) fn policies(alloc: Global, verb: &str, text: &str, styles: &ExtStyles
         Err(errors) => return errors.to_string(alloc),
     };
     match verb {
-        "missing" => numbered(alloc, &Node::new(None)),
         "numbered" => numbered(alloc, &tree),
-        "set" => set_of(alloc, &tree, styles),
+        "set" => match to_policyset(alloc, &tree, styles) {
+            Ok(set) => each(alloc, &set),
+            Err(error) => faults(alloc, &error),
+        },
         _ => no_case(alloc),
-    }
-}
-
-fn set_of(alloc: Global, tree: &Node<Option<cst::Policies>>, styles: &ExtStyles) -> Answer {
-    match to_policyset(alloc, tree, styles) {
-        Ok(set) => each(alloc, &set),
-        Err(error) => faults(alloc, &error),
     }
 }
 
@@ -146,40 +133,21 @@ fn policy_of(
 
 /// The identifier that a word is, and what isn't one.
 pub(crate) fn word(alloc: Global, verb: &str, text: &str) -> Answer {
+    let node = match parse_ident(alloc, text) {
+        Ok(node) => node,
+        Err(errors) => return errors.to_string(alloc),
+    };
     match verb {
-        "invalid" => {
-            let text = String::from_str(alloc, text)?;
-            valid(alloc, &Node::new(Some(Ident::Invalid(text))))
-        }
-        "string" => {
-            let text = RcStr::from_str(alloc, text)?;
-            let node = Node::new(Some(Str::Invalid(text)));
-            converted(alloc, to_text::<ExpressionConstructionError>(alloc, &node))
-        }
-        "any" | "valid" => read_word(alloc, verb, text),
+        "any" => converted(
+            alloc,
+            to_any_ident::<ExpressionConstructionError>(alloc, &node),
+        ),
+        "valid" => converted(
+            alloc,
+            to_valid_ident::<ExpressionConstructionError>(alloc, &node),
+        ),
         _ => no_case(alloc),
     }
-}
-
-fn read_word(alloc: Global, verb: &str, text: &str) -> Answer {
-    match parse_ident(alloc, text) {
-        Ok(node) => match verb {
-            "any" => converted(
-                alloc,
-                to_any_ident::<ExpressionConstructionError>(alloc, &node),
-            ),
-            "valid" => valid(alloc, &node),
-            _ => no_case(alloc),
-        },
-        Err(errors) => errors.to_string(alloc),
-    }
-}
-
-fn valid(alloc: Global, node: &Node<Option<Ident>>) -> Answer {
-    converted(
-        alloc,
-        to_valid_ident::<ExpressionConstructionError>(alloc, node),
-    )
 }
 
 /// What was made, as it is printed, or all faults.

@@ -1,15 +1,7 @@
-// Kinds of tokens that are expected, and errors of parsers.
-use cedar_literals::variables::Var;
-use cedar_names::places::{Loc, Span};
-use cedar_parser::err::{
-    LiteralParseError, ParseError, ParseErrors, RestrictedExpressionParseError, ToCSTError,
-};
-use cedar_rows::trees::variable;
-use cedar_rows::{Answer, cut, no_case, said, tell, text_of};
+// Kinds of tokens that are expected.
+use cedar_rows::{Answer, no_case, tell};
 use cedar_tokens::{Kinds, POLICY_TOKEN_CONFIG, expected_to_string};
-use cedar_trees::expr::Expr;
-use std::alloc::{AllocError, Global};
-use std::rc::RcStr;
+use std::alloc::Global;
 
 fn kind(name: &str) -> Option<Kinds> {
     match name {
@@ -47,65 +39,4 @@ pub(crate) fn expected(alloc: Global, names: &str) -> Answer {
         alloc,
         expected_to_string(alloc, &names, &POLICY_TOKEN_CONFIG)?,
     )
-}
-
-/// The place of the plus in `a + b`.
-fn place(alloc: Global) -> Result<Loc, AllocError> {
-    let span = Span { start: 2, end: 3 };
-    Loc::new(alloc, span, RcStr::from_str(alloc, "a + b")?)
-}
-
-fn invalid(alloc: Global) -> Result<ParseErrors, AllocError> {
-    let error = ToCSTError::invalid_token(place(alloc)?);
-    Ok(ParseErrors::one(alloc, ParseError::ToCST(error)))
-}
-
-pub(crate) fn placed(alloc: Global, verb: &str, names: &str) -> Answer {
-    match (verb, kinds(names)) {
-        ("token", Some(kinds)) => told(alloc, ToCSTError::unrecognized_token(place(alloc)?, kinds)),
-        ("end", Some(kinds)) => told(alloc, ToCSTError::unrecognized_eof(place(alloc)?, kinds)),
-        ("invalid", _) => text_of(alloc, invalid(alloc)),
-        ("alike", _) => alike(alloc, names),
-        ("no-expression", _) => literal(alloc, LiteralParseError::from(invalid(alloc)?)),
-        ("no-body", _) => body(alloc),
-        ("no-literal", _) => literal(
-            alloc,
-            LiteralParseError::InvalidLiteral(Expr::var(Var::Principal)),
-        ),
-        _ => no_case(alloc),
-    }
-}
-
-/// The error's text, and what was expected.
-fn told(alloc: Global, error: ToCSTError) -> Answer {
-    let label = error.label(alloc, &POLICY_TOKEN_CONFIG)?;
-    format!(in alloc; "{error}: {label:?}")
-}
-
-fn literal(alloc: Global, error: LiteralParseError) -> Answer {
-    error.to_string(alloc)
-}
-
-/// Whether two texts are no literals for the same: a text outside the grammar, or a variable.
-fn alike(alloc: Global, words: &str) -> Answer {
-    let (one, other) = cut(words);
-    match (no_literal(alloc, one)?, no_literal(alloc, other)?) {
-        (Some(one), Some(other)) => said(alloc, one == other),
-        _ => no_case(alloc),
-    }
-}
-
-fn no_literal(alloc: Global, word: &str) -> Result<Option<LiteralParseError>, AllocError> {
-    match (word, variable(word)) {
-        ("invalid", _) => Ok(Some(LiteralParseError::from(invalid(alloc)?))),
-        (_, Some(var)) => Ok(Some(LiteralParseError::InvalidLiteral(Expr::var(var)))),
-        _ => Ok(None),
-    }
-}
-
-/// Whether two texts are no bodies for the same.
-fn body(alloc: Global) -> Answer {
-    let one = RestrictedExpressionParseError::from(invalid(alloc)?);
-    let other = RestrictedExpressionParseError::from(invalid(alloc)?);
-    said(alloc, one == other)
 }

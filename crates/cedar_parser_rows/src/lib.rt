@@ -8,12 +8,10 @@ mod conversion;
 mod errors;
 mod loose;
 mod nodes;
-mod refusing;
 mod strict;
 mod tokens;
 
 use crate::loose::Told;
-use crate::nodes::Nodes;
 use cedar_faults::ExtStyles;
 use cedar_rows::{Answer, cut, index, no_case, plain, tell};
 use std::alloc::{AllocError, Global};
@@ -23,7 +21,6 @@ use std::mem;
 pub struct Held {
     text: String,
     told: Told,
-    nodes: Nodes,
     styles: ExtStyles,
 }
 
@@ -32,7 +29,6 @@ impl Drop for Held {
         let Held {
             text: _,
             told: _,
-            nodes: _,
             styles: _,
         } = self;
     }
@@ -45,30 +41,15 @@ fn answered(alloc: Global, section: &str, verb: &str, text: &str, held: &mut Hel
         "loose" => loose::read(alloc, verb, text, &mut held.told),
         "read" if verb == "expected" => loose::expected(alloc, &held.told),
         "kinds" if verb == "told" => errors::expected(alloc, text),
-        "errors" => errors::placed(alloc, verb, text),
+        "number" => nodes::of_number(alloc, verb, text),
+        "maybe" => nodes::of_maybe(alloc, verb, text),
         "names" => conversion::listed(alloc, verb, text, &mut held.styles),
-        "expression" => conversion::expression(alloc, verb, text, &held.styles),
+        "expression" if verb == "made" => conversion::expression(alloc, text, &held.styles),
         "policies" => conversion::policies(alloc, verb, text, &held.styles),
         "word" => conversion::word(alloc, verb, text),
         "strict" => strict::read(alloc, verb, text),
         "policy" => conversion::policy(alloc, verb, text, &held.styles),
         "annotations" => annotations::answer(alloc, verb, text),
-        _ => of_nodes(alloc, section, verb, text, &mut held.nodes),
-    }
-}
-
-fn of_nodes(alloc: Global, section: &str, verb: &str, text: &str, held: &mut Nodes) -> Answer {
-    match section {
-        "node" => nodes::made(alloc, verb, text, held),
-        "order" => nodes::compared(alloc, verb, held),
-        "number" => nodes::of_number(alloc, verb, text, held),
-        "taken-number" => nodes::of_taken(alloc, verb, held),
-        "fault" => nodes::of_fault(alloc, verb, text, held),
-        "maybe" => nodes::of_maybe(alloc, verb, text, held),
-        "taken-maybe" => nodes::of_maybe_taken(alloc, verb, held),
-        "slot" => nodes::matched(alloc, verb, text),
-        "slot-of" => nodes::written(alloc, verb),
-        "name" => nodes::named(alloc, verb, text),
         _ => no_case(alloc),
     }
 }
@@ -86,7 +67,6 @@ pub fn none(alloc: Global) -> Held {
     Held {
         text: String::new(alloc),
         told: None,
-        nodes: nodes::none(),
         styles: conversion::none(alloc),
     }
 }

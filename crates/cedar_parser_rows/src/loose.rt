@@ -29,17 +29,7 @@ pub(crate) fn read(alloc: Global, verb: &str, text: &str, errors: &mut Told) -> 
         ("entity", None) => shown(alloc, parse_ref(alloc, text), errors),
         ("name", None) => shown(alloc, parse_name(alloc, text), errors),
         ("word", None) => shown(alloc, parse_ident(alloc, text), errors),
-        ("reads-expression", Some(depth)) => readable(alloc, parse_expr(alloc, text, depth)),
-        ("reads-policies", Some(depth)) => readable(alloc, parse_policies(alloc, text, depth)),
         _ => no_case(alloc),
-    }
-}
-
-/// That there is a tree, which may be too large to be shown, or the errors.
-fn readable<T: Drop>(alloc: Global, read: Result<Node<Option<T>>, ParseErrors>) -> Answer {
-    match read {
-        Ok(_tree) => String::from_str(alloc, "read"),
-        Err(errors) => errors.to_string(alloc),
     }
 }
 

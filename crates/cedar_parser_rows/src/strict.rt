@@ -68,7 +68,7 @@ fn policies(alloc: Global) -> Result<ExtStyles, AllocError> {
 fn told<T: Display + Drop>(alloc: Global, read: Result<T, ParseErrors>) -> Answer {
     match read {
         Ok(value) => value.to_string(alloc),
-        Err(errors) => taken(alloc, errors),
+        Err(errors) => all(alloc, &errors),
     }
 }
 
@@ -99,15 +99,6 @@ fn all(alloc: Global, errors: &ParseErrors) -> Answer {
     let mut told = String::new(alloc);
     for next in errors {
         add(&mut told, error(alloc, next))?;
-    }
-    Ok(told)
-}
-
-/// The same of errors that are taken out.
-fn taken(alloc: Global, errors: ParseErrors) -> Answer {
-    let mut told = String::new(alloc);
-    for next in errors {
-        add(&mut told, error(alloc, &next))?;
     }
     Ok(told)
 }

@@ -1,7 +1,6 @@
 // How what was made is told.
 use std::alloc::{AllocError, Global};
 use std::fmt::{Debug, Display};
-use std::hash::{DefaultHasher, Hash, Hasher};
 
 /// The text that answers a step. Refused for memory alone.
 pub type Answer = Result<String, AllocError>;
@@ -26,14 +25,6 @@ pub fn show<T: Display + Drop, E: Display + Drop>(alloc: Global, found: Result<T
     match found {
         Ok(value) => value.to_string(alloc),
         Err(error) => refused(alloc, error),
-    }
-}
-
-/// The text of what was made, or that of the error alone.
-pub fn text_of<T: Display + Drop, E: Display + Drop>(alloc: Global, found: Result<T, E>) -> Answer {
-    match found {
-        Ok(value) => value.to_string(alloc),
-        Err(error) => error.to_string(alloc),
     }
 }
 
@@ -69,15 +60,4 @@ pub fn put(text: &mut String, before: &str, part: Answer) -> Result<(), AllocErr
     let part = part?;
     text.push_str(before)?;
     text.push_str(part.as_str())
-}
-
-/// Whether the two are equal and have one hash.
-pub fn alike<T: Hash + PartialEq>(one: &T, other: &T) -> bool {
-    *one == *other && hash_of(one) == hash_of(other)
-}
-
-fn hash_of<T: Hash>(value: &T) -> u64 {
-    let mut hasher = DefaultHasher::new();
-    value.hash(&mut hasher);
-    hasher.finish()
 }

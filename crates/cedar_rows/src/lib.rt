@@ -1,24 +1,32 @@
-//! What the programs that answer lines of steps share: the words of a step, what is kept of what a step
-//! makes, and how an answer is told; and what steps on names, uids, literals, values and expressions answer, a
-//! function a section. What is made by a call goes to a generic function, by value, so that
-//! no function which makes the call lets go of anything.
+//! What the programs that answer lines of steps share, and what lines of the layer of expressions answer: a step is a
+//! section, a verb, and words with a bar between. What a step makes stands on a stack; a line's answer is that of its
+//! last step. What is made by a call goes to a generic function, by value, so that no function which makes the call lets
+//! go of anything.
 #![tactic(auto)]
 
 mod answers;
-pub mod builders;
-pub mod literals;
+mod bounded;
+mod builders;
+mod errors;
+mod evaluation;
+mod extensions;
 pub mod names;
-pub mod raw_names;
+mod partial_values;
+mod raw_names;
 mod registers;
-pub mod shapes;
+mod restricted;
+mod sections;
+mod shapes;
 pub mod stack;
 mod steps;
+pub mod substitution;
 pub mod trees;
-pub mod uids;
+mod validation;
 pub mod values;
 
 pub use answers::{
-    Answer, alike, append, maybe, no_case, put, refused, said, show, spell, tell, text_of,
+    Answer, append, maybe, no_case, put, refused, said, show, spell, tell,
 };
-pub use registers::{both, count_of, has, has_each, hold, keep, mapped, paired, push, taken};
+pub use registers::{count_of, has, has_each, hold, mapped, paired, push, taken};
+pub use sections::{Held, answer, none};
 pub use steps::{Step, cut, index, number, plain, read};

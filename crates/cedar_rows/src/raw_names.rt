@@ -17,32 +17,23 @@ pub fn answer(alloc: Global, verb: &str, text: &str) -> Answer {
         "common" => resolved(alloc, qualified(alloc, text, ReferenceType::Common)),
         "entity-type" => resolved(alloc, qualified(alloc, text, ReferenceType::Entity)),
         "either" => resolved(alloc, qualified(alloc, text, ReferenceType::CommonOrEntity)),
-        "common-alone" => resolved(alloc, unconditional(alloc, text, ReferenceType::Common)),
-        "entity-type-alone" => resolved(alloc, unconditional(alloc, text, ReferenceType::Entity)),
+        "common-alone" => resolved(alloc, unconditional(alloc, text)),
         "id" => match Id::from_normalized_str(alloc, text) {
             Ok(id) => show(alloc, RawName::new(alloc, id)),
             Err(error) => refused(alloc, error),
         },
         "unreserved" => match UnreservedId::from_normalized_str(alloc, text) {
-            Ok(id) => placed(alloc, unreserved(alloc, id)),
+            Ok(id) => placed(alloc, id),
             Err(error) => refused(alloc, error),
         },
-        "in-none" | "in-internal" | "in-name" => match RawName::from_normalized_str(alloc, text) {
-            Ok(name) => within(alloc, verb, name),
-            Err(error) => refused(alloc, error),
-        },
-        _ => no_case(alloc),
+        _ => within(alloc, verb, text),
     }
 }
 
-fn unreserved(alloc: Global, id: UnreservedId) -> Result<RawName, AllocError> {
+/// The name of the identifier, and where it is written.
+fn placed(alloc: Global, id: UnreservedId) -> Answer {
     let loc = loc(alloc, "0", "1")?;
-    RawName::new_from_unreserved(alloc, id, Some(loc))
-}
-
-/// The name, and where it is written.
-fn placed(alloc: Global, name: Result<RawName, AllocError>) -> Answer {
-    let name = name?;
+    let name = RawName::new_from_unreserved(alloc, id, Some(loc))?;
     match name.loc() {
         Some(loc) => format!(in alloc; "{name} at {}..{}", loc.start(), loc.end()),
         None => name.to_string(alloc),
@@ -50,25 +41,23 @@ fn placed(alloc: Global, name: Result<RawName, AllocError>) -> Answer {
 }
 
 /// The name within the namespace that the verb names.
-fn within(alloc: Global, verb: &str, name: RawName) -> Answer {
-    let Ok(namespace) = Name::from_normalized_str(alloc, "M") else {
+fn within(alloc: Global, verb: &str, text: &str) -> Answer {
+    let (Ok(name), Ok(namespace)) = (
+        RawName::from_normalized_str(alloc, text),
+        Name::from_normalized_str(alloc, "M"),
+    ) else {
         return no_case(alloc);
     };
     match verb {
-        "in-none" => show(alloc, name.qualify_with(alloc, None)),
         "in-internal" => show(alloc, name.qualify_with(alloc, Some(namespace.as_ref()))),
         "in-name" => show(alloc, name.qualify_with_name(alloc, Some(&namespace))),
         _ => no_case(alloc),
     }
 }
 
-fn unconditional(
-    alloc: Global,
-    text: &str,
-    kind: ReferenceType,
-) -> Result<ConditionalName, ParseNameError> {
+fn unconditional(alloc: Global, text: &str) -> Result<ConditionalName, ParseNameError> {
     let name = InternalName::from_normalized_str(alloc, text)?;
-    Ok(ConditionalName::unconditional(alloc, name, kind)?)
+    Ok(ConditionalName::unconditional(alloc, name, ReferenceType::Common)?)
 }
 
 fn qualified(

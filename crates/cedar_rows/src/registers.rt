@@ -6,22 +6,6 @@ use std::collections::BTreeMap;
 use std::fmt::Display;
 use std::rc::{Rc, RcStr};
 
-/// Keeps what was made, and answers its text; or answers why it was not made.
-pub fn keep<T: Display + Drop, E: Display + Drop>(
-    alloc: Global,
-    at: &mut Option<T>,
-    found: Result<T, E>,
-) -> Answer {
-    match found {
-        Ok(value) => {
-            let text = value.to_string(alloc)?;
-            *at = Some(value);
-            Ok(text)
-        }
-        Err(error) => refused(alloc, error),
-    }
-}
-
 fn push_made<T: Display + Drop>(alloc: Global, stack: &mut Vec<T>, value: T) -> Answer {
     let text = value.to_string(alloc)?;
     stack.push(value)?;
@@ -53,14 +37,6 @@ pub fn hold<T: Drop, E: Display + Drop>(
             tell(alloc, stack.len())
         }
         Err(error) => refused(alloc, error),
-    }
-}
-
-/// Both, where there are both.
-pub fn both<T: Drop, U: Drop>(first: Option<T>, second: Option<U>) -> Option<(T, U)> {
-    match (first, second) {
-        (Some(first), Some(second)) => Some((first, second)),
-        _ => None,
     }
 }
 

@@ -1,8 +1,7 @@
 // Expressions by their constructors, and what they say of themselves.
 use crate::stack::{is_place, place, told_place, top};
 use crate::{
-    Answer, both, count_of, has, has_each, mapped, no_case, number, paired, push, said, show,
-    taken, tell,
+    Answer, Step, count_of, has, has_each, mapped, no_case, number, paired, push, said, taken, tell,
 };
 use cedar_literals::literals::Literal;
 use cedar_literals::operators::{BinaryOp, UnaryOp};
@@ -14,7 +13,6 @@ use cedar_literals::variables::Var;
 use cedar_names::conversions::FromIn;
 use cedar_names::errors::ParseNameError;
 use cedar_names::names::Name;
-use cedar_names::places::Loc;
 use cedar_names::reading::FromNormalizedStr;
 use cedar_trees::errors::{DuplicateKeyError, ExpressionConstructionError};
 use cedar_trees::expr::{Expr, ExprKind};
@@ -102,32 +100,12 @@ pub fn made(expr: Expr) -> Result<Expr, AllocError> {
 }
 
 /// Puts the leaf that the words name on the stack.
-pub fn leaf(alloc: Global, verb: &str, text: &str, ty: &str, stack: &mut Vec<Expr>) -> Answer {
+fn leaf(alloc: Global, verb: &str, text: &str, ty: &str, stack: &mut Vec<Expr>) -> Answer {
     match (verb, variable(text), slot(text)) {
         ("var", Some(var), _) => push(alloc, stack, made(Expr::var(var))),
         ("slot", _, Some(slot)) => push(alloc, stack, made(Expr::slot(slot))),
         ("unknown", _, _) => push(alloc, stack, unknown_of(unknown(alloc, text, ty))),
         _ if is_literal(verb, text) => push(alloc, stack, leaf_of(literal(alloc, verb, text))),
-        _ => no_case(alloc),
-    }
-}
-
-fn copied(alloc: Global, unknown: &Unknown) -> Answer {
-    let copy = unknown.clone()?;
-    said(alloc, copy == *unknown)
-}
-
-/// Of an unknown of this type and one of none.
-pub fn unknowns(alloc: Global, verb: &str, name: &str, ty: &str) -> Answer {
-    let typed = unknown(alloc, name, ty).ok();
-    let untyped = unknown(alloc, name, "").ok();
-    let Some((typed, untyped)) = both(typed, untyped) else {
-        return no_case(alloc);
-    };
-    match verb {
-        "clone" => copied(alloc, &typed),
-        "shown" => show(alloc, made(Expr::unknown(typed))),
-        "equal" => said(alloc, typed == untyped),
         _ => no_case(alloc),
     }
 }
@@ -138,16 +116,6 @@ pub fn unary_op(text: &str) -> Option<UnaryOp> {
         "not" => Some(UnaryOp::Not),
         "neg" => Some(UnaryOp::Neg),
         "is_empty" => Some(UnaryOp::IsEmpty),
-        _ => None,
-    }
-}
-
-/// The operator of this name whose long may be none.
-pub fn binary_op(text: &str) -> Option<BinaryOp> {
-    match text {
-        "add" => Some(BinaryOp::Add),
-        "sub" => Some(BinaryOp::Sub),
-        "mul" => Some(BinaryOp::Mul),
         _ => None,
     }
 }
@@ -166,7 +134,7 @@ fn of_one(alloc: Global, verb: &str, op: &str, arg: Expr) -> Found {
 }
 
 /// An operator on the top of the stack.
-pub fn unary(alloc: Global, verb: &str, op: &str, stack: &mut Vec<Expr>) -> Answer {
+fn unary(alloc: Global, verb: &str, op: &str, stack: &mut Vec<Expr>) -> Answer {
     let arg = top(stack);
     match of_one(alloc, verb, op, arg) {
         Some(made) => push(alloc, stack, made),
@@ -205,7 +173,7 @@ fn of_members(alloc: Global, verb: &str, a: Expr, b: Expr) -> Found {
 }
 
 /// An operator on the two on top, the second of which is its right operand.
-pub fn binary(alloc: Global, verb: &str, stack: &mut Vec<Expr>) -> Answer {
+fn binary(alloc: Global, verb: &str, stack: &mut Vec<Expr>) -> Answer {
     let b = top(stack);
     let a = top(stack);
     match of_two(alloc, verb, a, b) {
@@ -214,23 +182,12 @@ pub fn binary(alloc: Global, verb: &str, stack: &mut Vec<Expr>) -> Answer {
     }
 }
 
-fn shared(alloc: Global, a: Expr, b: Expr, c: Expr) -> Result<Expr, AllocError> {
-    let a = Rc::new(alloc, a)?;
-    let b = Rc::new(alloc, b)?;
-    let c = Rc::new(alloc, c)?;
-    Ok(Expr::ite_arc(a, b, c))
-}
-
 /// `if`, `then` and `else` of the three on top.
-pub fn ternary(alloc: Global, verb: &str, stack: &mut Vec<Expr>) -> Answer {
+fn ternary(alloc: Global, stack: &mut Vec<Expr>) -> Answer {
     let c = top(stack);
     let b = top(stack);
     let a = top(stack);
-    match verb {
-        "ite" => push(alloc, stack, Expr::ite(alloc, a, b, c)),
-        "ite_arc" => push(alloc, stack, shared(alloc, a, b, c)),
-        _ => no_case(alloc),
-    }
+    push(alloc, stack, Expr::ite(alloc, a, b, c))
 }
 
 /// The path of a text as `a.b.c`.
@@ -267,7 +224,7 @@ fn of_type(
 }
 
 /// What is asked of an attribute of that on top, or whether it is like a pattern or of a type.
-pub fn attribute(alloc: Global, verb: &str, word: &str, stack: &mut Vec<Expr>) -> Answer {
+fn attribute(alloc: Global, verb: &str, word: &str, stack: &mut Vec<Expr>) -> Answer {
     match verb {
         "get_attr" => {
             let attr = RcStr::from_str(alloc, word)?;
@@ -307,7 +264,7 @@ fn called(
 }
 
 /// A call of the function of this name on as many from the top as the word says.
-pub fn call(alloc: Global, name: &str, count: &str, stack: &mut Vec<Expr>) -> Answer {
+fn call(alloc: Global, name: &str, count: &str, stack: &mut Vec<Expr>) -> Answer {
     if !has(count, stack) {
         return no_case(alloc);
     }
@@ -317,7 +274,7 @@ pub fn call(alloc: Global, name: &str, count: &str, stack: &mut Vec<Expr>) -> An
 }
 
 /// A set of as many from the top as the word says.
-pub fn set(alloc: Global, count: &str, stack: &mut Vec<Expr>) -> Answer {
+fn set(alloc: Global, count: &str, stack: &mut Vec<Expr>) -> Answer {
     if !has(count, stack) {
         return no_case(alloc);
     }
@@ -333,7 +290,7 @@ fn shared_record(
 }
 
 /// A record of these keys, whose expressions are on top.
-pub fn record(alloc: Global, verb: &str, keys: &str, stack: &mut Vec<Expr>) -> Answer {
+fn record(alloc: Global, verb: &str, keys: &str, stack: &mut Vec<Expr>) -> Answer {
     if !has_each(keys, stack) {
         return no_case(alloc);
     }
@@ -346,19 +303,10 @@ pub fn record(alloc: Global, verb: &str, keys: &str, stack: &mut Vec<Expr>) -> A
     }
 }
 
-/// How a refusal of this key is told, alone and as the reason why no expression is made.
-pub fn key(alloc: Global, verb: &str, key: &str) -> Answer {
+/// How a refusal of this key is told in another context.
+pub fn key(alloc: Global, key: &str) -> Answer {
     let error = DuplicateKeyError::new(RcStr::from_str(alloc, key)?, "in record literal");
-    match verb {
-        "told" => error.to_string(alloc),
-        "key" => String::from_str(alloc, error.key()),
-        "with_context" => error.with_context("in context").to_string(alloc),
-        "error" => {
-            let error = error.with_context("in context");
-            ExpressionConstructionError::from(error).to_string(alloc)
-        }
-        _ => no_case(alloc),
-    }
+    error.with_context("in context").to_string(alloc)
 }
 
 fn moved(alloc: Global, word: &str, stack: &mut Vec<Expr>) -> Answer {
@@ -368,7 +316,7 @@ fn moved(alloc: Global, word: &str, stack: &mut Vec<Expr>) -> Answer {
 }
 
 /// What the expression on top says of itself, and its copies.
-pub fn asked(alloc: Global, verb: &str, word: &str, stack: &mut Vec<Expr>) -> Answer {
+fn asked(alloc: Global, verb: &str, word: &str, stack: &mut Vec<Expr>) -> Answer {
     if verb == "with_maybe_source_loc" && is_place(word) {
         return moved(alloc, word, stack);
     }
@@ -390,23 +338,12 @@ pub fn asked(alloc: Global, verb: &str, word: &str, stack: &mut Vec<Expr>) -> An
 }
 
 /// The literal 1 with data.
-pub fn numbered(data: u8) -> Expr<u8> {
+fn numbered(data: u8) -> Expr<u8> {
     Expr {
         expr_kind: ExprKind::Lit(Literal::Long(1)),
         source_loc: None,
         data,
     }
-}
-
-fn parts(alloc: Global, expr: Expr<u8>) -> Answer {
-    let (kind, loc, data) = expr.into_parts();
-    told_parts(alloc, kind_of(alloc, kind), loc.as_ref(), data)
-}
-
-fn told_parts(alloc: Global, kind: Answer, loc: Option<&Loc>, data: u8) -> Answer {
-    let kind = kind?;
-    let place = told_place(alloc, loc)?;
-    format!(in alloc; "{kind} {place} {data}")
 }
 
 fn kind_of(alloc: Global, expr_kind: ExprKind<u8>) -> Answer {
@@ -418,13 +355,6 @@ fn kind_of(alloc: Global, expr_kind: ExprKind<u8>) -> Answer {
     expr.to_string(alloc)
 }
 
-fn copied_parts(alloc: Global, copy: Result<Expr<u8>, AllocError>) -> Answer {
-    match copy {
-        Ok(copy) => parts(alloc, copy),
-        Err(error) => Err(error),
-    }
-}
-
 /// Of a literal whose data was 7 and is the word's number now.
 pub fn data(alloc: Global, verb: &str, word: &str) -> Answer {
     let Ok(data) = word.parse::<u8>() else {
@@ -434,10 +364,25 @@ pub fn data(alloc: Global, verb: &str, word: &str) -> Answer {
     expr.set_data(data);
     match verb {
         "data" => tell(alloc, *expr.data()),
-        "clone" => copied_parts(alloc, expr.clone(alloc)),
         "into_data" => tell(alloc, expr.into_data()),
-        "into_parts" => parts(alloc, expr),
         "into_expr_kind" => kind_of(alloc, expr.into_expr_kind()),
+        _ => no_case(alloc),
+    }
+}
+
+/// What a section of steps makes of expressions, or asks of the one on top.
+pub fn answer(alloc: Global, section: &str, step: &Step<'_>, stack: &mut Vec<Expr>) -> Answer {
+    let (verb, one, other) = (step.verb, step.one.as_str(), step.other.as_str());
+    match section {
+        "leaf" => leaf(alloc, verb, one, other, stack),
+        "ask" => asked(alloc, verb, one, stack),
+        "unary" => unary(alloc, verb, one, stack),
+        "binary" => binary(alloc, verb, stack),
+        "ternary" if verb == "ite" => ternary(alloc, stack),
+        "attribute" => attribute(alloc, verb, one, stack),
+        "set" => set(alloc, verb, stack),
+        "record" => record(alloc, verb, one, stack),
+        "call" => call(alloc, verb, one, stack),
         _ => no_case(alloc),
     }
 }
