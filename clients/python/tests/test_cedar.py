@@ -1,13 +1,38 @@
-"""Tests of cedar.py: CEDAR_LIBRARY names the shared object."""
+"""Tests of the sessions: CEDAR_LIBRARY names the shared object, and cedar_session is the program that the path finds."""
 
+import copy
+import gc
+import os
+import pickle
+import signal
+import socket
+import stat
+import sys
+import tempfile
 import threading
+import time
 import unittest
+import warnings
 
-import cedar
-from cedar import Answer, Decision
+import cedar_session as cedar
+from cedar_session import UNKNOWN, Answer, Decision, Entity, Unknown, UnknownPart
 
+ALICE, MALLORY, STAFF = Entity("User", "alice"), Entity("User", "mallory"), Entity("Group", "staff")
+VIEW, PHOTO = Entity("Action", "view"), Entity("Photo", "1")
 POLICIES = 'permit(principal in Group::"staff", action, resource) when { context.hour < 18 };'
-ENTITIES = '[{uid: User::"alice", parents: [Group::"staff"]}]'
+ENTITIES = [Entity("User", "alice", parents=[STAFF])]
+ANY = "permit(principal, action, resource);"
+DEEP = "permit(principal, action, resource) when { " + "(" * 255 + "true" + ")" * 255 + " };"
+HERE = os.path.dirname(os.path.abspath(__file__))
+
+
+def ask(session, principal=UNKNOWN, context=UNKNOWN, **more):
+    """A question of which nothing else is known."""
+    return session.ask(principal=principal, action=UNKNOWN, resource=UNKNOWN, context=context, **more)
+
+
+def ask_all(session, principal, **context):
+    return session.ask(principal=principal, action=VIEW, resource=PHOTO, context=context)
 
 
 class Answers:
@@ -25,24 +50,45 @@ class Answers:
     def test_questions(self):
         self.session.put(ENTITIES)
         self.assertEqual(self.session.load(POLICIES), ["policy0"])
-        known = self.session.ask('{principal: User::"alice", context: {hour: 9}}')
-        self.assertEqual(known, Answer(Decision.ALLOW, ("policy0",), ("policy0",), {}))
-        asked = self.session.ask('{principal: User::"alice"}')
-        self.assertEqual(asked, Answer(Decision.OPEN, (), ("policy0",), {}))
-        told = self.session.tell("{context: {hour: 19}}")
-        self.assertEqual(told, Answer(Decision.DENY, (), (), {}))
+        self.assertEqual(ask_all(self.session, ALICE, hour=9), Answer(Decision.ALLOW, ("policy0",), ("policy0",), {}))
+        self.assertEqual(ask(self.session, ALICE), Answer(Decision.OPEN, (), ("policy0",), {}))
+        self.assertEqual(self.session.tell(context={"hour": 19}), Answer(Decision.DENY, (), (), {}))
+
+    def test_what_is_not_known_has_to_be_said(self):
+        self.session.load("permit(principal is User, action, resource) when { context.hour < 18 };")
+        self.assertEqual(self.session.ask(principal=ALICE, action=VIEW, resource=PHOTO).erring, {"policy0": "RecordAttrDoesNotExist"})
+        with self.assertRaises(TypeError):
+            self.session.ask(principal=ALICE, action=VIEW)
+        self.assertEqual(ask(self.session, UnknownPart("User"), {"hour": Unknown("late")}).decision, Decision.OPEN)
+        self.assertEqual(self.session.tell(late=9).decision, Decision.ALLOW)
+        self.assertEqual(self.session.tell(principal=ALICE, action=VIEW, resource=PHOTO).decision, Decision.ALLOW)
+        self.assertEqual(ask(self.session, UnknownPart("Robot"), {"hour": Unknown("late")}).decision, Decision.DENY)
+        with self.assertRaises(cedar.BadValue):
+            self.session.ask(principal=ALICE, action=UnknownPart("Action"), resource=PHOTO)
+
+    def test_what_a_user_typed_stays_a_name(self):
+        self.session.load('permit(principal == User::"root", action, resource); permit(principal, action, resource) when { context.admin };')
+        for name in ('root" // ', 'a", context: {admin: true}} //', 'root"\n}//', 'x\\"', "x\\", 'root"}'):
+            with self.subTest(name=name):
+                self.assertEqual(ask_all(self.session, Entity("User", name), admin=False), Answer(Decision.DENY, (), (), {}))
+                self.assertEqual(ask_all(self.session, ALICE, admin=False, **{name: name}), Answer(Decision.DENY, (), (), {}))
+        self.session.load("permit(principal == ?principal, action, resource == ?resource);")
+        self.session.link("policy2", "l", principal=Entity("User", 'a", resource: Doc::"secret'), resource=PHOTO)
+        with self.assertRaises(cedar.NoValue):
+            self.session.link("policy2", "m", principal='User::"a", resource: Doc::"secret"', resource=PHOTO)
+        for name in ('User::"a"//', "A::B ", "", "User::", "::U", "if", "A::in::B", "é", "a-b"):
+            with self.subTest(name=name), self.assertRaises(cedar.BadValue):
+                Entity(name, "a")
 
     def test_errors_of_policies(self):
         self.session.load("permit(principal, action, resource) when { context.hour < true };")
-        answer = self.session.ask("{context: {hour: 9}}")
-        self.assertEqual(answer, Answer(Decision.DENY, (), (), {"policy0": "TypeError"}))
+        self.assertEqual(ask(self.session, context={"hour": 9}), Answer(Decision.DENY, (), (), {"policy0": "TypeError"}))
 
     def test_templates(self):
         self.assertEqual(self.session.load("permit(principal == ?principal, action, resource);"), ["policy0"])
         link = 'a "link"] may=[\\\n'
-        self.session.link("policy0", link, principal='User::"alice"')
-        answer = self.session.ask('{principal: User::"alice", context: {}}')
-        self.assertEqual(answer.must, (link,))
+        self.session.link("policy0", link, principal=ALICE)
+        self.assertEqual(ask_all(self.session, ALICE).must, (link,))
         self.refused("HasLinks", self.session.remove_template, "policy0")
         self.session.unlink(link)
         self.session.remove_template("policy0")
@@ -50,47 +96,195 @@ class Answers:
 
     def test_edits(self):
         self.session.add(ENTITIES)
-        self.refused("Duplicate", self.session.add, '[{uid: User::"alice", attrs: {n: 1}}]')
-        self.session.remove('[User::"alice"]')
-        self.session.load("permit(principal, action, resource);")
+        self.refused("Duplicate", self.session.add, [Entity("User", "alice", attrs={"n": 1})])
+        self.session.remove(ENTITIES)
+        self.session.load(ANY)
         self.session.remove_static("policy0")
         self.refused("NoSuchPolicy", self.session.remove_static, "policy0")
 
+    def test_attributes_and_tags(self):
+        self.session.put([Entity("User", "alice", {"n": [1, {"a": ALICE}]}, [], {"t": "x"})])
+        self.session.load('permit(principal, action, resource) when { principal.n.contains({a: User::"alice"}) && principal.getTag("t") == "x" };')
+        self.assertEqual(ask_all(self.session, ALICE).decision, Decision.ALLOW)
+
     def test_refusals_change_nothing(self):
         self.refused("Text", self.session.load, "permit")
-        self.refused("NoQuestion", self.session.tell, "{}")
-        self.assertEqual(self.session.load("permit(principal, action, resource);"), ["policy0"])
+        self.refused("NoQuestion", self.session.tell)
+        self.assertEqual(self.session.load(ANY), ["policy0"])
 
-
-class Sessions(Answers, unittest.TestCase):
-    def opened(self):
-        return cedar.Session()
-
-    def test_depth(self):
-        deep = "permit(principal, action, resource) when { " + "(" * 20 + "true" + ")" * 20 + " };"
-        self.session.load(deep)
-        with cedar.Session(depth=20) as low:
-            self.refused("Depth", low.load, deep)
-
-    def test_long_lines(self):
-        policies = "permit(principal, action, resource);" * 1000
-        ids = self.session.load(policies)
-        self.assertEqual(ids, [f"policy{at}" for at in range(1000)])
-        self.assertEqual(self.session.ask("{}").must, tuple(sorted(ids)))
-        self.assertTrue(self.session.last_line().startswith("allow must="))
-
-    def test_no_command(self):
-        with self.assertRaises(cedar.NoCommand):
-            self.session.line("lode", "")
-        with self.assertRaises(cedar.NoCommand):
-            self.session.line("load", " " * 1_048_577)
+    def test_what_is_no_command_changes_nothing(self):
+        faults = [
+            (cedar.NoCommand, lambda it: it.command("lode", "")),
+            (cedar.NoCommand, lambda it: it.line("load 0\nload", "")),
+            (cedar.TooLong, lambda it: it.load(" " * 1_048_577)),
+            (cedar.TooLong, lambda it: it.load("é" * 600_000)),
+            (cedar.NoValue, lambda it: it.load(b"")),
+            (cedar.NoValue, lambda it: it.load(None)),
+            (cedar.BadValue, lambda it: it.load("\ud800")),
+            (cedar.BadValue, lambda it: it.unlink("\udc80")),
+            (cedar.NoValue, lambda it: it.put('[{uid: User::"a"}]')),
+            (cedar.NoValue, lambda it: it.put([Entity("User", "a", attrs={"n": Unknown("x")})])),
+            (cedar.NoValue, lambda it: it.put([Entity("User", "a", attrs=[])])),
+            (cedar.NoValue, lambda it: ask(it, ALICE, {"a": 1.0})),
+            (cedar.NoValue, lambda it: ask(it, ALICE, None)),
+            (cedar.NoValue, lambda it: ask(it, None, {})),
+            (cedar.NoValue, lambda it: it.tell(hour=(1,))),
+        ]
+        for kind, fault in faults:
+            with self.assertRaises(kind) as caught:
+                fault(self.session)
+            self.assertIsInstance(caught.exception, cedar.CedarError)
         self.assertEqual(self.session.load(" " * 1_048_576), [])
+
+    def test_a_session_is_not_copied(self):
+        for copying in (copy.copy, copy.deepcopy, pickle.dumps):
+            with self.assertRaises(cedar.NotCopied):
+                copying(self.session)
+        gc.collect()
+        self.assertEqual(ask(self.session).decision, Decision.DENY)
 
     def test_closed(self):
         self.session.close()
         self.session.close()
         with self.assertRaises(cedar.NotOpen):
-            self.session.ask("{}")
+            ask(self.session)
+
+
+class Interrupted:
+    """What comes between a command and its line: a handler that uses the session, and an exception."""
+
+    def test_a_handler_gets_no_answer_of_another_question(self):
+        self.session.load('permit(principal == User::"alice", action, resource);')
+        seen = {"ran": 0, "busy": 0}
+
+        def handle(*_):
+            seen["ran"] += 1
+            try:
+                self.assertEqual(ask_all(self.session, MALLORY).decision, Decision.DENY)
+            except cedar.Busy:
+                seen["busy"] += 1
+
+        self.addCleanup(signal.signal, signal.SIGALRM, signal.signal(signal.SIGALRM, handle))
+        signal.setitimer(signal.ITIMER_REAL, 0.0002, 0.0002)
+        try:
+            wrong = sum(ask_all(self.session, ALICE).decision is not Decision.ALLOW for _ in range(5_000))
+        finally:
+            signal.setitimer(signal.ITIMER_REAL, 0)
+        self.assertEqual(wrong, 0)
+        self.assertGreater(seen["busy"], 0)
+
+    def test_an_exception_leaves_no_answer_behind(self):
+        class Late(Exception):
+            pass
+
+        def late(*_):
+            raise Late
+
+        self.addCleanup(signal.signal, signal.SIGALRM, signal.signal(signal.SIGALRM, late))
+        policies = 'permit(principal == User::"alice", action, resource) when { context.x.contains(1) };' * 500
+        interrupted = 0
+        for at in range(60):
+            session = self.opened()
+            session.load(policies)
+            try:
+                signal.setitimer(signal.ITIMER_REAL, 0.00005 * (at + 1))
+                for _ in range(20):
+                    self.assertEqual(ask_all(session, ALICE, x=[1]).decision, Decision.ALLOW)
+            except Late:
+                interrupted += 1
+            finally:
+                signal.setitimer(signal.ITIMER_REAL, 0)
+            try:
+                self.assertEqual(ask_all(session, MALLORY, x=[1]).decision, Decision.DENY)
+            except cedar.NotOpen:
+                pass
+            session.close()
+        self.assertGreater(interrupted, 20)
+
+
+class AnyThread:
+    """Two threads of one session: each gets its own answers."""
+
+    def test_threads_at_once(self):
+        self.session.load('permit(principal == User::"alice", action, resource);')
+        wrong = []
+
+        def work(who, wanted):
+            for _ in range(1_000):
+                if ask_all(self.session, who).decision is not wanted:
+                    wrong.append(who)
+
+        threads = [threading.Thread(target=work, args=it) for it in ((ALICE, Decision.ALLOW), (MALLORY, Decision.DENY)) * 2]
+        for thread in threads:
+            thread.start()
+        for thread in threads:
+            thread.join()
+        self.assertEqual(wrong, [])
+
+    def test_another_process_has_no_part_in_it(self):
+        self.session.load(ANY)
+        child = os.fork()
+        if child == 0:
+            try:
+                ask(self.session)
+            except cedar.OtherThread:
+                os._exit(7)
+            os._exit(1)
+        self.assertEqual(os.waitstatus_to_exitcode(os.waitpid(child, 0)[1]), 7)
+        self.assertEqual(ask_all(self.session, ALICE).decision, Decision.ALLOW)
+
+
+class Sessions(Answers, Interrupted, unittest.TestCase):
+    def opened(self):
+        return cedar.Session()
+
+    def test_depth(self):
+        self.session.load(DEEP)
+        with cedar.Session(depth=255) as low:
+            self.refused("Depth", low.load, DEEP)
+
+    def test_no_limit_of_depth(self):
+        for opened in (cedar.Session, cedar.SessionThread):
+            for depth in (-1, 2**32, 2**32 + 1, 256.0, None, True, "256"):
+                with self.subTest(depth=depth), self.assertRaises(cedar.BadValue):
+                    opened(depth=depth)
+        with self.assertRaises(cedar.BadValue):
+            cedar.SessionThread(depth=2**32 - 1)
+        with cedar.Session(depth=0) as least:
+            self.refused("Depth", least.load, ANY)
+
+    def test_the_stack_carries_the_limit_of_depth(self):
+        """A thread of 1 MiB carries no limit of 256, and none is opened there."""
+        caught = []
+
+        def small():
+            try:
+                cedar.Session()
+            except cedar.BadValue as why:
+                caught.append(str(why))
+            with cedar.SessionThread() as own:
+                caught.append(own.load(DEEP))
+
+        before = threading.stack_size(1 << 20)
+        try:
+            thread = threading.Thread(target=small)
+            thread.start()
+            thread.join()
+        finally:
+            threading.stack_size(before)
+        self.assertIn("SessionThread", caught[0])
+        self.assertEqual(caught[1], ["policy0"])
+        with self.assertRaises(cedar.BadValue):
+            cedar.Session(depth=100_000)
+
+    def test_long_lines(self):
+        ids = self.session.load(ANY * 1000)
+        self.assertEqual(ids, [f"policy{at}" for at in range(1000)])
+        self.assertEqual(ask(self.session).must, tuple(sorted(ids)))
+        self.assertTrue(self.session.last_line().startswith("allow must="))
+
+    def test_closed_has_no_last_line(self):
+        self.session.close()
         with self.assertRaises(cedar.NotOpen):
             self.session.last_line()
 
@@ -98,21 +292,222 @@ class Sessions(Answers, unittest.TestCase):
         caught = []
 
         def elsewhere():
-            try:
-                self.session.ask("{}")
-            except cedar.OtherThread as why:
-                caught.append(why)
+            for use in (lambda: ask(self.session), self.session.close, self.session.last_line):
+                try:
+                    use()
+                except cedar.OtherThread as why:
+                    caught.append(why)
             with cedar.Session() as own:
-                own.load("permit(principal, action, resource);")
-                caught.append(own.ask("{}").decision)
+                own.load(ANY)
+                caught.append(ask(own).decision)
 
         threads = [threading.Thread(target=elsewhere) for _ in range(4)]
         for thread in threads:
             thread.start()
         for thread in threads:
             thread.join()
-        self.assertEqual(len(caught), 8)
+        self.assertEqual(len(caught), 16)
         self.assertEqual(caught.count(Decision.ALLOW), 4)
+
+    def test_a_session_dropped_on_another_thread_warns(self):
+        held = []
+        thread = threading.Thread(target=lambda: held.append(cedar.Session()))
+        thread.start()
+        thread.join()
+        with warnings.catch_warnings(record=True) as caught:
+            warnings.simplefilter("always")
+            held.clear()
+            gc.collect()
+        self.assertEqual([it.category for it in caught], [ResourceWarning])
+
+    def test_no_library(self):
+        for path in ("/nonexistent.so", "libc.so.6"):
+            with self.subTest(path=path), self.assertRaises(cedar.NoLibrary):
+                cedar.Session(library=path)
+
+    def test_a_forked_process_has_a_session_of_its_own(self):
+        self.session.load(ANY)
+        child = os.fork()
+        if child == 0:
+            os._exit(7 if ask(self.session).decision is Decision.ALLOW else 1)
+        self.assertEqual(os.waitstatus_to_exitcode(os.waitpid(child, 0)[1]), 7)
+
+
+class SessionThreads(Answers, Interrupted, AnyThread, unittest.TestCase):
+    def opened(self):
+        return cedar.SessionThread()
+
+    def test_depth(self):
+        with cedar.SessionThread(depth=2_000) as deep:
+            deep.load("permit(principal, action, resource) when { " + "(" * 1_999 + "true" + ")" * 1_999 + " };")
+
+    def test_the_last_line(self):
+        self.session.load(ANY)
+        self.assertEqual(self.session.last_line(), 'ok ["policy0"]')
+
+
+class Children(Answers, Interrupted, AnyThread, unittest.TestCase):
+    def opened(self):
+        return cedar.Child()
+
+    def test_a_closed_child_is_gone(self):
+        self.session.close()
+        self.assertIsNotNone(self.session._child.returncode)
+
+    def test_a_stopped_child_is_given_up(self):
+        child = cedar.Child(seconds=0.2)
+        child.load(ANY)
+        os.kill(child._child.pid, signal.SIGSTOP)
+        with self.assertRaises(cedar.TimedOut):
+            child.load("//" * 500_000)
+        self.assertIsNotNone(child._child.returncode)
+        with self.assertRaises(cedar.NotOpen):
+            ask(child)
+
+    def test_a_killed_child_is_told(self):
+        os.kill(self.session._child.pid, signal.SIGKILL)
+        with self.assertRaises(cedar.Ended):
+            ask(self.session)
+        with self.assertRaises(cedar.NotOpen):
+            ask(self.session)
+
+    def test_no_program(self):
+        with self.assertRaises(cedar.NotOpen):
+            cedar.Child("/nonexistent")
+
+
+class Lines(unittest.TestCase):
+    """Lines that no session writes: none passes for success, and each closes the session."""
+
+    WRONG = (b"", b"o", b"ok", b"refuse", b"refused", b"refused \n", b"refused Text", b"fault TooLong\n", b"end\n", b"\n", b"OK\n", b"ok \n")
+    WRONG_LOADS = (*WRONG, b"ok\n", b"ok [\n", b'ok ["a"\n', b'ok ["a",]\n', b'ok ["a""b"]\n', b'ok ["a\\x"]\n', b"allow must=[] may=[] erring=[]\n")
+    WRONG_EDITS = (*WRONG, b"ok []\n", b"ok\nok\n", b"ok\n\n", b"allow must=[] may=[] erring=[]\n", b"\xffok\n")
+    WRONG_ANSWERS = (
+        *WRONG,
+        b"ok\n",
+        b"ok []\n",
+        b"allow must=[] may=[] erring=[]",
+        b"allow must=[] may=[]\n",
+        b"allowed must=[] may=[] erring=[]\n",
+        b'allow must=["a] may=[] erring=[]\n',
+        b'deny must=[] may=[] erring=["a"]\n',
+        b"deny must=[] may=[] erring=[]\nallow must=[] may=[] erring=[]\n",
+        b'deny must=["\xff"] may=[] erring=[]',
+    )
+
+    def served(self, line):
+        """A session of a program that answers each command so."""
+        program = tempfile.NamedTemporaryFile("w", suffix=".py", delete=False)
+        self.addCleanup(os.unlink, program.name)
+        with program:
+            program.write(f"#!{sys.executable}\nimport os\nos.read(0, 65536)\nos.write(1, {line!r})\n")
+        os.chmod(program.name, stat.S_IRWXU)
+        return cedar.Child(program.name)
+
+    def by_connection(self, lines):
+        """A session behind a connection that answers so, and is ended then."""
+        listener = socket.create_server(("127.0.0.1", 0))
+        self.addCleanup(listener.close)
+
+        def serve():
+            connection, _ = listener.accept()
+            with connection:
+                for line in lines:
+                    connection.recv(65536)
+                    connection.sendall(line)
+
+        thread = threading.Thread(target=serve)
+        thread.start()
+        session = cedar.Connection(listener.getsockname(), seconds=5)
+        self.addCleanup(thread.join)
+        self.addCleanup(session.close)
+        return session
+
+    def wrong(self, lines, command):
+        for line in lines:
+            with self.subTest(line=line):
+                session = self.by_connection([line])
+                with self.assertRaises(cedar.Ended):
+                    command(session)
+                with self.assertRaises(cedar.NotOpen):
+                    command(session)
+
+    def test_edits(self):
+        for edit in (lambda it: it.put([]), lambda it: it.add([]), lambda it: it.remove([]), lambda it: it.unlink("a"), lambda it: it.link("a", "b")):
+            self.wrong(self.WRONG_EDITS, edit)
+        for edit in (lambda it: it.remove_static("a"), lambda it: it.remove_template("a"), lambda it: it.command("put", "[]"), lambda it: it.line("put", "[]")):
+            self.wrong(self.WRONG_EDITS, edit)
+
+    def test_loads(self):
+        self.wrong(self.WRONG_LOADS, lambda it: it.load(""))
+
+    def test_answers(self):
+        self.wrong(self.WRONG_ANSWERS, ask)
+        self.wrong(self.WRONG_ANSWERS, lambda it: it.tell(a=1))
+
+    def test_a_line_is_cut_anywhere(self):
+        line = b'allow must=["policy0"] may=["policy0"] erring=["a":TypeError]\n'
+        self.wrong([line[:end] for end in range(len(line))], ask)
+        self.assertEqual(ask(self.by_connection([line])).must, ("policy0",))
+
+    def test_a_line_that_comes_in_parts(self):
+        line = b'allow must=["policy0"] may=["policy0"] erring=[]\n'
+        here, there = socket.socketpair()
+        session = cedar.Connection.__new__(cedar.Connection)
+        session._begin(here, 5)
+
+        def serve():
+            there.recv(65536)
+            for at in range(len(line)):
+                there.sendall(line[at : at + 1])
+
+        thread = threading.Thread(target=serve)
+        thread.start()
+        self.assertEqual(ask(session).decision, Decision.ALLOW)
+        thread.join()
+        session.close()
+        there.close()
+
+    def test_a_line_that_trickles_is_given_up(self):
+        here, there = socket.socketpair()
+        session = cedar.Connection.__new__(cedar.Connection)
+        session._begin(here, 0.3)
+        stopped = threading.Event()
+
+        def serve():
+            try:
+                while not stopped.wait(0.05):
+                    there.sendall(b"a")
+            except OSError:
+                pass
+
+        thread = threading.Thread(target=serve)
+        thread.start()
+        began = time.monotonic()
+        with self.assertRaises(cedar.TimedOut):
+            ask(session)
+        self.assertLess(time.monotonic() - began, 3)
+        stopped.set()
+        thread.join()
+        there.close()
+
+    def test_a_program_of_another_kind(self):
+        for line in (b"", b"end\n", b"hello\n"):
+            with self.assertRaises(cedar.Ended):
+                self.served(line).put([])
+
+
+class Names(unittest.TestCase):
+    def test_each_error_is_one(self):
+        for name in cedar.__all__:
+            kind = getattr(cedar, name)
+            if isinstance(kind, type) and issubclass(kind, Exception):
+                self.assertTrue(issubclass(kind, cedar.CedarError), name)
+
+    def test_kinds_of_errors(self):
+        self.assertTrue(issubclass(cedar.NoValue, TypeError) and issubclass(cedar.BadValue, ValueError) and issubclass(cedar.NoMemory, MemoryError))
+        again = pickle.loads(pickle.dumps(cedar.Refused("Shape")))
+        self.assertEqual((again.word, str(again)), ("Shape", "Shape"))
 
 
 if __name__ == "__main__":

@@ -1,0 +1,186 @@
+"""Sessions in the process, by the shared object of the authorizer: the one whose path is given, or that the environment's
+CEDAR_LIBRARY names, or that was installed with this package, or libcedar.so where the system finds it."""
+
+import ctypes
+import os
+import threading
+import warnings
+from concurrent.futures import ThreadPoolExecutor
+from typing import Callable, Optional, TypeVar
+
+from .commands import DEPTH, Commands
+from .errors import BadValue, CedarError, NoCommand, NoLibrary, NoMemory, NotOpen, OtherThread
+
+_DONE, _NO_COMMAND, _NO_MEMORY, _NO_ROOM, _NOT_OPEN = 0, 2, 4, 5, 6
+_ERRORS = {_NO_COMMAND: NoCommand, _NO_MEMORY: NoMemory, _NOT_OPEN: NotOpen}
+_OWN = os.path.join(os.path.dirname(os.path.abspath(__file__)), "libcedar.so")
+# (what stack threads get is told for the whole process)
+_STACKS = threading.Lock()
+
+T = TypeVar("T")
+
+
+class _Handle(ctypes.Structure):
+    _fields_ = [("at", ctypes.c_void_p)]
+
+
+def _library(path: Optional[str]) -> ctypes.CDLL:
+    named = path or os.environ.get("CEDAR_LIBRARY") or (_OWN if os.path.exists(_OWN) else "libcedar.so")
+    handle, count = ctypes.POINTER(_Handle), ctypes.c_size_t
+    try:
+        cedar = ctypes.CDLL(named)
+        cedar.cedar_open.argtypes = [handle, ctypes.c_uint32]
+        cedar.cedar_command.argtypes = [handle, ctypes.c_char_p, count, ctypes.c_char_p, count]
+        cedar.cedar_answer.argtypes = [handle, ctypes.c_void_p, count, ctypes.POINTER(count)]
+        cedar.cedar_close.argtypes = [handle]
+        for call in (cedar.cedar_open, cedar.cedar_command, cedar.cedar_answer, cedar.cedar_close):
+            call.restype = ctypes.c_uint8
+    except (AttributeError, OSError) as why:
+        raise NoLibrary(str(why)) from why
+    return cedar
+
+
+def stack_for(depth: int) -> int:
+    """How many bytes of a stack a limit of depth takes, with room besides."""
+    if not isinstance(depth, int) or isinstance(depth, bool) or not 0 <= depth < 2**32:
+        raise BadValue(f"no limit of depth: {depth!r}")
+    return depth * 8192 + (256 << 10)
+
+
+def _stack_here() -> Optional[int]:
+    """How many bytes the stack of this thread has, where the system says so."""
+    system = ctypes.CDLL(None)
+    if not hasattr(system, "pthread_getattr_np"):
+        return None
+    attributes, at, size = ctypes.create_string_buffer(256), ctypes.c_void_p(), ctypes.c_size_t()
+    system.pthread_self.restype = ctypes.c_void_p
+    if system.pthread_getattr_np(ctypes.c_void_p(system.pthread_self()), attributes):
+        return None
+    system.pthread_attr_getstack(attributes, ctypes.byref(at), ctypes.byref(size))
+    system.pthread_attr_destroy(attributes)
+    return size.value
+
+
+class Session(Commands):
+    """A session of this process, which stays on the thread that opens it. `depth` is its limit of depth, for which that thread has
+    to have the stack. No command can be broken off."""
+
+    def __init__(self, depth: int = DEPTH, library: Optional[str] = None):
+        super().__init__()
+        wanted, here = stack_for(depth), _stack_here()
+        if here is not None and here < wanted:
+            raise BadValue(f"a limit of depth of {depth} takes a stack of {wanted} bytes, and this thread has {here}: SessionThread makes one")
+        self._cedar, self._handle, self._thread, self.depth = _library(library), _Handle(), threading.get_ident(), depth
+        self._at, self._written = ctypes.byref(self._handle), ctypes.c_size_t()
+        self._written_at = ctypes.byref(self._written)
+        self._make_room(256)
+        self._want(self._cedar.cedar_open(self._at, depth))
+
+    def last_line(self) -> str:
+        """The line that answers the last command, again where there was no memory for it. It changes nothing."""
+        self._check()
+        return self._alone(self._line)[:-1].decode()
+
+    def close(self) -> None:
+        self._check()
+        super().close()
+
+    def _check(self) -> None:
+        if threading.get_ident() != self._thread:
+            raise OtherThread("the session stays on the thread that opened it")
+
+    def _exchange(self, verb: str, body: bytes) -> bytes:
+        named = verb.encode()
+        self._want(self._cedar.cedar_command(self._at, named, len(named), body, len(body)))
+        return self._line()
+
+    def _line(self) -> bytes:
+        while True:
+            status = self._cedar.cedar_answer(self._at, self._output_at, self._room, self._written_at)
+            if status != _NO_ROOM:
+                self._want(status)
+                return ctypes.string_at(self._output_at, self._written.value)
+            self._make_room(self._written.value)
+
+    def _want(self, status: int) -> None:
+        if status != _DONE:
+            raise _ERRORS.get(status, CedarError)(self._text(status))
+
+    def _text(self, status: int) -> str:
+        text = getattr(self._cedar, "cedar_status_text", None)
+        if text is None:
+            return f"status {status}"
+        text.restype = ctypes.c_char_p
+        told: bytes = text(status) or b""
+        return told.decode(errors="replace")
+
+    def _make_room(self, room: int) -> None:
+        self._output, self._room = ctypes.create_string_buffer(room), room
+        self._output_at = ctypes.addressof(self._output)
+
+    def _end(self) -> None:
+        self._cedar.cedar_close(self._at)
+
+    def __del__(self) -> None:
+        handle = getattr(self, "_handle", None)
+        if handle is None or handle.at is None:
+            return
+        if threading.get_ident() == self._thread:
+            self._end()
+        else:
+            # On another thread nothing may be given back.
+            warnings.warn(f"{self!r} was dropped on another thread than its own, and leaks", ResourceWarning, source=self)
+
+
+class SessionThread(Commands):
+    """A session on a thread of its own, which has the stack for its limit of depth. Any thread may use it, one at a time."""
+
+    def __init__(self, depth: int = DEPTH, library: Optional[str] = None):
+        super().__init__()
+        self.depth, self._process, self._thread = depth, os.getpid(), ThreadPoolExecutor(1, "cedar")
+        # (the system takes whole pages)
+        stack = -(-stack_for(depth) // 65536) * 65536
+        try:
+            with _STACKS:
+                before = threading.stack_size(stack)
+                try:
+                    opening = self._thread.submit(Session, depth, library)
+                finally:
+                    threading.stack_size(before)
+            self._session = opening.result()
+        except (RuntimeError, ValueError) as why:
+            raise why if isinstance(why, CedarError) else BadValue(f"no thread has a stack of {stack} bytes") from why
+
+    def last_line(self) -> str:
+        """As Session.last_line."""
+        self._check()
+        return self._alone(lambda: self._there(self._session.last_line))
+
+    def _check(self) -> None:
+        if os.getpid() != self._process:
+            raise OtherThread("the session stays in the process that opened it")
+
+    def _there(self, do: Callable[..., T], *given: object) -> T:
+        try:
+            doing = self._thread.submit(do, *given)
+        except RuntimeError as why:
+            raise NotOpen("the session is closed") from why
+        return doing.result()
+
+    def _exchange(self, verb: str, body: bytes) -> bytes:
+        return self._there(self._session._exchange, verb, body)
+
+    def _end(self) -> None:
+        try:
+            self._there(self._session._end)
+        except NotOpen:
+            return
+        self._thread.shutdown(wait=False)
+
+    def __del__(self) -> None:
+        if getattr(self, "_session", None) is not None and os.getpid() == self._process:
+            try:
+                self._thread.submit(self._session._end)
+            except RuntimeError:
+                return
+            self._thread.shutdown(wait=False)
