@@ -14,8 +14,8 @@ use Rattle.cedar_language.specs.Tree.{ValueType, Boolean, Long, String, Entity, 
 use Rattle.cedar_language.specs.Uid.{Text}
 use Rattle.cedar_language.specs.Value.{Value, Plain, SetOf, RecordOf, ExtensionOf, Values, no_values, a_value}
 use Rattle.cedar_partial_evaluation.specs.Partial.{Answer, Evaluated, ResidualTree, Failed, LeafAnswers, partial_in}
-use Rattle.cedar_world.specs.Heights.{value_height, value_heights, Heights, read_height, grown, all_grown, grown_answer, AreWithin, told_height}
-use Rattle.cedar_world.proofs.Grown.{some_grown, height_grows, grows}
+use Rattle.cedar_world.specs.Heights.{value_height, value_heights, Heights, variable_height, read_height, grown, all_grown, grown_answer, AreWithin, told_height}
+use Rattle.cedar_world.proofs.Grown.{both_within, below_within, three_within, some_grown, height_grows, grows}
 use Rattle.cedar_interpreter.specs.Depths.{left_height, read_again, evaluation_depth, evaluation_depths}
 use Rattle.cedar_restricted.specs.Expressing.{Expresses, ExpressAll}
 use Rattle.cedar_restricted.specs.Laws.{WrittenValuesAreGround, GroundTreesAreRestricted}
@@ -29,12 +29,12 @@ use Rattle.cedar_evaluator.proofs.Taken.{clause_of}
 -- ---- evaluations
 
 -- the same leaves with other slots
-pub other_slots : (h : Heights) (facts : Facts) (a b : LeafAnswers) → AreWithin h facts a → ((v : Variable) → a.variable v ≡ b.variable v) → ((n : Text) (ty : Option ValueType) → a.unknown n ty ≡ b.unknown n ty)
-    → ((s : SlotId) → grown_answer h (b.slot s) ≤ 1) → AreWithin h facts b
-other_slots h facts a b within variable unknown slot = record {
-  some_held = within.some_held;
+pub other_slots : (h : Heights) (limit : ℕ) (facts : Facts) (a b : LeafAnswers) → AreWithin h limit facts a → ((v : Variable) → a.variable v ≡ b.variable v) → ((n : Text) (ty : Option ValueType) → a.unknown n ty ≡ b.unknown n ty)
+    → ((s : SlotId) → grown_answer h (b.slot s) ≤ 1) → AreWithin h limit facts b
+other_slots h limit facts a b within variable unknown slot = record {
   some_named = within.some_named;
-  variable = λ v. subst (λ (x : Answer). grown_answer h x ≤ h.held) (variable v) (within.variable v);
+  some_context = within.some_context;
+  variable = λ v low. subst (λ (x : Answer). grown_answer h x ≤ variable_height h v) (variable v) (within.variable v low);
   unknown = λ n ty. subst (λ (x : Answer). grown_answer h x ≤ h.named n) (unknown n ty) (within.unknown n ty);
   slot = slot;
   attribute = within.attribute;
@@ -43,37 +43,47 @@ other_slots h facts a b within variable unknown slot = record {
   function = within.function;
 }
 
-module _ (h : Heights) (facts : Facts) (holds : LeafAnswers) (within : AreWithin h facts holds) where
+module _ (h : Heights) (limit : ℕ) (facts : Facts) (holds : LeafAnswers) (within : AreWithin h limit facts holds) where
   left_grows : (b : Answer) → left_height b ≤ grown_answer h b
   left_grows (Evaluated v) = omega arith
-  left_grows (ResidualTree r) = height_grows h facts holds within r
+  left_grows (ResidualTree r) = height_grows h limit facts holds within r
   left_grows (Failed k) = omega arith
 
-  again_grows : (op : Operator) (ts : Trees) → read_again facts holds op ts ≤ all_grown h ts
-  again_grows (GetAttr a) (a_tree t no_trees) =
-      omega (arith, left_grows (partial_in facts holds t), grows h facts holds within t, le-max_left (grown h t) 0)
-  again_grows _ _ = omega arith
+  again_grows : (op : Operator) (ts : Trees) → all_grown h ts ≤ limit → read_again facts holds op ts ≤ all_grown h ts
+  again_grows (GetAttr a) (a_tree t no_trees) m =
+      omega (arith, left_grows (partial_in facts holds t), grows h limit facts holds within t (both_within limit (grown h t) 0 m).0, le-max_left (grown h t) 0)
+  again_grows _ _ m = omega arith
 
   mutual
-    -- an evaluation nests no deeper than its tree may grow
-    pub depth_grows : (t : Tree) → evaluation_depth facts holds t ≤ grown h t
-    depth_grows (Lit l) = omega arith
-    depth_grows (Var v) = within.some_held
-    depth_grows (Slot s) = omega arith
-    depth_grows (Unknown n ty) = within.some_named n
-    depth_grows (If t y n) = omega (arith, depth_grows t, depth_grows y, depth_grows n)
-    depth_grows (And l r) = omega (arith, depth_grows l, depth_grows r)
-    depth_grows (Or l r) = omega (arith, depth_grows l, depth_grows r)
-    depth_grows (Apply op ts) = omega (arith, depths_grow ts, again_grows op ts, le-max_right (read_height h op) (suc (all_grown h ts)))
+    -- an evaluation nests no deeper than its tree may grow, where that is within the limit
+    pub depth_grows : (t : Tree) → grown h t ≤ limit → evaluation_depth facts holds t ≤ grown h t
+    depth_grows (Lit l) m = omega arith
+    depth_grows (Var v) m = some_grown h limit facts holds within (Var v)
+    depth_grows (Slot s) m = omega arith
+    depth_grows (Unknown n ty) m = within.some_named n
+    depth_grows (If t y n) m =
+        let (low, then, other) = three_within limit (grown h t) (grown h y) (grown h n) m in
+        omega (arith, depth_grows t low, depth_grows y then, depth_grows n other)
+    depth_grows (And l r) m =
+        let (left, right) = both_within limit (grown h l) (grown h r) (omega arith) in
+        omega (arith, depth_grows l left, depth_grows r right)
+    depth_grows (Or l r) m =
+        let (left, right) = both_within limit (grown h l) (grown h r) (omega arith) in
+        omega (arith, depth_grows l left, depth_grows r right)
+    depth_grows (Apply op ts) m =
+        let low = below_within limit (read_height h op) (all_grown h ts) m in
+        omega (arith, depths_grow ts low, again_grows op ts low, le-max_right (read_height h op) (suc (all_grown h ts)))
 
-    depths_grow : (ts : Trees) → evaluation_depths facts holds ts ≤ all_grown h ts
-    depths_grow no_trees = omega arith
-    depths_grow (a_tree t ts) = omega (arith, depth_grows t, depths_grow ts)
+    depths_grow : (ts : Trees) → all_grown h ts ≤ limit → evaluation_depths facts holds ts ≤ all_grown h ts
+    depths_grow no_trees m = omega arith
+    depths_grow (a_tree t ts) m =
+        let (first, rest) = both_within limit (grown h t) (all_grown h ts) m in
+        omega (arith, depth_grows t first, depths_grow ts rest)
 
   -- ---- what is taken up again
 
   two_high : (t : Tree) → grown h (And (Lit (Boolean true)) t) ≤ suc (grown h t)
-  two_high t = omega (arith, some_grown h facts holds within t)
+  two_high t = omega (arith, some_grown h limit facts holds within t)
 
   -- a policy of this one clause grows by one level
   pub clause_grows : (effect : Effect) (annotations : List (Keyed Text)) (c : Tree) → grown h (condition (clause_policy effect c annotations)) ≤ suc (grown h c)

@@ -20,7 +20,7 @@ use Rattle.cedar_grammar.specs.Laws.{LinkConditions}
 use Rattle.cedar_world.specs.Answer.{Answer, ids_of}
 use Rattle.cedar_world.specs.Asking.{Question}
 use Rattle.cedar_world.specs.First.{NamesNoUnknown, EarlyAnswersStand}
-use Rattle.cedar_world.specs.Heights.{AreWithin, AsksTooDeep}
+use Rattle.cedar_world.specs.Heights.{grown, AreWithin, AsksTooDeep}
 use Rattle.cedar_world.specs.Setting.{Setting}
 use Rattle.cedar_world.specs.Standing.{StandsEarly, IsJudged, Judges, ErrOnce, AnswersAreMade}
 use Rattle.cedar_world.specs.Step.{IsFirstAnswer, SomeInForce}
@@ -56,8 +56,8 @@ use Rattle.cedar_evaluator.proofs.Lists.{IsAmong, contained, contains, mapped, u
 use Rattle.cedar_asking.proofs.Naming.{is_other, no_unknown, no_call}
 use Rattle.cedar_asking.proofs.Sayings.{says_rules}
 use Rattle.cedar_asking.proofs.Depths.{depth_grows}
-use Rattle.cedar_world.proofs.Written.{held_is_within, grows_by_held}
-use Rattle.cedar_asking.proofs.Standings.{held_so, stands_as_written, all_given, height_as_written, names_as_written}
+use Rattle.cedar_world.proofs.Written.{held_is_within}
+use Rattle.cedar_asking.proofs.Standings.{held_so, stands_as_written, all_given, height_as_written, grown_as_written, names_as_written}
 
 -- each of the list, by its members
 pub all_among : {X : Type 0} (P : X → Type 0) (xs : List X) → ((x : X) → IsAmong x xs → P x) → All P xs
@@ -177,10 +177,14 @@ module _ (r : RequestParts) (store : Entities) (table : Table) (depth : ℕ) whe
         let force = is_in_force es whole slots finds world held e.0 e.1 at policy in
         let written = height_as_written conditions keeps e.1 in (
           λ h heights.
-              let within = subst (AreWithin h facts) (sym (held_so table q r asked.holds facts served bs)) (held_is_within by world facts q finite.empty finite.empty (binding_of bs) h are heights (λ n v is. is)) in
-              let low = depth_grows h facts holds within (condition_in e.1) in
-              let by_held = grows_by_held by world q finite.empty h heights (condition_in e.1) in
-              (e.0, written_entry e.1, force, omega (arith, deep, low, by_held, written, setting.depth_is)),
+              let within : AreWithin h by.depth facts holds =
+              subst (AreWithin h by.depth facts) (sym (held_so table q r asked.holds facts served bs)) (held_is_within by world facts q finite.empty finite.empty (binding_of bs) h are heights (λ n v is. is)) in
+              let so : grown h (condition (written_entry e.1)) ≡ grown h (condition_in e.1) = grown_as_written conditions h e.1 in
+              let above : by.depth < grown h (condition_in e.1) = elim (cases_lt by.depth (grown h (condition_in e.1))) [
+                | inl high ↦ high
+                | inr low ↦ absurd (omega (arith, deep, depth_grows h by.depth facts holds within (condition_in e.1) low, setting.depth_is))
+              ] in
+              (e.0, written_entry e.1, force, omega (arith, above, so)),
           λ known.
               let given = all_given meant by table q r asked setting.functions known (condition_in e.1) (no_unknown is_other (condition_in e.1) calls) in
               let low = known_depth never facts (is_given (untold r)) true holds (record { variable = λ v. held_known (holds.variable v); slot = λ s i. slot_known (binding_of bs s) }) (condition_in e.1) given in

@@ -7,7 +7,6 @@ use Rattle.std.specs.declared.rc.RcStr.{RcStr}
 use Rattle.either.specs.declared.Either.{Either}
 use Rattle.either.specs.declared.Either.TheVariants.{Left, Right}
 use Rattle.cedar_grammar.specs.Laws.{LinkConditions}
-use Rattle.cedar_language.specs.Height.{LinkingKeepsHeight}
 use Rattle.cedar_language.specs.Answering.{decision, in_must, in_may, ids_with}
 use Rattle.cedar_language.specs.Facts.{Facts}
 use Rattle.cedar_language.specs.Tree.{MakeRecord, Context, Tree, Apply, Trees}
@@ -26,7 +25,7 @@ use Rattle.cedar_world.specs.ContextErrors.{ContextsErrInParts}
 use Rattle.cedar_world.proofs.OrdinaryAnswers.{rules_list}
 use Rattle.cedar_world.specs.Heights.{Heights, grown, grown_answer, AreWithin, told_height, context_height, AreHeights, SomeGrowsTooHigh}
 use Rattle.cedar_world.proofs.Grown.{grows, some_grown}
-use Rattle.cedar_world.proofs.Written.{slot_within, context_within, held_is_within, grows_by_held}
+use Rattle.cedar_world.proofs.Written.{slot_within, context_within, held_is_within}
 use Rattle.cedar_world.specs.Joined.{IsJoined, LaterAnswersStand}
 use Rattle.cedar_language.specs.Constructing.{the_constructor}
 use Rattle.cedar_world.specs.PlainAnswers.{PlainAnswers}
@@ -100,7 +99,7 @@ use Rattle.cedar_asking.proofs.Rejudged.{first_served, first_made, first_found, 
 use Rattle.cedar_asking.proofs.Requested.{all_absent}
 use Rattle.cedar_asking.proofs.RequestTold.{no_conflicts, variable_again, held_again}
 use Rattle.cedar_asking.proofs.Sayings.{says_rules}
-use Rattle.cedar_asking.proofs.Standings.{held_so, height_as_written, no_slots}
+use Rattle.cedar_asking.proofs.Standings.{held_so, grown_as_written, no_slots}
 
 -- what is held once values are told rests on these
 pub record Rests : Type 0 where
@@ -184,9 +183,9 @@ module _ (c : Rests) (by : Setting) (world : World) (q : Question) (first : Part
   -- ---- where the limit is met
 
   module _ (h : Heights) (heights : AreHeights by world q (told_in told) h) where
-    first_within : (bs : Bindings) → AreWithin h facts (request_held (untold response.request) bs)
+    first_within : (bs : Bindings) → AreWithin h by.depth facts (request_held (untold response.request) bs)
     first_within bs =
-        subst (AreWithin h facts) (sym (held_so response.table q response.request response.is_request.holds facts served_first bs))
+        subst (AreWithin h by.depth facts) (sym (held_so response.table q response.request response.is_request.holds facts served_first bs))
         (held_is_within by world facts q (told_in told) finite.empty (binding_of bs) h are_facts heights (extends_empty (told_in told)))
 
     -- the context is too high with what is told
@@ -203,10 +202,14 @@ module _ (c : Rests) (by : Setting) (world : World) (q : Question) (first : Part
         let some_named = (first_within unbound).some_named in
         let named_low : (n : Text) → told_height (told_for told n) ≤ h.named n = λ n. subst (λ (v : Option Value). told_height v ≤ h.named n) (holds_told told n) (heights.value_told n) in
         let low = substituted_low h some_named told named_low written ground t u plain puts in
-        let within : grown h t ≤ context_height h (WithEntries ks ts) =
-        subst (λ (a : PartialAnswer). grown_answer h a ≤ context_height h (WithEntries ks ts)) (sym left)
-        (context_within by world q (told_in told) h heights facts are_facts finite.empty (extends_empty (told_in told)) (WithEntries ks ts)) in
-        omega (arith, deep, low, within, now.setting.depth_is)
+        elim (cases_lt by.depth (context_height h (WithEntries ks ts))) [
+          | inl high ↦ high
+          | inr fits ↦
+              let within : grown h t ≤ context_height h (WithEntries ks ts) =
+              subst (λ (a : PartialAnswer). grown_answer h a ≤ context_height h (WithEntries ks ts)) (sym left)
+              (context_within by world q (told_in told) h heights facts are_facts finite.empty (extends_empty (told_in told)) (WithEntries ks ts) fits) in
+              absurd (omega (arith, deep, low, within, now.setting.depth_is))
+        ]
 
   module _ (again : PartialResponse) (r : IsReauthorized s table depth told first again) where
     pub held : request_held (record { request = r.request; told = told_for told }) unbound ≡ held_of facts q no_slots (told_in told)
@@ -215,14 +218,14 @@ module _ (c : Rests) (by : Setting) (world : World) (q : Question) (first : Part
     abbrev inquiry : Inquiry
     inquiry = record { request = r.request; told = told_for told }
 
-    again_within : (h : Heights) → AreHeights by world q (told_in told) h → (bs : Bindings) → AreWithin h facts (request_held inquiry bs)
+    again_within : (h : Heights) → AreHeights by world q (told_in told) h → (bs : Bindings) → AreWithin h by.depth facts (request_held inquiry bs)
     again_within h heights bs =
-        let within : AreWithin h facts (request_held inquiry unbound) =
-        subst (AreWithin h facts) (sym held) (held_is_within by world facts q (told_in told) (told_in told) no_slots h are_facts heights (λ n v is. is)) in
-        other_slots h facts (request_held inquiry unbound) (request_held inquiry bs) within (λ v. refl) (λ n ty. refl) (λ s. slot_within h (binding_of bs s))
+        let within : AreWithin h by.depth facts (request_held inquiry unbound) =
+        subst (AreWithin h by.depth facts) (sym held) (held_is_within by world facts q (told_in told) (told_in told) no_slots h are_facts heights (λ n v is. is)) in
+        other_slots h by.depth facts (request_held inquiry unbound) (request_held inquiry bs) within (λ v. refl) (λ n ty. refl) (λ s. slot_within h (binding_of bs s))
 
     -- each evaluation of what is left is too deep
-    module _ (conditions : LinkConditions) (keeps : LinkingKeepsHeight) (l : Kept) (in_later : IsAmong l r.kept) (met : l.found ≡ Erred LimitMet) (h : Heights) (heights : AreHeights by world q (told_in told) h) where
+    module _ (conditions : LinkConditions) (l : Kept) (in_later : IsAmong l r.kept) (met : l.found ≡ Erred LimitMet) (h : Heights) (heights : AreHeights by world q (told_in told) h) where
       pub too_deep : SomeGrowsTooHigh by world h
       too_deep =
           let (d, in_left, of_later) = kept_of inquiry s table depth (residuals_with is_any first) r.kept r.each l in_later in
@@ -234,26 +237,30 @@ module _ (c : Rests) (by : Setting) (world : World) (q : Question) (first : Part
           ∙ clause_calls_nothing c.plain c.finds by world facts are_facts q first response k in_ks e in_set of in
           let (bs, deep) = of_later.limit met facts
           (record { entities = store_has_facts by world facts s are_facts now.shows now.closed now.whole; functions = served; names_nothing = names_nothing table (condition_in d.1) calls }) in
-          let low = depth_grows h facts (request_held inquiry bs) (again_within h heights bs) (condition_in d.1) in
           let clause : grown h (condition_in d.1) ≤ suc (grown h (clause_of k.found)) =
           subst (λ (x : Entry). grown h (condition_in x) ≤ suc (grown h (clause_of k.found))) (sym left.policy)
-          (clause_grows h facts (request_held inquiry bs) (again_within h heights bs) k.effect left.annotations (clause_of k.found)) in
+          (clause_grows h by.depth facts (request_held inquiry bs) (again_within h heights bs) k.effect left.annotations (clause_of k.found)) in
           let before = first_within h heights (bindings_in e.1) in
-          let found = found_grows h _ k.found (grown h (condition_in e.1)) (first_found c.plain c.finds by world facts are_facts q first response k in_ks e in_set of)
-          (grows h facts (request_held (untold response.request) (bindings_in e.1)) before (condition_in e.1))
-          (some_grown h facts (request_held (untold response.request) (bindings_in e.1)) before (condition_in e.1)) in
-          let by_held = grows_by_held by world q (told_in told) h heights (condition_in e.1) in
-          let written = height_as_written conditions keeps e.1 in (
+          let so : grown h (condition (written_entry e.1)) ≡ grown h (condition_in e.1) = grown_as_written conditions h e.1 in
+          let above : by.depth ≤ grown h (condition_in e.1) = elim (cases_lt (grown h (condition_in e.1)) by.depth) [
+            | inl below ↦
+                let found = found_grows h _ k.found (grown h (condition_in e.1)) (first_found c.plain c.finds by world facts are_facts q first response k in_ks e in_set of)
+                (grows h by.depth facts (request_held (untold response.request) (bindings_in e.1)) before (condition_in e.1) (omega arith))
+                (some_grown h by.depth facts (request_held (untold response.request) (bindings_in e.1)) before (condition_in e.1)) in
+                let low = depth_grows h by.depth facts (request_held inquiry bs) (again_within h heights bs) (condition_in d.1) (omega (arith, clause, found)) in
+                absurd (omega (arith, deep, low, clause, found, now.setting.depth_is))
+            | inr above ↦ above
+          ] in (
             e.0,
             written_entry e.1,
             is_in_force response.policies response.whole response.of.slots c.finds world response.of.policies e.0 e.1 at policy,
-            omega (arith, deep, low, clause, found, by_held, written, now.setting.depth_is),
+            omega (arith, above, so),
           )
 
-    pub limits_high : LinkConditions → LinkingKeepsHeight → SomeAtLimit (holding_in again).errors → (h : Heights) → AreHeights by world q (told_in told) h → SomeGrowsTooHigh by world h
-    limits_high conditions keeps (id, some) h heights =
+    pub limits_high : LinkConditions → SomeAtLimit (holding_in again).errors → (h : Heights) → AreHeights by world q (told_in told) h → SomeGrowsTooHigh by world h
+    limits_high conditions (id, some) h heights =
         let (l, in_later, found) = limit_kept r.kept id (subst (λ errors. Contains errors (id, LimitMet)) (ap (λ (h : Holding). h.errors) r.holds) some) in
-        too_deep conditions keeps l in_later found h heights
+        too_deep conditions l in_later found h heights
 
   -- ---- what is answered
 

@@ -80,7 +80,6 @@ pub fn tells_are_refused()
     ensures context { TellsAreRefused }
     ensures limit { LimitsAreOfPolicies }
 {
-    cedar_language::linking_keeps_height();
     cedar_grammar::linking_binds_the_condition();
     cedar_partial_evaluation::known_is_never_left();
     cedar_partial_evaluation::leaves_dont_matter();

@@ -9,7 +9,7 @@ use Rattle.cedar_session.specs.Owning.{owned_setting, owned_world}
 use Rattle.cedar_session.specs.Programs.{KnowsAllWithin}
 use Rattle.cedar_world.specs.Commands.{Reply}
 use Rattle.cedar_world.specs.Lines.{line_of}
-use Rattle.cedar_world.specs.RunText.{FrameStep}
+use Rattle.cedar_world.specs.RunText.{BodyStep}
 use Rattle.cedar_world.specs.World.{new_world}
 use Rattle.cedar_c.specs.declared.open_session.OpenSession.{OpenSession}
 
@@ -31,11 +31,11 @@ pub record IsNewWithin (depth : ℕ) (session : OpenSession) : Type 0 where
 abbrev pub IsCommand : List ℕ → List ℕ → Type 0
 IsCommand word body = (verb : Verb) × (word ≡ verb_name verb) × (length body ≤ body_limit)
 
--- From the one state to the other the command of this verb and this body is done, as that of a frame is, and the line is its answer's.
+-- From the one state to the other the command of this verb and this body is done, and the line is its answer's.
 pub record Does (old : OpenSession) (word body : List ℕ) (new : OpenSession) : Type 0 where
   pub verb : Verb
   pub spelled : word ≡ verb_name verb
   pub reply : Reply
-  pub step : FrameStep (owned_setting old.session) (owned_world old.session) verb body reply (owned_world new.session)
+  pub step : BodyStep (owned_setting old.session) (owned_world old.session) verb body reply (owned_world new.session)
   pub setting : owned_setting new.session ≡ owned_setting old.session
   pub said : answer_line new ≡ line_of reply

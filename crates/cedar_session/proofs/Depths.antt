@@ -1,11 +1,10 @@
 -- Whether what is evaluated once more is told is too deep is read off the policies in force and the question.
-use Rattle.std.proofs.Common.{◌≡◌, ◌⊎◌, inl, inr, ◌<◌, ◌+◌, ℕ, suc, Bool, true, false, true≢false, Some, List, [], ◌∷◌, All, arith, refl, sym, ◌∙◌, subst}
-use Rattle.std.proofs.lemmas.Bool.{cases_order}
-use Rattle.cedar_language.specs.Height.{height}
+use Rattle.std.proofs.Common.{◌≡◌, ◌⊎◌, inl, inr, ◌<◌, ◌≤◌, ℕ, suc, Bool, true, false, true≢false, Some, List, [], ◌∷◌, All, arith, refl, sym, ◌∙◌, subst}
+use Rattle.std.proofs.lemmas.Bool.{cases_lt, cases_order}
 use Rattle.cedar_language.specs.Uid.{Text}
 use Rattle.cedar_grammar.specs.Syntax.{PolicySyntax, condition}
 use Rattle.cedar_world.specs.Asking.{Question}
-use Rattle.cedar_world.specs.Heights.{Heights, context_height, SomeGrowsTooHigh, ContextIsTooHigh}
+use Rattle.cedar_world.specs.Heights.{Heights, grown, context_height, SomeGrowsTooHigh, ContextIsTooHigh}
 use Rattle.cedar_world.specs.InForce.{AreInForce}
 use Rattle.cedar_world.specs.Question.{names_some}
 use Rattle.cedar_world.specs.Setting.{Setting}
@@ -20,12 +19,19 @@ is_below a b = pick (cases_order a b)
     pick (inr (inl l)) = inl l
     pick (inr (inr m)) = inr (λ l. omega arith)
 
+is_at_most : (a b : ℕ) → (a ≤ b) ⊎ ((a ≤ b) → ⊥)
+is_at_most a b = pick (cases_lt b a)
+  where
+    pick : (b < a) ⊎ (a ≤ b) → (a ≤ b) ⊎ ((a ≤ b) → ⊥)
+    pick (inl l) = inr (λ m. omega arith)
+    pick (inr m) = inl m
+
 module _ (by : Setting) (world : World) (q : Question) (h : Heights) where
   abbrev IsInForce : Text × PolicySyntax → Type 0
   IsInForce p = in_force_at world.policies p.0 ≡ Some p.1
 
   abbrev Grows : Text × PolicySyntax → Type 0
-  Grows p = by.depth < height (condition p.1) + h.held
+  Grows p = by.depth ≤ grown h (condition p.1)
 
   abbrev NoneGrows : List (Text × PolicySyntax) → Type 0
   NoneGrows ps = (p : Text × PolicySyntax) → IsAmong p ps → Grows p → ⊥
@@ -41,7 +47,7 @@ module _ (by : Setting) (world : World) (q : Question) (h : Heights) where
 
   some_or_none : (ps : List (Text × PolicySyntax)) → All IsInForce ps → SomeGrowsTooHigh by world h ⊎ NoneGrows ps
   some_or_none [] each = inr (λ p a high. absurd a)
-  some_or_none (p ∷ ps) each = first_or_rest p ps (each 0 p (omega arith)) (is_below by.depth (height (condition p.1) + h.held)) (some_or_none ps (λ k d lt. each (suc k) d (omega arith)))
+  some_or_none (p ∷ ps) each = first_or_rest p ps (each 0 p (omega arith)) (is_at_most by.depth (grown h (condition p.1))) (some_or_none ps (λ k d lt. each (suc k) d (omega arith)))
 
   some_grows : (ps : List (Text × PolicySyntax)) → AreInForce world ps → ((SomeGrowsTooHigh by world h → ⊥) → ⊥) → SomeGrowsTooHigh by world h
   some_grows ps listed some = pick (some_or_none ps listed.each)

@@ -254,9 +254,7 @@ module _ (by : Setting) (policies : Policies) (entities : Entities) where
           attribute = are.attribute;
           tag = are.tag;
           function = are.function;
-          answered = are.answered;
           value_told = are.value_told;
-          named = are.named;
           context = are.context;
         }
 

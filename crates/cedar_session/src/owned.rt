@@ -2,7 +2,7 @@
 ghost use Rattle.std.specs.Prelude.{◌≡◌, ◌≤◌, length};
 ghost use Rattle.cedar_frames.specs.Heads.{body_limit};
 ghost use Rattle.cedar_replies.specs.Replies.{reply_of};
-ghost use Rattle.cedar_world.specs.RunText.{FrameStep};
+ghost use Rattle.cedar_world.specs.RunText.{BodyStep};
 ghost use Rattle.cedar_world.specs.World.{new_world};
 ghost use Rattle.cedar_parser.specs.Settings.{functions_of};
 ghost use Rattle.cedar_session.specs.Calling.{AreNamesOf};
@@ -58,11 +58,12 @@ impl<'f, F: ExtensionFunctionObject> OwnedSession<'f, F> {
         }
     }
 
-    /// Answers the command of a verb and a body, as a run answers that of a frame: by what [`Session::apply`]
-    /// answers, and refused `NotUtf8` where the body is no UTF-8. A refused command changes nothing.
+    /// Answers the command of a verb and a body, as a run answers that of a frame which it could keep: by what
+    /// [`Session::apply`] answers, and refused `NotUtf8`, never `Memory`, where the body is no UTF-8. A refused
+    /// command changes nothing.
     pub fn answer(&mut self, verb: Verb, body: &[u8]) -> Result<Reply, Refusal>
         requires { length body.now ≤ body_limit }
-        ensures step { FrameStep (owned_setting self.old) (owned_world self.old) verb body.now (reply_of result) (owned_world self.new) }
+        ensures step { BodyStep (owned_setting self.old) (owned_world self.old) verb body.now (reply_of result) (owned_world self.new) }
         ensures setting { owned_setting self.new ≡ owned_setting self.old }
     {
         let Ok(text) = str::from_utf8(body) else {

@@ -1,5 +1,6 @@
 -- What is settled of a tree is what the tree means, wherever that is said of its leaves.
 use Rattle.std.proofs.Common.{◌≡◌, Bool, true, false, not, cond, ◌&&◌, Option, Some, None, [], ◌∷◌, refl, sym, ◌∙◌, ap}
+use Rattle.std.proofs.lemmas.Bool.{and_parts, not-true}
 use Rattle.cedar_language.specs.Uid.{Text, Name, Uid}
 use Rattle.cedar_language.specs.Tree.{Boolean, Entity, Variable, Context, SlotId, Operator, Equal, GetAttr, HasAttr, Tree, Lit, Var, Slot, Unknown, If, And, Or, Apply, Trees, no_trees, a_tree, ValueType, EntityType}
 use Rattle.cedar_language.specs.Tree as tree
@@ -12,7 +13,6 @@ use Rattle.cedar_partial_evaluation.specs.Settling.{Settling, Open, Errs, Is, Se
 use Rattle.cedar_partial_evaluation.specs.Fair.{IsOfType}
 use Rattle.cedar_partial_evaluation.specs.Mentions.{mentions_only, all_mention_only}
 use Rattle.cedar_partial_evaluation.specs.Unknowns.{types_differ, EachUnknown, EachUnknownOf}
-use Rattle.cedar_language.proofs.Booleans.{and_left, and_right}
 use Rattle.cedar_partial_evaluation.proofs.Scopes.{entity_equal}
 
 -- where something is settled it is the result, kinds of errors aside
@@ -103,15 +103,15 @@ module _ (Passes : Text → Option ValueType → Type 0) (f : Variable → Bool)
     none_stands (Slot s) h = tt
     none_stands (Unknown n ty) h = cc
     none_stands (If t y n) h =
-        let rest = and_right (mentions_only f slots t) _ h in
-        (none_stands t (and_left (mentions_only f slots t) _ h), none_stands y (and_left (mentions_only f slots y) _ rest), none_stands n (and_right (mentions_only f slots y) _ rest))
-    none_stands (And l r) h = (none_stands l (and_left (mentions_only f slots l) _ h), none_stands r (and_right (mentions_only f slots l) _ h))
-    none_stands (Or l r) h = (none_stands l (and_left (mentions_only f slots l) _ h), none_stands r (and_right (mentions_only f slots l) _ h))
+        let rest = (and_parts (mentions_only f slots t) _ h).1 in
+        (none_stands t (and_parts (mentions_only f slots t) _ h).0, none_stands y (and_parts (mentions_only f slots y) _ rest).0, none_stands n (and_parts (mentions_only f slots y) _ rest).1)
+    none_stands (And l r) h = (none_stands l (and_parts (mentions_only f slots l) _ h).0, none_stands r (and_parts (mentions_only f slots l) _ h).1)
+    none_stands (Or l r) h = (none_stands l (and_parts (mentions_only f slots l) _ h).0, none_stands r (and_parts (mentions_only f slots l) _ h).1)
     none_stands (Apply op ts) h = none_stand ts h
 
     pub none_stand : (ts : Trees) → all_mention_only f slots ts ≡ true → EachUnknownOf Passes ts
     none_stand no_trees h = tt
-    none_stand (a_tree t ts) h = (none_stands t (and_left (mentions_only f slots t) _ h), none_stand ts (and_right (mentions_only f slots t) _ h))
+    none_stand (a_tree t ts) h = (none_stands t (and_parts (mentions_only f slots t) _ h).0, none_stand ts (and_parts (mentions_only f slots t) _ h).1)
 
 -- ---- entities of types that are known
 
@@ -123,13 +123,9 @@ typed_value : (v : Value) (u : Name) → type_of_entity v ≡ Some u → IsOfTyp
 typed_value (Plain (Entity e)) u h = (e, refl, cc)
 typed_value v u h = cc
 
-not_true : (b : Bool) → not b ≡ true → b ≡ false
-not_true true h = cc
-not_true false h = refl
-
 other_entities : (a b : Uid) (u w : Name) → a.type_name ≡ u → b.type_name ≡ w → not (same_name u w) ≡ true → same (Plain (Entity a)) (Plain (Entity b)) ≡ false
 other_entities a b u w e f h =
-    let other : same_name a.type_name b.type_name ≡ false = rw (e, f) (not_true (same_name u w) h) in
+    let other : same_name a.type_name b.type_name ≡ false = rw (e, f) (not-true (same_name u w) h) in
     entity_equal a b ∙ ap (λ c. c && same_text a.id b.id) other
 
 -- what is known of the leaves is what they mean, and so are the entries of an open context

@@ -1,5 +1,6 @@
 -- What the rules say of policies goes against nothing that is decided once more is told.
 use Rattle.std.proofs.Common.{◌≡◌, ◌≢◌, ◌⊎◌, inl, inr, Bool, true, false, cond, not, ◌&&◌, ◌||◌, List, Some, refl, sym, ◌∙◌, ap, subst, true≢false}
+use Rattle.std.proofs.lemmas.Bool.{or_cases, or_left, or_right}
 use Rattle.cedar_language.specs.Uid.{Text}
 use Rattle.cedar_language.specs.Facts.{Facts}
 use Rattle.cedar_language.specs.Answering.{Effect, Permit, Forbid, Standing, Satisfied, Unsatisfied, Erring, Residual, is_permit, is_satisfied, is_residual, Judged, ComesTo, satisfied_forbid, satisfied_permit, residual_forbid, residual_permit, some, Allow, Deny, decision_by, in_must, in_may}
@@ -13,7 +14,6 @@ use Rattle.cedar_world.specs.Answers.{IsDecided, IsOut, AllOut, SomeHolds}
 use Rattle.cedar_world.specs.Standing.{Judges, Says}
 use Rattle.cedar_world.specs.Sound.{IsSoundLater}
 use Rattle.cedar_world.specs.Joined.{Allows}
-use Rattle.cedar_language.proofs.Booleans.{or_cases, or_left, or_right}
 use Rattle.cedar_world.proofs.Lists.{IsAmong, some_of, not_some}
 use Rattle.cedar_world.proofs.Members.{HasPassed, passed, has_passed}
 use Rattle.cedar_world.proofs.Beside.{same_syntax, judged, there}

@@ -1,27 +1,24 @@
 -- What is called by a policy with its slots bound, by a tree in which no slot stands, and by the context of a question that a body asks.
-use Rattle.std.proofs.Common.{◌≡◌, Bool, true, false, ◌&&◌, cond, Option, Some, None, List, [], ◌∷◌, ◌++◌, inl, inr, refl, subst}
+use Rattle.std.proofs.Common.{◌≡◌, Bool, true, false, ◌&&◌, Option, Some, None, List, [], ◌∷◌, ◌++◌, inl, inr, refl, subst}
 use Rattle.std.specs.List.{list_all}
-use Rattle.std.specs.Option.{unwrap_or}
-use lib.Chars.{codes}
-use Rattle.cedar_language.specs.Uid.{Text, Name, Uid}
-use Rattle.cedar_language.specs.Tree.{String, SlotId, Operator, MakeRecord, Call, Tree, Lit, Var, Slot, Unknown, If, And, Or, Apply, Trees, no_trees, a_tree}
+use Rattle.cedar_language.specs.Uid.{Name, Uid}
+use Rattle.cedar_language.specs.Tree.{String, SlotId, Operator, Call, Tree, Lit, Var, Slot, Unknown, If, And, Or, Apply, Trees, no_trees, a_tree}
 use Rattle.cedar_language.specs.Slots.{Slots, tree_slots, trees_slots, bound_slot, bound_tree, bound_trees}
 use Rattle.cedar_grammar.specs.Calls.{calls_none_but, calls_only, all_call_only}
-use Rattle.cedar_world.specs.Asking.{Part, Entries, NoContext, WithEntries, Question}
+use Rattle.cedar_world.specs.Asking.{Entries, Question}
 use Rattle.cedar_grammar.specs.UnknownCalls.{unknown_or, named_call, named, all_named}
-use Rattle.cedar_world.specs.Bodies.{Fields, zipped, found, if_there, entries_of, question_with, question_fields, question_keys, are_among, ask_body}
+use Rattle.cedar_world.specs.Bodies.{ask_body}
 use Rattle.cedar_grammar.specs.Functions.{is_the_unknown}
-use Rattle.cedar_world.specs.Orders.{text_eq}
 use Rattle.cedar_grammar.proofs.HeldSlots.{first_empty, second_empty}
-use Rattle.cedar_world.proofs.Parts.{same_some}
 use Rattle.cedar_world.specs.Lookups.{calls_among, all_call_among}
-use Rattle.cedar_world.proofs.Both.{and_left, and_right, and_true, and_both}
+use Rattle.cedar_world.proofs.QuestionParts.{ContextPasses, question_passes}
+use Rattle.std.proofs.lemmas.Bool.{and_parts, and_from}
 use Rattle.cedar_world.proofs.Lists.{IsAmong}
 
 pub of_each : {A : Type 0} (test : A → Bool) (xs : List A) → list_all test xs ≡ true → (x : A) → IsAmong x xs → test x ≡ true
 of_each test [] h x among = absurd among
-of_each test (y ∷ ys) h x (inl e) = subst (λ z. test z ≡ true) e (and_left (test y) (list_all test ys) h)
-of_each test (y ∷ ys) h x (inr a) = of_each test ys (and_right (test y) (list_all test ys) h) x a
+of_each test (y ∷ ys) h x (inl e) = subst (λ z. test z ≡ true) e (and_parts (test y) (list_all test ys) h).0
+of_each test (y ∷ ys) h x (inr a) = of_each test ys (and_parts (test y) (list_all test ys) h).1 x a
 
 -- ---- binding slots
 
@@ -61,16 +58,16 @@ module _ (fewer passes : Name → Bool) (pass : (name : Name) → fewer name ≡
     fewer_pass (Slot s) h = refl
     fewer_pass (Unknown n ty) h = refl
     fewer_pass (If t y n) h =
-        let (ht, rest) = and_true (calls_only fewer t) (calls_only fewer y && calls_only fewer n) h in
-        let (hy, hn) = and_true (calls_only fewer y) (calls_only fewer n) rest in
-        and_both _ _ (fewer_pass t ht) (and_both _ _ (fewer_pass y hy) (fewer_pass n hn))
-    fewer_pass (And l r) h = let (hl, hr) = and_true (calls_only fewer l) (calls_only fewer r) h in and_both _ _ (fewer_pass l hl) (fewer_pass r hr)
-    fewer_pass (Or l r) h = let (hl, hr) = and_true (calls_only fewer l) (calls_only fewer r) h in and_both _ _ (fewer_pass l hl) (fewer_pass r hr)
-    fewer_pass (Apply op ts) h = let (c, i) = and_true (calls_none_but fewer op) (all_call_only fewer ts) h in and_both _ _ (operator_passes op c) (all_fewer_pass ts i)
+        let (ht, rest) = and_parts (calls_only fewer t) (calls_only fewer y && calls_only fewer n) h in
+        let (hy, hn) = and_parts (calls_only fewer y) (calls_only fewer n) rest in
+        and_from _ _ (fewer_pass t ht) (and_from _ _ (fewer_pass y hy) (fewer_pass n hn))
+    fewer_pass (And l r) h = let (hl, hr) = and_parts (calls_only fewer l) (calls_only fewer r) h in and_from _ _ (fewer_pass l hl) (fewer_pass r hr)
+    fewer_pass (Or l r) h = let (hl, hr) = and_parts (calls_only fewer l) (calls_only fewer r) h in and_from _ _ (fewer_pass l hl) (fewer_pass r hr)
+    fewer_pass (Apply op ts) h = let (c, i) = and_parts (calls_none_but fewer op) (all_call_only fewer ts) h in and_from _ _ (operator_passes op c) (all_fewer_pass ts i)
 
     all_fewer_pass : (ts : Trees) → all_call_only fewer ts ≡ true → all_call_among true passes ts ≡ true
     all_fewer_pass no_trees h = refl
-    all_fewer_pass (a_tree t ts) h = let (ht, hts) = and_true (calls_only fewer t) (all_call_only fewer ts) h in and_both _ _ (fewer_pass t ht) (all_fewer_pass ts hts)
+    all_fewer_pass (a_tree t ts) h = let (ht, hts) = and_parts (calls_only fewer t) (all_call_only fewer ts) h in and_from _ _ (fewer_pass t ht) (all_fewer_pass ts hts)
 
 module _ (passes : Name → Bool) where
   mutual
@@ -81,32 +78,31 @@ module _ (passes : Name → Bool) where
     without_slots (Slot s) e h = absurd (cc e)
     without_slots (Unknown n ty) e h = refl
     without_slots (If t y n) e h =
-        let (ht, rest) = and_true (calls_among true passes t) (calls_among true passes y && calls_among true passes n) h in
-        let (hy, hn) = and_true (calls_among true passes y) (calls_among true passes n) rest in
+        let (ht, rest) = and_parts (calls_among true passes t) (calls_among true passes y && calls_among true passes n) h in
+        let (hy, hn) = and_parts (calls_among true passes y) (calls_among true passes n) rest in
         let more = second_empty (tree_slots t) (tree_slots y ++ tree_slots n) e in
-        and_both _ _ (without_slots t (first_empty (tree_slots t) (tree_slots y ++ tree_slots n) e) ht)
-        (and_both _ _ (without_slots y (first_empty (tree_slots y) (tree_slots n) more) hy) (without_slots n (second_empty (tree_slots y) (tree_slots n) more) hn))
+        and_from _ _ (without_slots t (first_empty (tree_slots t) (tree_slots y ++ tree_slots n) e) ht)
+        (and_from _ _ (without_slots y (first_empty (tree_slots y) (tree_slots n) more) hy) (without_slots n (second_empty (tree_slots y) (tree_slots n) more) hn))
     without_slots (And l r) e h =
-        let (hl, hr) = and_true (calls_among true passes l) (calls_among true passes r) h in
-        and_both _ _ (without_slots l (first_empty (tree_slots l) (tree_slots r) e) hl) (without_slots r (second_empty (tree_slots l) (tree_slots r) e) hr)
+        let (hl, hr) = and_parts (calls_among true passes l) (calls_among true passes r) h in
+        and_from _ _ (without_slots l (first_empty (tree_slots l) (tree_slots r) e) hl) (without_slots r (second_empty (tree_slots l) (tree_slots r) e) hr)
     without_slots (Or l r) e h =
-        let (hl, hr) = and_true (calls_among true passes l) (calls_among true passes r) h in
-        and_both _ _ (without_slots l (first_empty (tree_slots l) (tree_slots r) e) hl) (without_slots r (second_empty (tree_slots l) (tree_slots r) e) hr)
-    without_slots (Apply op ts) e h = let (c, i) = and_true (calls_none_but passes op) (all_call_among true passes ts) h in and_both _ _ c (all_without_slots ts e i)
+        let (hl, hr) = and_parts (calls_among true passes l) (calls_among true passes r) h in
+        and_from _ _ (without_slots l (first_empty (tree_slots l) (tree_slots r) e) hl) (without_slots r (second_empty (tree_slots l) (tree_slots r) e) hr)
+    without_slots (Apply op ts) e h = let (c, i) = and_parts (calls_none_but passes op) (all_call_among true passes ts) h in and_from _ _ c (all_without_slots ts e i)
 
     all_without_slots : (ts : Trees) → trees_slots ts ≡ [] → all_call_among true passes ts ≡ true → all_call_among false passes ts ≡ true
     all_without_slots no_trees e h = refl
     all_without_slots (a_tree t ts) e h =
-        let (ht, hts) = and_true (calls_among true passes t) (all_call_among true passes ts) h in
-        and_both _ _ (without_slots t (first_empty (tree_slots t) (trees_slots ts) e) ht) (all_without_slots ts (second_empty (tree_slots t) (trees_slots ts) e) hts)
+        let (ht, hts) = and_parts (calls_among true passes t) (all_call_among true passes ts) h in
+        and_from _ _ (without_slots t (first_empty (tree_slots t) (trees_slots ts) e) ht) (all_without_slots ts (second_empty (tree_slots t) (trees_slots ts) e) hts)
 
 -- ---- the context of a question
 
 module _ (slots : Bool) (passes : Name → Bool) where
   -- a context calls what passes
   abbrev pub ContextCalls : Entries → Type 0
-  ContextCalls NoContext = Unit {0}
-  ContextCalls (WithEntries ks ts) = all_call_among slots passes ts ≡ true
+  ContextCalls = ContextPasses (λ ts. all_call_among slots passes ts ≡ true)
 
   unknown_passes : (b : Bool) (f : Name) (t : Tree) (ts : Trees) → calls_among slots passes (Apply (Call f) (a_tree t ts)) ≡ true → calls_among slots passes (unknown_or b f t ts) ≡ true
   unknown_passes true f (Lit (String n)) no_trees h = refl
@@ -119,51 +115,16 @@ module _ (slots : Bool) (passes : Name → Bool) where
   mutual
     named_passes : (t : Tree) → calls_among slots passes t ≡ true → calls_among slots passes (named t) ≡ true
     named_passes (Apply op ts) h =
-        let (c, i) = and_true (calls_none_but passes op) (all_call_among slots passes ts) h in
-        call_passes op (all_named ts) (and_both _ _ c (all_named_pass ts i))
+        let (c, i) = and_parts (calls_none_but passes op) (all_call_among slots passes ts) h in
+        call_passes op (all_named ts) (and_from _ _ c (all_named_pass ts i))
     named_passes t h = h
 
     all_named_pass : (ts : Trees) → all_call_among slots passes ts ≡ true → all_call_among slots passes (all_named ts) ≡ true
     all_named_pass no_trees h = refl
-    all_named_pass (a_tree t ts) h = let (ht, hts) = and_true (calls_among slots passes t) (all_call_among slots passes ts) h in and_both _ _ (named_passes t ht) (all_named_pass ts hts)
-
-  abbrev Calls : Option Tree → Type 0
-  Calls None = Unit {0}
-  Calls (Some t) = calls_among slots passes t ≡ true
-
-  one_calls : (b : Bool) (t : Tree) (o : Option Tree) → calls_among slots passes t ≡ true → Calls o → Calls (cond b (Some t) o)
-  one_calls true t o h k = h
-  one_calls false t o h k = k
-
-  field_calls : (key : Text) (ks : List Text) (ts : Trees) → all_call_among slots passes ts ≡ true → Calls (found key (zipped ks ts))
-  field_calls key [] ts h = tt
-  field_calls key (k ∷ ks) no_trees h = tt
-  field_calls key (k ∷ ks) (a_tree t ts) h =
-      let (ht, hts) = and_true (calls_among slots passes t) (all_call_among slots passes ts) h in
-      one_calls (text_eq key k) t (found key (zipped ks ts)) ht (field_calls key ks ts hts)
-
-  optional_calls : (o : Option Tree) (c : Option Entries) → Calls o → if_there entries_of o ≡ Some c → ContextCalls (unwrap_or c NoContext)
-  optional_calls None c h is = let same : None ≡ c = cc in subst (λ x. ContextCalls (unwrap_or x NoContext)) same tt
-  optional_calls (Some (Apply (MakeRecord ks) ts)) c h is =
-      let same : Some (WithEntries ks (all_named ts)) ≡ c = cc in
-      subst (λ x. ContextCalls (unwrap_or x NoContext)) same (all_named_pass ts h)
-  optional_calls (Some t) c h is = cc
-
-  with_parts : (p a r : Option Part) (c : Option (Option Entries)) (q : Question) → question_with p a r c ≡ Some q
-      → ((e : Option Entries) → c ≡ Some e → ContextCalls (unwrap_or e NoContext)) → ContextCalls q.context
-  with_parts (Some p) (Some a) (Some r) (Some c) q is h = subst (λ (x : Question). ContextCalls x.context) (same_some _ q is) (h c refl)
-  with_parts (Some p) (Some a) (Some r) None q is h = cc
-  with_parts (Some p) (Some a) None c q is h = cc
-  with_parts (Some p) None r c q is h = cc
-  with_parts None a r c q is h = cc
-
-  if_among : (b : Bool) (fs : Fields) (q : Question) → cond b (question_fields fs) None ≡ Some q → question_fields fs ≡ Some q
-  if_among true fs q h = h
-  if_among false fs q h = cc
+    all_named_pass (a_tree t ts) h = let (ht, hts) = and_parts (calls_among slots passes t) (all_call_among slots passes ts) h in and_from _ _ (named_passes t ht) (all_named_pass ts hts)
 
   -- the question of a body calls what passes
   pub question_calls : (tree : Tree) (q : Question) → calls_among slots passes tree ≡ true → ask_body tree ≡ Some q → ContextCalls q.context
-  question_calls (Apply (MakeRecord ks) ts) q calls asks =
-      with_parts _ _ _ _ q (if_among (are_among question_keys (zipped ks ts)) (zipped ks ts) q asks)
-      (λ e there. optional_calls (found (codes "context") (zipped ks ts)) e (field_calls (codes "context") ks ts calls) there)
-  question_calls _ q calls asks = cc
+  question_calls =
+      question_passes (λ t. calls_among slots passes t ≡ true) (λ ts. all_call_among slots passes ts ≡ true)
+      (λ t ts h. and_parts (calls_among slots passes t) (all_call_among slots passes ts) h) (λ ks ts h. h) all_named_pass

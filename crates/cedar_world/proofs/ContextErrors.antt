@@ -1,5 +1,6 @@
 -- A context is refused where some part of it errs, all of whose names are told.
 use Rattle.std.proofs.Common.{◌≡◌, ◌⊎◌, inl, inr, Bool, true, false, not, ◌&&◌, ◌||◌, Option, Some, None, is_some, refl, ◌∙◌, ap}
+use Rattle.std.proofs.lemmas.Bool.{and_parts, false_from_ne_true, not-true, or_cases, or_from, or_left, or_parts, or_right}
 use Rattle.std.specs.FinMap as finite
 use Rattle.cedar_language.specs.Uid.{Text}
 use Rattle.cedar_language.specs.Tree.{Operator, MakeSet, MakeRecord, Call, Tree, Lit, Var, Slot, Unknown, If, And, Or, Apply, Trees, no_trees, a_tree, ValueType}
@@ -20,43 +21,22 @@ use Rattle.cedar_world.specs.Bodies.{some_name, some_name_of, some_part, some_pa
 use Rattle.cedar_world.specs.Setting.{functions_alone}
 use Rattle.cedar_world.specs.Values.{fails, holds_open, context_errs}
 use Rattle.cedar_world.specs.ContextErrors.{ContextsErrInParts}
-use Rattle.cedar_world.proofs.Both.{and_true, both_false, neither}
-
-or_true : (a b : Bool) → (a || b) ≡ true → (a ≡ true) ⊎ (b ≡ true)
-or_true true b h = inl refl
-or_true false b h = inr h
-
-or_first : (a b : Bool) → a ≡ true → (a || b) ≡ true
-or_first true b h = refl
-or_first false b h = cc
-
-or_second : (a b : Bool) → b ≡ true → (a || b) ≡ true
-or_second true b h = refl
-or_second false b h = h
-
-not_true : (b : Bool) → not b ≡ true → b ≡ false
-not_true true h = cc
-not_true false h = refl
-
-never_true : (b : Bool) → (b ≡ true → ⊥) → b ≡ false
-never_true true h = absurd (h refl)
-never_true false h = refl
 
 -- ---- parts that pass a test
 
 module _ (test : Tree → Bool) where
   whole_passes : (t : Tree) → test t ≡ true → some_part test t ≡ true
-  whole_passes (Apply op ts) h = or_first (test (Apply op ts)) (some_part_of test ts) h
+  whole_passes (Apply op ts) h = or_left (test (Apply op ts)) (some_part_of test ts) h
   whole_passes _ h = h
 
   mutual
     part_passes : {p t : Tree} → IsPart p t → test p ≡ true → some_part test t ≡ true
     part_passes (whole {t = t}) h = whole_passes t h
-    part_passes (inside {op = op} {ts = ts} i) h = or_second (test (Apply op ts)) (some_part_of test ts) (one_passes i h)
+    part_passes (inside {op = op} {ts = ts} i) h = or_right (test (Apply op ts)) (some_part_of test ts) (one_passes i h)
 
     one_passes : {p : Tree} {ts : Trees} → IsPartOfOne p ts → test p ≡ true → some_part_of test ts ≡ true
-    one_passes (of_first {t = t} {ts = ts} i) h = or_first (some_part test t) (some_part_of test ts) (part_passes i h)
-    one_passes (of_later {t = t} {ts = ts} i) h = or_second (some_part test t) (some_part_of test ts) (one_passes i h)
+    one_passes (of_first {t = t} {ts = ts} i) h = or_left (some_part test t) (some_part_of test ts) (part_passes i h)
+    one_passes (of_later {t = t} {ts = ts} i) h = or_right (some_part test t) (some_part_of test ts) (one_passes i h)
 
   abbrev Passing : Tree → Type 0
   Passing t = (p : Tree) × IsPart p t × (test p ≡ true)
@@ -81,25 +61,25 @@ module _ (test : Tree → Bool) where
     passing : (t : Tree) → some_part test t ≡ true → Passing t
     passing (Apply op ts) h =
         either_passing (λ (e : test (Apply op ts) ≡ true). (Apply op ts, whole, e)) (λ (e : some_part_of test ts ≡ true). below_passing op ts (one_passing ts e))
-        (or_true (test (Apply op ts)) (some_part_of test ts) h)
+        (or_cases (test (Apply op ts)) (some_part_of test ts) h)
     passing t h = (t, whole, h)
 
     one_passing : (ts : Trees) → some_part_of test ts ≡ true → OnePassing ts
     one_passing no_trees h = cc
     one_passing (a_tree t ts) h =
         either_passing (λ (e : some_part test t ≡ true). first_passing t ts (passing t e)) (λ (e : some_part_of test ts ≡ true). later_passing t ts (one_passing ts e))
-        (or_true (some_part test t) (some_part_of test ts) h)
+        (or_cases (some_part test t) (some_part_of test ts) h)
 
 -- ---- calls for an unknown
 
 mutual
   uncalled : {p t : Tree} → IsPart p t → holds_call t ≡ false → holds_call p ≡ false
   uncalled whole h = h
-  uncalled (inside {op = op} {ts = ts} i) h = one_uncalled i (both_false (calls_unknown op) (hold_call ts) h).1
+  uncalled (inside {op = op} {ts = ts} i) h = one_uncalled i (or_parts (calls_unknown op) (hold_call ts) h).1
 
   one_uncalled : {p : Tree} {ts : Trees} → IsPartOfOne p ts → hold_call ts ≡ false → holds_call p ≡ false
-  one_uncalled (of_first {t = t} {ts = ts} i) h = uncalled i (both_false (holds_call t) (hold_call ts) h).0
-  one_uncalled (of_later {t = t} {ts = ts} i) h = one_uncalled i (both_false (holds_call t) (hold_call ts) h).1
+  one_uncalled (of_first {t = t} {ts = ts} i) h = uncalled i (or_parts (holds_call t) (hold_call ts) h).0
+  one_uncalled (of_later {t = t} {ts = ts} i) h = one_uncalled i (or_parts (holds_call t) (hold_call ts) h).1
 
 module _ (told : Told) where
   -- ---- names that are told
@@ -121,16 +101,16 @@ module _ (told : Told) where
     each_told (Slot s) h = tt
     each_told (Unknown n ty) h = value_there (finite.get told n) h
     each_told (If t y n) h =
-        let (ht, rest) = both_false (some_name untold t) (some_name untold y || some_name untold n) h in
-        let (hy, hn) = both_false (some_name untold y) (some_name untold n) rest in
+        let (ht, rest) = or_parts (some_name untold t) (some_name untold y || some_name untold n) h in
+        let (hy, hn) = or_parts (some_name untold y) (some_name untold n) rest in
         (each_told t ht, each_told y hy, each_told n hn)
-    each_told (And l r) h = let (hl, hr) = both_false (some_name untold l) (some_name untold r) h in (each_told l hl, each_told r hr)
-    each_told (Or l r) h = let (hl, hr) = both_false (some_name untold l) (some_name untold r) h in (each_told l hl, each_told r hr)
+    each_told (And l r) h = let (hl, hr) = or_parts (some_name untold l) (some_name untold r) h in (each_told l hl, each_told r hr)
+    each_told (Or l r) h = let (hl, hr) = or_parts (some_name untold l) (some_name untold r) h in (each_told l hl, each_told r hr)
     each_told (Apply op ts) h = each_of_told ts h
 
     each_of_told : (ts : Trees) → some_name_of untold ts ≡ false → EachUnknownOf IsTold ts
     each_of_told no_trees h = tt
-    each_of_told (a_tree t ts) h = let (ht, hts) = both_false (some_name untold t) (some_name_of untold ts) h in (each_told t ht, each_of_told ts hts)
+    each_of_told (a_tree t ts) h = let (ht, hts) = or_parts (some_name untold t) (some_name_of untold ts) h in (each_told t ht, each_of_told ts hts)
 
   mutual
     none_untold : (t : Tree) → TellsEach told t → some_name untold t ≡ false
@@ -139,18 +119,18 @@ module _ (told : Told) where
     none_untold (Slot s) h = refl
     none_untold (Unknown n ty) (v, e) = ap (λ (o : Option Value). not (is_some o)) e
     none_untold (If t y n) (ht, hy, hn) =
-        neither (some_name untold t) (some_name untold y || some_name untold n) (none_untold t ht)
-        (neither (some_name untold y) (some_name untold n) (none_untold y hy) (none_untold n hn))
-    none_untold (And l r) (hl, hr) = neither (some_name untold l) (some_name untold r) (none_untold l hl) (none_untold r hr)
-    none_untold (Or l r) (hl, hr) = neither (some_name untold l) (some_name untold r) (none_untold l hl) (none_untold r hr)
+        or_from (some_name untold t) (some_name untold y || some_name untold n) (none_untold t ht)
+        (or_from (some_name untold y) (some_name untold n) (none_untold y hy) (none_untold n hn))
+    none_untold (And l r) (hl, hr) = or_from (some_name untold l) (some_name untold r) (none_untold l hl) (none_untold r hr)
+    none_untold (Or l r) (hl, hr) = or_from (some_name untold l) (some_name untold r) (none_untold l hl) (none_untold r hr)
     none_untold (Apply op ts) h = none_of_untold ts h
 
     none_of_untold : (ts : Trees) → EachUnknownOf IsTold ts → some_name_of untold ts ≡ false
     none_of_untold no_trees h = refl
-    none_of_untold (a_tree t ts) (h, k) = neither (some_name untold t) (some_name_of untold ts) (none_untold t h) (none_of_untold ts k)
+    none_of_untold (a_tree t ts) (h, k) = or_from (some_name untold t) (some_name_of untold ts) (none_untold t h) (none_of_untold ts k)
 
   closed : (p : Tree) → holds_call p ≡ false → TellsEach told p → holds_open untold p ≡ false
-  closed (Apply op ts) h each = neither (some_name_of untold ts) (hold_call ts) (none_of_untold ts each) (both_false (calls_unknown op) (hold_call ts) h).1
+  closed (Apply op ts) h each = or_from (some_name_of untold ts) (hold_call ts) (none_of_untold ts each) (or_parts (calls_unknown op) (hold_call ts) h).1
   closed (Lit l) h each = refl
   closed (Var v) h each = refl
   closed (Slot s) h each = refl
@@ -160,7 +140,7 @@ module _ (told : Told) where
   closed (Or l r) h each = none_untold (Or l r) each
 
   told_where_closed : (p : Tree) → holds_open untold p ≡ false → TellsEach told p
-  told_where_closed (Apply op ts) h = each_of_told ts (both_false (some_name_of untold ts) (hold_call ts) h).0
+  told_where_closed (Apply op ts) h = each_of_told ts (or_parts (some_name_of untold ts) (hold_call ts) h).0
   told_where_closed (Lit l) h = tt
   told_where_closed (Var v) h = tt
   told_where_closed (Slot s) h = tt
@@ -184,9 +164,9 @@ module _ (told : Told) where
 
     test_means : (p : Tree) → test p ≡ true → FailsOnceTold facts told p
     test_means p h =
-        let (shut, fail) = and_true (not (holds_open untold p)) (fails (meaning facts (names_told told) p)) h in
+        let (shut, fail) = and_parts (not (holds_open untold p)) (fails (meaning facts (names_told told) p)) h in
         let (k, e) = fails_as (meaning facts (names_told told) p) fail in
-        (told_where_closed p (not_true (holds_open untold p) shut), k, e)
+        (told_where_closed p (not-true (holds_open untold p) shut), k, e)
 
     errs_there : (t : Tree) → holds_call t ≡ false → HasErringPart facts told t → some_part test t ≡ true
     errs_there t h e = part_passes test e.is_part (test_passes e.part (uncalled e.is_part h) e.fails)
@@ -254,7 +234,7 @@ module _ (told : Told) where
       all_show : (ts : Trees) → are_restricted ts ≡ true → ShowAll (all_settled_in facts (settled_names told) ts) (all_partial_in facts (held_names told) ts)
       all_show no_trees r = refl
       all_show (a_tree t ts) r =
-          let (rt, rts) = and_true (is_restricted t) (are_restricted ts) r in
+          let (rt, rts) = and_parts (is_restricted t) (are_restricted ts) r in
           next_shows (settled_in facts (settled_names told) t) (all_settled_in facts (settled_names told) ts) (partial_in facts (held_names told) t) (all_partial_in facts (held_names told) ts) (shows t rt) (all_show ts rts)
 
     refused_where_errs : (x : Settling) (p : Answer) → Shows x p → x ≡ Errs → (k : Kind) × (p ≡ Failed k)
@@ -277,7 +257,7 @@ module _ (law : DataErrsInParts) where
     accepted = λ by told ks ts r c stands.
         let facts : Facts = functions_alone by.functions in
         let t : Tree = Apply (MakeRecord ks) ts in (
-          never_true (context_errs by (WithEntries ks ts) told)
+          false_from_ne_true (context_errs by (WithEntries ks ts) told)
               (λ h. let (k, e) = (law facts told t r).1 (errs_somewhere told facts t h) in stands k e),
           record { settled = never_errs told facts t r stands; held = stands },
         );

@@ -1,5 +1,6 @@
 -- What is settled of a context when a question is asked is what the context means once it is filled.
 use Rattle.std.proofs.Common.{◌≡◌, Bool, true, false, cond, Option, Some, None, List, [], ◌∷◌, refl, sym, ◌∙◌, ap, subst}
+use Rattle.std.proofs.lemmas.Bool.{and_parts}
 use Rattle.std.specs.FinMap as map
 use Rattle.cedar_partial_evaluation.specs.Filling.{names_told, FillsContext}
 use Rattle.cedar_language.specs.Uid.{Text, Name}
@@ -17,7 +18,6 @@ use Rattle.cedar_world.specs.Bodies.{is_restricted, are_restricted}
 use Rattle.cedar_grammar.specs.Functions.{Functions}
 use Rattle.cedar_world.specs.Setting.{Setting, functions_alone, value_of}
 use Rattle.cedar_world.specs.First.{IsData}
-use Rattle.cedar_language.proofs.Booleans.{and_left, and_right}
 use Rattle.cedar_world.proofs.Agreeing.{Agrees, LeavesAgree, IsTold, each_passes, tree_agrees}
 use Rattle.cedar_world.proofs.Errors.{context_entry}
 
@@ -51,7 +51,7 @@ module _ (facts others : Facts) (told : Told) (same : (name : Name) → facts.fu
     all_data_same : (ts : Trees) → are_restricted ts ≡ true → all_settled_in facts (settled_names told) ts ≡ all_settled_in others (settled_names told) ts
     all_data_same no_trees h = refl
     all_data_same (a_tree t ts) h =
-        rw (data_same t (and_left (is_restricted t) (are_restricted ts) h), all_data_same ts (and_right (is_restricted t) (are_restricted ts) h)) refl
+        rw (data_same t (and_parts (is_restricted t) (are_restricted ts) h).0, all_data_same ts (and_parts (is_restricted t) (are_restricted ts) h).1) refl
 
 -- ---- entries of a record
 
@@ -130,8 +130,8 @@ module _ (functions : Functions) (filling : Told) where
   entry_value (k ∷ ks) (a_tree s ts) vs a t d h e =
       let (v, ws, hs, hts, is) = next_values (Value-of s) (Values-of ts) vs h in
       rw is (
-      entry_step (same_text k a) s t (found_tree ks ts a) v (found ks ws a) hs (and_left (is_restricted s) (are_restricted ts) d)
-      (entry_value ks ts ws a t (and_right (is_restricted s) (are_restricted ts) d) hts) e
+      entry_step (same_text k a) s t (found_tree ks ts a) v (found ks ws a) hs (and_parts (is_restricted s) (are_restricted ts) d).0
+      (entry_value ks ts ws a t (and_parts (is_restricted s) (are_restricted ts) d).1 hts) e
       )
 
 -- ---- an entry that isn't written

@@ -1,5 +1,6 @@
 -- What the rules say of the policies in force, as evaluations of their conditions have them stand, is a first answer.
 use Rattle.std.proofs.Common.{◌≡◌, true, false, List, Some, None, refl, sym, ◌∙◌, ap, subst}
+use Rattle.std.proofs.lemmas.Bool.{and_parts}
 use Rattle.std.specs.FinMap as finite
 use Rattle.cedar_language.specs.Uid.{Text, Name}
 use Rattle.cedar_language.specs.Tree.{Boolean, Long, String, Entity, MakeSet, MakeRecord, Call, Tree, Lit, Unknown, Apply, Trees, no_trees, a_tree}
@@ -29,7 +30,6 @@ use Rattle.cedar_world.specs.Setting.{Setting, functions_alone, means, Settles}
 use Rattle.cedar_world.specs.Standing.{StandsEarly}
 use Rattle.cedar_world.specs.WorldFacts.{AreFactsOf}
 use Rattle.cedar_world.specs.First.{IsData, NamesNoUnknown, EarlyAnswersStand}
-use Rattle.cedar_language.proofs.Booleans.{and_left, and_right}
 use Rattle.cedar_world.proofs.Parts.{not_none}
 use Rattle.cedar_world.proofs.Leaves.{all_known}
 use Rattle.cedar_world.proofs.Standings.{Becomes, comes_itself, settled_as}
@@ -62,7 +62,7 @@ module _ (facts others : Facts) (same : (name : Name) → facts.function name �
 
     all_data_mean : (ts : Trees) → are_restricted ts ≡ true → meanings facts request ts ≡ meanings others request ts
     all_data_mean no_trees h = refl
-    all_data_mean (a_tree t ts) h = rw (data_means t (and_left (is_restricted t) (are_restricted ts) h), all_data_mean ts (and_right (is_restricted t) (are_restricted ts) h)) refl
+    all_data_mean (a_tree t ts) h = rw (data_means t (and_parts (is_restricted t) (are_restricted ts) h).0, all_data_mean ts (and_parts (is_restricted t) (are_restricted ts) h).1) refl
 
 context_filled : (facts others : Facts) → ((name : Name) → facts.function name ≡ others.function name) → (c : Entries) (filling : Told) (w : Value) → early.FillsContext others c filling w → early.FillsContext facts c filling w
 context_filled facts others same NoContext filling w h = h

@@ -1,5 +1,6 @@
 -- A filling of a question whose context is data is one whatever entities are held, and nothing is told at first.
 use Rattle.std.proofs.Common.{◌≡◌, ◌≢◌, true, Some, List, refl, sym, ◌∙◌, ap}
+use Rattle.std.proofs.lemmas.Bool.{and_parts}
 use Rattle.std.specs.FinMap as finite
 use Rattle.cedar_language.specs.Uid.{Text, Name}
 use Rattle.cedar_language.specs.Order.{text_cmp}
@@ -10,19 +11,18 @@ use Rattle.cedar_language.specs.Meaning.{Request, Outcomes, GivesAll, OneFails, 
 use Rattle.cedar_language.specs.Authorization.{Known}
 use Rattle.cedar_partial_evaluation.specs.Filling.{names_told, FillsContext, IsFilling}
 use Rattle.cedar_partial_evaluation.specs.Question.{Entries, NoContext, WithEntries, Question, Told, is_restricted, are_restricted, Extends, AreMadeTold}
-use Rattle.cedar_world.proofs.Both.{and_left, and_right}
 use Rattle.cedar_world.proofs.Parts.{not_none}
 
 module _ (facts others : Facts) (same : (name : Name) → facts.function name ≡ others.function name) (request : Request) where
-  call_same : (f : Name) (os : Outcomes) → apply_of facts (Call f) os ≡ apply_of others (Call f) os
+  pub call_same : (f : Name) (os : Outcomes) → apply_of facts (Call f) os ≡ apply_of others (Call f) os
   call_same f (GivesAll vs) = rw (same f) refl
   call_same f (OneFails k) = refl
 
-  set_same : (os : Outcomes) → apply_of facts MakeSet os ≡ apply_of others MakeSet os
+  pub set_same : (os : Outcomes) → apply_of facts MakeSet os ≡ apply_of others MakeSet os
   set_same (GivesAll vs) = refl
   set_same (OneFails k) = refl
 
-  record_same : (ks : List Text) (os : Outcomes) → apply_of facts (MakeRecord ks) os ≡ apply_of others (MakeRecord ks) os
+  pub record_same : (ks : List Text) (os : Outcomes) → apply_of facts (MakeRecord ks) os ≡ apply_of others (MakeRecord ks) os
   record_same ks (GivesAll vs) = refl
   record_same ks (OneFails k) = refl
 
@@ -37,7 +37,7 @@ module _ (facts others : Facts) (same : (name : Name) → facts.function name �
 
     all_data_mean : (ts : Trees) → are_restricted ts ≡ true → meanings facts request ts ≡ meanings others request ts
     all_data_mean no_trees h = refl
-    all_data_mean (a_tree t ts) h = rw (data_means t (and_left (is_restricted t) (are_restricted ts) h), all_data_mean ts (and_right (is_restricted t) (are_restricted ts) h)) refl
+    all_data_mean (a_tree t ts) h = rw (data_means t (and_parts (is_restricted t) (are_restricted ts) h).0, all_data_mean ts (and_parts (is_restricted t) (are_restricted ts) h).1) refl
 
 module _ (facts others : Facts) (same : (name : Name) → facts.function name ≡ others.function name) where
   context_there : (c : Entries) (filling : Told) (w : Value) → FillsContext others c filling w → FillsContext facts c filling w

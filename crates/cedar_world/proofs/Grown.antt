@@ -201,6 +201,20 @@ constructed_high (a_value (Plain (Entity u)) (a_value (Plain (Boolean b)) vs)) n
     by_key None l = omega arith
 constructed_high _ n h = omega arith
 
+-- ---- below a limit
+
+pub both_within : (limit x y : ℕ) → max x y ≤ limit → (x ≤ limit) × (y ≤ limit)
+both_within limit x y m = (omega (arith, le-max_left x y), omega (arith, le-max_right x y))
+
+pub below_within : (limit r n : ℕ) → max r (suc n) ≤ limit → n ≤ limit
+below_within limit r n m = omega (arith, le-max_right r (suc n))
+
+pub three_within : (limit x y z : ℕ) → suc (max x (max y z)) ≤ limit → (x ≤ limit) × (y ≤ limit) × (z ≤ limit)
+three_within limit x y z m =
+    let (left, rest) = both_within limit x (max y z) (omega arith) in
+    let (middle, right) = both_within limit y z rest in
+    (left, middle, right)
+
 module _ (h : Heights) (limit : ℕ) (facts : Facts) (holds : LeafAnswers) (within : AreWithin h limit facts holds) where
   attribute_held_high : (u : Uid) (a : Text) (o : Option Held) → facts.entity u ≡ o → h.held a ≤ limit → value_in (op.attribute_held a o) ≤ h.held a
   attribute_held_high u a None e m = omega arith
@@ -210,13 +224,10 @@ module _ (h : Heights) (limit : ℕ) (facts : Facts) (holds : LeafAnswers) (with
   tag_held_high u a None e m = omega arith
   tag_held_high u a (Some d) e m = or_fails_high _ (d.tag a) h.tagged (option_high (d.tag a) h.tagged (λ v i. within.tag u d a v e i m))
 
-  left_within : (r n : ℕ) → max r (suc n) ≤ limit → r ≤ limit
-  left_within r n m = omega (arith, le-max_left r (suc n))
-
   attribute_high : (a : Text) (v : Value) (n : ℕ) → value_height v ≤ n → max (h.held a) (suc n) ≤ limit → value_in (op.attribute facts a v) ≤ max (h.held a) (suc n)
   attribute_high a (RecordOf ks vs) n l m =
       or_fails_high _ (found ks vs a) _ (omega (arith, found_high ks vs a (value_heights vs) (omega arith), l, le-max_right (h.held a) (suc n)))
-  attribute_high a (Plain (Entity u)) n l m = omega (arith, attribute_held_high u a (facts.entity u) refl (left_within (h.held a) n m), le-max_left (h.held a) (suc n))
+  attribute_high a (Plain (Entity u)) n l m = omega (arith, attribute_held_high u a (facts.entity u) refl (both_within limit (h.held a) (suc n) m).0, le-max_left (h.held a) (suc n))
   attribute_high a _ n l m = omega arith
 
   attribute_of_high : (a : Text) (vs : Values) (n : ℕ) → value_heights vs ≤ n → max (h.held a) (suc n) ≤ limit → value_in (op.attribute_of facts a vs) ≤ max (h.held a) (suc n)
@@ -225,14 +236,14 @@ module _ (h : Heights) (limit : ℕ) (facts : Facts) (holds : LeafAnswers) (with
   attribute_of_high a (a_value v (a_value w ws)) n l m = omega arith
 
   tag_high : (vs : Values) (n : ℕ) → max h.tagged (suc n) ≤ limit → value_in (op.tag_of facts vs) ≤ max h.tagged (suc n)
-  tag_high (a_value (Plain (Entity u)) (a_value (Plain (String a)) no_values)) n m = omega (arith, tag_held_high u a (facts.entity u) refl (left_within h.tagged n m), le-max_left h.tagged (suc n))
+  tag_high (a_value (Plain (Entity u)) (a_value (Plain (String a)) no_values)) n m = omega (arith, tag_held_high u a (facts.entity u) refl (both_within limit h.tagged (suc n) m).0, le-max_left h.tagged (suc n))
   tag_high _ n m = omega arith
 
   by_function : (f : Name) (b : Bool) → is_the_constructor f ≡ b → (o : Option Function) → facts.function f ≡ o → (vs : Values) (n : ℕ) → value_heights vs ≤ n → max (cond b 0 h.answered) (suc n) ≤ limit → value_in (called o vs) ≤ max (cond b 0 h.answered) (suc n)
   by_function f b is None e vs n l m = omega arith
   by_function f false is (Some g) e vs n l m =
       cond_high (op.takes g.takes (op.count vs)) _ _ _
-      (or_fails_high _ (g.answer vs) _ (omega (arith, option_high (g.answer vs) h.answered (λ v i. within.function f g vs v is e i (left_within h.answered n m)), le-max_left h.answered (suc n)))) (omega arith)
+      (or_fails_high _ (g.answer vs) _ (omega (arith, option_high (g.answer vs) h.answered (λ v i. within.function f g vs v is e i (both_within limit h.answered (suc n) m).0), le-max_left h.answered (suc n)))) (omega arith)
   by_function f true is (Some g) e vs n l m =
       cond_high (op.takes g.takes (op.count vs)) _ _ _
       (or_fails_high _ (g.answer vs) _ (subst (λ (c : Function). value_of (c.answer vs) ≤ max 0 (suc n)) (constructor_is g e) (omega (arith, constructed_high vs n l, le-max_right 0 (suc n))))) (omega arith)
@@ -339,22 +350,13 @@ module _ (h : Heights) (limit : ℕ) (facts : Facts) (holds : LeafAnswers) (with
   built_grows o (SomeResiduals rs) n l m = max-le (le-max_left (read_height h o) (suc n)) (omega (arith, l, le-max_right (read_height h o) (suc n)))
   built_grows o (SomeFailed k) n l m = omega arith
 
-  all_within : (r n : ℕ) → max r (suc n) ≤ limit → n ≤ limit
-  all_within r n m = omega (arith, le-max_right r (suc n))
-
-  first_within : (t : Tree) (ts : Trees) → max (grown h t) (all_grown h ts) ≤ limit → grown h t ≤ limit
-  first_within t ts m = omega (arith, le-max_left (grown h t) (all_grown h ts))
-
-  rest_within : (t : Tree) (ts : Trees) → max (grown h t) (all_grown h ts) ≤ limit → all_grown h ts ≤ limit
-  rest_within t ts m = omega (arith, le-max_right (grown h t) (all_grown h ts))
-
   mutual
     pub projected_grows : (t : Tree) → grown h t ≤ limit → grown_answer h (projected_in facts holds t) ≤ grown h t
     projected_grows (Lit l) m = omega arith
     projected_grows (Var v) m = within.variable v m
     projected_grows (Unknown n ty) m = within.unknown n ty
     projected_grows (Apply o ts) m =
-        built_grows o (all_projected_in facts holds ts) (all_grown h ts) (all_projected_grow ts (all_within (read_height h o) (all_grown h ts) m)) m
+        built_grows o (all_projected_in facts holds ts) (all_grown h ts) (all_projected_grow ts (below_within limit (read_height h o) (all_grown h ts) m)) m
     projected_grows (Slot s) m = omega arith
     projected_grows (If a b c) m = omega arith
     projected_grows (And a b) m = omega arith
@@ -364,8 +366,8 @@ module _ (h : Heights) (limit : ℕ) (facts : Facts) (holds : LeafAnswers) (with
     all_projected_grow no_trees m = omega arith
     all_projected_grow (a_tree t ts) m =
         next_grows (projected_in facts holds t) (all_projected_in facts holds ts) _
-        (omega (arith, projected_grows t (first_within t ts m), le-max_left (grown h t) (all_grown h ts)))
-        (omega (arith, all_projected_grow ts (rest_within t ts m), le-max_right (grown h t) (all_grown h ts)))
+        (omega (arith, projected_grows t (both_within limit (grown h t) (all_grown h ts) m).0, le-max_left (grown h t) (all_grown h ts)))
+        (omega (arith, all_projected_grow ts (both_within limit (grown h t) (all_grown h ts) m).1, le-max_right (grown h t) (all_grown h ts)))
 
   -- an entry of a record is lower
   abbrev grown_entry : Option Tree → ℕ
@@ -412,7 +414,7 @@ module _ (h : Heights) (limit : ℕ) (facts : Facts) (holds : LeafAnswers) (with
   equal_left_grows false r s = omega arith
 
   left_grows : (o : Operator) (rs : Trees) → all_grown h rs ≤ limit → grown_answer h (residual_answer facts holds o rs) ≤ grown h (Apply o rs)
-  left_grows (GetAttr a) (a_tree r no_trees) m = attribute_left_grows a r (first_within r no_trees m)
+  left_grows (GetAttr a) (a_tree r no_trees) m = attribute_left_grows a r (both_within limit (grown h r) 0 m).0
   left_grows (HasAttr a) (a_tree r no_trees) m = has_left_grows a r
   left_grows (tree.Is ty) (a_tree r no_trees) m = is_left_grows ty r
   left_grows Equal (a_tree r (a_tree s no_trees)) m = equal_left_grows (types_differ (stated_type r) (stated_type s)) r s
@@ -421,7 +423,7 @@ module _ (h : Heights) (limit : ℕ) (facts : Facts) (holds : LeafAnswers) (with
   apply_grows : (o : Operator) (ps : Answers) (n : ℕ) → grown_answers ps ≤ n → max (read_height h o) (suc n) ≤ limit → grown_answer h (apply_answer facts holds o ps) ≤ max (read_height h o) (suc n)
   apply_grows o (AllEvaluated vs) n l m = answer_grows (applied facts o vs) _ (applied_high o vs n l m)
   apply_grows o (SomeResiduals rs) n l m =
-      omega (arith, left_grows o rs (omega (arith, all_within (read_height h o) n m)), l, le-max_left (read_height h o) (suc n), le-max_right (read_height h o) (suc n))
+      omega (arith, left_grows o rs (omega (arith, both_within limit (read_height h o) (suc n) m)), l, le-max_left (read_height h o) (suc n), le-max_right (read_height h o) (suc n))
   apply_grows o (SomeFailed k) n l m = omega arith
 
   pub some_grown : (t : Tree) → 1 ≤ grown h t
@@ -453,13 +455,6 @@ module _ (h : Heights) (limit : ℕ) (facts : Facts) (holds : LeafAnswers) (with
     heights_grow no_trees = omega arith
     heights_grow (a_tree t ts) = omega (arith, height_grows t, heights_grow ts)
 
-  two_within : (x y : ℕ) → suc (max x y) ≤ limit → (x ≤ limit) × (y ≤ limit)
-  two_within x y m = (omega (arith, le-max_left x y), omega (arith, le-max_right x y))
-
-  three_within : (x y z : ℕ) → suc (max x (max y z)) ≤ limit → (x ≤ limit) × (y ≤ limit) × (z ≤ limit)
-  three_within x y z m =
-      (omega (arith, le-max_left x (max y z)), omega (arith, le-max_right x (max y z), le-max_left y z), omega (arith, le-max_right x (max y z), le-max_right y z))
-
   mutual
     pub grows : (t : Tree) → grown h t ≤ limit → grown_answer h (partial_in facts holds t) ≤ grown h t
     grows (Lit l) m = omega arith
@@ -467,23 +462,23 @@ module _ (h : Heights) (limit : ℕ) (facts : Facts) (holds : LeafAnswers) (with
     grows (Slot s) m = within.slot s
     grows (Unknown n ty) m = within.unknown n ty
     grows (If a b c) m =
-        let (x, y, z) = three_within (grown h a) (grown h b) (grown h c) m in
+        let (x, y, z) = three_within limit (grown h a) (grown h b) (grown h c) m in
         if_grows (partial_in facts holds a) (partial_in facts holds b) (partial_in facts holds c) b c (max (grown h a) (max (grown h b) (grown h c)))
         (omega (arith, grows a x)) (omega (arith, grows b y)) (omega (arith, grows c z)) (omega arith) (omega arith)
     grows (And a b) m =
-        let (x, y) = two_within (grown h a) (grown h b) m in
+        let (x, y) = both_within limit (grown h a) (grown h b) (omega arith) in
         and_grows (partial_in facts holds a) (partial_in facts holds b) b (max (grown h a) (grown h b)) (omega (arith, grows a x)) (omega (arith, grows b y)) (omega arith) (omega (arith, some_grown a))
     grows (Or a b) m =
-        let (x, y) = two_within (grown h a) (grown h b) m in
+        let (x, y) = both_within limit (grown h a) (grown h b) (omega arith) in
         or_grows (partial_in facts holds a) (partial_in facts holds b) b (max (grown h a) (grown h b)) (omega (arith, grows a x)) (omega (arith, grows b y)) (omega arith) (omega (arith, some_grown a))
-    grows (Apply o ts) m = apply_grows o (all_partial_in facts holds ts) (all_grown h ts) (all_grow ts (all_within (read_height h o) (all_grown h ts) m)) m
+    grows (Apply o ts) m = apply_grows o (all_partial_in facts holds ts) (all_grown h ts) (all_grow ts (below_within limit (read_height h o) (all_grown h ts) m)) m
 
     pub all_grow : (ts : Trees) → all_grown h ts ≤ limit → grown_answers (all_partial_in facts holds ts) ≤ all_grown h ts
     all_grow no_trees m = omega arith
     all_grow (a_tree t ts) m =
         next_grows (partial_in facts holds t) (all_partial_in facts holds ts) _
-        (omega (arith, grows t (first_within t ts m), le-max_left (grown h t) (all_grown h ts)))
-        (omega (arith, all_grow ts (rest_within t ts m), le-max_right (grown h t) (all_grown h ts)))
+        (omega (arith, grows t (both_within limit (grown h t) (all_grown h ts) m).0, le-max_left (grown h t) (all_grown h ts)))
+        (omega (arith, all_grow ts (both_within limit (grown h t) (all_grown h ts) m).1, le-max_right (grown h t) (all_grown h ts)))
 
 pub answers_stay_within : AnswersStayWithin
 answers_stay_within h limit facts holds within t m = grows h limit facts holds within t m

@@ -1,5 +1,6 @@
 -- What is held of a question is made again by trees for it, where the question's context is data.
 use Rattle.std.proofs.Common.{◌≡◌, Bool, true, false, cond, Option, Some, None, List, refl, codes, Ordering}
+use Rattle.std.proofs.lemmas.Bool.{and_parts}
 use Rattle.std.specs.declared.cmp.Ordering.TheVariants as ordering
 use Rattle.std.specs.FinMap as finite
 use Rattle.cedar_language.specs.Uid.{Text, Name, Uid}
@@ -16,7 +17,6 @@ use Rattle.cedar_partial_evaluation.specs.Fair.{IsMadeAnswer, AreMadeLeaves}
 use Rattle.cedar_partial_evaluation.specs.Question.{Part, Given, Missing, Entries, NoContext, WithEntries, Question, Told, is_restricted, are_restricted, entity_type, value_held, name_held, part_held, held_names, context_held, variable_held, held_of, AreMadeTold}
 use Rattle.cedar_partial_evaluation.specs.Unknowns.{fits}
 use Rattle.cedar_world.specs.First.{IsData}
-use Rattle.cedar_world.proofs.Both.{and_left, and_right}
 
 module _ (facts : Facts) where
   -- ---- a set of values
@@ -102,8 +102,8 @@ module _ (facts : Facts) where
         all_data_made : (ts : Trees) → are_restricted ts ≡ true → AreMadeAnswers (all_partial_in facts (held_names told) ts)
         all_data_made no_trees h = tt
         all_data_made (a_tree t ts) h =
-            next_made (partial_in facts (held_names told) t) (all_partial_in facts (held_names told) ts) (data_made t (and_left (is_restricted t) (are_restricted ts) h))
-            (all_data_made ts (and_right (is_restricted t) (are_restricted ts) h))
+            next_made (partial_in facts (held_names told) t) (all_partial_in facts (held_names told) ts) (data_made t (and_parts (is_restricted t) (are_restricted ts) h).0)
+            (all_data_made ts (and_parts (is_restricted t) (are_restricted ts) h).1)
 
       -- ---- the leaves of a question
 

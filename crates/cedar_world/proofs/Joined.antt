@@ -1,5 +1,6 @@
 -- What an answer says that two others are joined to.
-use Rattle.std.proofs.Common.{◌≡◌, ◌⊎◌, inl, inr, Bool, true, false, ◌&&◌, ◌||◌, Option, Some, None, is_some, IsTrue, IsSome, refl, sym, ◌∙◌, ap}
+use Rattle.std.proofs.Common.{◌≡◌, ◌⊎◌, inl, inr, true, ◌||◌, Option, Some, None, is_some, IsTrue, IsSome, refl, sym, ◌∙◌, ap}
+use Rattle.std.proofs.lemmas.Bool.{and_from, and_parts, or_cases, or_left, or_right}
 use Rattle.std.specs.Option.{option_or}
 use Rattle.std.specs.FinMap as finite
 use Rattle.cedar_language.specs.Uid.{Text}
@@ -12,18 +13,6 @@ use Rattle.cedar_world.specs.Asking.{Question, Told}
 use Rattle.cedar_world.specs.Setting.{Setting}
 use Rattle.cedar_world.specs.Answers.{HoldsOf, Follows, NamesNoGhosts}
 use Rattle.cedar_world.specs.Joined.{IsJoined, Allows}
-use Rattle.cedar_language.proofs.Booleans.{or_cases, or_left, or_right}
-
-and_left : (a b : Bool) → (a && b) ≡ true → a ≡ true
-and_left true b h = refl
-and_left false b h = h
-
-and_right : (a b : Bool) → (a && b) ≡ true → b ≡ true
-and_right true b h = h
-and_right false b h = cc
-
-and_both : (a b : Bool) → a ≡ true → b ≡ true → (a && b) ≡ true
-and_both a b h k = rw (h, k) refl
 
 kept_first : (o p : Option Decision) (d : Decision) → o ≡ Some d → kept o p ≡ Some d
 kept_first o p d h = rw h refl
@@ -65,17 +54,17 @@ module _ (last new answer : Answer) (joined : IsJoined last new answer) where
   decision_cases d h = kept_cases last.decision new.decision d (sym joined.decision ∙ h)
 
   must_last : (id : Text) → IsTrue (has_id answer.must id) → IsTrue (has_id last.may id)
-  must_last id h = and_left (has_id last.may id) (has_id last.must id || has_id new.must id) (sym (joined.must id) ∙ h)
+  must_last id h = (and_parts (has_id last.may id) (has_id last.must id || has_id new.must id) (sym (joined.must id) ∙ h)).0
 
   pub must_cases : (id : Text) → IsTrue (has_id answer.must id) → IsTrue (has_id last.must id) ⊎ IsTrue (has_id new.must id)
-  must_cases id h = or_cases (has_id last.must id) (has_id new.must id) (and_right (has_id last.may id) (has_id last.must id || has_id new.must id) (sym (joined.must id) ∙ h))
+  must_cases id h = or_cases (has_id last.must id) (has_id new.must id) (and_parts (has_id last.may id) (has_id last.must id || has_id new.must id) (sym (joined.must id) ∙ h)).1
 
   may_last : (id : Text) → IsTrue (has_id answer.may id) → IsTrue (has_id last.may id)
-  may_last id h = and_left (has_id last.may id) (has_id new.may id || (has_id last.must id || has_id new.must id)) (sym (joined.may id) ∙ h)
+  may_last id h = (and_parts (has_id last.may id) (has_id new.may id || (has_id last.must id || has_id new.must id)) (sym (joined.may id) ∙ h)).0
 
   pub may_cases : (id : Text) → IsTrue (has_id answer.may id) → IsTrue (has_id new.may id) ⊎ (IsTrue (has_id last.must id) ⊎ IsTrue (has_id new.must id))
   may_cases id h =
-      elim (or_cases (has_id new.may id) (has_id last.must id || has_id new.must id) (and_right (has_id last.may id) (has_id new.may id || (has_id last.must id || has_id new.must id)) (sym (joined.may id) ∙ h))) [
+      elim (or_cases (has_id new.may id) (has_id last.must id || has_id new.must id) (and_parts (has_id last.may id) (has_id new.may id || (has_id last.must id || has_id new.must id)) (sym (joined.may id) ∙ h)).1) [
         | inl e ↦ inl e
         | inr e ↦ inr (or_cases (has_id last.must id) (has_id new.must id) e)
       ]
@@ -95,7 +84,7 @@ module _ (last new answer : Answer) (joined : IsJoined last new answer) where
   allowed n h = joined.decision ∙ kept_allowed last.decision new.decision n h
 
   must_by : (id : Text) → IsTrue (has_id last.may id) → (has_id last.must id || has_id new.must id) ≡ true → IsTrue (has_id answer.must id)
-  must_by id m h = joined.must id ∙ and_both (has_id last.may id) (has_id last.must id || has_id new.must id) m h
+  must_by id m h = joined.must id ∙ and_from (has_id last.may id) (has_id last.must id || has_id new.must id) m h
 
   pub new_must : (id : Text) → IsTrue (has_id last.may id) → IsTrue (has_id new.must id) → IsTrue (has_id answer.must id)
   new_must id m h = must_by id m (or_right (has_id last.must id) (has_id new.must id) h)
@@ -106,13 +95,13 @@ module _ (last new answer : Answer) (joined : IsJoined last new answer) where
   new_may : (id : Text) → IsTrue (has_id last.may id) → IsTrue (has_id new.may id) → IsTrue (has_id answer.may id)
   new_may id m h =
       joined.may id
-      ∙ and_both (has_id last.may id) (has_id new.may id || (has_id last.must id || has_id new.must id)) m (or_left (has_id new.may id) (has_id last.must id || has_id new.must id) h)
+      ∙ and_from (has_id last.may id) (has_id new.may id || (has_id last.must id || has_id new.must id)) m (or_left (has_id new.may id) (has_id last.must id || has_id new.must id) h)
 
   must_may : (id : Text) → IsTrue (has_id answer.must id) → IsTrue (has_id answer.may id)
   must_may id h =
-      let must : (has_id last.must id || has_id new.must id) ≡ true = and_right (has_id last.may id) (has_id last.must id || has_id new.must id) (sym (joined.must id) ∙ h) in
+      let must : (has_id last.must id || has_id new.must id) ≡ true = (and_parts (has_id last.may id) (has_id last.must id || has_id new.must id) (sym (joined.must id) ∙ h)).1 in
       joined.may id
-      ∙ and_both (has_id last.may id) (has_id new.may id || (has_id last.must id || has_id new.must id)) (must_last id h) (or_right (has_id new.may id) (has_id last.must id || has_id new.must id) must)
+      ∙ and_from (has_id last.may id) (has_id new.may id || (has_id last.must id || has_id new.must id)) (must_last id h) (or_right (has_id new.may id) (has_id last.must id || has_id new.must id) must)
 
   pub last_error : (id : Text) → IsSome (finite.get last.erring id) → IsSome (finite.get answer.erring id)
   last_error id h = ap is_some (joined.erring id) ∙ first_error (finite.get last.erring id) (finite.get new.erring id) h

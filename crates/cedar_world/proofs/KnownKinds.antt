@@ -1,5 +1,6 @@
 -- A policy of a text errs with ordinary kinds alone where all is known.
 use Rattle.std.proofs.Common.{◌≡◌, inl, inr, Bool, true, false, ◌&&◌, Option, Some, None, is_some, List, [], ◌∷◌, ◌++◌, not, cond, refl, sym, ◌∙◌, ap, subst, true≢false}
+use Rattle.std.proofs.lemmas.Bool.{and_parts}
 use Rattle.std.specs.List.{list_all}
 use Rattle.cedar_language.specs.Uid.{Name, Uid}
 use Rattle.cedar_language.specs.Tree.{Boolean, SlotId, Operator, Tree, Lit, Var, Slot, Unknown, If, And, Or, Apply, Trees, no_trees, a_tree}
@@ -18,7 +19,6 @@ use Rattle.cedar_world.specs.LinkLaws.{LinksAreStatic}
 use Rattle.cedar_world.specs.NameLaws.{is_answered, CallsAreFound}
 use Rattle.cedar_world.specs.Setting.{Setting}
 use Rattle.cedar_grammar.specs.Bindings.{binding_of, linked}
-use Rattle.cedar_language.proofs.Booleans.{and_left, and_right}
 use Rattle.cedar_world.proofs.Lists.{IsAmong, contained}
 use Rattle.cedar_world.proofs.OrdinaryErrors.{applied_fine}
 use Rattle.cedar_grammar.proofs.HeldSlots.{first_empty, second_empty, none_left, condition_free}
@@ -72,33 +72,33 @@ module _ (facts : Facts) (request : Request) (passes : Name → Bool) (is_found 
     tree_fine (Unknown n ty) c e = absurd (true≢false (sym c))
     tree_fine (If t u v) c e =
         let more = second_empty (tree_slots t) (tree_slots u ++ tree_slots v) e in
-        let calls = and_right (calls_only passes t) (calls_only passes u && calls_only passes v) c in
+        let calls = (and_parts (calls_only passes t) (calls_only passes u && calls_only passes v) c).1 in
         if_fine _ _ _
-        (tree_fine t (and_left (calls_only passes t) (calls_only passes u && calls_only passes v) c) (first_empty (tree_slots t) (tree_slots u ++ tree_slots v) e))
-        (tree_fine u (and_left (calls_only passes u) (calls_only passes v) calls) (first_empty (tree_slots u) (tree_slots v) more))
-        (tree_fine v (and_right (calls_only passes u) (calls_only passes v) calls) (second_empty (tree_slots u) (tree_slots v) more))
+        (tree_fine t (and_parts (calls_only passes t) (calls_only passes u && calls_only passes v) c).0 (first_empty (tree_slots t) (tree_slots u ++ tree_slots v) e))
+        (tree_fine u (and_parts (calls_only passes u) (calls_only passes v) calls).0 (first_empty (tree_slots u) (tree_slots v) more))
+        (tree_fine v (and_parts (calls_only passes u) (calls_only passes v) calls).1 (second_empty (tree_slots u) (tree_slots v) more))
     tree_fine (And t u) c e =
-        and_fine _ _ (tree_fine t (and_left (calls_only passes t) (calls_only passes u) c) (first_empty (tree_slots t) (tree_slots u) e))
-        (tree_fine u (and_right (calls_only passes t) (calls_only passes u) c) (second_empty (tree_slots t) (tree_slots u) e))
+        and_fine _ _ (tree_fine t (and_parts (calls_only passes t) (calls_only passes u) c).0 (first_empty (tree_slots t) (tree_slots u) e))
+        (tree_fine u (and_parts (calls_only passes t) (calls_only passes u) c).1 (second_empty (tree_slots t) (tree_slots u) e))
     tree_fine (Or t u) c e =
-        or_fine _ _ (tree_fine t (and_left (calls_only passes t) (calls_only passes u) c) (first_empty (tree_slots t) (tree_slots u) e))
-        (tree_fine u (and_right (calls_only passes t) (calls_only passes u) c) (second_empty (tree_slots t) (tree_slots u) e))
+        or_fine _ _ (tree_fine t (and_parts (calls_only passes t) (calls_only passes u) c).0 (first_empty (tree_slots t) (tree_slots u) e))
+        (tree_fine u (and_parts (calls_only passes t) (calls_only passes u) c).1 (second_empty (tree_slots t) (tree_slots u) e))
     tree_fine (Apply op ts) c e =
-        apply_fine op (meanings facts request ts) (and_left (calls_none_but passes op) (all_call_only passes ts) c)
-        (trees_fine ts (and_right (calls_none_but passes op) (all_call_only passes ts) c) e)
+        apply_fine op (meanings facts request ts) (and_parts (calls_none_but passes op) (all_call_only passes ts) c).0
+        (trees_fine ts (and_parts (calls_none_but passes op) (all_call_only passes ts) c).1 e)
 
     trees_fine : (ts : Trees) → all_call_only passes ts ≡ true → trees_slots ts ≡ [] → ErrTogether (meanings facts request ts)
     trees_fine no_trees c e = tt
     trees_fine (a_tree t ts) c e =
-        more_fine _ _ (tree_fine t (and_left (calls_only passes t) (all_call_only passes ts) c) (first_empty (tree_slots t) (trees_slots ts) e))
-        (trees_fine ts (and_right (calls_only passes t) (all_call_only passes ts) c) (second_empty (tree_slots t) (trees_slots ts) e))
+        more_fine _ _ (tree_fine t (and_parts (calls_only passes t) (all_call_only passes ts) c).0 (first_empty (tree_slots t) (trees_slots ts) e))
+        (trees_fine ts (and_parts (calls_only passes t) (all_call_only passes ts) c).1 (second_empty (tree_slots t) (trees_slots ts) e))
 
 -- ---- policies of a text
 
 at_one : (test : Policy → Bool) (ps : List Policy) → list_all test ps ≡ true → (p : Policy) → IsAmong p ps → test p ≡ true
 at_one test [] h p among = absurd among
-at_one test (q ∷ ps) h p (inl e) = subst (λ r. test r ≡ true) e (and_left (test q) (list_all test ps) h)
-at_one test (q ∷ ps) h p (inr a) = at_one test ps (and_right (test q) (list_all test ps) h) p a
+at_one test (q ∷ ps) h p (inl e) = subst (λ r. test r ≡ true) e (and_parts (test q) (list_all test ps) h).0
+at_one test (q ∷ ps) h p (inr a) = at_one test ps (and_parts (test q) (list_all test ps) h).1 p a
 
 pub still_some : {A : Type 0} (b : Bool) (x : A) (o : Option A) → is_some o ≡ true → is_some (cond b (Some x) o) ≡ true
 still_some true x o h = refl
@@ -132,6 +132,6 @@ texts_err_ordinarily static links found by entities facts are text ss reads s am
     let calls = at_one (λ p. calls_only passes (condition p)) ss ((found by).policies text ss reads) s (contained ss s among) in
     let is_found : (name : Name) → passes name ≡ true → is_some (facts.function name) ≡ true =
     λ name h. ap is_some (are.function name)
-    ∙ still_some (is_the_constructor name) constructor_function (function_of by.functions name) (and_left (is_answered by.functions name) (not (is_the_unknown name)) h) in
+    ∙ still_some (is_the_constructor name) constructor_function (function_of by.functions name) (and_parts (is_answered by.functions name) (not (is_the_unknown name)) h).0 in
     tree_fine facts (request_at request (λ s. None)) passes is_found (condition p)
     (ap (calls_only passes) (links (binding_of b) s) ∙ bound_calls passes (binding_of b) (condition s) ∙ calls) (condition_free p (none_left (slots p) (static b s exact)))

@@ -1,5 +1,6 @@
 -- What is settled of a question when it is asked is what each known question says that fills it.
-use Rattle.std.proofs.Common.{◌≡◌, ◌≢◌, Bool, true, false, ◌&&◌, ◌||◌, Option, Some, None, refl, sym, ◌∙◌, ap, codes, true≢false}
+use Rattle.std.proofs.Common.{◌≡◌, ◌≢◌, true, false, ◌&&◌, Option, Some, None, refl, sym, ◌∙◌, ap, codes, true≢false}
+use Rattle.std.proofs.lemmas.Bool.{and_from, and_parts, or_parts}
 use Rattle.cedar_partial_evaluation.specs.Filling.{FillsPart}
 use Rattle.std.specs.FinMap as map
 use Rattle.cedar_language.specs.Uid.{Text, Name, Uid}
@@ -20,7 +21,6 @@ use Rattle.cedar_world.specs.Question.{is_missing, has_name, IsKnown}
 use Rattle.cedar_world.specs.Bodies.{is_restricted, are_restricted, some_name, some_name_of}
 use Rattle.cedar_world.specs.Setting.{Setting, functions_alone, means}
 use Rattle.cedar_world.specs.First.{IsData}
-use Rattle.cedar_language.proofs.Booleans.{and_left, and_right, and_both}
 use Rattle.cedar_world.proofs.InForce.{text_itself}
 use Rattle.cedar_world.proofs.Agreeing.{Agrees, LeavesAgree, IsTold, none_stands, tree_agrees}
 use Rattle.cedar_world.proofs.Errors.{fails}
@@ -81,14 +81,6 @@ module _ (by : Setting) (facts : Facts) (same : (name : Name) → facts.function
 
 -- ---- nothing is missing, and no name is unknown
 
-or_false_left : (a b : Bool) → (a || b) ≡ false → a ≡ false
-or_false_left true b h = cc
-or_false_left false b h = refl
-
-or_false_right : (a b : Bool) → (a || b) ≡ false → b ≡ false
-or_false_right true b h = cc
-or_false_right false b h = h
-
 is_there : (p : Part) (n : Text) → (is_missing p && text_eq n n) ≡ false → is_given p ≡ true
 is_there (Given u) n h = refl
 is_there (Missing ty) n h = absurd (true≢false (sym (text_itself n) ∙ h))
@@ -105,20 +97,20 @@ mutual
   all_named_nothing : (ts : Trees) → are_restricted ts ≡ true → ((n : Text) → some_name_of (text_eq n) ts ≡ false) → all_mention_only (λ v. false) false ts ≡ true
   all_named_nothing no_trees r h = refl
   all_named_nothing (a_tree t ts) r h =
-      and_both (mentions_only (λ v. false) false t) (all_mention_only (λ v. false) false ts)
-      (named_nothing t (and_left (is_restricted t) _ r) (λ n. or_false_left (some_name (text_eq n) t) _ (h n)))
-      (all_named_nothing ts (and_right (is_restricted t) _ r) (λ n. or_false_right (some_name (text_eq n) t) _ (h n)))
+      and_from (mentions_only (λ v. false) false t) (all_mention_only (λ v. false) false ts)
+      (named_nothing t (and_parts (is_restricted t) _ r).0 (λ n. (or_parts (some_name (text_eq n) t) _ (h n)).0))
+      (all_named_nothing ts (and_parts (is_restricted t) _ r).1 (λ n. (or_parts (some_name (text_eq n) t) _ (h n)).1))
 
 context_known : (c : Entries) → IsData c → ((n : Text) → has_name c n ≡ false) → is_known_context c ≡ true
 context_known NoContext r h = absurd (true≢false (sym (text_itself (codes "context")) ∙ h (codes "context")))
 context_known (WithEntries ks ts) r h = all_named_nothing ts r h
 
 pub all_known : (q : Question) → IsData q.context → IsKnown q → (v : Variable) → is_known q v ≡ true
-all_known q r h Principal = is_there q.principal (codes "principal") (or_false_left _ _ (h (codes "principal")))
-all_known q r h Action = is_there q.action (codes "action") (or_false_left _ _ (or_false_right (is_missing q.principal && text_eq (codes "action") (codes "principal")) _ (h (codes "action"))))
+all_known q r h Principal = is_there q.principal (codes "principal") (or_parts _ _ (h (codes "principal"))).0
+all_known q r h Action = is_there q.action (codes "action") (or_parts _ _ (or_parts (is_missing q.principal && text_eq (codes "action") (codes "principal")) _ (h (codes "action"))).1).0
 all_known q r h Resource =
     is_there q.resource (codes "resource")
-    (or_false_left _ _ (or_false_right (is_missing q.action && text_eq (codes "resource") (codes "action")) _ (or_false_right (is_missing q.principal && text_eq (codes "resource") (codes "principal")) _ (h (codes "resource")))))
+    (or_parts _ _ (or_parts (is_missing q.action && text_eq (codes "resource") (codes "action")) _ (or_parts (is_missing q.principal && text_eq (codes "resource") (codes "principal")) _ (h (codes "resource"))).1).1).0
 all_known q r h Context =
     context_known q.context r
-    (λ n. or_false_right (is_missing q.resource && text_eq n (codes "resource")) _ (or_false_right (is_missing q.action && text_eq n (codes "action")) _ (or_false_right (is_missing q.principal && text_eq n (codes "principal")) _ (h n))))
+    (λ n. (or_parts (is_missing q.resource && text_eq n (codes "resource")) _ (or_parts (is_missing q.action && text_eq n (codes "action")) _ (or_parts (is_missing q.principal && text_eq n (codes "principal")) _ (h n)).1).1).1)

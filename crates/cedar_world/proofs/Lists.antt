@@ -1,8 +1,8 @@
 -- Options, and members of lists.
 use Rattle.std.proofs.Common.{◌≡◌, Option, Some, None, ◌⊎◌, inl, inr, ℕ, zero, suc, ◌<◌, arith, Bool, true, false, List, [], ◌∷◌, map, length, get_or, Contains, refl, sym, ◌∙◌, ap, true≢false}
+use Rattle.std.proofs.lemmas.Bool.{or_cases, or_left, or_right}
 use Rattle.std.specs.Cmp.{both_ways}
 use Rattle.cedar_language.specs.Answering.{Judged, some}
-use Rattle.cedar_language.proofs.Booleans.{or_cases, or_left, or_right}
 
 pub same_option : {A : Type 0} (o p : Option A) → ((x : A) → o ≡ Some x → p ≡ Some x) → ((x : A) → p ≡ Some x → o ≡ Some x) → o ≡ p
 same_option (Some x) p f g = sym (f x refl)

@@ -1,6 +1,7 @@
 -- Where a tree calls functions that are there, no look-up fails in its evaluation; and so it is of the policies of a text. Where no
 -- slot stands in it either, it errs with ordinary kinds alone.
 use Rattle.std.proofs.Common.{◌≡◌, ◌≢◌, Bool, true, false, ◌&&◌, not, Option, Some, None, is_some, IsSome, List, [], refl, sym, ◌∙◌, ap, subst, true≢false}
+use Rattle.std.proofs.lemmas.Bool.{and_parts}
 use Rattle.std.specs.FinMap as finite
 use Rattle.cedar_language.specs.Uid.{Text, Name, Uid}
 use Rattle.cedar_language.specs.Tree.{Boolean, ValueType, Variable, Principal, Action, Resource, Context, SlotId, MakeRecord, Tree, Lit, Apply}
@@ -33,7 +34,6 @@ use Rattle.cedar_world.proofs.OrdinaryErrors.{applied_fine}
 use Rattle.cedar_grammar.proofs.HeldSlots.{principal_free, resource_free, condition_free}
 use Rattle.cedar_world.specs.Again.{standing_again}
 use Rattle.cedar_world.specs.Lookups.{calls_among, finds_all, IsFoundAnswer, FoundAnswers, FindsFunctions, EarlyTextsFindFunctions}
-use Rattle.cedar_world.proofs.Both.{and_left, and_right}
 use Rattle.cedar_world.proofs.CallsLeft.{AnyKind, IsKept, AreKeptLeaves, Keeps, kept}
 use Rattle.cedar_world.proofs.Called.{ContextCalls, question_calls, fewer_pass, without_slots, bound_calls, of_each}
 use Rattle.cedar_world.proofs.Lists.{IsAmong, contained}
@@ -170,7 +170,7 @@ no_slot_stands e = absurd (true≢false (sym e))
 
 clause_calls : (passes : Name → Bool) (scope c : Tree) → calls_among true passes (conjunction scope c) ≡ true → calls_among true passes c ≡ true
 clause_calls passes (Lit (Boolean a)) (Lit (Boolean b)) h = refl
-clause_calls passes scope c h = and_right (calls_among true passes scope) (calls_among true passes c) h
+clause_calls passes scope c h = (and_parts (calls_among true passes scope) (calls_among true passes c) h).1
 
 module _ (facts : Facts) (constructs : IsSome (facts.function the_constructor)) (q : Question) (calls : ContextCalls false (there facts) q.context) where
   any : (slots : Slots) (told : Told) (t : Tree) → calls_among false (there facts) t ≡ true → IsKept false (there facts) AnyKind (partial_in facts (held_of facts q slots told) t)
@@ -208,7 +208,7 @@ module _ (by : Setting) {entities : Entities} (facts : Facts) (are : AreFacts by
   pub texts_find : CallsAreFound by → (text : Text) (ss : List PolicySyntax) → ArePolicies by text ss → (s : PolicySyntax) → IsAmong s ss → finds_all facts (condition s) ≡ true
   texts_find calls text ss reads s among =
       let passes : Name → Bool = λ name. is_answered by.functions name && not (is_the_unknown name) in
-      fewer_pass passes (there facts) (λ name h. answered_there name (and_left (is_answered by.functions name) _ h)) (condition s) (of_each _ ss (calls.policies text ss reads) s among)
+      fewer_pass passes (there facts) (λ name h. answered_there name (and_parts (is_answered by.functions name) _ h).0) (condition s) (of_each _ ss (calls.policies text ss reads) s among)
 
   body_finds : CallsAreFound by → (body : Text) (tree : Tree) → IsBody by body tree → finds_all facts tree ≡ true
   body_finds calls body tree is = fewer_pass (is_answered by.functions) (there facts) answered_there tree (calls.bodies body tree is)

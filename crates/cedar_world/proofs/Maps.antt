@@ -14,7 +14,7 @@ text_total = nat_list_cmp_total
 pub text_same : IsAntisymmetric text_cmp
 text_same = slice_cmp-IsAntisymmetric nat_cmp-IsAntisymmetric
 
-itself : (k : Text) → eq_by_cmp text_cmp k k ≡ true
+pub itself : (k : Text) → eq_by_cmp text_cmp k k ≡ true
 itself k = ap is_eq (tied_itself text_total k)
 
 pub same_or_not : (q k : Text) → (q ≡ k) ⊎ (q ≡ k → ⊥)

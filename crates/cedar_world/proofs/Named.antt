@@ -1,5 +1,6 @@
 -- What texts may call is what the table answers.
 use Rattle.std.proofs.Common.{◌≡◌, Bool, true, false, cond, not, ◌&&◌, ◌||◌, if◌then◌else◌, Option, Some, None, is_some, List, [], ◌∷◌, filter, refl, sym, ◌∙◌, ap, true≢false}
+use Rattle.std.proofs.lemmas.Bool.{and_from, and_parts}
 use Rattle.std.specs.List.{list_any, list_all}
 use Rattle.std.proofs.lemmas.Cmp.{nat_list_eq_equiv, lists_equiv}
 use Rattle.std.specs.Cmp.{IsEquivalence}
@@ -69,10 +70,6 @@ module _ (name : Name) (is : is_the_unknown name ≡ true) where
 
 -- ---- from the table
 
-right_of : (a b : Bool) → (a && b) ≡ true → b ≡ true
-right_of true b e = e
-right_of false b e = absurd (true≢false (sym e))
-
 either_found : (a b : Bool) (o : Option Function) → (a || b) ≡ true → (b ≡ true → is_some o ≡ true) → is_some (if a then Some unknown_function else o) ≡ true
 either_found true b o e later = refl
 either_found false b o e later = later e
@@ -93,13 +90,13 @@ module _ (fs : Functions) where
       by_name false e = h
 
   policy_function : (b : Bool) (name : Name) → is_function (policy_names fs) name ≡ true → is_some (function_where b name) ≡ true
-  policy_function b name h = callers_found b name (function_found name (callers_functions fs) (right_of _ _ h))
+  policy_function b name h = callers_found b name (function_found name (callers_functions fs) (and_parts _ _ h).1)
 
   policy_method : (b : Bool) (m : Text) → is_among m (policy_names fs).methods ≡ true → is_some (function_where b (m ∷ [])) ≡ true
   policy_method b m h = callers_found b (m ∷ []) (method_found m (callers_functions fs) h)
 
   body_function : (b : Bool) (name : Name) → is_function (names_where b) name ≡ true → is_some (function_where b name) ≡ true
-  body_function true name h = either_found (is_the_unknown name) (list_any (is_name name) (function_names (callers_functions fs))) (first_named name (callers_functions fs)) (right_of _ _ h) (function_found name (callers_functions fs))
+  body_function true name h = either_found (is_the_unknown name) (list_any (is_name name) (function_names (callers_functions fs))) (first_named name (callers_functions fs)) (and_parts _ _ h).1 (function_found name (callers_functions fs))
   body_function false name h = policy_function false name h
 
   body_method : (b : Bool) (m : Text) → is_among m (names_where b).methods ≡ true → is_some (function_where b (m ∷ [])) ≡ true
@@ -129,13 +126,6 @@ names_are_found fs = record {
 
 -- ---- the calls of texts
 
-both : (a b : Bool) → a ≡ true → b ≡ true → (a && b) ≡ true
-both a b e f = rw (e, f) refl
-
-first_true : (a b : Bool) → (a && b) ≡ true → a ≡ true
-first_true true b h = refl
-first_true false b h = h
-
 module _ (f g : Name → Bool) (more : (name : Name) → f name ≡ true → g name ≡ true) where
   operator_still : (op : Operator) → calls_none_but f op ≡ true → calls_none_but g op ≡ true
   operator_still (Call name) h = more name h
@@ -148,20 +138,20 @@ module _ (f g : Name → Bool) (more : (name : Name) → f name ≡ true → g n
     calls_still (Slot s) h = refl
     calls_still (Unknown n ty) h = h
     calls_still (If t y n) h =
-        let rest = right_of (calls_only f t) _ h in
-        both (calls_only g t) _ (calls_still t (first_true (calls_only f t) _ h))
-        (both (calls_only g y) _ (calls_still y (first_true (calls_only f y) _ rest)) (calls_still n (right_of (calls_only f y) _ rest)))
-    calls_still (And l r) h = both (calls_only g l) _ (calls_still l (first_true (calls_only f l) _ h)) (calls_still r (right_of (calls_only f l) _ h))
-    calls_still (Or l r) h = both (calls_only g l) _ (calls_still l (first_true (calls_only f l) _ h)) (calls_still r (right_of (calls_only f l) _ h))
-    calls_still (Apply op ts) h = both (calls_none_but g op) _ (operator_still op (first_true (calls_none_but f op) _ h)) (all_still ts (right_of (calls_none_but f op) _ h))
+        let rest = (and_parts (calls_only f t) _ h).1 in
+        and_from (calls_only g t) _ (calls_still t (and_parts (calls_only f t) _ h).0)
+        (and_from (calls_only g y) _ (calls_still y (and_parts (calls_only f y) _ rest).0) (calls_still n (and_parts (calls_only f y) _ rest).1))
+    calls_still (And l r) h = and_from (calls_only g l) _ (calls_still l (and_parts (calls_only f l) _ h).0) (calls_still r (and_parts (calls_only f l) _ h).1)
+    calls_still (Or l r) h = and_from (calls_only g l) _ (calls_still l (and_parts (calls_only f l) _ h).0) (calls_still r (and_parts (calls_only f l) _ h).1)
+    calls_still (Apply op ts) h = and_from (calls_none_but g op) _ (operator_still op (and_parts (calls_none_but f op) _ h).0) (all_still ts (and_parts (calls_none_but f op) _ h).1)
 
     all_still : (ts : Trees) → all_call_only f ts ≡ true → all_call_only g ts ≡ true
     all_still no_trees h = refl
-    all_still (a_tree t ts) h = both (calls_only g t) _ (calls_still t (first_true (calls_only f t) _ h)) (all_still ts (right_of (calls_only f t) _ h))
+    all_still (a_tree t ts) h = and_from (calls_only g t) _ (calls_still t (and_parts (calls_only f t) _ h).0) (all_still ts (and_parts (calls_only f t) _ h).1)
 
   conditions_still : (ss : List PolicySyntax) → list_all (λ s. calls_only f (condition s)) ss ≡ true → list_all (λ s. calls_only g (condition s)) ss ≡ true
   conditions_still [] h = refl
-  conditions_still (s ∷ ss) h = both (calls_only g (condition s)) _ (calls_still (condition s) (first_true (calls_only f (condition s)) _ h)) (conditions_still ss (right_of (calls_only f (condition s)) _ h))
+  conditions_still (s ∷ ss) h = and_from (calls_only g (condition s)) _ (calls_still (condition s) (and_parts (calls_only f (condition s)) _ h).0) (conditions_still ss (and_parts (calls_only f (condition s)) _ h).1)
 
 module _ (fs : Functions) where
   by_either : (names : Names) (name : Name) → (is_function names name ≡ true → is_some (function_of fs name) ≡ true) → ((m : Text) → is_among m names.methods ≡ true → is_some (function_of fs (m ∷ [])) ≡ true)
@@ -186,7 +176,7 @@ module _ (fs : Functions) where
       by_method (m ∷ n ∷ ms) k = absurd (true≢false (sym k))
 
       by_part : (b : Bool) → is_function (policy_names fs) name ≡ b → is_some (first_named name (callers_functions fs)) ≡ true
-      by_part true e = function_found name (callers_functions fs) (right_of _ _ e)
+      by_part true e = function_found name (callers_functions fs) (and_parts _ _ e).1
       by_part false e = by_method name (sym (ap (λ b. b || is_method (policy_names fs) name) e) ∙ h)
 
   not_the_unknown : (name : Name) → is_some (first_named name (callers_functions fs)) ≡ true → (b : Bool) → is_the_unknown name ≡ b → not b ≡ true
@@ -196,7 +186,7 @@ module _ (fs : Functions) where
   policy_call : (name : Name) → is_in_table (policy_names fs) name ≡ true → (is_answered fs name && not (is_the_unknown name)) ≡ true
   policy_call name h =
       let found = by_either (policy_names fs) name ((names_are_found fs).policy_function name) (names_are_found fs).policy_method (is_function (policy_names fs) name) refl h in
-      both (is_answered fs name) (not (is_the_unknown name)) found (not_the_unknown name (callers_call name h) (is_the_unknown name) refl)
+      and_from (is_answered fs name) (not (is_the_unknown name)) found (not_the_unknown name (callers_call name h) (is_the_unknown name) refl)
 
 pub calls_are_found : ExprsCallTheTable → ConditionsCallTheTable → (by : Setting) → CallsAreFound by
 calls_are_found exprs conditions by = record {

@@ -1,5 +1,6 @@
 -- What is left calls no function for an unknown, where the tree calls none.
 use Rattle.std.proofs.Common.{◌≡◌, Bool, true, false, ◌&&◌, ◌||◌, not, refl, sym, ◌∙◌, ap}
+use Rattle.std.proofs.lemmas.Bool.{not-true}
 use Rattle.cedar_language.specs.Uid.{Name}
 use Rattle.cedar_language.specs.Tree.{Operator, Call, Tree, Lit, Var, Slot, Unknown, If, And, Or, Apply, Trees, no_trees, a_tree}
 use Rattle.cedar_language.specs.Value.{Outcome, Gives, Fails}
@@ -39,13 +40,9 @@ mutual
   trees_same no_trees = refl
   trees_same (a_tree t ts) = both_not _ _ _ _ (tree_same t) (trees_same ts)
 
-is_false : (b : Bool) → not b ≡ true → b ≡ false
-is_false true h = cc
-is_false false h = refl
-
 to_plain : (p : Answer) → IsKept true is_other AnyKind p → IsPlainAnswer p
 to_plain (Evaluated v) h = tt
-to_plain (ResidualTree t) h = is_false (calls_unknown t) (sym (tree_same t) ∙ h)
+to_plain (ResidualTree t) h = not-true (calls_unknown t) (sym (tree_same t) ∙ h)
 to_plain (Failed k) h = tt
 
 of_plain : (p : Answer) → IsPlainAnswer p → IsKept true is_other AnyKind p

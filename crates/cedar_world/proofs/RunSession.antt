@@ -1,5 +1,5 @@
 -- A run goes on with a session.
-use Rattle.std.proofs.Common.{◌≡◌, inl, inr, ℕ, ◌+◌, List, [], ◌∷◌, ◌++◌, length, append_assoc, append-nil, length-append, refl, sym, ◌∙◌, ap, subst, arith}
+use Rattle.std.proofs.Common.{◌≡◌, ◌⊎◌, inl, inr, ℕ, ◌+◌, List, [], ◌∷◌, ◌++◌, length, append_assoc, append-nil, length-append, refl, sym, ◌∙◌, ap, subst, arith}
 use Rattle.cedar_language.specs.Uid.{Text}
 use Rattle.cedar_frames.specs.Frames.{AreFrames}
 use Rattle.cedar_world.specs.World.{World, IsCyclic}
@@ -8,8 +8,8 @@ use Rattle.cedar_world.specs.Answer.{Answer}
 use Rattle.cedar_world.specs.Commands.{Verb, Ask, Reply, Answered, NotUtf8, Memory}
 use Rattle.cedar_world.specs.Lines.{line_of, lines_of}
 use Rattle.cedar_world.specs.LinkLaws.{LinksAreWhole}
-use Rattle.cedar_world.specs.Lookups.{NamesFoundErrors, NamesOrdinaryErrors}
-use Rattle.cedar_world.specs.OrdinaryReplies.{RepliesOrdinarily}
+use Rattle.cedar_world.specs.Lookups.{ClausesHoldNoSlot, NamesFoundErrors, NamesOrdinaryErrors}
+use Rattle.cedar_world.specs.OrdinaryReplies.{AnswersToldOrdinarily, RepliesOrdinarily}
 use Rattle.cedar_world.specs.Session.{Command, Edited, EditsPolicies, EditsEntities, IsReached}
 use Rattle.cedar_world.specs.RunText.{FrameStep, Ran, Start, Turn}
 use Rattle.cedar_world.specs.RunLaws.{commands_of, replies_of, AnswersFrames, no_frame, a_frame, GoesOn, RunsAreAnsweredByTheRules}
@@ -114,13 +114,18 @@ module _ (by : Setting) where
 -- ---- the errors of a reply
 
 module _ (by : Setting) (old : World) (commands : List Command) (replies : List Reply) (reached : IsReached by commands replies old) where
+  told_errors : (verb : Verb) (answer : Answer) → AnswersToldOrdinarily by old answer → (verb ≡ Ask → ⊥)
+      → (verb ≡ Ask) ⊎ ClausesHoldNoSlot old.policies → NamesOrdinaryErrors answer
+  told_errors verb answer o other (inl e) = absurd (other e)
+  told_errors verb answer o other (inr free) = o.without_slots free commands replies reached
+
   errors : (verb : Verb) (answer : Answer) → RepliesOrdinarily by old (Answered answer) verb
-      → NamesFoundErrors answer × (verb ≡ Ask → NamesOrdinaryErrors answer)
+      → NamesFoundErrors answer × ((verb ≡ Ask) ⊎ ClausesHoldNoSlot old.policies → NamesOrdinaryErrors answer)
   errors Ask answer o = ((λ id k h. ordinary_found k (o commands replies reached id k h)), (λ e. o commands replies reached))
-  errors verb answer o = (o.finds commands replies reached, (λ e. cc))
+  errors verb answer o = (o.finds commands replies reached, told_errors verb answer o (λ e. cc))
 
   frame_errors : (new : World) (verb : Verb) (body : Text) (answer : Answer) → FrameStep by old verb body (Answered answer) new
-      → NamesFoundErrors answer × (verb ≡ Ask → NamesOrdinaryErrors answer)
+      → NamesFoundErrors answer × ((verb ≡ Ask) ⊎ ClausesHoldNoSlot old.policies → NamesOrdinaryErrors answer)
   frame_errors new verb body answer (inl h) = absurd (cc)
   frame_errors new verb body answer (inr (inl h)) = absurd (cc)
   frame_errors new verb body answer (inr (inr h)) = errors verb answer h.2
@@ -135,7 +140,7 @@ edited_on Edits old mid new (c ∷ cs) others [] more done edit = absurd done
 edited_on Edits old mid new (c ∷ cs) others (r ∷ rs) more done edit = (done.0, done.1, edited_on Edits done.0 mid new cs others rs more done.2 edit)
 
 module _ (by : Setting) (before : List Command) (said : List Reply) (start : World) (reached : IsReached by before said start) where
-  reached_on : (commands : List Command) (replies : List Reply) (world : World) → AnswersFrames by start commands replies world
+  pub reached_on : (commands : List Command) (replies : List Reply) (world : World) → AnswersFrames by start commands replies world
       → IsReached by (before ++ commands) (said ++ replies) world
   reached_on commands replies world answers = record {
     policies = edited_on (EditsPolicies by) _ start.policies world.policies before commands said replies reached.policies (policies_after by answers);
@@ -156,7 +161,8 @@ module _ (by : Setting) (before : List Command) (said : List Reply) (start : Wor
     errors = λ some rest told left verb text answer long cs rs.
         let there = parted by start world verb text (Answered answer) commands some rest replies told left cs rs answers in
         let (old, new, fore, step, back) = frame_among by world verb text (Answered answer) rest left some told long start there in
-        frame_errors by old (before ++ some) (said ++ told) (reached_on some told old fore) new verb text answer step;
+        let (finds, ordinary) = frame_errors by old (before ++ some) (said ++ told) (reached_on some told old fore) new verb text answer step in
+        (old, fore, finds, ordinary);
   }
 
 -- ---- a run

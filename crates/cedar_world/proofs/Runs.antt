@@ -1,5 +1,5 @@
 -- A run's frames and its end are those of its input.
-use Rattle.std.proofs.Common.{◌≡◌, ◌≢◌, ◌⊎◌, inl, inr, ℕ, ◌+◌, ◌<◌, ◌≤◌, List, [], ◌∷◌, ◌++◌, length, append_assoc, append-nil, length-append, refl, sym, ◌∙◌, ap, subst, arith}
+use Rattle.std.proofs.Common.{◌≡◌, ◌≢◌, ◌⊎◌, inl, inr, ℕ, ◌+◌, ◌<◌, ◌≤◌, Option, None, List, [], ◌∷◌, ◌++◌, length, append_assoc, append-nil, length-append, refl, sym, ◌∙◌, ap, subst, arith}
 use Rattle.std.proofs.lemmas.Bool.{cases_order}
 use Rattle.cedar_frames.specs.declared.verb.Verb.{Verb}
 use Rattle.cedar_frames.specs.declared.fault.Fault.{Fault}
@@ -8,7 +8,7 @@ use Rattle.cedar_frames.specs.Frames.{IsFrame, AreFrames, IsFault}
 use Rattle.cedar_frames.specs.Laws.{FramesBegin, FramesAreOne, FaultsStay, FaultsAreOne}
 use Rattle.cedar_world.specs.World.{World}
 use Rattle.cedar_world.specs.Setting.{Setting}
-use Rattle.cedar_world.specs.RunText.{End, Clean, Faulty, most_frames, Ends, Ran, Start, Turn, RunText}
+use Rattle.cedar_world.specs.RunText.{End, Clean, Faulty, most_frames, Ends, Ran, Start, Turn, IsDue, DueAnswer, DueEnd, RunText}
 use Rattle.cedar_world.specs.RunLaws.{Leaves, RunsReadTheSame, BeginWith, CutRunsBeginAlike}
 
 -- ---- the frames of a run
@@ -189,12 +189,22 @@ module _ (frames_begin : FramesBegin) (frames_one : FramesAreOne) (faults_stay :
           let ends = subst (λ m. Ends m end whole.tail) (sym j) whole.ends in
           absurd (fewer whole.frames read whole.tail left' left others commands end q p above (omega (arith, i, u)) ends l (sym there))
 
+  -- the frame whose answer was due is a whole one
+  due_ran : {by : Setting} {start mid new : World} {n : ℕ} {bytes text tail line : List ℕ} {ending : Option End}
+      → Ran by start n bytes text mid → IsDue by mid n tail line ending new → ending ≡ None → Ran by start (n + 1) (bytes ++ tail) (text ++ line) new
+  due_ran ran (DueAnswer below frame step) e = Turn ran below frame step
+  due_ran ran (DueEnd end ends) e = absurd (cc)
+
   pub cut_runs_begin_alike : CutRunsBeginAlike
   cut_runs_begin_alike = record {
     by_reader = λ by bytes text left bytes' text' left' start new start' new' end cut whole l e.
         let read = sym (ap (λ x. x ++ left) cut.read ∙ append_assoc cut.frames cut.tail left) in
         begins by cut.frames text (cut.tail ++ left) bytes' text' left' cut.count start new start' new' end cut.ran whole l (read ∙ e);
     by_writer = λ by bytes text left bytes' text' left' start new start' new' end cut whole l e.
-        let read = sym (ap (λ x. x ++ left) cut.read ∙ append_assoc cut.frames cut.tail left) in
-        begins by cut.frames cut.said (cut.tail ++ left) bytes' text' left' cut.count start cut.mid start' new' end cut.ran whole l (read ∙ e);
+        let read = sym (ap (λ x. x ++ left) cut.read ∙ append_assoc cut.frames cut.tail left) in (
+          begins by cut.frames cut.said (cut.tail ++ left) bytes' text' left' cut.count start cut.mid start' new' end cut.ran whole l (read ∙ e),
+          λ answer.
+              begins by (cut.frames ++ cut.tail) (cut.said ++ cut.line) left bytes' text' left' (cut.count + 1) start new start' new' end
+              (due_ran cut.ran cut.due answer) whole l (sym (ap (λ x. x ++ left) cut.read) ∙ e),
+        );
   }

@@ -1,5 +1,6 @@
 -- How far scopes are settled.
 use Rattle.std.proofs.Common.{◌≡◌, Bool, true, false, not, ◌&&◌, ◌||◌, Option, Some, None, List, [], ◌∷◌, map, refl, ◌∙◌, ap}
+use Rattle.std.proofs.lemmas.Bool.{and_from}
 use Rattle.std.specs.FinMap as finite
 use Rattle.cedar_language.specs.Uid.{Text, Name, Uid}
 use Rattle.cedar_language.specs.Tree.{Boolean, Entity, Variable, Principal, Action, Resource, SlotId, PrincipalSlot, ResourceSlot, Tree, Lit}
@@ -18,7 +19,7 @@ use Rattle.cedar_world.specs.Asking.{Part, Given, Missing, Question}
 use Rattle.cedar_world.specs.Standing.{settled_so_far, StandsSoFar, still_open, decided}
 use Rattle.cedar_grammar.specs.Scopes.{meets, and_then_met}
 use Rattle.cedar_world.specs.Scope.{met, action_met, unless_other, by_type, known_of, action_by_type, action_known_of, scope_met, scope_known, standing_met, ScopesSettle}
-use Rattle.cedar_language.proofs.Booleans.{or_false, and_both}
+use Rattle.cedar_language.proofs.Booleans.{or_false}
 use Rattle.cedar_partial_evaluation.proofs.Scopes.{decides_equality, entity_equal, entities, rising_uids}
 use Rattle.cedar_grammar.proofs.HeldSlots.{none_left, principal_free, resource_free}
 
@@ -218,7 +219,7 @@ module _ (facts : Facts) (around : LeafSettlings) where
 
 conjunction_names : (l r : Tree) → mentions_only (λ v. true) true l ≡ true → mentions_only (λ v. true) true r ≡ true → mentions_only (λ v. true) true (conjunction l r) ≡ true
 conjunction_names (Lit (Boolean a)) (Lit (Boolean b)) h k = refl
-conjunction_names l r h k = and_both (mentions_only (λ v. true) true l) (mentions_only (λ v. true) true r) h k
+conjunction_names l r h k = and_from (mentions_only (λ v. true) true l) (mentions_only (λ v. true) true r) h k
 
 target_names : (slot : SlotId) (x : Target) → mentions_only (λ v. true) true (target_tree slot x) ≡ true
 target_names slot (the_entity u) = refl

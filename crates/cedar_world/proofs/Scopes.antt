@@ -1,6 +1,7 @@
 -- Of a scope whose slots are bound, no part errs while nothing is told, and none is left with a slot; so a condition is left with one
 -- only where its clauses hold one.
 use Rattle.std.proofs.Common.{◌≡◌, Bool, true, false, Option, Some, None, List, [], map, refl, sym, ap, subst}
+use Rattle.std.proofs.lemmas.Bool.{and_from}
 use Rattle.std.specs.FinMap as finite
 use Rattle.cedar_language.specs.Uid.{Text, Name, Uid}
 use Rattle.cedar_language.specs.Tree.{Boolean, Entity, Operator, Equal, In, Is, MakeSet, Variable, Principal, Action, Resource, SlotId, PrincipalSlot, ResourceSlot, Tree, And, Lit, Var, Unknown, Apply, no_trees, a_tree}
@@ -18,7 +19,6 @@ use Rattle.cedar_grammar.specs.Policy.{Policy, Target, the_entity, the_slot, Con
 use Rattle.cedar_world.specs.Orders.{text_cmp}
 use Rattle.cedar_partial_evaluation.proofs.Scopes.{conjoined, entities, all_listed, rising_uids}
 use Rattle.cedar_world.specs.Lookups.{calls_among}
-use Rattle.cedar_world.proofs.Both.{and_both}
 use Rattle.cedar_world.proofs.CallsLeft.{AnyKind, Keeps, IsKept, value_passes, and_kept}
 
 -- ---- scopes whose slots are bound
@@ -48,7 +48,7 @@ module _ (passes : Name → Bool) where
     and_tested (Evaluated (Plain (Boolean true))) q r h k = last_tested q k
     and_tested (Evaluated (Plain (Boolean false))) q r h k = tt
     and_tested (Evaluated _) q r h k = absurd h
-    and_tested (ResidualTree t) q r h k = and_both (calls_among false passes t) (calls_among false passes (best_effort facts q r)) h (best_tested q r k)
+    and_tested (ResidualTree t) q r h k = and_from (calls_among false passes t) (calls_among false passes (best_effort facts q r)) h (best_tested q r k)
     and_tested (Failed e) q r h k = h
 
     module _ (holds : LeafAnswers) where
@@ -122,7 +122,7 @@ module _ (passes : Name → Bool) where
 
         among_tests : (p : Part) → IsTested (apply_answer facts holds In (and_next facts (part_held p None n) (AllEvaluated (a_value set no_values))))
         among_tests (Given u) = let found = rising_uids facts us in subst (λ o. IsTested (answer_of (within_members facts u o))) (sym found.uids_are) tt
-        among_tests (Missing ty) = and_both (calls_among false passes (tree_of facts set)) true (value_passes false passes AnyKind facts keeps set) refl
+        among_tests (Missing ty) = and_from (calls_among false passes (tree_of facts set)) true (value_passes false passes AnyKind facts keeps set) refl
 
         within_any_tests : Tests (action_tree (action_within_any us))
         within_any_tests =

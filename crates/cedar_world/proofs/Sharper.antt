@@ -1,8 +1,9 @@
 -- Where leaves are answered more sharply, so are trees: a value stays, an error stays one, and what is left of data is left as it is,
 -- perhaps with types that are stated of its unknowns.
 use Rattle.std.proofs.Common.{◌≡◌, Bool, true, false, ◌&&◌, cond, Option, Some, None, List, [], ◌∷◌, refl, ◌∙◌, ap, subst}
+use Rattle.std.proofs.lemmas.Bool.{and_from, and_parts}
 use Rattle.cedar_language.specs.Uid.{Text, Name}
-use Rattle.cedar_language.specs.Tree.{Boolean, Entity, ValueType, EntityType, Variable, SlotId, Operator, Equal, GetAttr, HasAttr, MakeSet, MakeRecord, Tree, Lit, Var, Slot, Unknown, If, And, Or, Apply, Trees, no_trees, a_tree}
+use Rattle.cedar_language.specs.Tree.{Boolean, ValueType, EntityType, Variable, SlotId, Operator, Equal, GetAttr, HasAttr, MakeSet, MakeRecord, Tree, Lit, Var, Slot, Unknown, If, And, Or, Apply, Trees, no_trees, a_tree}
 use Rattle.cedar_language.specs.Tree as tree
 use Rattle.cedar_language.specs.Value.{Plain, Values, no_values, a_value, Kind, RecordAttrDoesNotExist}
 use Rattle.cedar_language.specs.Order.{same_text}
@@ -10,7 +11,6 @@ use Rattle.cedar_language.specs.Facts.{Facts}
 use Rattle.cedar_language.specs.Operators.{found, applied}
 use Rattle.cedar_partial_evaluation.specs.MadeAgain.{tree_of, trees_of}
 use Rattle.cedar_partial_evaluation.specs.Partial.{Answer, Evaluated, ResidualTree, Failed, Answers, AllEvaluated, SomeResiduals, SomeFailed, answer_of, last_answer, and_answer, or_answer, if_answer, and_next, is_projectable, are_projectable, LeafAnswers, built_answer, projected_in, all_projected_in, found_tree, entry_answer, attribute_answer, has_entry_answer, has_answer, is_answer, stated_type, types_differ, equal_answer, residual_answer, apply_answer, partial_in, all_partial_in}
-use Rattle.cedar_world.proofs.Both.{and_true, and_both}
 
 -- ---- trees that state more types
 
@@ -54,8 +54,8 @@ mutual
   all_typed_data : (ts us : Trees) → AreTyped ts us → are_projectable ts ≡ true → are_projectable us ≡ true
   all_typed_data no_trees us h p = rw h refl
   all_typed_data (a_tree t ts) us (s, ss, e, h, hs) p =
-      let (pt, pts) = and_true (is_projectable t) (are_projectable ts) p in
-      rw e (and_both (is_projectable s) (are_projectable ss) (typed_data t s h pt) (all_typed_data ts ss hs pts))
+      let (pt, pts) = and_parts (is_projectable t) (are_projectable ts) p in
+      rw e (and_from (is_projectable s) (are_projectable ss) (typed_data t s h pt) (all_typed_data ts ss hs pts))
 
 -- ---- keys of records
 
@@ -117,7 +117,7 @@ entry_data : (ks : List Text) (ts : Trees) (a : Text) (t : Tree) → are_project
 entry_data [] ts a t h e = cc
 entry_data (k ∷ ks) no_trees a t h e = cc
 entry_data (k ∷ ks) (a_tree r ts) a t h e =
-    let (hr, hts) = and_true (is_projectable r) (are_projectable ts) h in
+    let (hr, hts) = and_parts (is_projectable r) (are_projectable ts) h in
     entry_by (same_text k a) r t (found_tree ks ts a) hr (entry_data ks ts a t hts) e
 
 no_typed_entry : (ks : List Text) (ts us : Trees) (a : Text) → AreTyped ts us → found_tree ks ts a ≡ None → found_tree ks us a ≡ None
@@ -232,7 +232,7 @@ module _ (facts : Facts) (now : LeafAnswers) where
   next_sharper (Evaluated v) y (SomeResiduals rs) ys h hs = record {
     some = λ e. cc;
     stay = λ p.
-        let (ss, e, t) = hs.stay (and_true (is_projectable (tree_of facts v)) (are_projectable rs) p).1 in
+        let (ss, e, t) = hs.stay (and_parts (is_projectable (tree_of facts v)) (are_projectable rs) p).1 in
         (a_tree (tree_of facts v) ss, rw (h, e) refl, (tree_of facts v, ss, refl, typed_itself (tree_of facts v), t));
     lacks = lack_next (tree_of facts v) rs y ys hs.lacks;
     one = λ r e. absurd (hs.some cc);
@@ -240,7 +240,7 @@ module _ (facts : Facts) (now : LeafAnswers) where
   next_sharper (ResidualTree r) y (AllEvaluated vs) ys h hs = record {
     some = λ e. cc;
     stay = λ p.
-        let (s, e, t) = h.stays (and_true (is_projectable r) (are_projectable (trees_of facts vs)) p).0 in
+        let (s, e, t) = h.stays (and_parts (is_projectable r) (are_projectable (trees_of facts vs)) p).0 in
         (a_tree s (trees_of facts vs), rw (e, hs) refl, (s, trees_of facts vs, refl, t, all_typed (trees_of facts vs)));
     lacks = lack_next r (trees_of facts vs) y ys (λ ks a n. rw hs (no_value facts a ks vs n));
     one = only r vs y ys h hs;
@@ -248,7 +248,7 @@ module _ (facts : Facts) (now : LeafAnswers) where
   next_sharper (ResidualTree r) y (SomeResiduals rs) ys h hs = record {
     some = λ e. cc;
     stay = λ p.
-        let (pr, prs) = and_true (is_projectable r) (are_projectable rs) p in
+        let (pr, prs) = and_parts (is_projectable r) (are_projectable rs) p in
         let (s, e, t) = h.stays pr in
         let (ss, f, ts) = hs.stay prs in
         (a_tree s ss, rw (e, f) refl, (s, ss, refl, t, ts));
@@ -345,7 +345,7 @@ module _ (facts : Facts) (now : LeafAnswers) where
   differ_by : (r s : Tree) (ps : Answers) (o q : Option Name) → AreNoLess (a_tree r (a_tree s no_trees)) ps → stated_type r ≡ o → stated_type s ≡ q → types_differ o q ≡ true
       → ps ≡ SomeResiduals (a_tree r (a_tree s no_trees))
   differ_by r s ps (Some u) (Some w) h e f d =
-      let (us, is, typed) = h.stay (and_both (is_projectable r) (is_projectable s && true) (stated_data r u e) (and_both (is_projectable s) true (stated_data s w f) refl)) in
+      let (us, is, typed) = h.stay (and_from (is_projectable r) (is_projectable s && true) (stated_data r u e) (and_from (is_projectable s) true (stated_data s w f) refl)) in
       is ∙ ap (λ ts. SomeResiduals ts) (stated_stay r s u w us e f typed)
   differ_by r s ps (Some u) None h e f d = cc
   differ_by r s ps None q h e f d = cc
@@ -374,7 +374,7 @@ module _ (facts : Facts) (now : LeafAnswers) where
       all_projected_sharper : (rs us : Trees) → are_projectable rs ≡ true → AreTyped rs us → AreSharper (all_projected_in facts before rs) (all_projected_in facts now us)
       all_projected_sharper no_trees us h e = rw e refl
       all_projected_sharper (a_tree r rs) us h (s, ss, e, t, ts) =
-          let (hr, hrs) = and_true (is_projectable r) (are_projectable rs) h in
+          let (hr, hrs) = and_parts (is_projectable r) (are_projectable rs) h in
           rw e (next_sharper (projected_in facts before r) (projected_in facts now s) (all_projected_in facts before rs) (all_projected_in facts now ss) (projected_sharper r s hr t) (all_projected_sharper rs ss hrs ts))
 
     attribute_by : (a : Text) (ks : List Text) (rs : Trees) (p : Answer) (plain : Bool) (o : Option Tree) → IsNoLess (Apply (MakeRecord ks) rs) p → are_projectable rs ≡ plain → found_tree ks rs a ≡ o

@@ -1,5 +1,6 @@
 -- A policy of which the scope doesn't hold has no part in any answer.
-use Rattle.std.proofs.Common.{◌≡◌, ◌⊎◌, inl, inr, Bool, true, false, cond, not, ◌&&◌, List, Option, Some, None, IsSome, IsTrue, is_some, option_map, map, refl, sym, ◌∙◌, ap, subst, true≢false}
+use Rattle.std.proofs.Common.{◌≡◌, ◌⊎◌, inl, inr, Bool, true, false, cond, not, List, Option, Some, None, IsSome, IsTrue, is_some, option_map, map, refl, sym, ◌∙◌, ap, subst, true≢false}
+use Rattle.std.proofs.lemmas.Bool.{and_right}
 use Rattle.std.specs.Cmp.{both_ways}
 use Rattle.std.specs.FinMap as finite
 use Rattle.cedar_language.specs.Uid.{Text, Uid}
@@ -34,17 +35,13 @@ use Rattle.cedar_world.proofs.Scope.{AreGiven, condition_is_unmet}
 
 -- ---- policies that are judged, and unsatisfied ones besides
 
-and_false : (b c : Bool) → c ≡ false → (b && c) ≡ false
-and_false true c h = h
-and_false false c h = refl
-
 module _ (js ks : List Judged) (there : (j : Judged) → IsAmong j js → IsAmong j ks) (back : (j : Judged) → IsAmong j ks → IsAmong j js ⊎ (j.standing ≡ Unsatisfied))
     (once : (x y : Judged) → IsAmong x ks → IsAmong y ks → x.id ≡ y.id → x ≡ y) where
   forbids_not : (j : Judged) → j.standing ≡ Unsatisfied → satisfied_forbid j ≡ false
-  forbids_not j e = and_false (not (is_permit j.effect)) (is_satisfied j.standing) (ap is_satisfied e)
+  forbids_not j e = and_right (not (is_permit j.effect)) (is_satisfied j.standing) (ap is_satisfied e)
 
   permits_not : (j : Judged) → j.standing ≡ Unsatisfied → satisfied_permit j ≡ false
-  permits_not j e = and_false (is_permit j.effect) (is_satisfied j.standing) (ap is_satisfied e)
+  permits_not j e = and_right (is_permit j.effect) (is_satisfied j.standing) (ap is_satisfied e)
 
   kept : (f : Judged → Bool) → ((j : Judged) → j.standing ≡ Unsatisfied → f j ≡ false) → (j : Judged) → IsAmong j ks → f j ≡ true → IsAmong j js
   kept f fails j a h = elim (back j a) [

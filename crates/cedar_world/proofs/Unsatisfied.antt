@@ -1,5 +1,6 @@
 -- A policy that is unsatisfied changes nothing of what is said.
 use Rattle.std.proofs.Common.{◌≡◌, inl, inr, Bool, true, false, cond, not, ◌&&◌, ◌||◌, List, ◌∷◌, refl, sym, ◌∙◌, ap, true≢false}
+use Rattle.std.proofs.lemmas.Bool.{and_right}
 use Rattle.cedar_language.specs.Uid.{Text}
 use Rattle.cedar_language.specs.Value.{Kind}
 use Rattle.cedar_language.specs.Answering.{Unsatisfied, Erring, is_permit, is_satisfied, is_residual, Judged, satisfied_forbid, satisfied_permit, residual_forbid, residual_permit, some, decision, in_must, in_may, HasId, HasErred}
@@ -8,16 +9,12 @@ use Rattle.cedar_world.specs.Standing.{Says, UnsatisfiedSayNothing}
 use Rattle.cedar_world.proofs.Lists.{IsAmong}
 use Rattle.cedar_world.proofs.Ids.{passed, has_passed, failed, has_failed}
 
-and_false : (b c : Bool) → c ≡ false → (b && c) ≡ false
-and_false true c h = h
-and_false false c h = refl
-
 module _ (j : Judged) (js : List Judged) (out : j.standing ≡ Unsatisfied) where
   unsatisfied : (b : Bool) → (b && is_satisfied j.standing) ≡ false
-  unsatisfied b = and_false b (is_satisfied j.standing) (ap is_satisfied out)
+  unsatisfied b = and_right b (is_satisfied j.standing) (ap is_satisfied out)
 
   closed : (b : Bool) → (b && is_residual j.standing) ≡ false
-  closed b = and_false b (is_residual j.standing) (ap is_residual out)
+  closed b = and_right b (is_residual j.standing) (ap is_residual out)
 
   same_some : (f : Judged → Bool) → f j ≡ false → some f (j ∷ js) ≡ some f js
   same_some f h = ap (λ b. b || some f js) h

@@ -1,5 +1,6 @@
 -- The facts of a world: paths through the entities that are held.
 use Rattle.std.proofs.Common.{◌≡◌, ◌⊎◌, inl, inr, true, false, List, [], ◌∷◌, Option, Some, None, is_some, refl, sym, ◌∙◌, ap, subst, true≢false}
+use Rattle.std.proofs.lemmas.Bool.{and_from, and_parts, or_cases, or_left, or_right}
 use Rattle.std.specs.Cmp.{both_ways}
 use Rattle.std.specs.List.{list_any}
 use Rattle.std.specs.Ordering.{eq_by_cmp}
@@ -13,7 +14,6 @@ use Rattle.cedar_world.specs.World.{World, EntityData, Entities, parents_of, par
 use Rattle.cedar_world.specs.Setting.{Setting}
 use Rattle.cedar_world.proofs.Edits.{same_uid}
 use Rattle.cedar_world.specs.WorldFacts.{AreFactsOf, leads_through, facts_of, WorldsHaveFacts}
-use Rattle.cedar_language.proofs.Booleans.{or_cases, or_left, or_right, and_left, and_right, and_both}
 
 module _ (parents : Uid → UidSet) where
   abbrev Leads : List Uid → Uid → Uid → Type 0
@@ -31,7 +31,7 @@ module _ (parents : Uid → UidSet) where
   leads_path (c ∷ cs) a b h =
       elim (or_cases (leads_through parents cs a b) _ h) [
         | inl k ↦ leads_path cs a b k
-        | inr k ↦ joined (leads_path cs a c (and_left (leads_through parents cs a c) _ k)) (leads_path cs c b (and_right (leads_through parents cs a c) _ k))
+        | inr k ↦ joined (leads_path cs a c (and_parts (leads_through parents cs a c) _ k).0) (leads_path cs c b (and_parts (leads_through parents cs a c) _ k).1)
       ]
 
   edge_leads : (cs : List Uid) (a b : Uid) → set.contains (parents a) b ≡ true → Leads cs a b
@@ -45,14 +45,14 @@ module _ (parents : Uid → UidSet) where
   -- what leads to the new stop leads there by the others
   to_stop : (cs : List Uid) (a c : Uid) → Leads (c ∷ cs) a c → Leads cs a c
   to_stop cs a c h =
-      elim (or_cases (leads_through parents cs a c) _ h) [ inl k ↦ k | inr k ↦ and_left (leads_through parents cs a c) _ k ]
+      elim (or_cases (leads_through parents cs a c) _ h) [ inl k ↦ k | inr k ↦ (and_parts (leads_through parents cs a c) _ k).0 ]
 
   from_stop : (cs : List Uid) (c b : Uid) → Leads (c ∷ cs) c b → Leads cs c b
   from_stop cs c b h =
-      elim (or_cases (leads_through parents cs c b) _ h) [ inl k ↦ k | inr k ↦ and_right (leads_through parents cs c c) _ k ]
+      elim (or_cases (leads_through parents cs c b) _ h) [ inl k ↦ k | inr k ↦ (and_parts (leads_through parents cs c c) _ k).1 ]
 
   by_stop : (cs : List Uid) (a c b : Uid) → Leads cs a c → Leads cs c b → Leads (c ∷ cs) a b
-  by_stop cs a c b h k = or_right (leads_through parents cs a b) _ (and_both _ _ h k)
+  by_stop cs a c b h k = or_right (leads_through parents cs a b) _ (and_from _ _ h k)
 
   -- what leads to a stop, and from there on, leads all the way
   leads_on : (cs : List Uid) (a c b : Uid) → IsStop c cs → Leads cs a c → Leads cs c b → Leads cs a b
@@ -65,11 +65,11 @@ module _ (parents : Uid → UidSet) where
       elim (or_cases (leads_through parents cs a c) _ h) [
         | inl x ↦ elim (or_cases (leads_through parents cs c b) _ k) [
           | inl y ↦ or_left (leads_through parents cs a b) _ (leads_on cs a c b s x y)
-          | inr y ↦ by_stop cs a d b (leads_on cs a c d s x (and_left (leads_through parents cs c d) _ y)) (and_right (leads_through parents cs c d) _ y)
+          | inr y ↦ by_stop cs a d b (leads_on cs a c d s x (and_parts (leads_through parents cs c d) _ y).0) (and_parts (leads_through parents cs c d) _ y).1
         ]
         | inr x ↦ elim (or_cases (leads_through parents cs c b) _ k) [
-          | inl y ↦ by_stop cs a d b (and_left (leads_through parents cs a d) _ x) (leads_on cs d c b s (and_right (leads_through parents cs a d) _ x) y)
-          | inr y ↦ by_stop cs a d b (and_left (leads_through parents cs a d) _ x) (and_right (leads_through parents cs c d) _ y)
+          | inl y ↦ by_stop cs a d b (and_parts (leads_through parents cs a d) _ x).0 (leads_on cs d c b s (and_parts (leads_through parents cs a d) _ x).1 y)
+          | inr y ↦ by_stop cs a d b (and_parts (leads_through parents cs a d) _ x).0 (and_parts (leads_through parents cs c d) _ y).1
         ]
       ]
 

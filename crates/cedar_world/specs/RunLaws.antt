@@ -1,5 +1,5 @@
 -- What a run answers, and what it reads: whatever was answered before it, and however the reader cuts its input.
-use Rattle.std.specs.Prelude.{◌≡◌, ℕ, ◌+◌, Some, List, [], ◌∷◌, ◌++◌, length}
+use Rattle.std.specs.Prelude.{◌≡◌, ◌⊎◌, ℕ, ◌+◌, Some, None, List, [], ◌∷◌, ◌++◌, length}
 use Rattle.std.specs.FinMap as map
 use Rattle.cedar_language.specs.Uid.{Text}
 use Rattle.cedar_language.specs.Authorization.{Known}
@@ -14,7 +14,7 @@ use Rattle.cedar_world.specs.Fillings.{IsFilling}
 use Rattle.cedar_world.specs.Commands.{Verb, Ask, Reply, Answered}
 use Rattle.cedar_world.specs.Step.{Step}
 use Rattle.cedar_world.specs.Lines.{lines_of}
-use Rattle.cedar_world.specs.Lookups.{NamesFoundErrors, NamesOrdinaryErrors}
+use Rattle.cedar_world.specs.Lookups.{ClausesHoldNoSlot, NamesFoundErrors, NamesOrdinaryErrors}
 use Rattle.cedar_world.specs.Telling.{EndsKnown}
 use Rattle.cedar_world.specs.TellingLaws.{TellEach}
 use Rattle.cedar_world.specs.Session.{Command, IsReached, AreAnsweredByTheRules}
@@ -49,10 +49,11 @@ module _ (by : Setting) where
     pub after_some : (some rest : List Command) → commands ≡ some ++ rest
         → (told left : List Reply) × (mid : World) × (replies ≡ told ++ left) × AnswersFrames start some told mid × AnswersFrames mid rest left world
         × AreAnsweredByTheRules by (before ++ some) (said ++ told) mid
-    -- no answer names a failed look-up of a function, nor one to a question that is asked a slot that isn't linked
+    -- no answer names a failed look-up of a function, nor, where a question is asked or no clause held has a slot, a slot that isn't linked
     pub errors : (some rest : List Command) (told left : List Reply) (verb : Verb) (text : Text) (answer : Answer) → length some ≡ length told
         → commands ≡ some ++ (verb, text) ∷ rest → replies ≡ told ++ Answered answer ∷ left
-        → NamesFoundErrors answer × (verb ≡ Ask → NamesOrdinaryErrors answer)
+        → (old : World) × AnswersFrames start some told old × NamesFoundErrors answer
+        × ((verb ≡ Ask) ⊎ ClausesHoldNoSlot old.policies → NamesOrdinaryErrors answer)
 
 -- A run in a world that commands led to goes on with their session: its frames are commands, its text is a line for each of their replies, each
 -- of which a frame may be answered in the world that those before it led to.
@@ -109,6 +110,7 @@ abbrev pub BeginWith : List ℕ → ℕ → List ℕ → ℕ → Type 0
 BeginWith all most read count = (others : List Command) × (frames : List ℕ) × AreFrames others frames × (all ≡ read ++ frames) × (most ≡ count + length others)
 
 -- A run that a failed device cut short read a beginning of the frames that a run reads which ends, over an input that begins with the same bytes.
+-- Where its writer failed at the answer to a frame, that is the next one of them.
 pub record CutRunsBeginAlike : Type 0 where
   pub by_reader : (by : Setting) (bytes text left bytes' text' left' : List ℕ) (start new start' new' : World) (end : End)
       (cut : TextBeforeFailure by bytes start text new) (whole : RunText by bytes' start' text' end new')
@@ -116,3 +118,4 @@ pub record CutRunsBeginAlike : Type 0 where
   pub by_writer : (by : Setting) (bytes text left bytes' text' left' : List ℕ) (start new start' new' : World) (end : End)
       (cut : TextCutShort by bytes start text new) (whole : RunText by bytes' start' text' end new')
       → Leaves end left' → bytes ++ left ≡ bytes' ++ left' → BeginWith whole.frames whole.count cut.frames cut.count
+      × (cut.ending ≡ None → BeginWith whole.frames whole.count (cut.frames ++ cut.tail) (cut.count + 1))
