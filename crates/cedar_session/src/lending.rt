@@ -11,11 +11,11 @@ ghost use Rattle.cedar_session.specs.Sessions.{setting_of, world_of, response_of
 ghost use Rattle.std.specs.Option.{option_map};
 
 use crate::session::Session;
-use cedar_telling::untold_names;
 use cedar_entities::store::Entities;
 use cedar_evaluator::partial_response::PartialResponse;
 use cedar_extensions::objects::ExtensionFunctionObject;
 use cedar_policy_set::sets::PolicySet;
+use cedar_telling::untold_names;
 use std::alloc::AllocError;
 
 impl<F: ExtensionFunctionObject> Session<'_, '_, F> {
