@@ -73,6 +73,7 @@ module _ (exist : WorldsHaveFacts) (stores : StoresHaveWorldFacts) (tables : Tab
   pub is_answered : (a : Answer) → SaysResponse response (Ok a) → IsAnswered by world q response (answer_of a)
   is_answered a (listed, says) = record {
     answers = answered.first (made by world (facts_of by world) table gives functions are.built are_facts) listed (answer_of a) (says_kept listed (answer_of a) says);
+    found = answered.found refl listed (answer_of a) (says_kept listed (answer_of a) says);
     errors = answered.errors listed (answer_of a) (says_kept listed (answer_of a) says);
     keeps = keep by world q es s table depth r response listed (answer_of a) gives whole are asked named responds says;
   }

@@ -20,13 +20,14 @@ use Rattle.cedar_grammar.specs.Laws.{LinkConditions}
 use Rattle.cedar_world.specs.Answer.{Answer, ids_of}
 use Rattle.cedar_world.specs.Asking.{Question}
 use Rattle.cedar_world.specs.First.{NamesNoUnknown, EarlyAnswersStand}
+use Rattle.cedar_world.specs.Found.{SaysWhatIsFound}
 use Rattle.cedar_world.specs.Heights.{grown, AreWithin, AsksTooDeep}
 use Rattle.cedar_world.specs.Setting.{Setting}
 use Rattle.cedar_world.specs.Standing.{StandsEarly, IsJudged, Judges, ErrOnce, AnswersAreMade}
 use Rattle.cedar_world.specs.Step.{IsFirstAnswer, SomeInForce}
 use Rattle.cedar_grammar.specs.Syntax.{PolicySyntax, condition}
 use Rattle.cedar_world.specs.World.{World, in_force_at}
-use Rattle.cedar_world.specs.WorldFacts.{AreFactsOf}
+use Rattle.cedar_world.specs.WorldFacts.{AreFactsOf, facts_of}
 use Rattle.cedar_entities.specs.declared.store.Entities.{Entities}
 use Rattle.cedar_extensions.specs.Table.{Table}
 use Rattle.cedar_operators.specs.Store.{HasFacts}
@@ -145,6 +146,16 @@ module _ (r : RequestParts) (store : Entities) (table : Table) (depth : ℕ) whe
         let settled = settled_listed listed ks says.kinds says.errors in
         rules_list world (StandsEarly facts q finite.empty) (map judged ks) answer (judges settled)
         (says_rules ks made (once settled) answer says.decided says.must says.may (says.erring ∙ ap finite.from_entries (errors_listed listed ks says.errors)))
+
+    -- it says what is found early of each policy in force
+    pub says_found : AnswersAreMade → facts ≡ facts_of by world → (listed : List (Text × ErrorKind)) (answer : Answer) → SaysHeld (holding_of ks) listed answer → SaysWhatIsFound by world q answer
+    says_found made are listed answer says =
+        let settled = settled_listed listed ks says.kinds says.errors in
+        let js = map judged ks in (
+          js,
+          subst (λ f. Judges world (StandsEarly f q finite.empty) js) are (judges settled),
+          says_rules ks made (once settled) answer says.decided says.must says.may (says.erring ∙ ap finite.from_entries (errors_listed listed ks says.errors)),
+        )
 
     -- and it is a first answer
     pub says_first : EarlyAnswersStand → AnswersAreMade → AreFactsOf by world facts → HoldsMade facts → (listed : List (Text × ErrorKind)) → have_kinds listed ≡ true → map with_failure listed ≡ errors_of ks → (answer : Answer)

@@ -7,12 +7,13 @@ use Rattle.cedar_language.specs.Answering.{decision, in_must, in_may, ids_with}
 use Rattle.cedar_partial_evaluation.specs.MadeAgain.{HoldsMade}
 use Rattle.cedar_world.specs.Answer.{Answer, ids_of}
 use Rattle.cedar_world.specs.Asking.{Question}
+use Rattle.cedar_world.specs.Found.{SaysWhatIsFound}
 use Rattle.cedar_world.specs.Heights.{AsksTooDeep}
 use Rattle.cedar_world.specs.Setting.{Setting, functions_alone}
 use Rattle.cedar_world.specs.Standing.{StandsEarly}
 use Rattle.cedar_world.specs.Step.{IsFirstAnswer, SomeInForce}
 use Rattle.cedar_world.specs.World.{World}
-use Rattle.cedar_world.specs.WorldFacts.{AreFactsOf}
+use Rattle.cedar_world.specs.WorldFacts.{AreFactsOf, facts_of}
 use Rattle.cedar_world.specs.Lookups.{ListsStanding}
 use Rattle.cedar_held.specs.Shown.{Shows}
 use Rattle.cedar_entities.specs.Store.{held_at, is_partial_store, IsClosed}
@@ -73,6 +74,8 @@ module _ (by : Setting) (world : World) (facts : Facts) (es : Entries) (s : Enti
   pub record AnswersQuestion : Type 0 where
     -- where no limit was met, what the response says is a first answer
     pub first : HoldsMade facts → (listed : List (Text × ErrorKind)) (answer : Answer) → SaysHeld (holding_of ks) listed answer → IsFirstAnswer by world q answer
+    -- it says what the evaluation of each policy in force finds
+    pub found : facts ≡ facts_of by world → (listed : List (Text × ErrorKind)) (answer : Answer) → SaysHeld (holding_of ks) listed answer → SaysWhatIsFound by world q answer
     -- and its errors are those with which the policies in force stand
     pub errors : (listed : List (Text × ErrorKind)) (answer : Answer) → SaysHeld (holding_of ks) listed answer → ListsStanding world (StandsEarly facts q finite.empty) answer
     -- the limit is met only where a policy is in force

@@ -7,6 +7,7 @@ use Rattle.cedar_language.specs.Uid.{Text}
 use Rattle.cedar_language.specs.Value.{Value}
 use Rattle.cedar_world.specs.Answer as answers
 use Rattle.cedar_world.specs.Asking.{Question}
+use Rattle.cedar_world.specs.Found.{SaysWhatIsFound}
 use Rattle.cedar_world.specs.Heights.{AsksTooDeep, TellsTooDeep}
 use Rattle.cedar_world.specs.Question.{HasOpenContext}
 use Rattle.cedar_world.specs.Setting.{Setting}
@@ -45,6 +46,7 @@ SaysResponse response (Err r) = ⊥
 -- goes on
 pub record IsAnswered (by : Setting) (world : World) (q : Question) (first : PartialResponse) (answer : answers.Answer) : Type 0 where
   pub answers : IsFirstAnswer by world q answer
+  pub found : SaysWhatIsFound by world q answer
   pub errors : ListsStanding world (StandsEarly (facts_of by world) q finite.empty) answer
   pub keeps : KeepsQuestion by world q first [] answer
 

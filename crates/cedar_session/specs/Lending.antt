@@ -7,7 +7,7 @@ use Rattle.cedar_world.specs.Question.{is_unknown}
 use Rattle.cedar_world.specs.Setting.{Setting}
 use Rattle.cedar_world.specs.World.{World, Asked}
 use Rattle.cedar_asking.specs.Keeping.{IsFirstResponse}
-use Rattle.cedar_asking.specs.Waiting.{LeftIsUntold}
+use Rattle.cedar_asking.specs.Waiting.{LeftIsUntold, SaysUntilTold}
 use Rattle.cedar_evaluator.specs.Holding.{holding_in}
 use Rattle.cedar_evaluator.specs.declared.partial_response.PartialResponse.{PartialResponse}
 use Rattle.cedar_session.specs.Open.{bare}
@@ -22,6 +22,8 @@ pub record IsResponse (by : Setting) (world : World) (response : PartialResponse
   pub asked : Asked
   pub is_open : world.asked ≡ Some asked
   pub responds : ∥ IsFirstResponse by (bare world.policies world.entities) asked.question response ∥₁
+  -- until a name is told that it left in a policy, it says the answer that was given last
+  pub says : ∥ SaysUntilTold (holding_in response) asked.told asked.last ∥₁
 
 -- Where no name that is told by now stands in what the response left of a policy, the answer is the one that was given last.
 abbrev pub WaitsForNames : Option PartialResponse → Option Asked → Option Asked → Answer → Type 0

@@ -52,7 +52,7 @@ impl<F: ExtensionFunctionObject> Session<'_, '_, F> {
         }
     }
 
-    /// The names for which the open question wants values that aren't told, lent, one for each place at which it does:
+    /// The names for which the open question wants values that aren't told, lent, each once at least and in no order:
     /// those of its context's unknowns, and `principal`, `action`, `resource` and `context` where it leaves them out. None
     /// where no question is open. Refused for want of memory for their list alone.
     pub fn untold(&self) -> Result<Vec<&str>, AllocError>

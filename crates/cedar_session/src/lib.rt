@@ -25,11 +25,17 @@ mod session;
 
 pub use cedar_entities::store::Entities;
 pub use cedar_evaluator::partial_response::PartialResponse;
+pub use cedar_extensions::evaluation_error::EvaluationError;
 pub use cedar_extensions::extensions::Extensions;
+pub use cedar_extensions::objects::{ExtensionFunctionObject, NoFunction};
 pub use cedar_frames::{BODY_LIMIT, Fault, Verb, Watched};
+pub use cedar_literals::uids::{EntityType, EntityUID};
+pub use cedar_names::places::Loc;
 pub use cedar_policy_parts::{Decision, PolicyID};
+pub use cedar_policy_set::policy_map::PolicyMap;
 pub use cedar_policy_set::sets::PolicySet;
 pub use cedar_replies::{Answer, Erring, ErrorKind, PolicyIds, Refusal, Reply, put_line};
+pub use cedar_restricted::restricted::RestrictedExpr;
 pub use command::Command;
 pub use entry::program;
 pub use in_memory::{Outcome, line_in_memory, run_input, run_input_within};

@@ -1,6 +1,7 @@
 // A session, and what it does at a command.
 ghost use Rattle.std.specs.Prelude.{◌≡◌, ◌≤◌, length, IfOk, OnErr, IsErrOf, Ok, Err};
 ghost use Rattle.cedar_frames.specs.Heads.{body_limit};
+ghost use Rattle.cedar_world.specs.Found.{AnswersAsFound};
 ghost use Rattle.cedar_world.specs.World.{new_world};
 ghost use Rattle.cedar_replies.specs.Replies.{answer_of, reply_of};
 ghost use Rattle.cedar_parser.specs.Settings.{functions_of};
@@ -350,6 +351,7 @@ impl<'e, 'f, F: ExtensionFunctionObject> Session<'e, 'f, F> {
         requires { length text.now ≤ body_limit }
         ensures step { Step (setting_of self.old) (world_of self.old) AskVerb text.now (ask_reply result) (world_of self.new) }
         ensures ordinary { IfOk result (λ answer. AnswersOrdinarily (setting_of self.old) (world_of self.old) (answer_of answer)) }
+        ensures found { IfOk result (λ answer. AnswersAsFound (setting_of self.old) (world_of self.old) text.now (answer_of answer)) }
         ensures setting { setting_of self.new ≡ setting_of self.old }
     {
         self.policies.index(self.allocator)?;
@@ -361,6 +363,7 @@ impl<'e, 'f, F: ExtensionFunctionObject> Session<'e, 'f, F> {
         requires { length text.now ≤ body_limit }
         ensures step { Step (setting_of self.old) (world_of self.old) AskVerb text.now (ask_reply result) (world_of self.new) }
         ensures ordinary { IfOk result (λ answer. AnswersOrdinarily (setting_of self.old) (world_of self.old) (answer_of answer)) }
+        ensures found { IfOk result (λ answer. AnswersAsFound (setting_of self.old) (world_of self.old) text.now (answer_of answer)) }
         ensures setting { setting_of self.new ≡ setting_of self.old }
     {
         cedar_world::texts_are_one();

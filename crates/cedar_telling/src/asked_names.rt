@@ -192,9 +192,9 @@ fn without_told<'n>(
     Ok(left)
 }
 
-/// The names for which the question that a body states wants values that aren't told, lent, one for each place at which
-/// it does: those of its context's unknowns, and `principal`, `action`, `resource` and `context` where it leaves them
-/// out. Refused for memory alone.
+/// The names for which the question that a body states wants values that aren't told, lent, each once at least and in no
+/// order: those of its context's unknowns, and `principal`, `action`, `resource` and `context` where it leaves them out.
+/// Refused for memory alone.
 pub fn untold_names<'q>(
     alloc: Global,
     question: &'q RestrictedExpr,

@@ -95,6 +95,27 @@ returns-clause-ordinary g c = λ commands replies reached.
     }) asked.2.is_request named in
     c.answers_err_ordinarily.ensures.first by commands replies (world_of self) reached asked.0 (c.args.text.now, tree, (self.depth, read.0), asked.1) (answer_of c.in_ok-first.answer) first.errors
 
+pub returns-clause-found : goal.returns-clause-found
+returns-clause-found g c =
+    let self = c.args.self.now in
+    let by = setting_of self in
+    let tree = restricted_tree c.in_ok-body.body in
+    let read = read_tree by c.args.text.now tree tree refl c.in_ok-body.ensures.body in
+    let served = serves g.F.ExtensionFunctionObject.answers self.extensions.now self.depth tree tree refl c.names_are_defined.ensures c.in_ok-body.ensures.calls in
+    let asked = c.in_ok-request.ensures by served in
+    let named : IsNamed asked.0.context = record { well = asked.2.named; untyped = question_untyped (is_answered by.functions) tree asked.0 ((c.calls_are_found.ensures by).bodies c.args.text.now tree (self.depth, read.0)) asked.1 } in
+    let first = c.in_ok-first.ensures by (world_of self) asked.0 (record {
+      setting = record { functions = served.functions; depth_is = refl };
+      slots = c.set-policies.ensures.slots;
+      names = c.set-policies.ensures.names;
+      policies = sym c.set-policies.ensures.policies;
+      shows = c.store-entities.ensures.shows;
+      closed = c.store-entities.ensures.closed;
+      whole = c.store-entities.ensures.whole;
+      built = c.store-entities.ensures.built;
+    }) asked.2.is_request named in
+    (asked.0, tree, (self.depth, read.0), asked.1, first.found)
+
 pub invariant_of-self-2 : goal.invariant_of-self-2
 invariant_of-self-2 g c =
     let self = c.args.self.now in

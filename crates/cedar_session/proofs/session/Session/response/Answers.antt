@@ -14,6 +14,7 @@ returns-in-Some-clause-response g c =
       asked = asked_of c.in-Some.asked;
       is_open = ap (option_map asked_of) c.in-Some.is;
       responds = ∥∥₁_map (subst (λ o. ∥ KeepsOpen (setting_of self) self.policies self.entities o ∥₁) c.in-Some.is self.steady) (λ kept. kept.keeps.response);
+      says = ∥∥₁_map (subst (λ o. ∥ KeepsOpen (setting_of self) self.policies self.entities o ∥₁) c.in-Some.is self.steady) (λ kept. kept.keeps.waits);
     }
 
 pub returns-in-Some-clause-first : goal.returns-in-Some-clause-first
