@@ -155,7 +155,7 @@ fn renamed<E: Display + Drop>(alloc: Global, renaming: Result<Renaming, E>) -> A
         Err(error) => return refused(alloc, error),
     };
     let mut text = String::new(alloc);
-    for (old, new) in &renaming {
+    for (old, new) in renaming.iter() {
         write!(text, "{old} to {new};")?;
     }
     Ok(text)

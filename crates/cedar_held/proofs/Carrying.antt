@@ -2,24 +2,11 @@
 use Rattle.std.proofs.Common.{◌≡◌, ◌∙◌, refl, ap, sym, Bool, true, false, ◌||◌, Option, Some, None, option_map, List, [], ◌∷◌, ◌++◌, append_assoc}
 use Rattle.std.proofs.lemmas.List.{append-nil}
 use Rattle.cedar_world.specs.Bodies.{read_with}
+pub use Rattle.cedar_lemmas.proofs.Booleans.{or_first as or_left, or_second as or_right}
+pub use Rattle.std.proofs.lemmas.Bool.{or_from as or_false, or_right as or_true}
 
 abbrev pub after : {A : Type 0} → List A → Option (List A) → Option (List A)
 after done rest = option_map (λ xs. done ++ xs) rest
-
-pub or_left : (a b : Bool) → (a || b) ≡ false → a ≡ false
-or_left false b h = refl
-or_left true b h = h
-
-pub or_right : (a b : Bool) → (a || b) ≡ false → b ≡ false
-or_right false b h = h
-or_right true b h = cc
-
-pub or_false : (a b : Bool) → a ≡ false → b ≡ false → (a || b) ≡ false
-or_false a b h k = rw (h, k) refl
-
-pub or_true : (a b : Bool) → b ≡ true → (a || b) ≡ true
-or_true true b h = refl
-or_true false b h = h
 
 pub false_back : (a b : Bool) → (a ≡ true → b ≡ true) → b ≡ false → a ≡ false
 false_back true b h k = let both : b ≡ true = h refl in cc

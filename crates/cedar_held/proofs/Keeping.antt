@@ -17,6 +17,7 @@ use Rattle.cedar_store.proofs.Wholes.{of_all}
 use Rattle.cedar_store.specs.Merged.{renamed_entry, is_more, joining, joined}
 use Rattle.cedar_store.specs.Renaming.{NewIds, renamed}
 use Rattle.cedar_held.specs.HoldingPolicies.{IsHeld}
+use Rattle.cedar_lemmas.proofs.Booleans.{and_both as both}
 
 -- the condition of a policy names no unknown
 abbrev names_none : PolicySyntax → Bool
@@ -87,10 +88,6 @@ held_without es id distinct held = held_from (without id es) (λ k e h. fine_at 
 fine_text : (s : PolicySyntax) → names_none s ≡ true → (c : Bool) → is_template s ≡ c → IsFine (cond c (template s) (static_policy s))
 fine_text s none true slots = (slots, none)
 fine_text s none false slots = (slots, none)
-
-both : (a b : Bool) → (a && b) ≡ true → (a ≡ true) × (b ≡ true)
-both true b h = (refl, h)
-both false b h = absurd (true≢false (sym h))
 
 fine_texts : (i : ℕ) (ss : List PolicySyntax) → list_all names_none ss ≡ true → AllByRecursion (λ e. IsFine e.1) (text_entries i ss)
 fine_texts i [] h = tt

@@ -24,13 +24,11 @@ use Rattle.cedar_held.specs.Listing.{all_named, ShowVersions, AreVersions, AreMa
 use Rattle.cedar_held.proofs.Built.{built_append}
 use Rattle.cedar_held.proofs.Carrying.{or_true, false_back, Carries, at_first, next_value, next_open, all_fine, all_unknowns, all_given}
 use Rattle.cedar_held.proofs.Parts.{bodies_fine, restricted_rises, calls_rise, heights_rise}
+use Rattle.std.proofs.lemmas.Bool.{or_left as or_first}
 
 -- what is made so far shows these versions
 abbrev pub Shown : List EntityData → List Version → Type 0
 Shown made vs = made ≡ as_entities vs
-
-or_first : (a b : Bool) → a ≡ true → (a || b) ≡ true
-or_first a b h = ap (λ x. x || b) h
 
 -- the bodies that are left at an index
 pub left_at : (bs : List code.EntityBody) (i : ℕ) (b : code.EntityBody) → i < length bs → b ≡ get_or bs i b → map written_of (drop i bs) ≡ written_of b ∷ map written_of (drop (i + 1) bs)

@@ -9,6 +9,7 @@ use Rattle.std.specs.Ordering.{eq_by_cmp}
 use Rattle.std.specs.Set.{is_member}
 use Rattle.std.proofs.lemmas.List.{append_assoc, append-nil, map-append}
 use Rattle.std.proofs.lemmas.Map.Made.{is_some-lookup}
+use Rattle.std.proofs.lemmas.Bool.{or_right}
 use Rattle.cedar_language.specs.Uid.{Text}
 use Rattle.cedar_language.specs.Order.{same_text, text_cmp}
 use Rattle.cedar_language.specs.OrderLaws.{text_cmp_total, text_cmp_same}
@@ -20,7 +21,7 @@ use Rattle.cedar_policy_set.specs.Entries.{Entry, static_policy, template, link,
 use Rattle.cedar_policy_set.specs.EntryNodes.{same_entry, entries_decide}
 use Rattle.cedar_held.specs.PolicyWorlds.{world_bound, policies_in}
 use Rattle.cedar_policy_set.proofs.Distinct.{distinct_apart}
-use Rattle.cedar_policy_set.proofs.Finding.{id_apart, same_id, id_itself, none_from, or_right, found_first}
+use Rattle.cedar_policy_set.proofs.Finding.{id_apart, same_id, id_itself, none_from, found_first}
 use Rattle.cedar_held.proofs.PolicyWorlds.{ties_are, finds_as_worlds, binds_as_worlds}
 use Rattle.cedar_store.specs.Renaming as merging
 use Rattle.cedar_store.specs.Renaming.{NewIds, conflicts, conflicting, Numbers, new_id, renamed}
@@ -33,10 +34,7 @@ use Rattle.cedar_store.proofs.Numbers.{numbered_injective}
 use Rattle.cedar_store.proofs.RenamingLaws.{numbers_keys}
 use Rattle.cedar_held.proofs.TextEntries.{number_in_text, text_has_number, text_bound, text_renamed, text_is_whole}
 use Rattle.cedar_store.proofs.Wholes.{all_of, whole_joined}
-
-or_false : (a b : Bool) → (a || b) ≡ false → a ≡ false
-or_false true b h = h
-or_false false b h = refl
+use Rattle.cedar_lemmas.proofs.Booleans.{or_first as or_false}
 
 not_later : (mine : Entries) (i j : ℕ) (ss : List PolicySyntax) → i < j → j + length ss ≤ 2 ^ 64 → is_member same_text (conflicting mine (text_entries j ss)) (numbered i) ≡ false
 not_later mine i j ss under small =

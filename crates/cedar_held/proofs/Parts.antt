@@ -14,6 +14,7 @@ use Rattle.cedar_held.specs.Entities.{written_fields, written_body, written_bodi
 use Rattle.cedar_held.specs.Fields.{unrestricted, deeper}
 use Rattle.cedar_held.specs.Making.{some_in}
 use Rattle.cedar_held.proofs.Carrying.{or_left, or_right, or_false}
+use Rattle.cedar_lemmas.proofs.Booleans.{and_first as and_left, and_second as and_right, not_is_false as not_false}
 
 abbrev some_tree : (Tree → Bool) → Trees → Bool
 some_tree test no_trees = false
@@ -107,18 +108,6 @@ module _ (test : Tree → Bool) where
     bodies_fine t ws h e = cc
 
 -- ---- the tests
-
-and_left : (a b : Bool) → (a && b) ≡ true → a ≡ true
-and_left true b h = refl
-and_left false b h = h
-
-and_right : (a b : Bool) → (a && b) ≡ true → b ≡ true
-and_right true b h = h
-and_right false b h = cc
-
-not_false : (b : Bool) → not b ≡ false → b ≡ true
-not_false true h = refl
-not_false false h = cc
 
 all_restricted : (ts : Trees) → are_restricted ts ≡ true → some_tree unrestricted ts ≡ false
 all_restricted no_trees h = refl

@@ -23,33 +23,8 @@ use Rattle.cedar_world.specs.Values.{fails, holds_open}
 use Rattle.cedar_extensions.specs.Table.{Table, HasFunctions}
 use Rattle.cedar_restricted_evaluation.specs.Evaluations.{nothing_told, one_text, name_called, named_or, answer_in, answers_in}
 use Rattle.cedar_held.specs.Reading.{HasUnknown, IsRead, TreesAreRead}
-
-or_true : (a : Bool) → (a || true) ≡ true
-or_true true = refl
-or_true false = refl
-
-or_false : (a b : Bool) → a ≡ false → b ≡ false → (a || b) ≡ false
-or_false a b h k = rw (h, k) refl
-
-and_false : (a : Bool) → (a && false) ≡ false
-and_false true = refl
-and_false false = refl
-
-and_left : (a b : Bool) → (a && b) ≡ true → a ≡ true
-and_left true b h = refl
-and_left false b h = h
-
-and_right : (a b : Bool) → (a && b) ≡ true → b ≡ true
-and_right true b h = h
-and_right false b h = cc
-
-or_left : (a b : Bool) → (a || b) ≡ false → a ≡ false
-or_left false b h = refl
-or_left true b h = h
-
-or_right : (a b : Bool) → (a || b) ≡ false → b ≡ false
-or_right false b h = h
-or_right true b h = cc
+use Rattle.cedar_lemmas.proofs.Booleans.{or_true, and_nothing as and_false, and_first as and_left, and_second as and_right, or_first as or_left, or_second as or_right}
+use Rattle.std.proofs.lemmas.Bool.{or_from as or_false}
 
 abbrev any_name : Text → Bool
 any_name n = true

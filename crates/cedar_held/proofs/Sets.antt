@@ -6,6 +6,7 @@ use Rattle.cedar_language.specs.Order.{same_uid}
 use Rattle.cedar_literals.specs.Laws.{same_uid_equiv}
 use Rattle.cedar_entities.proofs.UidLemmas.{reordered}
 use Rattle.cedar_held.specs.Making.{set_listed}
+use Rattle.cedar_lemmas.proofs.Booleans.{or_nothing as or_none}
 
 -- what is in the set, or still to be put there, is all
 abbrev pub ArePutInto : List Uid → List Uid → List Uid → Type 0
@@ -25,10 +26,6 @@ put_next all made next xs i x k lt is copy put h q =
     ∙ moved (list_any (same_uid q) made) (same_uid q x) (list_any (same_uid q) (drop (i + 1) xs))
     ∙ ap (λ b. cond b true (list_any (same_uid q) made) || list_any (same_uid q) (drop (i + 1) xs)) (ap (same_uid q) (sym copy) ∙ same_uid_equiv.symm q k)
     ∙ ap (λ b. b || list_any (same_uid q) (drop (i + 1) xs)) (sym (put q))
-
-or_none : (b : Bool) → (b || false) ≡ b
-or_none true = refl
-or_none false = refl
 
 pub all_put : (all made rest : List Uid) → ArePutInto all made rest → rest ≡ [] → set_listed made ≡ set_listed all
 all_put all made rest h none = reordered all made (λ q. sym (h q ∙ ap (λ l. list_any (same_uid q) made || list_any (same_uid q) l) none ∙ or_none (list_any (same_uid q) made)))

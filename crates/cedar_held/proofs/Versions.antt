@@ -27,6 +27,7 @@ use Rattle.cedar_held.specs.Fields.{deeper, Serves, as_entries, err, hold_unknow
 use Rattle.cedar_held.specs.Making.{set_listed, some_in, IsMade}
 use Rattle.cedar_held.proofs.Built.{got_built}
 use Rattle.cedar_held.proofs.Carrying.{or_left, or_right, or_true, or_false}
+use Rattle.std.proofs.lemmas.Bool.{or_left as or_first}
 
 -- ---- values as attributes
 
@@ -42,9 +43,6 @@ as_map : (es : List (Text × Value)) → finite.from_entries {R = text_cmp} (as_
 as_map es = finite.same_map text_cmp_total text_cmp_same _ _ (λ q.
     finite.get-from_entries text_cmp_total (as_entries es) q ∙ found_left q es ∙ ap (option_map Left) (sym (finite.get-from_entries text_cmp_total es q))
     ∙ sym (attribute_at (finite.from_entries es) q))
-
-or_first : (a b : Bool) → a ≡ true → (a || b) ≡ true
-or_first a b h = ap (λ x. x || b) h
 
 -- ---- a body
 

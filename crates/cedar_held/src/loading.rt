@@ -42,7 +42,7 @@ fn new_ids(
     policies: &PolicySet,
     renaming: &Renaming,
 ) -> Result<Vec<PolicyID>, AllocError>
-    ensures { IfOk result (λ ids. ids.items ≡ map (new_id renaming.now.entries) (keys_of policies.now)) }
+    ensures { IfOk result (λ ids. ids.items ≡ map (new_id renaming.now) (keys_of policies.now)) }
 {
     let mut ids = Vec::new(alloc);
     for bound in policies.values() {

@@ -18,10 +18,7 @@ use Rattle.cedar_restricted.specs.declared.restricted.RestrictedExpr.{Restricted
 use Rattle.cedar_parser.specs.declared.restricted.RestrictedExpressionParseError.{RestrictedExpressionParseError}
 use Rattle.cedar_parser.specs.declared.restricted.RestrictedExpressionParseError.TheVariants as parse
 use Rattle.cedar_parser.specs.Strict.{IsRefused, IsUnread, ReadsRestricted, TellsOffence, Keeps}
-
-not_true : (b : Bool) → (b ≡ true → ⊥) → b ≡ false
-not_true true h = absurd (h refl)
-not_true false h = refl
+use Rattle.std.proofs.lemmas.Bool.{false_from_ne_true as not_true}
 
 none_is_some : {A : Type 0} {x : A} (o : Option A) → o ≡ Some x → o ≡ None → ⊥
 none_is_some o some none = cc (sym some ∙ none)

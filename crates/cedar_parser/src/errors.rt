@@ -1,10 +1,11 @@
 // Errors of a text.
-ghost use Rattle.std.specs.Prelude.{◌≡◌, []};
+ghost use Rattle.std.specs.Prelude.{◌≡◌, [], IfOk};
+ghost use Rattle.cedar_parser.specs.ErrorsLeft.{errors_of};
 
 use cedar_faults::ToASTError;
 use cedar_loose::ToCSTError;
 use cedar_trees::unknowns::NonEmpty;
-use std::alloc::Global;
+use std::alloc::{AllocError, Global};
 use std::error::Error;
 use std::fmt;
 use thiserror::Error;
@@ -26,6 +27,19 @@ pub enum ParseError {
     Memory,
 }
 
+impl Clone for ParseError {
+    ghost is_clone = { λ error copy. copy ≡ error };
+
+    fn clone(&self) -> Result<ParseError, AllocError> {
+        Ok(match self {
+            ParseError::ToCST(error) => ParseError::ToCST(error.clone()?),
+            ParseError::ToAST(error) => ParseError::ToAST(error.clone()?),
+            ParseError::Depth => ParseError::Depth,
+            ParseError::Memory => ParseError::Memory,
+        })
+    }
+}
+
 /// Errors of one text: at least one.
 #[derive(Debug, PartialEq, Eq, Drop)]
 pub struct ParseErrors(pub NonEmpty<ParseError>);
@@ -40,6 +54,16 @@ impl ParseErrors {
             head: error,
             tail: Vec::new(alloc),
         })
+    }
+
+    /// A copy, which shares the kinds of faults; refused for memory alone.
+    pub fn clone(&self, alloc: Global) -> Result<ParseErrors, AllocError>
+        ensures { IfOk result (λ copy. errors_of copy ≡ errors_of self.now) }
+    {
+        Ok(ParseErrors(NonEmpty {
+            head: self.0.head.clone()?,
+            tail: Vec::from_clones(alloc, &self.0.tail)?,
+        }))
     }
 }
 

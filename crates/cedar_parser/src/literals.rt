@@ -1,8 +1,9 @@
 // Literals.
-ghost use Rattle.std.specs.Prelude.{◌≡◌, IfErr};
+ghost use Rattle.std.specs.Prelude.{◌≡◌, IfErr, IfOk};
 ghost use Rattle.cedar_grammar.specs.LooseReading.{read_primary};
 ghost use Rattle.cedar_cst.specs.View.{shown_primary};
 ghost use Rattle.cedar_trees.specs.Bare.{bare};
+ghost use Rattle.cedar_parser.specs.Errors.{TellsSameOfLiteral};
 ghost use Rattle.cedar_parser.specs.Faults.{TellOnly, LiteralTellsOnly, strict_operand_shows, text_shows};
 ghost use Rattle.cedar_parser.specs.Literals.{free_operand, ReadsLiteral, TakesLiteral, WritesLiteral};
 ghost use Rattle.cedar_parser.specs.Strict.{Writes};
@@ -20,7 +21,7 @@ use cedar_grammar::{at_most_one_meaning, converting_is_the_grammar, wider_limits
 use cedar_literals::literals::Literal;
 use cedar_shapes::shapes::ExprShape;
 use cedar_trees::expr::{Expr, ExprKind};
-use std::alloc::Global;
+use std::alloc::{AllocError, Global};
 use thiserror::Error;
 
 /// Why a text isn't read as a literal. `==` compares expressions by their shapes, and not by places.
@@ -32,6 +33,20 @@ pub enum LiteralParseError {
     /// It is one, but no literal.
     #[error("invalid literal: `{0}`")]
     InvalidLiteral(Expr),
+}
+
+impl LiteralParseError {
+    /// A copy that shares the parts; refused for memory alone.
+    pub fn clone(&self, alloc: Global) -> Result<LiteralParseError, AllocError>
+        ensures { IfOk result (TellsSameOfLiteral self.now) }
+    {
+        match self {
+            LiteralParseError::Parse(errors) => Ok(LiteralParseError::Parse(errors.clone(alloc)?)),
+            LiteralParseError::InvalidLiteral(expr) => {
+                Ok(LiteralParseError::InvalidLiteral(expr.clone(alloc)?))
+            }
+        }
+    }
 }
 
 impl PartialEq for LiteralParseError {

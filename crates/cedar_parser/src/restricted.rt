@@ -4,6 +4,7 @@ ghost use Rattle.cedar_restricted.specs.Views.{restricted_tree};
 ghost use Rattle.cedar_trees.specs.Bare.{bare};
 ghost use Rattle.cedar_grammar.specs.UnknownCalls.{holds_call};
 ghost use Rattle.cedar_grammar.specs.LooseReading.{read_expr};
+ghost use Rattle.cedar_parser.specs.Errors.{TellsSame};
 ghost use Rattle.cedar_parser.specs.Faults.{RestrictedTellsOnly, strict_shows, text_shows};
 ghost use Rattle.cedar_parser.specs.Strict.{LacksUnknown, Keeps, ReadsRestricted, TellsOffence};
 
@@ -15,7 +16,7 @@ use cedar_restricted::errors::RestrictedExpressionError;
 use cedar_restricted::restricted::RestrictedExpr;
 use cedar_restricted::restricted_laws::offences_are_what_is_not_restricted;
 use cedar_trees::expr::Expr;
-use std::alloc::Global;
+use std::alloc::{AllocError, Global};
 use thiserror::Error;
 
 /// Why a text isn't read as a restricted expression.
@@ -27,6 +28,22 @@ pub enum RestrictedExpressionParseError {
     /// It is an expression, but not restricted; or memory ran out.
     #[error(transparent)]
     InvalidRestrictedExpression(RestrictedExpressionError),
+}
+
+impl RestrictedExpressionParseError {
+    /// A copy that shares the parts; refused for memory alone.
+    pub fn clone(&self, alloc: Global) -> Result<RestrictedExpressionParseError, AllocError>
+        ensures { IfOk result (TellsSame self.now) }
+    {
+        match self {
+            RestrictedExpressionParseError::Parse(errors) => {
+                Ok(RestrictedExpressionParseError::Parse(errors.clone(alloc)?))
+            }
+            RestrictedExpressionParseError::InvalidRestrictedExpression(error) => {
+                Ok(RestrictedExpressionParseError::InvalidRestrictedExpression(error.clone(alloc)?))
+            }
+        }
+    }
 }
 
 impl From<ParseErrors> for RestrictedExpressionParseError {

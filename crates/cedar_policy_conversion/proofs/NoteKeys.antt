@@ -1,9 +1,10 @@
 -- The keys of annotations, and those that stand among others.
-use Rattle.std.proofs.Common.{◌≡◌, ◌⊎◌, inl, inr, ℕ, zero, suc, ◌+◌, ◌<◌, arith, Bool, true, false, List, [], ◌∷◌, ◌++◌, map, take, length, get_or, Some, refl, sym, ap, ◌∙◌, subst}
-use Rattle.std.specs.Prelude.{◌||◌, cond}
+use Rattle.std.proofs.Common.{◌≡◌, ◌⊎◌, inl, inr, ℕ, zero, suc, ◌+◌, ◌<◌, arith, Bool, true, false, List, [], ◌∷◌, ◌++◌, map, take, length, get_or, Some, sym, ap, ◌∙◌, subst}
+use Rattle.std.specs.Prelude.{cond}
 use Rattle.std.proofs.lemmas.List.{map-append}
 use Rattle.std.specs.Cmp.Lexicographic.{bytes_decides, slice_cmp}
 use Rattle.std.specs.Ordering.{nat_cmp, is_lt}
+use Rattle.std.proofs.lemmas.Bool.{or_cases, or_left, or_right}
 use Rattle.cedar_language.specs.Uid.{Text}
 use Rattle.cedar_grammar.specs.Names.{is_text, is_among}
 use Rattle.cedar_grammar.specs.Build.{Keyed, keys, put}
@@ -15,27 +16,15 @@ use Rattle.cedar_policy_conversion.specs.PartsShow.{annotation_key, HasKey, HasK
 
 -- ---- keys among others
 
-or_either : (a b : Bool) → (a || b) ≡ true → (a ≡ true) ⊎ (b ≡ true)
-or_either true b h = inl refl
-or_either false b h = inr h
-
 among_tail : (j k : Text) (ks : List Text) → is_among j (k ∷ ks) ≡ true → (j ≡ k) ⊎ (is_among j ks ≡ true)
-among_tail j k ks h = by (or_either (is_text j k) (is_among j ks) h)
+among_tail j k ks h = by (or_cases (is_text j k) (is_among j ks) h)
   where
     by : (is_text j k ≡ true) ⊎ (is_among j ks ≡ true) → (j ≡ k) ⊎ (is_among j ks ≡ true)
     by (inl e) = inl ((bytes_decides j k).0 e)
     by (inr e) = inr e
 
-or_right : (a b : Bool) → b ≡ true → (a || b) ≡ true
-or_right true b h = refl
-or_right false b h = h
-
 among_later : (j k : Text) (ks : List Text) → is_among j ks ≡ true → is_among j (k ∷ ks) ≡ true
 among_later j k ks h = or_right (is_text j k) (is_among j ks) h
-
-or_left : (a b : Bool) → a ≡ true → (a || b) ≡ true
-or_left true b h = refl
-or_left false b h = cc
 
 -- the keys behind one that is put in are this one and those before
 pub among_put : {A : Type 0} (j : Text) (e : Keyed A) (es : List (Keyed A)) → is_among j (keys (put e es)) ≡ true → (j ≡ e.0) ⊎ (is_among j (keys es) ≡ true)
@@ -52,7 +41,7 @@ among_put j e (f ∷ fs) h = by (among_put j e fs) (is_lt (slice_cmp nat_cmp e.0
 
     by : (is_among j (keys (put e fs)) ≡ true → (j ≡ e.0) ⊎ (is_among j (keys fs) ≡ true)) → (b : Bool) → is_among j (keys (cond b (e ∷ f ∷ fs) (f ∷ put e fs))) ≡ true → (j ≡ e.0) ⊎ (is_among j (keys (f ∷ fs)) ≡ true)
     by more true is = among_tail j e.0 (keys (f ∷ fs)) is
-    by more false is = behind more (or_either (is_text j f.0) (is_among j (keys (put e fs))) is)
+    by more false is = behind more (or_cases (is_text j f.0) (is_among j (keys (put e fs))) is)
 
 -- ---- keys of annotations
 

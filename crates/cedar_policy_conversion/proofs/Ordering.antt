@@ -20,6 +20,7 @@ use Rattle.cedar_conversion.proofs.Ordering.{given, ordered_put}
 use Rattle.cedar_policy_conversion.specs.Notes.{put_new, placed_note, placed_notes}
 use Rattle.cedar_policy_conversion.proofs.Joining.{each_last}
 use Rattle.cedar_policy_conversion.proofs.NoteKeys.{among_put}
+use Rattle.cedar_lemmas.proofs.Booleans.{or_first as or_false_left, or_second as or_false_right}
 
 -- ---- a map's own insertion and look-up
 
@@ -30,14 +31,6 @@ put_at : {A : Type 0} (o : Ordering) (x y z : A) → is_eq o ≡ false → match
 put_at Less x y z h = refl
 put_at Equal x y z h = cc
 put_at Greater x y z h = refl
-
-or_false_left : (a b : Bool) → (a || b) ≡ false → a ≡ false
-or_false_left false b h = refl
-or_false_left true b h = h
-
-or_false_right : (a b : Bool) → (a || b) ≡ false → b ≡ false
-or_false_right false b h = h
-or_false_right true b h = cc
 
 insert_is_put : {A : Type 0} (k : Text) (t : A) (es : List (Keyed A)) → is_among k (keys es) ≡ false → insert_entry order es k t ≡ put (k, t) es
 insert_is_put k t [] h = refl

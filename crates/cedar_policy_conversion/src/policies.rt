@@ -45,8 +45,8 @@ fn as_static(
     }
 }
 
-/// A static policy under an id; a fault where its scope or a clause has a slot. (Cedar language reference,
-/// "Policies".)
+/// A static policy under an id. (Cedar language reference, "Policies".) Refused with the faults of the policy,
+/// in order, where it means nothing, for the first slot of its scope and its clauses, or for memory.
 pub fn to_policy(
     alloc: Global,
     node: &Node<Option<cst::Policy>>,
@@ -61,8 +61,8 @@ pub fn to_policy(
     as_static(alloc, node.loc(), template)
 }
 
-/// A template under an id; a fault where neither its scope nor a clause has a slot. (Cedar language reference,
-/// "Policy templates".)
+/// A template under an id. (Cedar language reference, "Policy templates".) Refused with the faults of the
+/// policy, in order, where it means nothing, where neither its scope nor a clause has a slot, or for memory.
 pub fn to_policy_template(
     alloc: Global,
     node: &Node<Option<cst::Policy>>,
@@ -99,7 +99,8 @@ fn sorted(template: Template) -> Either<StaticPolicy, Template>
 }
 
 /// A static policy under an id where it has no slot, and a template where it has one. (Cedar language
-/// reference, "Policies" and "Policy templates".)
+/// reference, "Policies" and "Policy templates".) Refused with the faults of the policy, in order, where it
+/// means nothing, or for memory.
 pub fn to_policy_or_template(
     alloc: Global,
     node: &Node<Option<cst::Policy>>,

@@ -6,6 +6,7 @@ use Rattle.std.specs.Map.{keys_of}
 use Rattle.std.proofs.lemmas.List.{append_assoc, map-append}
 use Rattle.std.proofs.lemmas.List.Folds.{list_any-append}
 use Rattle.std.proofs.lemmas.Map.Made.{is_some-lookup}
+use Rattle.std.proofs.lemmas.Bool.{not-false, not-true}
 use Rattle.cedar_language.specs.Uid.{Text}
 use Rattle.cedar_language.specs.Order.{same_text}
 use Rattle.cedar_grammar.specs.Policy.{Policy, scope_slots}
@@ -104,27 +105,19 @@ whole_added es id (static_policy s) whole free full = whole_push es id (static_p
 whole_added es id (template s) whole free full = whole_push es id (template s) (free_from es id free) whole tt tt
 whole_added es id (link t s b) whole free full = link_added es id t s b whole free full
 
-not_false : (a : Bool) → not a ≡ false → a ≡ true
-not_false true h = refl
-not_false false h = absurd (true≢false h)
-
-not_true : (a : Bool) → not a ≡ true → a ≡ false
-not_true true h = absurd (true≢false (sym h))
-not_true false h = refl
-
 -- without a template that is new, one entry comes last
 pub added_alone : (es : Entries) (id : Text) (e : Entry) → lacks_template es e ≡ false → added es id e ≡ es ++ (id, e) ∷ []
 added_alone es id (static_policy s) h = refl
 added_alone es id (template s) h = refl
-added_alone es id (link t s b) h = ap (λ c. cond c es (es ++ (t, template s) ∷ []) ++ (id, link t s b) ∷ []) (not_false (is_bound es t) h)
+added_alone es id (link t s b) h = ap (λ c. cond c es (es ++ (t, template s) ∷ []) ++ (id, link t s b) ∷ []) (not-false (is_bound es t) h)
 
 -- and with one the two come last
 pub added_both : (es : Entries) (id t : Text) (s : Policy) (b : Bindings) → lacks_template es (link t s b) ≡ true → added es id (link t s b) ≡ es ++ (t, template s) ∷ (id, link t s b) ∷ []
 added_both es id t s b h =
-    ap (λ c. cond c es (es ++ (t, template s) ∷ []) ++ (id, link t s b) ∷ []) (not_true (is_bound es t) h) ∙ append_assoc es ((t, template s) ∷ []) ((id, link t s b) ∷ [])
+    ap (λ c. cond c es (es ++ (t, template s) ∷ []) ++ (id, link t s b) ∷ []) (not-true (is_bound es t) h) ∙ append_assoc es ((t, template s) ∷ []) ((id, link t s b) ∷ [])
 
 pub lacks_is_none : (es : Entries) (t : Text) (s : Policy) (b : Bindings) → lacks_template es (link t s b) ≡ true → bound_at es t ≡ None
-lacks_is_none es t s b h = none_from (bound_at es t) (not_true (is_bound es t) h)
+lacks_is_none es t s b h = none_from (bound_at es t) (not-true (is_bound es t) h)
 
 -- the same of a policy
 pub differs_from : (es : Entries) (id : Text) (o : Option Text) (t : Text) (s : Policy) (b : Bindings) → in_the_way es id (entry_by o t s b) ≡ None → lacks_template es (entry_by o t s b) ≡ true → same_text id t ≡ false

@@ -1,5 +1,5 @@
 -- Lists of ids in which no two are equal.
-use Rattle.std.proofs.Common.{◌≡◌, Bool, true, false, ◌||◌, List, [], ◌∷◌, ◌++◌, refl, ap, ◌∙◌, true≢false}
+use Rattle.std.proofs.Common.{◌≡◌, Bool, true, false, ◌||◌, List, [], ◌∷◌, ◌++◌, refl, ap, ◌∙◌}
 use Rattle.std.specs.List.{IsDistinct, AllByRecursion, list_any}
 use Rattle.std.specs.Set.{is_member}
 use Rattle.std.proofs.lemmas.Map.Keys.{IsDistinct-head, IsDistinct-tail, IsDistinct-cons}
@@ -7,6 +7,7 @@ use Rattle.std.specs.Cmp.Lexicographic.{bytes_decides}
 use Rattle.cedar_language.specs.Uid.{Text}
 use Rattle.cedar_language.specs.Order.{same_text}
 use Rattle.std.specs.Cmp.Lexicographic.{nat_list_eq_equiv as same_text_equiv}
+use Rattle.std.proofs.lemmas.Bool.{or_parts}
 
 all_at : (x y : Text) (xs ys : List Text) → AllByRecursion (λ z. same_text x z ≡ false) (xs ++ y ∷ ys) → same_text x y ≡ false
 all_at x y [] ys h = h.0
@@ -31,14 +32,10 @@ all_from x (y ∷ ys) h = (h y (ap (λ b. b || is_member same_text ys y) ((bytes
     by true m = refl
     by false m = m
 
-either_false : (a b : Bool) → (a || b) ≡ false → (a ≡ false) × (b ≡ false)
-either_false true b h = absurd (true≢false h)
-either_false false b h = (refl, h)
-
 -- two such lists, where no member of the one is a member of the other
 pub distinct_append : (xs ys : List Text) → IsDistinct same_text xs → IsDistinct same_text ys → ((a : Text) → is_member same_text ys a ≡ true → is_member same_text xs a ≡ false) → IsDistinct same_text (xs ++ ys)
 distinct_append [] ys d e free = e
 distinct_append (x ∷ xs) ys d e free =
     IsDistinct-cons same_text x (xs ++ ys)
-    (all_append x xs ys (IsDistinct-head same_text x xs d) (all_from x ys (λ a m. same_text_equiv.symm x a ∙ (either_false (same_text a x) _ (free a m)).0)))
-    (distinct_append xs ys (IsDistinct-tail same_text x xs d) e (λ a m. (either_false (same_text a x) _ (free a m)).1))
+    (all_append x xs ys (IsDistinct-head same_text x xs d) (all_from x ys (λ a m. same_text_equiv.symm x a ∙ (or_parts (same_text a x) _ (free a m)).0)))
+    (distinct_append xs ys (IsDistinct-tail same_text x xs d) e (λ a m. (or_parts (same_text a x) _ (free a m)).1))

@@ -1,8 +1,9 @@
 -- Look-ups by ids in lists of entries.
-use Rattle.std.proofs.Common.{◌≡◌, Bool, true, false, ◌||◌, cond, List, [], ◌∷◌, ◌++◌, map, refl, sym, ap, ◌∙◌, true≢false, Option, None, Some, is_some}
+use Rattle.std.proofs.Common.{◌≡◌, Bool, true, false, cond, List, [], ◌∷◌, ◌++◌, map, refl, sym, ap, ◌∙◌, true≢false, Option, None, Some, is_some}
 use Rattle.std.specs.List.{list_any}
 use Rattle.std.specs.Map.{lookup, remove_entry}
 use Rattle.std.specs.Cmp.Lexicographic.{bytes_decides}
+use Rattle.std.proofs.lemmas.Bool.{or_left, or_right}
 use Rattle.cedar_language.specs.Uid.{Text}
 use Rattle.cedar_language.specs.Order.{same_text}
 
@@ -26,14 +27,6 @@ none_from (Some x) e = absurd (true≢false e)
 -- what is not found is not what is found
 pub some_apart : {A : Type 0} (x : A) (o : Option A) → o ≡ None → o ≡ Some x → ⊥
 some_apart x o n s = true≢false (sym (ap is_some s) ∙ ap is_some n)
-
-pub or_left : (a b : Bool) → a ≡ true → (a || b) ≡ true
-or_left true b h = refl
-or_left false b h = absurd (true≢false (sym h))
-
-pub or_right : (a b : Bool) → b ≡ true → (a || b) ≡ true
-or_right true b h = refl
-or_right false b h = h
 
 module _ {X : Type 0} where
   -- what a list binds stays bound when more comes after it

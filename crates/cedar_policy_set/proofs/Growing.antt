@@ -1,8 +1,9 @@
 -- What is found in an index is found there still when more is listed.
-use Rattle.std.proofs.Common.{◌≡◌, ℕ, nat_eq, Bool, true, false, ◌||◌, cond, List, [], ◌∷◌, ◌++◌, refl, sym, ap, ◌∙◌, true≢false, Result, Ok, Err, OnOk, OnErr}
+use Rattle.std.proofs.Common.{◌≡◌, ℕ, nat_eq, Bool, true, false, cond, List, [], ◌∷◌, ◌++◌, refl, ap, ◌∙◌, Result, Ok, Err, OnOk, OnErr}
 use Rattle.std.specs.Cmp.{nat_eq_equiv}
 use Rattle.std.specs.Cmp.Lexicographic.{nat_list_eq_equiv}
 use Rattle.std.proofs.lemmas.List.Folds.{list_any-append}
+use Rattle.std.proofs.lemmas.Bool.{or_left, or_right}
 use Rattle.cedar_language.specs.Uid.{Uid}
 use Rattle.cedar_language.specs.Order.{same_text}
 use Rattle.cedar_grammar.specs.Policy.{Policy}
@@ -74,14 +75,6 @@ taken_within x y out p b s g closes found = record {
 }
 
 -- ---- one more at the end of a list
-
-or_left : (a b : Bool) → a ≡ true → (a || b) ≡ true
-or_left true b h = refl
-or_left false b h = absurd (true≢false (sym h))
-
-or_right : (a b : Bool) → b ≡ true → (a || b) ≡ true
-or_right true b h = refl
-or_right false b h = h
 
 still_listed : (ps : List ℕ) (q p : ℕ) → is_listed ps p ≡ true → is_listed (ps ++ q ∷ []) p ≡ true
 still_listed ps q p h = list_any-append (nat_eq p) ps (q ∷ []) ∙ or_left (is_listed ps p) _ h

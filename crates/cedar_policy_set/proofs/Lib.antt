@@ -17,3 +17,4 @@ pub mod Telling
 pub mod Uncovering
 pub mod Views
 pub mod Wholes
+pub mod Copies

@@ -3,6 +3,7 @@ use Rattle.std.proofs.Common.{◌≡◌, Bool, true, false, ◌&&◌, refl, sym,
 use Rattle.std.specs.Bool.{Decides}
 use Rattle.std.specs.Cmp.Lexicographic.{bytes_decides}
 use Rattle.std.proofs.lemmas.Bool.Decides.{same_from_decides}
+use Rattle.std.proofs.lemmas.Bool.{and_from, and_parts}
 use Rattle.cedar_language.specs.Uid.{Text}
 use Rattle.cedar_language.specs.Order.{same_text}
 use Rattle.cedar_grammar.specs.Policy.{Policy}
@@ -38,28 +39,17 @@ same_static r s t d = same_from_decides r _ (λ h. ap static_policy (d.0 h), λ 
 pub same_templates : (r : Bool) (s t : Policy) → Decides r (s ≡ t) → r ≡ same_entry (template s) (template t)
 same_templates r s t d = same_from_decides r _ (λ h. ap template (d.0 h), λ e. d.1 (ap (syntax_at s) e)) (entries_decide (template s) (template t))
 
-both : (a b : Bool) → a ≡ true → b ≡ true → (a && b) ≡ true
-both a b h k = rw (h, k) refl
-
-first : (a b : Bool) → (a && b) ≡ true → a ≡ true
-first true b h = refl
-first false b h = h
-
-second : (a b : Bool) → (a && b) ≡ true → b ≡ true
-second true b h = h
-second false b h = absurd (true≢false (sym h))
-
 pub same_links : (r : Bool) (t u : Text) (p q : Policy) (b c : Bindings) → Decides r (p ≡ q)
     → (same_text t u && (r && same_bindings b c)) ≡ same_entry (link t p b) (link u q c)
 same_links r t u p q b c d =
     same_from_decides _ _ (
       λ h.
-          let name : t ≡ u = (bytes_decides t u).0 (first _ _ h) in
-          let syntax : p ≡ q = d.0 (first _ _ (second (same_text t u) _ h)) in
-          let bindings : b ≡ c = (bindings_decide b c).0 (second r _ (second (same_text t u) _ h)) in
+          let name : t ≡ u = (bytes_decides t u).0 ((and_parts _ _ h).0) in
+          let syntax : p ≡ q = d.0 ((and_parts _ _ ((and_parts (same_text t u) _ h).1)).0) in
+          let bindings : b ≡ c = (bindings_decide b c).0 ((and_parts r _ ((and_parts (same_text t u) _ h).1)).1) in
           λ i. link (name i) (syntax i) (bindings i),
       λ e.
-          both _ _ ((bytes_decides t u).1 (ap (λ x. name_at x t) e)) (both _ _ (d.1 (ap (syntax_at p) e)) ((bindings_decide b c).1 (ap (bindings_at b) e))),
+          and_from _ _ ((bytes_decides t u).1 (ap (λ x. name_at x t) e)) (and_from _ _ (d.1 (ap (syntax_at p) e)) ((bindings_decide b c).1 (ap (bindings_at b) e))),
     )
     (entries_decide (link t p b) (link u q c))
 

@@ -58,6 +58,12 @@ ListsSlots (Template t) = listed_slots t.value ≡ grammar.slots (syntax_of t.va
 abbrev pub ListTheirSlots : List Bound → Type 0
 ListTheirSlots bs = AllByRecursion ListsSlots bs
 
+-- a copy: under the same id, of the same entry, and of a template that lists its slots where that one does
+pub record IsCopy (b c : Bound) : Type 0 where
+  pub id : bound_id c ≡ bound_id b
+  pub entry : entry_of c ≡ entry_of b
+  pub listed : ListsSlots b → ListsSlots c
+
 -- each stands under its own id, each template lists its slots, and the set is whole
 pub record IsSound (es : List (Text × Bound)) : Type 0 where
   pub named : IsNamed es

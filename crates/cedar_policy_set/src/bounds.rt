@@ -47,8 +47,21 @@ impl Eq for Bound {
     ghost laws = { same_bound_equiv };
 }
 
+impl Clone for Bound {
+    ghost use Rattle.cedar_policy_set.specs.Bounds.{IsCopy};
+
+    ghost is_clone = { IsCopy };
+
+    fn clone(&self) -> Result<Bound, AllocError> {
+        match self {
+            Bound::Policy(policy) => Ok(Bound::Policy(policy.clone()?)),
+            Bound::Template(template) => Ok(Bound::Template(template.clone()?)),
+        }
+    }
+}
+
 impl Bound {
-    ghost use Rattle.cedar_policy_set.specs.Bounds.{bound_id, entry_of, ListsSlots};
+    ghost use Rattle.cedar_policy_set.specs.Bounds.{bound_id, entry_of, IsCopy, ListsSlots};
 
     /// A static policy or a link, to be bound. Refused for memory alone.
     pub fn from_policy(alloc: Global, policy: Policy) -> Result<Bound, AllocError>
@@ -57,6 +70,13 @@ impl Bound {
         ensures listed { IfOk result ListsSlots }
     {
         Ok(Bound::Policy(Box::new(alloc, policy)?))
+    }
+
+    /// A copy that shares its parts; refused for memory alone.
+    pub fn clone(&self, _alloc: Global) -> Result<Bound, AllocError>
+        ensures { IfOk result (IsCopy self.now) }
+    {
+        Clone::clone(self)
     }
 
     /// The id.

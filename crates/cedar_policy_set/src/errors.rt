@@ -1,13 +1,14 @@
 // Why a policy set refuses an edit or a question.
-ghost use Rattle.std.specs.Prelude.{◌≡◌};
+ghost use Rattle.std.specs.Prelude.{◌≡◌, IfOk};
+ghost use Rattle.cedar_policy_set.specs.Validated.{TellsSame};
 
 use cedar_policies::errors::TemplateValidationError;
 use cedar_policy_parts::PolicyID;
-use std::alloc::{AllocError, AllocFailed};
+use std::alloc::{AllocError, AllocFailed, Global};
 use thiserror::Error;
 
 /// Why a policy isn't added.
-#[derive(Debug, PartialEq, Eq, Drop, Error)]
+#[derive(Debug, PartialEq, Eq, Clone, Drop, Error)]
 pub enum PolicySetError {
     /// The id is bound already, or the template of a link is another one here.
     #[error("duplicate template or policy id `{id}`")]
@@ -21,7 +22,7 @@ pub enum PolicySetError {
 }
 
 /// Why the links of a template aren't listed.
-#[derive(Debug, PartialEq, Eq, Drop, Error)]
+#[derive(Debug, PartialEq, Eq, Clone, Drop, Error)]
 pub enum PolicySetGetLinksError {
     /// The id is bound to no template and to no static policy.
     #[error("no template `{0}`")]
@@ -32,7 +33,7 @@ pub enum PolicySetGetLinksError {
 }
 
 /// Why a link isn't taken away.
-#[derive(Debug, PartialEq, Eq, Drop, Error)]
+#[derive(Debug, PartialEq, Eq, Clone, Drop, Error)]
 pub enum PolicySetUnlinkError {
     /// The id isn't bound.
     #[error("unable to unlink policy id `{0}` because it does not exist")]
@@ -46,7 +47,7 @@ pub enum PolicySetUnlinkError {
 }
 
 /// Why a template isn't taken away.
-#[derive(Debug, PartialEq, Eq, Drop, Error)]
+#[derive(Debug, PartialEq, Eq, Clone, Drop, Error)]
 pub enum PolicySetTemplateRemovalError {
     /// The id isn't bound.
     #[error("unable to remove template id `{0}` from template list because it does not exist")]
@@ -63,7 +64,7 @@ pub enum PolicySetTemplateRemovalError {
 }
 
 /// Why a static policy isn't taken away.
-#[derive(Debug, PartialEq, Eq, Drop, Error)]
+#[derive(Debug, PartialEq, Eq, Clone, Drop, Error)]
 pub enum PolicySetPolicyRemovalError {
     /// The id is bound to no policy.
     #[error("unable to remove static policy id `{0}` from link list because it does not exist")]
@@ -96,6 +97,26 @@ pub enum PolicySetValidationError {
     /// Memory ran out.
     #[error(transparent)]
     Memory(AllocError),
+}
+
+impl PolicySetValidationError {
+    /// A copy that shares ids, uids and names; refused for memory alone.
+    pub fn clone(&self, alloc: Global) -> Result<PolicySetValidationError, AllocError>
+        ensures { IfOk result (TellsSame self.now) }
+    {
+        Ok(match self {
+            PolicySetValidationError::InvalidTemplate { id, error } => {
+                PolicySetValidationError::InvalidTemplate {
+                    id: id.clone()?,
+                    error: error.clone(alloc)?,
+                }
+            }
+            PolicySetValidationError::LinkToSlotlessTemplate { id } => {
+                PolicySetValidationError::LinkToSlotlessTemplate { id: id.clone()? }
+            }
+            PolicySetValidationError::Memory(error) => PolicySetValidationError::Memory(*error),
+        })
+    }
 }
 
 impl From<AllocError> for PolicySetError {

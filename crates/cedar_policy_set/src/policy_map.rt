@@ -53,7 +53,22 @@ impl<V: fmt::Debug> fmt::Debug for PolicyMap<V> {
     }
 }
 
+/// Each id with a copy of what stands there.
+impl<V: Clone> Clone for PolicyMap<V> {
+    ghost use Rattle.std.specs.List.{AllZip};
+
+    ghost is_clone = { λ map copy. AllZip (λ e f. (f.0 ≡ e.0) × V.is_clone e.1 f.1) map copy };
+
+    fn clone(&self) -> Result<PolicyMap<V>, AllocError> {
+        let entries = self.entries.clone()?;
+        let places = places_like(*entries.allocator(), &self.places, &entries)?;
+        Ok(PolicyMap { places, entries })
+    }
+}
+
 impl<V> PolicyMap<V> {
+    ghost use Rattle.std.specs.List.{AllZip};
+
     /// The map of nothing; takes no memory.
     pub fn new(alloc: Global) -> PolicyMap<V>
         ensures { result ≡ [] }
@@ -64,7 +79,16 @@ impl<V> PolicyMap<V> {
         }
     }
 
-    /// The allocator that it takes memory from.
+    /// A copy, which holds a copy of what stands under each id; refused for memory alone.
+    pub fn clone(&self, _alloc: Global) -> Result<PolicyMap<V>, AllocError>
+    where
+        V: Clone,
+        ensures { IfOk result (AllZip (λ e f. (f.0 ≡ e.0) × V.is_clone e.1 f.1) self.now) }
+    {
+        Clone::clone(self)
+    }
+
+    /// The allocator that it takes memory from, which is the only one there is: no contract tells it.
     pub fn allocator(&self) -> &Global {
         self.entries.allocator()
     }
@@ -330,6 +354,22 @@ fn thin_out<V>(alloc: Global, places: &mut Option<Places>, entries: &[(PolicyID,
     };
     if is_sparse {
         *places = places_of(alloc, entries).ok();
+    }
+}
+
+// The places of these ids, where there are places.
+fn places_like<V>(
+    alloc: Global,
+    places: &Option<Places>,
+    entries: &[(PolicyID, V)],
+) -> Result<Option<Places>, AllocError>
+    requires distinct { IsDistinct same_text (keys_of entries.now) }
+    requires small { length entries.now < 2 ^ 63 }
+    ensures { IfOk result (λ made. AreKept made (keys_of entries.now)) }
+{
+    match places {
+        Some(_) => Ok(Some(places_of(alloc, entries)?)),
+        None => Ok(None),
     }
 }
 

@@ -1,5 +1,5 @@
 // The policy set as one map from ids.
-ghost use Rattle.std.specs.Prelude.{◌≡◌, ◌↔◌, ◌^◌, ◌<◌, ◌≤◌, [], ◌∷◌, ◌++◌, IsTrue, IfSome, OnOk, OnErr, Some, None, true, false, length, option_map};
+ghost use Rattle.std.specs.Prelude.{◌≡◌, ◌↔◌, ◌^◌, ◌<◌, ◌≤◌, [], ◌∷◌, ◌++◌, IsTrue, IfOk, IfSome, OnOk, OnErr, Some, None, true, false, length, option_map};
 ghost use Rattle.std.specs.Map.{values_of};
 ghost use Rattle.std.specs.Option.{option_copied};
 ghost use Rattle.cedar_language.specs.Uid.{Text};
@@ -8,7 +8,7 @@ ghost use Rattle.cedar_grammar.specs.Policy.{Policy as PolicySyntax};
 use crate::bounds::Bound;
 use crate::comparing::bind_alike;
 use crate::map_values::{IntoValues, Values};
-use crate::numbers::Numbers;
+use crate::numbers::{Numbers, numbered_id};
 use crate::policy_map::PolicyMap;
 use crate::scope_index::index::ScopeIndex;
 use crate::scopes::uncover;
@@ -89,7 +89,7 @@ impl Eq for PolicySet {
 impl PolicySet {
     ghost use Rattle.cedar_policy_set.specs.Entries.{bound_at, is_bound, without, HasItsTemplate, IsFull, IsWhole, template, has_links};
     ghost use Rattle.cedar_policy_set.specs.Bounds.{entry_of, bound_id, entries_of, seen, IsNamed, IsSound, ListsSlots, ListTheirSlots};
-    ghost use Rattle.cedar_policy_set.specs.Numbers.{BindsNumbers};
+    ghost use Rattle.cedar_policy_set.specs.Numbers.{BindsNumbers, FindsUnbound};
 
     /// The empty set; takes no memory.
     pub fn new(alloc: Global) -> PolicySet
@@ -117,6 +117,15 @@ impl PolicySet {
         }
     }
 
+    /// A copy that shares policies' parts. The index of scopes is not copied: it is made again where it is asked
+    /// for. Refused for memory alone.
+    pub fn clone(&self, alloc: Global) -> Result<PolicySet, AllocError>
+        ensures { IfOk result (λ copy. copy ≡ self.now) }
+    {
+        let bound = self.bound.clone(alloc)?;
+        Ok(PolicySet::from_raw_components(bound))
+    }
+
     /// What an id is bound to, if it is: a static policy, a link or a template.
     pub fn bound(&self, id: &PolicyID) -> Option<&Bound>
         ensures entry { option_map entry_of (option_copied result) ≡ bound_at self.now id.now }
@@ -132,9 +141,28 @@ impl PolicySet {
         self.bound.contains_key(id)
     }
 
-    /// Where a search for a free id `policyN` may begin that looks at no number below this one: the ids of
-    /// the numbers that it passes over are bound.
-    pub fn skip_bound(&self, from: u64) -> u64
+    /// The first number from this one on whose id `policyN` isn't bound, with that id; none where each from there on
+    /// is bound. Numbers that are known to be bound aren't looked at. Refused for memory alone.
+    pub fn next_unbound(
+        &self,
+        alloc: Global,
+        from: u64,
+    ) -> Result<Option<(u64, PolicyID)>, AllocError>
+        ensures { IfOk result (FindsUnbound self.now from) }
+    {
+        let mut number = self.skip_bound(from);
+        while number < u64::MAX {
+            let id = numbered_id(alloc, number)?;
+            if !self.is_bound(&id) {
+                return Ok(Some((number, id)));
+            }
+            number = self.skip_bound(number + 1);
+        }
+        Ok(None)
+    }
+
+    // Where a search for a free id `policyN` may begin that looks at no number below this one.
+    fn skip_bound(&self, from: u64) -> u64
         ensures from { from ≤ result }
         ensures bound { BindsNumbers self.now from result }
     {

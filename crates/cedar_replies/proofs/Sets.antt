@@ -17,6 +17,7 @@ use Rattle.cedar_language.specs.Uid.{Text}
 use Rattle.cedar_language.specs.Order.{same_text}
 use Rattle.cedar_world.specs.Orders.{text_cmp, text_eq}
 use Rattle.cedar_world.specs.Answer.{ids_of}
+use Rattle.cedar_lemmas.proofs.Booleans.{same_both as agree}
 
 pub text_total : IsTotalOrder text_cmp
 text_total = nat_list_cmp_total
@@ -70,11 +71,6 @@ find_id q (id ∷ ids) = elim (text_eq q id) as (λ b. cond b (Some tt) (find te
 same_ids : (xs ys : List Text) → ((q : Text) → list_any (text_eq q) xs ≡ list_any (text_eq q) ys) → ids_of xs ≡ ids_of ys
 same_ids xs ys same = finite.same_map text_total text_same (ids_of xs) (ids_of ys)
     (λ q. finite.get-from_entries text_total _ q ∙ find_id q xs ∙ ap found (same q) ∙ sym (find_id q ys) ∙ sym (finite.get-from_entries text_total _ q))
-
-agree : (a b : Bool) → (a ≡ true → b ≡ true) → (b ≡ true → a ≡ true) → a ≡ b
-agree true b f g = sym (f refl)
-agree false true f g = g refl
-agree false false f g = refl
 
 tells : (x y : Text) → text_eq x y ≡ true → x ≡ y
 tells x y e = text_same x y (elim (text_cmp x y) as (λ r. is_eq r ≡ true → r ≡ Equal) [ Less ↦ λ h. cc | Equal ↦ λ h. refl | Greater ↦ λ h. cc ] e)

@@ -5,13 +5,14 @@ use Rattle.std.specs.Map.{keys_of, values_of, lookup}
 use Rattle.std.specs.Set.{is_member}
 use Rattle.std.proofs.lemmas.List.{append_assoc, map-append}
 use Rattle.std.proofs.lemmas.Map.Made.{is_some-lookup, IsDistinct-keys_filter}
+use Rattle.std.proofs.lemmas.Bool.{or_left, or_right}
 use Rattle.cedar_language.specs.Uid.{Text}
 use Rattle.cedar_language.specs.Order.{same_text}
 use Rattle.cedar_policy_set.specs.Entries.{Entry, Entries, is_bound}
 use Rattle.cedar_policy_set.specs.declared.bounds.Bound.{Bound}
 use Rattle.cedar_policy_set.specs.Bounds.{entry_of, bound_id, entries_of, IsNamed, ListsSlots, ListTheirSlots}
 use Rattle.cedar_policy_set.proofs.Distinct.{distinct_apart}
-use Rattle.cedar_policy_set.proofs.Finding.{same_id, id_itself, none_from, or_left, or_right}
+use Rattle.cedar_policy_set.proofs.Finding.{same_id, id_itself, none_from}
 use Rattle.cedar_policy_set.proofs.Views.{named_push, listed_push, keys_of_entries, entries_append}
 use Rattle.cedar_store.specs.Renaming.{NewIds, conflicts, conflicting, IsRenaming, new_id, renamed}
 use Rattle.cedar_store.specs.Merged.{renamed_entry, is_more, joining}

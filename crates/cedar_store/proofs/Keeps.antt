@@ -7,27 +7,22 @@ use Rattle.std.specs.Set.{is_member}
 use Rattle.std.specs.Option.{option_map_or}
 use Rattle.std.proofs.lemmas.Map.Made.{is_some-lookup}
 use Rattle.std.proofs.lemmas.Map.Keys.{IsDistinct-head, IsDistinct-tail}
+use Rattle.std.proofs.lemmas.Bool.{or_left, or_right}
 use Rattle.cedar_language.specs.Uid.{Text}
 use Rattle.cedar_language.specs.Order.{same_text}
 use Rattle.cedar_policy_set.specs.Entries.{Entry, static_policy, template, link, Entries, bound_at, is_bound, IsWhole}
 use Rattle.cedar_policy_set.specs.EntryNodes.{same_entry, entries_decide}
-use Rattle.cedar_policy_set.proofs.Finding.{same_id, id_itself, none_from, or_left, or_right, found_first, found_later}
+use Rattle.cedar_policy_set.proofs.Finding.{same_id, id_itself, none_from, found_first, found_later}
 use Rattle.cedar_store.specs.Renaming.{NewIds, conflicts, conflicting, IsRenaming, new_id, renamed}
 use Rattle.cedar_store.specs.Merged.{renamed_entry, is_more, joining, joined, KeepsMine, KeepsTheirs}
 use Rattle.cedar_store.proofs.RenamingLaws.{new_id_apart, numbers_keys}
 use Rattle.cedar_store.proofs.Joins.{member_of_filter, more_are_free}
+pub use Rattle.cedar_lemmas.proofs.Booleans.{not_is_false as not_false}
+pub use Rattle.std.proofs.lemmas.Bool.{or_parts as or_none, false_from_ne_true as false_unless}
 
 -- my policies stay
 pub keeps_mine : (mine theirs : Entries) (renaming : NewIds) → KeepsMine mine (joined mine theirs renaming)
 keeps_mine mine theirs renaming id e h = found_first mine (joining mine renaming theirs) id e h
-
-pub not_false : (a : Bool) → not a ≡ false → a ≡ true
-not_false true h = refl
-not_false false h = absurd (true≢false h)
-
-pub or_none : (a b : Bool) → (a || b) ≡ false → (a ≡ false) × (b ≡ false)
-or_none true b h = absurd (true≢false h)
-or_none false b h = (refl, h)
 
 module _ (mine theirs : Entries) (renaming : NewIds) (is : IsRenaming mine theirs renaming) where
   -- what theirs has more stands under its new id
@@ -61,10 +56,6 @@ module _ (mine theirs : Entries) (renaming : NewIds) (is : IsRenaming mine their
 pub absent_from_all : (k : Text) (ks : List Text) → AllByRecursion (λ y. same_text k y ≡ false) ks → is_member same_text ks k ≡ false
 absent_from_all k [] h = refl
 absent_from_all k (x ∷ xs) h = ap (λ b. b || is_member same_text xs k) h.0 ∙ absent_from_all k xs h.1
-
-pub false_unless : (a : Bool) → (a ≡ true → ⊥) → a ≡ false
-false_unless true h = absurd (h refl)
-false_unless false h = refl
 
 module _ (mine : Entries) where
   -- an entry that does not conflict is not listed

@@ -8,13 +8,14 @@ use Rattle.std.proofs.lemmas.List.{append_assoc, append-nil, length-append, leng
 use Rattle.std.proofs.lemmas.List.Folds.{list_any-append}
 use Rattle.std.proofs.lemmas.Map.Entries.{length-keys_of}
 use Rattle.std.proofs.lemmas.Map.Made.{is_some-lookup, IsDistinct-keys_filter}
+use Rattle.std.proofs.lemmas.Bool.{or_left, or_right}
 use Rattle.cedar_language.specs.Uid.{Text}
 use Rattle.cedar_language.specs.Order.{same_text}
 use Rattle.cedar_grammar.specs.Syntax.{numbered}
 use Rattle.cedar_policy_set.specs.Entries.{Entry, Entries, bound_at, is_bound}
 use Rattle.cedar_policy_set.specs.EntryNodes.{same_entry}
 use Rattle.cedar_policy_set.proofs.Distinct.{distinct_apart}
-use Rattle.cedar_policy_set.proofs.Finding.{same_id, id_itself, none_from, or_left, or_right}
+use Rattle.cedar_policy_set.proofs.Finding.{same_id, id_itself, none_from}
 use Rattle.cedar_store.specs.Renaming.{NewIds, is_taken, conflicts, conflicting, Numbers, IsNextFree}
 use Rattle.cedar_store.specs.Room.{HasRoom}
 

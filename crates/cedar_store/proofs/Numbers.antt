@@ -1,15 +1,17 @@
 -- The ids policy0, policy1, ..: two of them are equal only at equal numbers, and n of them need a list of n.
-use Rattle.std.proofs.Common.{◌≡◌, ℕ, zero, suc, ◌-◌, ◌^◌, ◌<◌, ◌≤◌, Bool, true, false, ◌||◌, List, [], ◌∷◌, length, codes, decimal, refl, sym, subst, true≢false, arith, ltb, ltb-true, ltb-false}
+use Rattle.std.proofs.Common.{◌≡◌, ℕ, zero, suc, ◌+◌, ◌-◌, ◌⊎◌, inl, inr, ◌^◌, ◌<◌, ◌≤◌, Bool, true, false, ◌||◌, List, [], ◌∷◌, length, codes, decimal, refl, sym, subst, true≢false, arith, ltb, ltb-true, ltb-false}
 use Rattle.std.specs.List.{IsDistinct, AllByRecursion}
 use Rattle.std.specs.Set.{is_member}
 use Rattle.std.specs.Cmp.Lexicographic.{nat_list_eq_equiv}
+use Rattle.std.proofs.lemmas.Bool.{cases_lt, or_left, or_right}
 use Rattle.std.proofs.lemmas.Fmt.{decimal_injective}
 use Rattle.std.proofs.lemmas.List.{append_cancel_left}
 use Rattle.std.proofs.lemmas.Map.Made.{length-le_from_is_member}
 use Rattle.cedar_language.specs.Uid.{Text}
 use Rattle.cedar_language.specs.Order.{same_text}
 use Rattle.cedar_grammar.specs.Syntax.{numbered}
-use Rattle.cedar_policy_set.specs.Entries.{Entries}
+use Rattle.cedar_policy_set.specs.Entries.{Entries, is_bound}
+use Rattle.cedar_policy_set.specs.Numbers.{BindsNumbers}
 use Rattle.cedar_policy_set.proofs.Finding.{same_id, id_apart}
 use Rattle.cedar_store.specs.Renaming.{is_taken}
 use Rattle.cedar_store.specs.Room.{HasRoom}
@@ -54,9 +56,32 @@ pub numbers_are_few : (used : List Text) (n : ℕ) → n ≤ 2 ^ 64 → ((k : �
 numbers_are_few used n small all =
     subst (λ l. l ≤ length used) (length-ids_below n) (length-le_from_is_member nat_list_eq_equiv (ids_below n) used (distinct_below n small) (members_below used n all))
 
+-- each of the ids numbered from there up to here is bound in either set
+abbrev pub AreTaken : Entries → Entries → ℕ → ℕ → Type 0
+AreTaken mine theirs from to = (k : ℕ) → from ≤ k → k < to → is_taken mine theirs (numbered k) ≡ true
+
+-- those that are bound in mine, and then one that is bound in theirs
+pub taken_on : (mine theirs : Entries) (from next n : ℕ) → AreTaken mine theirs from next → BindsNumbers mine next n → is_bound theirs (numbered n) ≡ true → AreTaken mine theirs from (n + 1)
+taken_on mine theirs from next n before passed here k low high = by (cases_lt k n) (cases_lt k next)
+  where
+    by : (k < n) ⊎ (n ≤ k) → (k < next) ⊎ (next ≤ k) → is_taken mine theirs (numbered k) ≡ true
+    by other (inl early) = before k low early
+    by (inl below) (inr late) = or_left (is_bound mine (numbered k)) (is_bound theirs (numbered k)) (passed k late below)
+    by (inr above) (inr late) =
+        let same : n ≡ k = omega arith in
+        or_right (is_bound mine (numbered k)) (is_bound theirs (numbered k)) (subst (λ j. is_bound theirs (numbered j) ≡ true) same here)
+
+-- so far, and all that are left
+pub taken_up : (mine theirs : Entries) (from next end : ℕ) → AreTaken mine theirs from next → BindsNumbers mine next end → AreTaken mine theirs from end
+taken_up mine theirs from next end before passed k low high = by (cases_lt k next)
+  where
+    by : (k < next) ⊎ (next ≤ k) → is_taken mine theirs (numbered k) ≡ true
+    by (inl early) = before k low early
+    by (inr late) = or_left (is_bound mine (numbered k)) (is_bound theirs (numbered k)) (passed k late high)
+
 -- so with room the counter meets a free id
 pub room_is_enough : (mine theirs : Entries) (from : ℕ) → HasRoom mine theirs from → (end : ℕ) → end ≡ 2 ^ 64 - 1
-    → ((k : ℕ) → from ≤ k → k < end → is_taken mine theirs (numbered k) ≡ true) → ⊥
+    → AreTaken mine theirs from end → ⊥
 room_is_enough mine theirs from room end is passed =
     let few = room.few in
     let all : (k : ℕ) → k < end → is_member same_text room.used (numbered k) ≡ true = λ k lt. by k lt (ltb k from) refl in

@@ -1,13 +1,14 @@
 -- What a merge's renaming does to ids: distinct ids stay distinct, and the new ones are bound in neither set.
-use Rattle.std.proofs.Common.{inl, inr, ◌⊎◌, ◌≡◌, ℕ, ◌+◌, ◌^◌, ◌<◌, ◌≤◌, Bool, true, false, ◌||◌, cond, List, [], ◌∷◌, refl, sym, ap, subst, ◌∙◌, true≢false, arith, is_some, Option, None, Some, unwrap_or, ltb, ltb-true, ltb-false}
+use Rattle.std.proofs.Common.{inl, inr, ◌⊎◌, ◌≡◌, ℕ, ◌+◌, ◌^◌, ◌<◌, ◌≤◌, Bool, true, false, cond, List, [], ◌∷◌, refl, sym, ap, subst, ◌∙◌, true≢false, arith, is_some, Option, None, Some, unwrap_or, ltb, ltb-true, ltb-false}
 use Rattle.std.specs.Map.{keys_of, lookup}
 use Rattle.std.specs.Set.{is_member}
 use Rattle.std.proofs.lemmas.Map.Made.{is_some-lookup}
+use Rattle.std.proofs.lemmas.Bool.{or_parts, or_right}
 use Rattle.cedar_language.specs.Uid.{Text}
 use Rattle.cedar_language.specs.Order.{same_text}
 use Rattle.cedar_grammar.specs.Syntax.{numbered}
 use Rattle.cedar_policy_set.specs.Entries.{Entry, Entries, is_bound}
-use Rattle.cedar_policy_set.proofs.Finding.{same_id, id_apart, or_right}
+use Rattle.cedar_policy_set.proofs.Finding.{same_id, id_apart}
 use Rattle.cedar_store.specs.Renaming.{NewIds, is_taken, conflicting, Numbers, IsRenaming, IsNextFree, new_id}
 use Rattle.cedar_store.proofs.Numbers.{numbered_injective}
 
@@ -18,10 +19,6 @@ pub record IsFreeNumber (mine theirs : Entries) (from : ℕ) (x : Text) : Type 0
   pub fits : number < 2 ^ 64
   pub is : x ≡ numbered number
   pub free : is_taken mine theirs (numbered number) ≡ false
-
-or_false : (a b : Bool) → (a || b) ≡ false → a ≡ false
-or_false true b h = h
-or_false false b h = refl
 
 module _ (mine theirs : Entries) where
   -- exactly the ids given are renamed
@@ -97,7 +94,7 @@ module _ (mine theirs : Entries) where
         by : (o : Option Text) → lookup (same_text e.0) renaming ≡ o → is_member same_text (conflicting mine theirs) e.0 ≡ true ⊎ is_bound mine e.0 ≡ false → is_bound mine (unwrap_or o e.0) ≡ false
         by (Some x) f g =
             let free = numbers_free _ 0 renaming is e.0 x f in
-            or_false (is_bound mine x) (is_bound theirs x) (ap (is_taken mine theirs) free.is ∙ free.free)
+            (or_parts (is_bound mine x) (is_bound theirs x) (ap (is_taken mine theirs) free.is ∙ free.free)).0
         by None f (inr free) = free
         by None f (inl there) =
             absurd (true≢false (sym there ∙ ap (λ ids. is_member same_text ids e.0) (sym (numbers_keys _ 0 renaming is)) ∙ sym (is_some-lookup (same_text e.0) renaming) ∙ ap is_some f))

@@ -24,10 +24,10 @@ pub(crate) fn joining(
     theirs: &PolicySet,
     renaming: &Renaming,
 ) -> Result<PolicyMap<Bound>, AllocError>
-    requires { IsRenaming mine.now theirs.now renaming.now.entries }
+    requires { IsRenaming mine.now theirs.now renaming.now }
     ensures named { IfOk result (λ more. IsNamed more) }
     ensures listed { IfOk result (λ more. ListTheirSlots (values_of more)) }
-    ensures more { IfOk result (λ more. entries_of more ≡ joining mine.now renaming.now.entries theirs.now) }
+    ensures more { IfOk result (λ more. entries_of more ≡ joining mine.now renaming.now theirs.now) }
 {
     // The contract of `len` is what says that a set is whole.
     let _theirs = theirs.len();
@@ -50,9 +50,9 @@ fn is_more(mine: &PolicySet, theirs: &Bound) -> bool
 // The same under its new id, a link with the new id of its template.
 fn renamed(alloc: Global, renaming: &Renaming, bound: &Bound) -> Result<Bound, AllocError>
     requires { ListsSlots bound.now }
-    ensures id { IfOk result (λ made. bound_id made ≡ new_id renaming.now.entries (bound_id bound.now)) }
+    ensures id { IfOk result (λ made. bound_id made ≡ new_id renaming.now (bound_id bound.now)) }
     ensures listed { IfOk result ListsSlots }
-    ensures entry { IfOk result (λ made. entry_of made ≡ renamed renaming.now.entries (entry_of bound.now)) }
+    ensures entry { IfOk result (λ made. entry_of made ≡ renamed renaming.now (entry_of bound.now)) }
 {
     match bound {
         Bound::Template(template) => {
@@ -76,7 +76,7 @@ fn renamed_template(
     renaming: &Renaming,
     template: &Rc<Template>,
 ) -> Result<Rc<Template>, AllocError>
-    ensures id { IfOk result (λ made. template_id made.value ≡ new_id renaming.now.entries (template_id template.now.value)) }
+    ensures id { IfOk result (λ made. template_id made.value ≡ new_id renaming.now (template_id template.now.value)) }
     ensures syntax { IfOk result (λ made. syntax_of made.value ≡ syntax_of template.now.value) }
     ensures lists { IfOk result (λ made. listed_slots made.value ≡ listed_slots template.now.value) }
 {
@@ -92,8 +92,8 @@ fn renamed_template(
 // The static policy under its new id, where it has one.
 fn renamed_static(alloc: Global, renaming: &Renaming, policy: &Policy) -> Result<Policy, AllocError>
     requires { is_link (policy_entry policy.now) ≡ false }
-    ensures id { IfOk result (λ made. policy_id made ≡ new_id renaming.now.entries (policy_id policy.now)) }
-    ensures entry { IfOk result (λ made. policy_entry made ≡ renamed renaming.now.entries (policy_entry policy.now)) }
+    ensures id { IfOk result (λ made. policy_id made ≡ new_id renaming.now (policy_id policy.now)) }
+    ensures entry { IfOk result (λ made. policy_entry made ≡ renamed renaming.now (policy_entry policy.now)) }
 {
     match given_id(renaming, policy.id()) {
         None => policy.clone(alloc),
@@ -104,8 +104,8 @@ fn renamed_static(alloc: Global, renaming: &Renaming, policy: &Policy) -> Result
 // The link under its new id, of the template under its own.
 fn renamed_link(alloc: Global, renaming: &Renaming, link: &Policy) -> Result<Policy, AllocError>
     requires { is_link (policy_entry link.now) ≡ true }
-    ensures id { IfOk result (λ made. policy_id made ≡ new_id renaming.now.entries (policy_id link.now)) }
-    ensures entry { IfOk result (λ made. policy_entry made ≡ renamed renaming.now.entries (policy_entry link.now)) }
+    ensures id { IfOk result (λ made. policy_id made ≡ new_id renaming.now (policy_id link.now)) }
+    ensures entry { IfOk result (λ made. policy_entry made ≡ renamed renaming.now (policy_entry link.now)) }
 {
     let template = renamed_template(alloc, renaming, link.template_arc())?;
     link.relink(alloc, template, renamed_id(renaming, link.id())?)

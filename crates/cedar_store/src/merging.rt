@@ -25,10 +25,10 @@ pub trait Merging {
         other: &PolicySet,
         renaming: &Renaming,
     ) -> Result<(), AllocError>
-        requires { IsRenaming (entries self.old) other.now renaming.now.entries }
-        ensures joined { OnOk result (entries self.new ≡ joined (entries self.old) other.now renaming.now.entries) }
+        requires { IsRenaming (entries self.old) other.now renaming.now }
+        ensures joined { OnOk result (entries self.new ≡ joined (entries self.old) other.now renaming.now) }
         ensures mine { OnOk result (KeepsMine (entries self.old) (entries self.new)) }
-        ensures theirs { OnOk result (KeepsTheirs other.now renaming.now.entries (entries self.new)) }
+        ensures theirs { OnOk result (KeepsTheirs other.now renaming.now (entries self.new)) }
         ensures err { OnErr result (entries self.new ≡ entries self.old) };
 
     /// Binds here what another set has more, where an id that both bind to different things is renamed
@@ -40,10 +40,10 @@ pub trait Merging {
         other: &PolicySet,
         rename_duplicates: bool,
     ) -> Result<Renaming, PolicySetError>
-        ensures renaming { IfOk result (λ renaming. IsRenaming (entries self.old) other.now renaming.entries) }
-        ensures joined { IfOk result (λ renaming. entries self.new ≡ joined (entries self.old) other.now renaming.entries) }
+        ensures renaming { IfOk result (λ renaming. IsRenaming (entries self.old) other.now renaming) }
+        ensures joined { IfOk result (λ renaming. entries self.new ≡ joined (entries self.old) other.now renaming) }
         ensures mine { OnOk result (KeepsMine (entries self.old) (entries self.new)) }
-        ensures theirs { IfOk result (λ renaming. KeepsTheirs other.now renaming.entries (entries self.new)) }
+        ensures theirs { IfOk result (λ renaming. KeepsTheirs other.now renaming (entries self.new)) }
         ensures may_rename { OnOk result (rename_duplicates ≡ false → conflicting (entries self.old) other.now ≡ []) }
         ensures refused { IfErr result (IsMergeRefusal (entries self.old) other.now rename_duplicates) }
         ensures err { OnErr result (entries self.new ≡ entries self.old) };
@@ -82,10 +82,10 @@ impl Merging for PolicySet {
 
 // Refused for the first id that has a new one.
 fn refuse_any(renaming: &Renaming) -> Result<(), PolicySetError>
-    ensures { RefusesAny (keys_of renaming.now.entries) result }
+    ensures { RefusesAny (keys_of renaming.now) result }
 {
-    match renaming.keys().next() {
+    match renaming.iter().next() {
         None => Ok(()),
-        Some(id) => Err(PolicySetError::Occupied { id: id.clone()? }),
+        Some((id, _)) => Err(PolicySetError::Occupied { id: id.clone()? }),
     }
 }

@@ -1,5 +1,5 @@
 // What a merge renames.
-ghost use Rattle.std.specs.Prelude.{◌≡◌, ◌-◌, ◌^◌, ◌<◌, ◌++◌, [], ◌∷◌, IfNone, IfOk, IfSome, None, OnOk};
+ghost use Rattle.std.specs.Prelude.{◌≡◌, ◌-◌, ◌^◌, ◌<◌, IfNone, IfOk, IfSome, None};
 ghost use Rattle.std.specs.Map.{lookup};
 ghost use Rattle.cedar_language.specs.Order.{same_text};
 ghost use Rattle.cedar_grammar.specs.Syntax.{numbered};
@@ -9,13 +9,12 @@ ghost use Rattle.cedar_store.specs.Room.{HasRoom};
 
 use cedar_policy_parts::PolicyID;
 use cedar_policy_set::bounds::Bound;
-use cedar_policy_set::numbers::numbered_id;
+use cedar_policy_set::policy_map::PolicyMap;
 use cedar_policy_set::sets::PolicySet;
-use indexmap::IndexMap;
 use std::alloc::{AllocError, Global};
 
 /// New ids by old ones, in the order of the set whose policies are renamed.
-pub type Renaming = IndexMap<PolicyID, PolicyID>;
+pub type Renaming = PolicyMap<PolicyID>;
 
 /// The new ids that a merge gives: to each id that both sets bind, and to different things (places don't
 /// count, and links of different templates differ), the next of `policy0`, `policy1`, .. that is bound in
@@ -25,17 +24,17 @@ pub fn renaming_of(
     mine: &PolicySet,
     theirs: &PolicySet,
 ) -> Result<Renaming, AllocError>
-    ensures { IfOk result (λ renaming. IsRenaming mine.now theirs.now renaming.entries) }
+    ensures { IfOk result (λ renaming. IsRenaming mine.now theirs.now renaming) }
 {
     // The contract of `len` is what says that a set is whole, and how many ids it binds at the most.
     let _mine = mine.len();
     let _theirs = theirs.len();
-    let mut renaming = IndexMap::new(alloc);
+    let mut renaming = PolicyMap::new(alloc);
     let mut from = 0;
     for bound in theirs.values() {
         if conflicts(mine, bound) {
             let (number, new) = next_free(alloc, mine, theirs, from)?;
-            insert_new(&mut renaming, copied(bound.id())?, new)?;
+            renaming.push(copied(bound.id())?, new)?;
             from = number + 1;
         }
     }
@@ -64,29 +63,19 @@ fn next_free(
     ensures id { IfOk result (λ found. found.1 ≡ numbered found.0) }
     ensures below { IfOk result (λ found. found.0 < 2 ^ 64 - 1) }
 {
-    let mut number = mine.skip_bound(from);
-    while number < u64::MAX {
-        let id = numbered_id(alloc, number)?;
-        if !mine.is_bound(&id) && !theirs.is_bound(&id) {
+    let mut next = from;
+    while let Some((number, id)) = mine.next_unbound(alloc, next)? {
+        if !theirs.is_bound(&id) {
             return Ok((number, id));
         }
-        number = mine.skip_bound(number + 1);
+        next = number + 1;
     }
     unreachable!()
 }
 
-// Gives a new id to one that has none yet.
-fn insert_new(renaming: &mut Renaming, old: PolicyID, new: PolicyID) -> Result<(), AllocError>
-    requires { lookup (same_text old) renaming.old.entries ≡ None }
-    ensures { OnOk result (renaming.new.entries ≡ renaming.old.entries ++ (old, new) ∷ []) }
-{
-    renaming.insert(old, new)?;
-    Ok(())
-}
-
 /// The id under which a policy stands after a renaming; refused for memory alone.
 pub fn renamed_id(renaming: &Renaming, id: &PolicyID) -> Result<PolicyID, AllocError>
-    ensures { IfOk result (λ new. new ≡ new_id renaming.now.entries id.now) }
+    ensures { IfOk result (λ new. new ≡ new_id renaming.now id.now) }
 {
     match given_id(renaming, id) {
         Some(new) => copied(new),
@@ -96,8 +85,8 @@ pub fn renamed_id(renaming: &Renaming, id: &PolicyID) -> Result<PolicyID, AllocE
 
 // The new id, where one is given.
 pub(crate) fn given_id<'a>(renaming: &'a Renaming, id: &PolicyID) -> Option<&'a PolicyID>
-    ensures given { IfSome result (λ new. new.now ≡ new_id renaming.now.entries id.now) }
-    ensures none { IfNone result (new_id renaming.now.entries id.now ≡ id.now) }
+    ensures given { IfSome result (λ new. new.now ≡ new_id renaming.now id.now) }
+    ensures none { IfNone result (new_id renaming.now id.now ≡ id.now) }
 {
     renaming.get(id)
 }

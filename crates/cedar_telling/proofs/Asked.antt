@@ -17,10 +17,7 @@ use Rattle.cedar_extensions.specs.Table.{Table}
 use Rattle.cedar_restricted_evaluation.specs.Evaluations.{HasFunctions, answer_in, part_answer, nothing_told}
 use Rattle.cedar_restricted_evaluation.proofs.WrittenNames.{named_as, written_names_are_read}
 use Rattle.cedar_telling.proofs.Data.{accepts, all_named_are_data}
-
-and_false : (a : Bool) → (a && false) ≡ false
-and_false true = refl
-and_false false = refl
+use Rattle.cedar_lemmas.proofs.Booleans.{and_nothing as and_false}
 
 -- ---- a context that was evaluated
 

@@ -17,17 +17,8 @@ use Rattle.cedar_world.specs.Asking.{Entries, NoContext, WithEntries}
 use Rattle.cedar_grammar.specs.UnknownCalls.{unknown_or, named_call, named, all_named}
 use Rattle.cedar_world.specs.First.{IsData}
 use Rattle.cedar_grammar.specs.Functions.{is_the_unknown}
-
-and_left : (a b : Bool) → (a && b) ≡ true → a ≡ true
-and_left true b h = refl
-and_left false b h = h
-
-and_right : (a b : Bool) → (a && b) ≡ true → b ≡ true
-and_right true b h = h
-and_right false b h = cc
-
-and_both : (a b : Bool) → a ≡ true → b ≡ true → (a && b) ≡ true
-and_both a b h k = rw (h, k) refl
+use Rattle.cedar_lemmas.proofs.Booleans.{and_first as and_left, and_second as and_right}
+use Rattle.std.proofs.lemmas.Bool.{and_from as and_both}
 
 -- ---- what is settled is what is answered
 

@@ -18,17 +18,8 @@ use Rattle.std.specs.Cmp.{tied_itself}
 use Rattle.std.specs.Ordering.{is_eq}
 use Rattle.cedar_world.proofs.Maps.{text_total}
 use Rattle.cedar_telling.specs.Contexts.{MeansRecord}
-
-or_left : (a b : Bool) → (a || b) ≡ false → a ≡ false
-or_left false b h = refl
-or_left true b h = h
-
-or_right : (a b : Bool) → (a || b) ≡ false → b ≡ false
-or_right false b h = h
-or_right true b h = cc
-
-neither : (a b : Bool) → a ≡ false → b ≡ false → (a || b) ≡ false
-neither a b h k = rw (h, k) refl
+use Rattle.cedar_lemmas.proofs.Booleans.{or_first as or_left, or_second as or_right}
+use Rattle.std.proofs.lemmas.Bool.{or_from as neither}
 
 text_itself : (n : Text) → text_eq n n ≡ true
 text_itself n = ap is_eq (tied_itself text_total n)

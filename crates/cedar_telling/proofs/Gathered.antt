@@ -24,6 +24,7 @@ use Rattle.cedar_telling.proofs.JoinedIds.{same_text}
 use Rattle.cedar_telling.specs.AskedNames.{is_listed}
 use Rattle.cedar_telling.specs.Unknowns.{name_given}
 use Rattle.cedar_telling.specs.UnknownNames.{passes_or, stands_in, stands_in_call, stands_in_some}
+use Rattle.cedar_lemmas.proofs.Booleans.{or_turned as turned}
 
 -- a call that names an unknown has that name alone
 pub by_call : (test : Text → Bool) (f : Name) (ts : Trees) (n : Text) → is_the_unknown f ≡ true → name_given ts ≡ Some n → stands_in_call test f ts ≡ test n
@@ -55,12 +56,6 @@ lent n = record { ref_ptr = (0, 0); now = n }
 put_true : (a b : Bool) → cond a true b ≡ (a || b)
 put_true true b = refl
 put_true false b = refl
-
-turned : (a b : Bool) → (a || b) ≡ (b || a)
-turned true true = refl
-turned true false = refl
-turned false true = refl
-turned false false = refl
 
 -- one name more is listed
 pub listed_more : (old new : BTreeSet (Bor Text)) (name : Bor Text) (n : Text) → Updates (λ x y. text_cmp x.now y.now) old new name true → is_listed new n ≡ (is_listed old n || text_eq n name.now)

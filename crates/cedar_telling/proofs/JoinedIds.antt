@@ -21,6 +21,7 @@ use Rattle.cedar_world.specs.Orders.{TextMap, text_cmp, text_eq}
 use Rattle.cedar_replies.specs.Erring.{with_kinds, and_kind}
 use Rattle.cedar_replies.specs.Kinds.{kind_of}
 use Rattle.cedar_replies.specs.declared.error_kind.ErrorKind.{ErrorKind}
+use Rattle.cedar_lemmas.proofs.Booleans.{and_turned as and_back}
 
 pub same_text : (x y : Text) → text_eq x y ≡ true → x ≡ y
 same_text x y e = text_cmp_same x y (elim (text_cmp x y) as (λ r. is_eq r ≡ true → r ≡ Equal) [ Less ↦ λ h. cc | Equal ↦ λ h. refl | Greater ↦ λ h. cc ] e)
@@ -106,12 +107,6 @@ is_listed xs q =
     ap is_some (finite.get-from_entries text_cmp_total (map (λ id. (id, tt)) xs) q)
     ∙ is_some-find text_cmp q (map (λ id. (id, tt)) xs)
     ∙ ap (list_any (text_eq q)) (paired_keys xs)
-
-and_back : (a b : Bool) → (a && b) ≡ (b && a)
-and_back true true = refl
-and_back true false = refl
-and_back false true = refl
-and_back false false = refl
 
 pub chosen : (ids : Ids) (test : Text → Bool) (xs : List Text) → xs ≡ filter test (finite.keys ids) → (q : Text) → has_id (ids_of xs) q ≡ (has_id ids q && test q)
 chosen ids test xs is q =

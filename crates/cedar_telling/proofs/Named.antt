@@ -21,6 +21,7 @@ use Rattle.cedar_world.specs.Bodies.{some_name, some_name_of, is_one_of, string_
 use Rattle.cedar_grammar.specs.Functions.{is_the_unknown}
 use Rattle.cedar_world.specs.Values.{variable_names}
 use Rattle.cedar_telling.specs.Unknowns.{name_given, is_no_name, badly_named, some_badly_named}
+use Rattle.cedar_lemmas.proofs.Booleans.{or_nothing as or_false, or_true, and_first as and_left, and_second as and_right}
 
 -- ---- as it is written
 
@@ -71,27 +72,11 @@ bad t = some_name for_variable t || holds_call t
 abbrev some_bad : Trees → Bool
 some_bad ts = some_name_of for_variable ts || hold_call ts
 
-or_false : (b : Bool) → (b || false) ≡ b
-or_false true = refl
-or_false false = refl
-
-or_true : (b : Bool) → (b || true) ≡ true
-or_true true = refl
-or_true false = refl
-
 swap : (a b c d : Bool) → ((a || b) || (c || d)) ≡ ((a || c) || (b || d))
 swap true b c d = refl
 swap false true true d = refl
 swap false true false d = refl
 swap false false c d = refl
-
-and_left : (a b : Bool) → (a && b) ≡ true → a ≡ true
-and_left true b h = refl
-and_left false b h = h
-
-and_right : (a b : Bool) → (a && b) ≡ true → b ≡ true
-and_right true b h = h
-and_right false b h = cc
 
 -- a call of another function stays one
 pub other_stays : (f : Name) (ts : Trees) → is_the_unknown f ≡ false → named_call (Call f) ts ≡ Apply (Call f) ts

@@ -46,22 +46,7 @@ use Rattle.cedar_telling.specs.Bodies.{IsDataRecord, Written, IsWrittenAsData, c
 use Rattle.cedar_telling.specs.Contexts.{HasContext, neither_given, both_given, MeansRecord, QuestionsAreAsked}
 use Rattle.cedar_telling.specs.Unknowns.{badly_named}
 use Rattle.cedar_telling.proofs.Named.{all_bad_as_named}
-
-or_right : (a b : Bool) → (a || b) ≡ false → b ≡ false
-or_right false b h = h
-or_right true b h = cc
-
-and_left : (a b : Bool) → (a && b) ≡ true → a ≡ true
-and_left true b h = refl
-and_left false b h = h
-
-and_right : (a b : Bool) → (a && b) ≡ true → b ≡ true
-and_right true b h = h
-and_right false b h = cc
-
-or_left : (a b : Bool) → (a || b) ≡ false → a ≡ false
-or_left false b h = refl
-or_left true b h = h
+use Rattle.cedar_lemmas.proofs.Booleans.{or_second as or_right, and_first as and_left, and_second as and_right, or_first as or_left}
 
 -- ---- the record that stands for the context in a body
 

@@ -45,32 +45,8 @@ use Rattle.cedar_telling.specs.Tells.{told_in}
 use Rattle.cedar_telling.specs.TellSteps.{IsGivenRestricted, some_misfit, with_attribute, with_attributes}
 use Rattle.cedar_telling.specs.UnknownNames.{stands_in_some}
 use Rattle.cedar_telling.proofs.WrittenNames.{all_stand_named}
-
-and_left : (a b : Bool) → (a && b) ≡ true → a ≡ true
-and_left true b h = refl
-and_left false b h = h
-
-and_right : (a b : Bool) → (a && b) ≡ true → b ≡ true
-and_right true b h = h
-and_right false b h = cc
-
-and_both : (a b : Bool) → a ≡ true → b ≡ true → (a && b) ≡ true
-and_both a b h k = rw (h, k) refl
-
-or_left : (a b : Bool) → (a || b) ≡ false → a ≡ false
-or_left false b h = refl
-or_left true b h = h
-
-or_right : (a b : Bool) → (a || b) ≡ false → b ≡ false
-or_right false b h = h
-or_right true b h = cc
-
-or_false : (a b : Bool) → a ≡ false → b ≡ false → (a || b) ≡ false
-or_false a b h k = rw (h, k) refl
-
-not_false : (b : Bool) → not b ≡ false → b ≡ true
-not_false true h = refl
-not_false false h = cc
+use Rattle.cedar_lemmas.proofs.Booleans.{and_first as and_left, and_second as and_right, or_first as or_left, or_second as or_right, not_is_false as not_false}
+use Rattle.std.proofs.lemmas.Bool.{and_from as and_both, or_from as or_false}
 
 -- ---- a record of fields
 

@@ -22,6 +22,7 @@ use Rattle.cedar_grammar.specs.Functions.{is_the_unknown}
 use Rattle.cedar_telling.specs.Unknowns.{name_given}
 use Rattle.cedar_telling.specs.UnknownNames.{passes_or, stands_in, stands_in_some}
 use Rattle.cedar_telling.proofs.Named.{other_stays, named_no_text}
+use Rattle.cedar_lemmas.proofs.Booleans.{or_nothing as or_false, and_first as and_left, and_second as and_right}
 
 -- ---- as it is written
 
@@ -51,18 +52,6 @@ pub record_stands : (test : Text → Bool) (e : Expr (Unit {0})) (m : Rc (BTreeM
 record_stands test e m entries is same = ap (stands_in test) (bare_is (Unit {0}) e ∙ ap bare_kind is ∙ bare-Record (Unit {0}) m) ∙ ap (λ es. stands_in_some test (trees (map (λ f. f.1) (bare_entries es)))) (sym same)
 
 -- ---- with its calls named
-
-or_false : (b : Bool) → (b || false) ≡ b
-or_false true = refl
-or_false false = refl
-
-and_left : (a b : Bool) → (a && b) ≡ true → a ≡ true
-and_left true b h = refl
-and_left false b h = h
-
-and_right : (a b : Bool) → (a && b) ≡ true → b ≡ true
-and_right true b h = h
-and_right false b h = cc
 
 module _ (test : Text → Bool) where
   other_argument : (b : Bool) (f : Name) (s : Tree) (ss : Trees) → ((n : Text) → s ≡ Lit (String n) → ⊥) → some_name test (unknown_or b f s ss) ≡ (some_name test s || some_name_of test ss)

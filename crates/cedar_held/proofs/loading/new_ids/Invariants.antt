@@ -6,4 +6,4 @@ use Rattle.cedar_policy_set.specs.Bounds.{seen}
 use Rattle.cedar_held.proofs.loading.new_ids.Given as goal
 
 abbrev pub invariant-loop-bound : goal.invariant-loop-bound
-invariant-loop-bound l = l.ids.items ++ map (new_id l.renaming.entries) (keys_of (seen l.bound-iterator)) ≡ map (new_id l.renaming.entries) (keys_of l.policies)
+invariant-loop-bound l = l.ids.items ++ map (new_id l.renaming) (keys_of (seen l.bound-iterator)) ≡ map (new_id l.renaming) (keys_of l.policies)

@@ -9,13 +9,13 @@ use Rattle.cedar_store.proofs.Joins.{IsJoining, join_first, join_new}
 use Rattle.cedar_store.proofs.joining.joining.Goals as goal
 
 pub loop-bound-init : goal.loop-bound-init
-loop-bound-init c = let first = (join_first c.args.mine.now c.args.theirs.now c.args.renaming.now.entries c.requires c.len-theirs.ensures.whole.distinct).distinct in search rules
+loop-bound-init c = let first = (join_first c.args.mine.now c.args.theirs.now c.args.renaming.now c.requires c.len-theirs.ensures.whole.distinct).distinct in search rules
 
 pub insert_into-requires : goal.insert_into-requires
 insert_into-requires c =
     let mine = c.args.mine.now in
     let theirs = c.args.theirs.now in
-    let r = c.args.renaming.now.entries in
+    let r = c.args.renaming.now in
     let more = c.loop-bound.more in
     let e : Text × Entry = (bound_id c.in-Some.bound.now, entry_of c.in-Some.bound.now) in
     ap (λ k. lookup (same_text k) more) c.in_ok-renamed.ensures.id

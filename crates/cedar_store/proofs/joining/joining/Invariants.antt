@@ -5,6 +5,6 @@ use Rattle.cedar_store.proofs.joining.joining.Given as goal
 
 abbrev pub invariant-loop-bound : goal.invariant-loop-bound
 invariant-loop-bound l = record {
-  joins : IsJoining l.mine l.theirs l.renaming.entries (seen l.bound-iterator) l.more;
+  joins : IsJoining l.mine l.theirs l.renaming (seen l.bound-iterator) l.more;
   listed : ListTheirSlots l.bound-iterator;
 }

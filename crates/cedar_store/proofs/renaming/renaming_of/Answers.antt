@@ -12,32 +12,32 @@ use Rattle.cedar_store.proofs.renaming.renaming_of.Goals as goal
 pub next_free-requires : goal.next_free-requires
 next_free-requires c =
     let e : Text × Entry = (bound_id c.in-Some.bound.now, entry_of c.in-Some.bound.now) in
-    number_room c.args.mine.now c.args.theirs.now e _ c.loop-bound.from c.loop-bound.renaming.entries
+    number_room c.args.mine.now c.args.theirs.now e _ c.loop-bound.from c.loop-bound.renaming
     (sym c.conflicts.ensures ∙ c.if-conflicts.true)
-    (subst (λ es. IsNumbered c.args.mine.now c.args.theirs.now es c.loop-bound.from c.loop-bound.renaming.entries) (ap seen c.in-Some.ensures.steps) c.loop-bound.invariant)
+    (subst (λ es. IsNumbered c.args.mine.now c.args.theirs.now es c.loop-bound.from c.loop-bound.renaming) (ap seen c.in-Some.ensures.steps) c.loop-bound.invariant)
 
-pub insert_new-requires : goal.insert_new-requires
-insert_new-requires c =
+pub push-requires : goal.push-requires
+push-requires c =
     let e : Text × Entry = (bound_id c.in-Some.bound.now, entry_of c.in-Some.bound.now) in
-    ap (λ k. lookup (same_text k) c.loop-bound.renaming.entries) (c.in_ok-copied.ensures ∙ c.id.ensures)
-    ∙ number_new c.args.mine.now c.args.theirs.now e _ c.loop-bound.from c.loop-bound.renaming.entries
+    ap (λ k. lookup (same_text k) c.loop-bound.renaming) (c.in_ok-copied.ensures ∙ c.id.ensures)
+    ∙ number_new c.args.mine.now c.args.theirs.now e _ c.loop-bound.from c.loop-bound.renaming
     (sym c.conflicts.ensures ∙ c.if-conflicts.true)
-    (subst (λ es. IsNumbered c.args.mine.now c.args.theirs.now es c.loop-bound.from c.loop-bound.renaming.entries) (ap seen c.in-Some.ensures.steps) c.loop-bound.invariant)
+    (subst (λ es. IsNumbered c.args.mine.now c.args.theirs.now es c.loop-bound.from c.loop-bound.renaming) (ap seen c.in-Some.ensures.steps) c.loop-bound.invariant)
 
 pub loop-bound-preserved-then-conflicts : goal.loop-bound-preserved-then-conflicts
 loop-bound-preserved-then-conflicts c =
     let mine = c.args.mine.now in
     let theirs = c.args.theirs.now in
-    let r = c.loop-bound.renaming.entries in
+    let r = c.loop-bound.renaming in
     let e : Text × Entry = (bound_id c.in-Some.bound.now, entry_of c.in-Some.bound.now) in
     let n = c.in_ok-number.number in
     let held = subst (λ es. IsNumbered mine theirs es c.loop-bound.from r) (ap seen c.in-Some.ensures.steps) c.loop-bound.invariant in
     let old = c.in_ok-copied.ensures ∙ c.id.ensures in
-    let entries : c.insert_new.new.renaming.entries ≡ r ++ (e.0, numbered n) ∷ [] = c.in_ok-insert_new.ensures ∙ (λ i. r ++ (old i, c.in_ok-number.ensures.id i) ∷ []) in
+    let entries : c.push.new.self ≡ r ++ (e.0, numbered n) ∷ [] = c.in_ok-push.ensures.pushed ∙ (λ i. r ++ (old i, c.in_ok-number.ensures.id i) ∷ []) in
     subst (IsNumbered mine theirs (seen c.next.new.self) (n + 1)) (sym entries)
     (number_one mine theirs e _ c.loop-bound.from r (sym c.conflicts.ensures ∙ c.if-conflicts.true) held n c.in_ok-number.ensures.free)
 
 pub returns : goal.returns
 returns c =
-    number_all c.args.mine.now c.args.theirs.now c.loop-bound.from c.loop-bound.renaming.entries
-    (subst (λ es. IsNumbered c.args.mine.now c.args.theirs.now es c.loop-bound.from c.loop-bound.renaming.entries) (ap seen c.in-None.ensures.steps.0) c.loop-bound.invariant)
+    number_all c.args.mine.now c.args.theirs.now c.loop-bound.from c.loop-bound.renaming
+    (subst (λ es. IsNumbered c.args.mine.now c.args.theirs.now es c.loop-bound.from c.loop-bound.renaming) (ap seen c.in-None.ensures.steps.0) c.loop-bound.invariant)

@@ -4,4 +4,4 @@ use Rattle.cedar_store.proofs.Numbering.{IsNumbered}
 use Rattle.cedar_store.proofs.renaming.renaming_of.Given as goal
 
 abbrev pub invariant-loop-bound : goal.invariant-loop-bound
-invariant-loop-bound l = IsNumbered l.mine l.theirs (seen l.bound-iterator) l.from l.renaming.entries
+invariant-loop-bound l = IsNumbered l.mine l.theirs (seen l.bound-iterator) l.from l.renaming

@@ -10,21 +10,21 @@ pub append-requires-clause-whole : goal.append-requires-clause-whole
 append-requires-clause-whole c =
     let mine = c.args.self.now in
     let theirs = c.args.other.now in
-    let r = c.args.renaming.now.entries in
+    let r = c.args.renaming.now in
     subst (λ es. IsWhole (mine ++ es)) (sym c.in_ok-more.ensures.more) (whole_joined mine theirs r c.requires c.len-mine.ensures.whole c.len-theirs.ensures.whole)
 
 pub returns-clause-mine : goal.returns-clause-mine
 returns-clause-mine c =
     let mine = c.args.self.now in
     let theirs = c.args.other.now in
-    let r = c.args.renaming.now.entries in
+    let r = c.args.renaming.now in
     carried c.append.result (λ is. subst (KeepsMine mine) (sym (is ∙ ap (λ es. mine ++ es) c.in_ok-more.ensures.more)) (keeps_mine mine theirs r)) c.append.ensures.appended
 
 pub returns-clause-theirs : goal.returns-clause-theirs
 returns-clause-theirs c =
     let mine = c.args.self.now in
     let theirs = c.args.other.now in
-    let r = c.args.renaming.now.entries in
+    let r = c.args.renaming.now in
     carried c.append.result
     (λ is. subst (KeepsTheirs theirs r) (sym (is ∙ ap (λ es. mine ++ es) c.in_ok-more.ensures.more)) (keeps_theirs mine theirs r c.requires c.len-mine.ensures.whole c.len-theirs.ensures.whole))
     c.append.ensures.appended
