@@ -7,7 +7,7 @@ use std::alloc::{AllocError, AllocFailed};
 use thiserror::Error;
 
 /// Two versions of one entity that differ.
-#[derive(Debug, PartialEq, Eq, Drop, Error)]
+#[derive(Debug, PartialEq, Eq, Clone, Drop, Error)]
 #[error("duplicate entity entry `{euid}`")]
 pub struct Duplicate {
     /// The uid of the entity.
@@ -24,7 +24,7 @@ impl Duplicate {
 }
 
 /// Why an edit of a store is refused.
-#[derive(Debug, PartialEq, Eq, Drop, Error)]
+#[derive(Debug, PartialEq, Eq, Clone, Drop, Error)]
 pub enum EntitiesError {
     /// An entity was added that differs from the version held, or from another one that was added.
     #[error(transparent)]

@@ -12,6 +12,7 @@ use Rattle.cedar_language.specs.Order.{text_cmp}
 use Rattle.cedar_grammar.specs.Build.{Keyed}
 use Rattle.cedar_extensions.specs.Table.{Table}
 use Rattle.cedar_restricted_evaluation.specs.Evaluations.{HasFunctions, IsKnown, IsMeant, IsLeft, answer_in, part_answer}
+use Rattle.cedar_restricted_evaluation.specs.Built.{IsBuiltPart}
 use Rattle.cedar_entities.specs.Attributes.{Attribute, AttributeMap}
 use Rattle.cedar_entities.specs.Data.{UidSet, EntityData}
 
@@ -19,11 +20,13 @@ use Rattle.cedar_entities.specs.Data.{UidSet, EntityData}
 abbrev pub Expressions : Type 0
 Expressions = List (Keyed Tree)
 
--- What a tree gives: where nothing in it is unknown, its meaning; and always what partial evaluation answers.
+-- What a tree gives: where nothing in it is unknown, its meaning; and always what partial evaluation answers. A value is one
+-- that its tree makes again.
 pub record IsGiven (table : Table) (t : Tree) (a : Attribute) : Type 0 where
   pub meant : IsKnown table t → (facts : Facts) → HasFunctions table facts → (request : Request) → IsMeant (meaning facts request t) a
   pub answer : (facts : Facts) → HasFunctions table facts → answer_in table facts t ≡ part_answer a
   pub left : IsLeft a
+  pub built : IsBuiltPart a
 
 -- each in turn is what the expression of its name gives
 abbrev pub AreGiven : Table → Expressions → List (Text × Attribute) → Type 0

@@ -10,7 +10,7 @@ use std::rc::RcStr;
 use thiserror::Error;
 
 /// An attribute or a tag of an entity whose expression has no value.
-#[derive(Debug, PartialEq, Eq, Drop)]
+#[derive(Debug, PartialEq, Eq, Clone, Drop)]
 pub struct EntityAttrEvaluationError {
     /// The uid of the entity.
     pub uid: EntityUID,
@@ -35,7 +35,7 @@ impl fmt::Display for EntityAttrEvaluationError {
 impl Error for EntityAttrEvaluationError {}
 
 /// Why an entity isn't made.
-#[derive(Debug, PartialEq, Eq, Drop, Error)]
+#[derive(Debug, PartialEq, Eq, Clone, Drop, Error)]
 pub enum EntityCreationError {
     /// An attribute or a tag has no value.
     #[error(transparent)]

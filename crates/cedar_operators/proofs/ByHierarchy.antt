@@ -99,23 +99,6 @@ all_left test vs = none_found test (uids_in vs)
 
 -- ---- with a store's facts
 
-any_same : (p q : Uid → Bool) → ((u : Uid) → p u ≡ q u) → (us : List Uid) → list_any p us ≡ list_any q us
-any_same p q h [] = refl
-any_same p q h (u ∷ us) = ap (λ b. b || list_any p us) (h u) ∙ ap (λ b. q u || b) (any_same p q h us)
-
-members_same : (p q : Uid → Bool) → ((u : Uid) → p u ≡ q u) → (o : Option (List Uid)) → option_map (list_any p) o ≡ option_map (list_any q) o
-members_same p q h None = refl
-members_same p q h (Some us) = ap Some (any_same p q h us)
-
-within_same : (p q : Uid → Bool) → ((u : Uid) → p u ≡ q u) → (w : Value) → within_of p w ≡ within_of q w
-within_same p q h (Plain (Boolean b)) = refl
-within_same p q h (Plain (Long n)) = refl
-within_same p q h (Plain (String s)) = refl
-within_same p q h (Plain (Entity b)) = ap Some (h b)
-within_same p q h (SetOf vs) = members_same p q h (uids_in vs)
-within_same p q h (RecordOf ks vs) = refl
-within_same p q h (ExtensionOf x) = refl
-
 some_is : (facts : Facts) (a : Uid) (us : List Uid) → is_within_some facts a us ≡ list_any (is_within facts a) us
 some_is facts a [] = refl
 some_is facts a (u ∷ us) = ap (λ b. is_within facts a u || b) (some_is facts a us)
@@ -155,4 +138,6 @@ in_others facts (ExtensionOf x) w e = refl
 -- with the entity that the store holds
 pub in_held : (s : Entities) (facts : Facts) → HasFacts s facts → (v w : Value) (a : Uid) (o : Option (Bor EntityData)) → uid_in v ≡ Some a → IsFound s a o →
     in_of facts (two v w) ≡ at_operand truth (within_of (is_within_entity a (option_copied o)) w)
-in_held s facts f v w a o e h = in_entity facts v w a e ∙ ap (at_operand truth) (within_same (is_within facts a) (is_within_entity a (option_copied o)) (λ b. sym (within_is s facts f a o h b)) w)
+in_held s facts f v w a o e h =
+    let same : is_within facts a ≡ is_within_entity a (option_copied o) = λ i b. sym (within_is s facts f a o h b) i in
+    in_entity facts v w a e ∙ ap (λ (test : Uid → Bool). at_operand truth (within_of test w)) same

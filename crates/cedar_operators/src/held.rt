@@ -10,8 +10,10 @@ use cedar_literals::uids::EntityUID;
 use std::alloc::Global;
 use std::rc::Rc;
 
-// The entity of this uid, if one is held. Where none is and the store is partial, it isn't known whether
-// there is one: NonValue. Takes no memory on a whole store.
+/// The entity of this uid, if one is held. Takes no memory on a store that isn't partial.
+///
+/// It errs with `NonValue` where none is held and the store is partial, since it isn't known then whether there
+/// is one, and with `Memory`.
 pub fn held<'a>(
     alloc: Global,
     entities: &'a Entities,

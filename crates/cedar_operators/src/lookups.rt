@@ -11,6 +11,9 @@ ghost use Rattle.cedar_language.specs.Value as language;
 ghost use Rattle.cedar_language.specs.Value.{TypeError, RecordAttrDoesNotExist, EntityAttrDoesNotExist, NonValue, Outcome, Gives, Fails};
 ghost use Rattle.cedar_values.specs.Kinds.{keys_of, values_of};
 ghost use Rattle.cedar_restricted.specs.PartialValues.{partial_of};
+ghost use Rattle.cedar_trees.specs.Bare.{bare};
+ghost use Rattle.cedar_extensions.specs.Causes as causes;
+ghost use Rattle.cedar_extensions.specs.Causes.{cause_of};
 ghost use Rattle.cedar_extensions.specs.Failures.{OfKind, failure_of};
 ghost use Rattle.cedar_extensions.specs.Giving.{GivesBy};
 ghost use Rattle.cedar_operators.specs.Store.{HasFacts};
@@ -31,20 +34,25 @@ use std::alloc::{AllocError, Global};
 use std::collections::BTreeMap;
 use std::rc::{Rc, RcStr};
 
-// What stands at the name of an attribute, or what there is none of.
+/// What stands at the name of an attribute, or what there is none of.
 #[derive(Drop)]
 pub enum Lookup<'a> {
+    /// A value.
     Value(&'a Value),
+    /// What is left of one that depends on something unknown.
     Residual(&'a Expr),
-    // The entity isn't held.
+    /// The entity isn't held.
     NoEntity(&'a Rc<EntityUID>),
-    // The entity has no such attribute.
+    /// The entity has no such attribute.
     NoAttribute(&'a Rc<EntityUID>),
-    // The record has no such attribute.
+    /// The record has no such attribute.
     NoKey,
 }
 
-// What stands at the name of an attribute of a record or of an entity. TypeError for other values.
+/// What stands at the name of an attribute of a record, or of an entity: one that isn't held is told as such.
+///
+/// It errs with `TypeError` where `of` is neither, with `NonValue` where a partial store holds no such entity,
+/// and with `Memory`.
 pub fn find<'a>(
     alloc: Global,
     entities: &'a Entities,
@@ -80,7 +88,10 @@ fn find_further<'a>(
     }
 }
 
-// What stands at the end of a chain of further names. TypeError where a value on the way has no attributes.
+/// What stands at the end of a chain of further names; where a name before the last is missing, that it is.
+///
+/// It errs with `TypeError` where a value on the way is neither a record nor an entity, with `NonValue` where
+/// one isn't known yet or a partial store holds no such entity, and with `Memory`.
 pub fn find_along<'a>(
     alloc: Global,
     entities: &'a Entities,
@@ -99,7 +110,7 @@ pub fn find_along<'a>(
     Ok(lookup)
 }
 
-// Whether something was found.
+/// Whether something was found: a value, or what is left of one.
 pub fn is_found(lookup: Lookup<'_>) -> bool
     ensures { (meant : Outcome) → Shows (λ o. is_there o ≡ meant) lookup.entry → meant ≡ truth result }
 {
@@ -109,9 +120,11 @@ pub fn is_found(lookup: Lookup<'_>) -> bool
     }
 }
 
-// The error of a residual that a value is asked of; refused for memory alone.
+/// The error of a residual that a value is asked of: `NonValue`, with that residual. Refused for want of memory
+/// alone.
 pub fn still_unknown(alloc: Global, residual: &Expr) -> Result<EvaluationError, AllocError>
-    ensures { IfOk result (λ error. failure_of error ≡ OfKind NonValue) }
+    ensures kind { IfOk result (λ error. failure_of error ≡ OfKind NonValue) }
+    ensures cause { IfOk result (λ error. cause_of error ≡ causes.Residual (bare residual.now)) }
 {
     EvaluationError::non_value(alloc, residual.clone(alloc)?)
 }

@@ -1,5 +1,6 @@
 -- The operators that take sets, by what their operands are.
-use Rattle.std.proofs.Common.{◌≡◌, Bool, true, false, not, refl, ap, ◌∙◌}
+use Rattle.std.proofs.Common.{◌≡◌, Bool, not, refl, ap, ◌∙◌}
+use Rattle.std.proofs.Math.Bool.{not-not}
 use Rattle.cedar_language.specs.Tree.{Boolean, Long, String, Entity}
 use Rattle.cedar_language.specs.Value.{Value, Plain, SetOf, RecordOf, ExtensionOf, Values, no_values, a_value}
 use Rattle.cedar_language.specs.Operators.{truth, contains_of, of_two_sets, has_member}
@@ -27,9 +28,5 @@ two_sets_at f (SetOf vs) (ExtensionOf e) = refl
 two_sets_at f (RecordOf ks vs) w = refl
 two_sets_at f (ExtensionOf e) w = refl
 
-not_not : (b : Bool) → not (not b) ≡ b
-not_not true = refl
-not_not false = refl
-
 pub undone : (b c : Bool) → c ≡ not b → not c ≡ b
-undone b c e = ap not e ∙ not_not b
+undone b c e = ap not e ∙ not-not b

@@ -22,7 +22,7 @@ pub loop-name-preserved : goal.loop-name-preserved
 loop-name-preserved g c =
     let table = as_table g.F.ExtensionFunctionObject.answers c.args.extensions.now in
     let given : IsGiven table (restricted_tree c.in-Some.expr) (partial_of c.in-Ok.value) =
-    subst (λ t. IsGiven table t (partial_of c.in-Ok.value)) c.as_borrowed.ensures (record { meant = c.in-Ok.ensures.meaning; answer = c.in-Ok.ensures.answer; left = c.in-Ok.ensures.left }) in
+    subst (λ t. IsGiven table t (partial_of c.in-Ok.value)) c.as_borrowed.ensures (record { meant = c.in-Ok.ensures.meaning; answer = c.in-Ok.ensures.answer; left = c.in-Ok.ensures.left; built = c.in-Ok.ensures.built }) in
     let within : height (restricted_tree c.in-Some.expr) ≤ c.args.depth = subst (λ t. height t ≤ c.args.depth) c.as_borrowed.ensures c.in-Ok.ensures.limit in (
       goes_on table c.args.exprs.entries c.loop-name.name-iterator c.next.new.self c.loop-name.values.entries c.in-Some.name c.in-Some.expr c.loop-name.invariant.0 c.in-Some.ensures.steps
           c.insert.new.self.entries c.in-Ok.value c.into_iter-name-iterator.ensures.into_iter_gives.5 c.in_ok-insert-in-Ok.ensures.entries given,

@@ -10,4 +10,4 @@ use Rattle.cedar_operators.proofs.tags.told.Goals as goal
 
 pub returns-in_ok-still_unknown-in-Residual : goal.returns-in_ok-still_unknown-in-Residual
 returns-in_ok-still_unknown-in-Residual c =
-    fails_as (λ k. (t : Tree) × (partial_of c.args.found.now ≡ Right t)) c.in_ok-still_unknown-in-Residual.field-0 NonValue c.in_ok-still_unknown-in-Residual.ensures (bare c.in-Residual.residual, ap partial_of c.in-Residual.is)
+    fails_as (λ k. (t : Tree) × (partial_of c.args.found.now ≡ Right t)) c.in_ok-still_unknown-in-Residual.field-0 NonValue c.in_ok-still_unknown-in-Residual.ensures.kind (bare c.in-Residual.residual, ap partial_of c.in-Residual.is)
