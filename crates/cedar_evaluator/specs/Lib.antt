@@ -1,3 +1,4 @@
+pub mod Asking
 pub mod Evaluations
 pub mod Responses
 pub mod Evaluating
@@ -34,7 +35,7 @@ pub use Rattle.cedar_requests.specs.Residuals as ContextResiduals
 pub use Rattle.cedar_requests.specs.Sameness
 pub use Rattle.cedar_requests.specs.Telling
 pub use Rattle.cedar_requests.specs.ToldContexts
-pub use Rattle.cedar_interpreter.specs.Asking
+pub use Rattle.cedar_interpreter.specs.Asking as EvaluatorAsking
 pub use Rattle.cedar_interpreter.specs.Holding as EvaluatorHolding
 pub use Rattle.cedar_interpreter.specs.Meeting
 pub use Rattle.cedar_interpreter.specs.Operating
