@@ -42,6 +42,8 @@ mod Paired
 mod Erring
 pub mod AskedSo
 mod AskedAgain
+mod Expressions
+mod MadeStores
 mod Answering
 mod AnsweringKnown
 mod AnsweringAgain

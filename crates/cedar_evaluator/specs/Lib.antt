@@ -18,6 +18,8 @@ pub mod Scopes
 pub mod Candidates
 pub mod IdsLeft
 pub mod Questions
+pub mod Expressions
+pub mod MadeStores
 pub use Rattle.cedar_value_operators.specs.Operands
 pub use Rattle.cedar_value_operators.specs.Comparing
 pub use Rattle.cedar_value_operators.specs.Sets
