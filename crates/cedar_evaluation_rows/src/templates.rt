@@ -30,7 +30,10 @@ pub(crate) fn of_template(
         "condition" => show(alloc, template.condition(alloc)),
         "renamed" => show(alloc, template.new_id(alloc, id)),
         "copied" => show(alloc, template.clone(alloc)),
-        "of-body" => show(alloc, Template::from_in(alloc, template.body().clone(alloc)?)),
+        "of-body" => show(
+            alloc,
+            Template::from_in(alloc, template.body().clone(alloc)?),
+        ),
         "as-static" => show(alloc, StaticPolicy::try_from(template.clone(alloc)?)),
         "as-policy" => {
             let shared = Rc::new(alloc, template.clone(alloc)?)?;
@@ -48,11 +51,7 @@ pub(crate) fn of_template(
 }
 
 /// What is made of the static policy that a template is.
-fn of_static(
-    alloc: Global,
-    verb: &str,
-    own: Result<StaticPolicy, UnexpectedSlotError>,
-) -> Answer {
+fn of_static(alloc: Global, verb: &str, own: Result<StaticPolicy, UnexpectedSlotError>) -> Answer {
     let Ok(own) = own else {
         return no_case(alloc);
     };
@@ -77,7 +76,10 @@ fn relinked(alloc: Global, policy: &Policy) -> Answer {
     }
     let id = PolicyID::from_string(alloc, "z")?;
     let template = Rc::new(alloc, policy.template().new_id(alloc, id)?)?;
-    show(alloc, policy.relink(alloc, template, PolicyID::from_string(alloc, "m")?))
+    show(
+        alloc,
+        policy.relink(alloc, template, PolicyID::from_string(alloc, "m")?),
+    )
 }
 
 /// The entities that the policy has as unknowns.
@@ -114,7 +116,10 @@ pub(crate) fn of_policy(alloc: Global, verb: &str, id: &str, held: &Sets) -> Ans
 /// What is told of the first slot where a static policy was expected.
 fn unexpected(alloc: Global, slots: &[Slot]) -> Answer {
     let error = match slots.first() {
-        Some(slot) => UnexpectedSlotError::FoundSlot(Slot { id: slot.id, loc: None }),
+        Some(slot) => UnexpectedSlotError::FoundSlot(Slot {
+            id: slot.id,
+            loc: None,
+        }),
         None => UnexpectedSlotError::Memory(AllocError),
     };
     show(alloc, ExpectedStaticPolicy::try_from(error))
