@@ -28,7 +28,7 @@ use Rattle.cedar_world.specs.WorldFacts.{AreFactsOf}
 use Rattle.cedar_policy_parts.specs.Bindings.{binding_of, unbound}
 use Rattle.cedar_entities.specs.declared.store.Entities.{Entities}
 use Rattle.cedar_extensions.specs.Table.{Table}
-use Rattle.cedar_interpreter.specs.Asking.{Inquiry, untold, request_held}
+use Rattle.cedar_evaluator.specs.Asking.{Inquiry, untold, request_held}
 use Rattle.cedar_interpreter.specs.Operating.{HasFunctions}
 use Rattle.cedar_operators.specs.Store.{HasFacts}
 use Rattle.cedar_policy_set.specs.Entries.{Entry, bound_at, policies_of}

@@ -29,7 +29,7 @@ use Rattle.cedar_extensions.specs.Failures.{OfKind, LimitMet, failure_of}
 use Rattle.cedar_extensions.specs.Giving.{FailsBy}
 use Rattle.cedar_extensions.specs.declared.evaluation_error.EvaluationError.{EvaluationError}
 use Rattle.cedar_extensions.specs.Table.{Table}
-use Rattle.cedar_interpreter.specs.Asking.{context_asked}
+use Rattle.cedar_evaluator.specs.Asking.{context_asked}
 use Rattle.cedar_interpreter.specs.Operating.{HasFunctions}
 use Rattle.cedar_held.proofs.PolicyWorlds.{ties_are}
 use Rattle.cedar_restricted_evaluation.specs.Evaluations.{part_answer}

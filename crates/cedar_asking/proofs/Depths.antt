@@ -17,6 +17,7 @@ use Rattle.cedar_partial_evaluation.specs.Partial.{Answer, Evaluated, ResidualTr
 use Rattle.cedar_world.specs.Heights.{value_height, value_heights, Heights, variable_height, read_height, grown, all_grown, grown_answer, AreWithin, told_height}
 use Rattle.cedar_world.proofs.Grown.{both_within, below_within, three_within, some_grown, height_grows, grows}
 use Rattle.cedar_interpreter.specs.Depths.{left_height, read_again, evaluation_depth, evaluation_depths}
+use Rattle.cedar_interpreter.proofs.Branches.{branch_low, behind_low}
 use Rattle.cedar_restricted.specs.Expressing.{Expresses, ExpressAll}
 use Rattle.cedar_restricted.specs.Laws.{WrittenValuesAreGround, GroundTreesAreRestricted}
 use Rattle.cedar_substitution.specs.Told.{told_for}
@@ -63,13 +64,13 @@ module _ (h : Heights) (limit : ℕ) (facts : Facts) (holds : LeafAnswers) (with
     depth_grows (Unknown n ty) m = within.some_named n
     depth_grows (If t y n) m =
         let (low, then, other) = three_within limit (grown h t) (grown h y) (grown h n) m in
-        omega (arith, depth_grows t low, depth_grows y then, depth_grows n other)
+        omega (arith, depth_grows t low, depth_grows y then, depth_grows n other, branch_low (partial_in facts holds t) (evaluation_depth facts holds y) (evaluation_depth facts holds n))
     depth_grows (And l r) m =
         let (left, right) = both_within limit (grown h l) (grown h r) (omega arith) in
-        omega (arith, depth_grows l left, depth_grows r right)
+        omega (arith, depth_grows l left, depth_grows r right, branch_low (partial_in facts holds l) (evaluation_depth facts holds r) 0)
     depth_grows (Or l r) m =
         let (left, right) = both_within limit (grown h l) (grown h r) (omega arith) in
-        omega (arith, depth_grows l left, depth_grows r right)
+        omega (arith, depth_grows l left, depth_grows r right, branch_low (partial_in facts holds l) 0 (evaluation_depth facts holds r))
     depth_grows (Apply op ts) m =
         let low = below_within limit (read_height h op) (all_grown h ts) m in
         omega (arith, depths_grow ts low, again_grows op ts low, le-max_right (read_height h op) (suc (all_grown h ts)))
@@ -78,7 +79,7 @@ module _ (h : Heights) (limit : ℕ) (facts : Facts) (holds : LeafAnswers) (with
     depths_grow no_trees m = omega arith
     depths_grow (a_tree t ts) m =
         let (first, rest) = both_within limit (grown h t) (all_grown h ts) m in
-        omega (arith, depth_grows t first, depths_grow ts rest)
+        omega (arith, depth_grows t first, depths_grow ts rest, behind_low (partial_in facts holds t) (evaluation_depths facts holds ts))
 
   -- ---- what is taken up again
 

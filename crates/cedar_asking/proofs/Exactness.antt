@@ -21,7 +21,7 @@ use Rattle.cedar_world.specs.Setting.{Setting}
 use Rattle.cedar_world.specs.Values.{holds_bad_unknown}
 use Rattle.cedar_policy_parts.specs.Bindings.{Bindings, binding_of}
 use Rattle.cedar_extensions.specs.Table.{Table}
-use Rattle.cedar_interpreter.specs.Asking.{untold, request_held}
+use Rattle.cedar_evaluator.specs.Asking.{untold, request_held}
 use Rattle.cedar_interpreter.specs.Operating.{HasFunctions}
 use Rattle.cedar_requests.specs.Holding.{RequestParts}
 use Rattle.cedar_evaluator.specs.Evaluations.{Found, Satisfied, Unsatisfied, Erred, Open, Finds}

@@ -32,7 +32,7 @@ use Rattle.cedar_entities.specs.declared.store.Entities.{Entities}
 use Rattle.cedar_extensions.specs.Table.{Table}
 use Rattle.cedar_operators.specs.Store.{HasFacts}
 use Rattle.cedar_requests.specs.Holding.{RequestParts}
-use Rattle.cedar_interpreter.specs.Asking.{untold, request_held}
+use Rattle.cedar_evaluator.specs.Asking.{untold, request_held}
 use Rattle.cedar_interpreter.proofs.Depths.{held_known, slot_known, known_depth}
 use Rattle.cedar_policy_parts.specs.Bindings.{binding_of}
 use Rattle.cedar_interpreter.specs.Operating.{HasFunctions, NamesNothing}
@@ -41,7 +41,7 @@ use Rattle.cedar_policy_set.specs.Texts.{AreToldBySlots, syntax_in}
 use Rattle.cedar_held.specs.PolicyWorlds.{policies_in, FindsAsWorlds}
 use Rattle.cedar_replies.specs.Erring.{have_kinds, with_kinds}
 use Rattle.cedar_replies.specs.declared.error_kind.ErrorKind.{ErrorKind}
-use Rattle.cedar_evaluator.specs.Evaluations.{Kept, AreKept, IsServed, is_given, condition_in}
+use Rattle.cedar_evaluator.specs.Evaluations.{Kept, AreKept, IsServed, is_given, bindings_in, condition_in}
 use Rattle.cedar_evaluator.specs.Responses.{errors_of, holding_of, judged_held}
 use Rattle.cedar_evaluator.proofs.KeptOf.{kept_of, of_kept}
 use Rattle.cedar_evaluator.proofs.Standings.{judged, is_settled, stands_as_found}
@@ -183,7 +183,8 @@ module _ (r : RequestParts) (store : Entities) (table : Table) (depth : ℕ) whe
         let (e, in_set, of) = kept_of (untold r) store table depth (policies_of es) ks kept k among in
         let (at, policy) = is_bound es whole e in_set in
         let calls = names e.0 e.1 at in
-        let (bs, deep) = of.limit found facts (serves e.1 calls) in
+        let bs = bindings_in e.1 in
+        let deep = of.limit found facts (serves e.1 calls) in
         let holds = request_held (untold r) bs in
         let force = is_in_force es whole slots finds world held e.0 e.1 at policy in
         let written = height_as_written conditions keeps e.1 in (

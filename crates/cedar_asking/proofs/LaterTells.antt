@@ -46,7 +46,7 @@ use Rattle.cedar_entities.specs.declared.store.Entities.{Entities}
 use Rattle.cedar_extensions.specs.Failures.{Failure, OfKind, LimitMet, MemoryRanOut, failure_of}
 use Rattle.cedar_extensions.specs.declared.evaluation_error.EvaluationError.{EvaluationError}
 use Rattle.cedar_extensions.specs.Table.{Table}
-use Rattle.cedar_interpreter.specs.Asking.{Inquiry, untold, context_asked, request_held}
+use Rattle.cedar_evaluator.specs.Asking.{Inquiry, untold, context_asked, request_held}
 use Rattle.cedar_interpreter.specs.Operating.{HasFunctions}
 use Rattle.cedar_policy_set.specs.Entries.{Entry, Entries, policies_of}
 use Rattle.cedar_restricted.specs.Laws.{WrittenValuesAreGround, GroundTreesAreRestricted}
@@ -235,7 +235,8 @@ module _ (c : Rests) (by : Setting) (world : World) (q : Question) (first : Part
           let calls : calls_unknown (condition_in d.1) ≡ false =
           ap (λ (x : Entry). calls_unknown (condition_in x)) left.policy ∙ clause_calls k.effect left.annotations (clause_of k.found)
           ∙ clause_calls_nothing c.plain c.finds by world facts are_facts q first response k in_ks e in_set of in
-          let (bs, deep) = of_later.limit met facts
+          let bs = bindings_in d.1 in
+          let deep = of_later.limit met facts
           (record { entities = store_has_facts by world facts s are_facts now.shows now.closed now.whole; functions = served; names_nothing = names_nothing table (condition_in d.1) calls }) in
           let clause : grown h (condition_in d.1) ≤ suc (grown h (clause_of k.found)) =
           subst (λ (x : Entry). grown h (condition_in x) ≤ suc (grown h (clause_of k.found))) (sym left.policy)

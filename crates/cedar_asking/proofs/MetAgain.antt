@@ -10,7 +10,7 @@ use Rattle.cedar_world.specs.World.{World}
 use Rattle.cedar_entities.specs.declared.store.Entities.{Entities}
 use Rattle.cedar_extensions.specs.Failures.{LimitMet}
 use Rattle.cedar_extensions.specs.Table.{Table}
-use Rattle.cedar_interpreter.specs.Asking.{untold}
+use Rattle.cedar_evaluator.specs.Asking.{untold}
 use Rattle.cedar_policy_set.specs.Entries.{policies_of}
 use Rattle.cedar_held.specs.PolicyWorlds.{FindsAsWorlds}
 use Rattle.cedar_substitution.specs.Told.{told_for}

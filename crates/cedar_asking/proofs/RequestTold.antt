@@ -25,7 +25,7 @@ use Rattle.cedar_world.specs.Setting.{Setting}
 use Rattle.cedar_world.specs.Values.{variable_names}
 use Rattle.cedar_policy_parts.specs.Bindings.{unbound}
 use Rattle.cedar_extensions.specs.Table.{Table}
-use Rattle.cedar_interpreter.specs.Asking.{context_asked, variable_asked, request_held}
+use Rattle.cedar_evaluator.specs.Asking.{context_asked, variable_asked, request_held}
 use Rattle.cedar_interpreter.specs.Operating.{HasFunctions}
 use Rattle.cedar_requests.specs.Contexts.{context_part}
 use Rattle.cedar_requests.specs.Creating.{is_record_value}

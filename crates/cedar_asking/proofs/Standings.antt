@@ -24,7 +24,7 @@ use Rattle.cedar_asking.proofs.Known.{all_known}
 use Rattle.cedar_policy_parts.specs.Bindings.{Bindings, binding_of, unbound}
 use Rattle.cedar_extensions.specs.Table.{Table}
 use Rattle.cedar_requests.specs.Holding.{RequestParts}
-use Rattle.cedar_interpreter.specs.Asking.{untold, request_held}
+use Rattle.cedar_evaluator.specs.Asking.{untold, request_held}
 use Rattle.cedar_interpreter.specs.Holding.{is_evaluated}
 use Rattle.cedar_interpreter.specs.Operating.{HasFunctions}
 use Rattle.cedar_policy_set.specs.Entries.{Entry, static_policy, template, link}

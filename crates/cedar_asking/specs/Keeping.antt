@@ -15,7 +15,7 @@ use Rattle.cedar_world.specs.WorldFacts.{facts_of}
 use Rattle.cedar_world.specs.Joined.{IsSteady}
 use Rattle.cedar_entities.specs.declared.store.Entities.{Entities}
 use Rattle.cedar_extensions.specs.Table.{Table}
-use Rattle.cedar_interpreter.specs.Asking.{untold}
+use Rattle.cedar_evaluator.specs.Asking.{untold}
 use Rattle.cedar_policy_set.specs.Entries.{Entries, IsWhole}
 use Rattle.cedar_requests.specs.Holding.{RequestParts}
 use Rattle.cedar_substitution.specs.Told.{told_for}

@@ -19,7 +19,7 @@ use Rattle.cedar_held.specs.Shown.{Shows}
 use Rattle.cedar_entities.specs.Store.{held_at, is_partial_store, IsClosed}
 use Rattle.cedar_entities.specs.declared.store.Entities.{Entities}
 use Rattle.cedar_extensions.specs.Table.{Table}
-use Rattle.cedar_interpreter.specs.Asking.{untold}
+use Rattle.cedar_evaluator.specs.Asking.{untold}
 use Rattle.cedar_interpreter.specs.Operating.{HasFunctions}
 use Rattle.cedar_operators.specs.Store.{HasFacts}
 use Rattle.cedar_policy_set.specs.Entries.{Entries, IsWhole, policies_of}

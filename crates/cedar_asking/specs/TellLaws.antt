@@ -21,7 +21,7 @@ use Rattle.cedar_world.specs.Lookups.{ListsStanding}
 use Rattle.cedar_entities.specs.declared.store.Entities.{Entities}
 use Rattle.cedar_extensions.specs.Failures.{Failure, OfKind, LimitMet, failure_of}
 use Rattle.cedar_extensions.specs.Table.{Table}
-use Rattle.cedar_interpreter.specs.Asking.{untold}
+use Rattle.cedar_evaluator.specs.Asking.{untold}
 use Rattle.cedar_policy_set.specs.Entries.{Entries, IsWhole}
 use Rattle.cedar_replies.specs.declared.error_kind.ErrorKind.{ErrorKind}
 use Rattle.cedar_requests.specs.Holding.{RequestParts}

@@ -9,7 +9,7 @@ use Rattle.cedar_language.specs.Order.{same_text}
 use Rattle.cedar_language.specs.Value.{Value}
 use Rattle.cedar_entities.specs.declared.store.Entities.{Entities as Store}
 use Rattle.cedar_extensions.specs.Table.{Table}
-use Rattle.cedar_interpreter.specs.Asking.{Inquiry}
+use Rattle.cedar_evaluator.specs.Asking.{Inquiry}
 use Rattle.cedar_policy_set.specs.Entries.{Entries, policies_of}
 use Rattle.cedar_policy_set.specs.declared.errors.PolicySetError.{PolicySetError}
 use Rattle.cedar_policy_set.specs.declared.errors.PolicySetError.TheVariants as adding

@@ -14,7 +14,7 @@ use Rattle.cedar_partial_evaluation.specs.Question.{Question}
 use Rattle.cedar_entities.specs.declared.store.Entities.{Entities}
 use Rattle.cedar_extensions.specs.Failures.{Failure, OfKind}
 use Rattle.cedar_extensions.specs.Table.{Table}
-use Rattle.cedar_interpreter.specs.Asking.{Inquiry, untold}
+use Rattle.cedar_evaluator.specs.Asking.{Inquiry, untold}
 use Rattle.cedar_policy_set.specs.Entries.{Entries, policies_of}
 use Rattle.cedar_requests.specs.Holding.{RequestParts}
 use Rattle.cedar_evaluator.specs.Authorizing.{RespondsWith}

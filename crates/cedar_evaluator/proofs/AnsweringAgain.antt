@@ -20,7 +20,7 @@ use Rattle.cedar_partial_evaluation.specs.Reauthorizing.{IsErring, condition_aga
 use Rattle.cedar_entities.specs.declared.store.Entities.{Entities}
 use Rattle.cedar_extensions.specs.Failures.{Failure, OfKind}
 use Rattle.cedar_extensions.specs.Table.{Table}
-use Rattle.cedar_interpreter.specs.Asking.{Inquiry, untold}
+use Rattle.cedar_evaluator.specs.Asking.{Inquiry, untold}
 use Rattle.cedar_interpreter.specs.Operating.{NamesNothing}
 use Rattle.cedar_policy_set.specs.Entries.{Entry, Entries, policies_of}
 use Rattle.cedar_policy_set.specs.Texts.{condition_in}

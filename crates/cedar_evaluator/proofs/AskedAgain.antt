@@ -20,7 +20,7 @@ use Rattle.cedar_partial_evaluation.specs.Unknowns.{fits}
 use Rattle.cedar_policy_parts.specs.Bindings.{Bindings, binding_of, unbound}
 use Rattle.cedar_entities.specs.declared.store.Entities.{Entities}
 use Rattle.cedar_extensions.specs.Table.{Table}
-use Rattle.cedar_interpreter.specs.Asking.{Inquiry, context_asked, variable_asked, request_held}
+use Rattle.cedar_evaluator.specs.Asking.{Inquiry, context_asked, variable_asked, request_held}
 use Rattle.cedar_interpreter.specs.Operating.{HasFunctions}
 use Rattle.cedar_policy_set.specs.Entries.{Entry}
 use Rattle.cedar_policy_set.specs.Texts.{syntax_in, condition_in}

@@ -19,7 +19,7 @@ use Rattle.cedar_partial_evaluation.specs.Question.{Part, Entries as Written, Qu
 use Rattle.cedar_policy_parts.specs.Bindings.{Bindings, binding_of}
 use Rattle.cedar_entities.specs.declared.store.Entities.{Entities}
 use Rattle.cedar_extensions.specs.Table.{Table}
-use Rattle.cedar_interpreter.specs.Asking.{Inquiry, untold, context_asked, variable_asked, request_held}
+use Rattle.cedar_evaluator.specs.Asking.{Inquiry, untold, context_asked, variable_asked, request_held}
 use Rattle.cedar_policy_set.specs.Entries.{Entry, Entries}
 use Rattle.cedar_policy_set.specs.Texts.{condition_in}
 use Rattle.cedar_requests.specs.Holding.{RequestParts}

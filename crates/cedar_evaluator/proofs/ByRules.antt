@@ -10,7 +10,7 @@ use Rattle.cedar_partial_evaluation.specs.Partial.{KnownIsMeaning}
 use Rattle.cedar_entities.specs.declared.store.Entities.{Entities}
 use Rattle.cedar_extensions.specs.Failures.{Failure, OfKind, LimitMet, MemoryRanOut}
 use Rattle.cedar_extensions.specs.Table.{Table}
-use Rattle.cedar_interpreter.specs.Asking.{Inquiry}
+use Rattle.cedar_evaluator.specs.Asking.{Inquiry}
 use Rattle.cedar_policy_set.specs.Entries.{Entries, policies_of}
 use Rattle.cedar_evaluator.specs.Authorizing.{Responds}
 use Rattle.cedar_evaluator.specs.Concrete.{IsConcrete, has_no_value}

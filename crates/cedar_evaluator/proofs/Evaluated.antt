@@ -18,7 +18,7 @@ use Rattle.cedar_extensions.specs.Holding.{are_named}
 use Rattle.cedar_extensions.specs.Tables.{functions_in}
 use Rattle.cedar_extensions.specs.declared.evaluation_error.EvaluationError.{EvaluationError}
 use Rattle.cedar_interpreter.specs.Asking.{MeansTree}
-use Rattle.cedar_interpreter.specs.Holding.{held_by, Knows, Serves, ServesRead, is_naming, Deep, IsDeepRead, depth_of}
+use Rattle.cedar_interpreter.specs.Holding.{held_by, Knows, Serves, ServesRead, is_naming, Deep, NestsBeyond, IsDeepRead, depth_of}
 use Rattle.cedar_interpreter.specs.Naming.{naming_in}
 use Rattle.cedar_interpreter.specs.Meeting.{MeetsAt, ValueAt, IsLimit}
 use Rattle.cedar_interpreter.specs.declared.evaluator.Evaluator.{Evaluator}
@@ -39,8 +39,11 @@ module _ {F : Type 0} (answers : F → FunctionAnswers) (ev : Evaluator F) (t u 
       of_policy (λ x b. (facts : Facts) → Serves answers ev facts x → JudgesAt (partial_in facts (held_by ev b) x) result)
       (λ facts serves. judged (partial_in facts (held_by ev bs) t) (found facts serves))
 
-  pub limited_so : {X Y : Type 0} (answer : Result X EvaluationError) (result : Result Y EvaluationError) → (IsLimit answer → Deep answers ev (depth_of ev) t) → (IsLimit result → IsLimit answer) → IsLimit result → Deep answers ev (depth_of ev) u
-  limited_so answer result deep met limit = subst (Deep answers ev (depth_of ev)) is (deep (met limit))
+  pub limited_so : {X Y : Type 0} (answer : Result X EvaluationError) (result : Result Y EvaluationError) → (IsLimit answer → Deep answers ev bs (depth_of ev) t) → (IsLimit result → IsLimit answer) → IsLimit result → Deep answers ev cs (depth_of ev) u
+  limited_so answer result deep met limit = of_policy (λ x b. Deep answers ev b (depth_of ev) x) (deep (met limit))
+
+  pub limited_named_so : {X Y : Type 0} (answer : Result X EvaluationError) (result : Result Y EvaluationError) → (IsLimit answer → NestsBeyond answers ev bs (depth_of ev) t) → (IsLimit result → IsLimit answer) → IsLimit result → NestsBeyond answers ev cs (depth_of ev) u
+  limited_named_so answer result deep met limit = of_policy (λ x b. NestsBeyond answers ev b (depth_of ev) x) (deep (met limit))
 
   pub meant_so : (answer : Result Value EvaluationError) (result : Result Bool EvaluationError)
       → ((facts : Facts) → Serves answers ev facts t → MeansTree facts (held_by ev bs) (depth_of ev) t answer)
@@ -76,5 +79,5 @@ module _ {F : Type 0} (answers : F → FunctionAnswers) (ev : Evaluator F) (t u 
       of_policy (λ x b. (facts : Facts) → ServesRead answers ev facts x → StandsAt (partial_in facts (held_by ev b) (read_unknowns x)) result)
       (λ facts serves. stands (partial_in facts (held_by ev bs) (read_unknowns t)) (found facts serves))
 
-  pub limited_read_so : {X Y : Type 0} (answer : Result X EvaluationError) (result : Result Y EvaluationError) → (IsLimit answer → IsDeepRead answers ev (depth_of ev) t) → (IsLimit result → IsLimit answer) → IsLimit result → IsDeepRead answers ev (depth_of ev) u
-  limited_read_so answer result deep met limit = subst (IsDeepRead answers ev (depth_of ev)) is (deep (met limit))
+  pub limited_read_so : {X Y : Type 0} (answer : Result X EvaluationError) (result : Result Y EvaluationError) → (IsLimit answer → IsDeepRead answers ev bs (depth_of ev) t) → (IsLimit result → IsLimit answer) → IsLimit result → IsDeepRead answers ev cs (depth_of ev) u
+  limited_read_so answer result deep met limit = of_policy (λ x b. IsDeepRead answers ev b (depth_of ev) x) (deep (met limit))

@@ -1,5 +1,5 @@
 -- How a policy stands, by its scope and its clauses.
-use Rattle.std.proofs.Common.{◌≡◌, ◌<◌, ℕ, Bool, true, false, Option, Some, None, sym, ◌∙◌, ap, subst, arith}
+use Rattle.std.proofs.Common.{◌≡◌, Bool, true, false, Option, Some, None, sym, ◌∙◌, ap, subst}
 use Rattle.std.specs.Prelude.{Result, IfSome}
 use Rattle.either.specs.declared.Either.{Either}
 use Rattle.either.specs.declared.Either.TheVariants.{Left}
@@ -13,10 +13,9 @@ use Rattle.cedar_partial_evaluation.specs.Partial.{Answer, Evaluated, LeafAnswer
 use Rattle.cedar_policy_parts.specs.Bindings.{Bindings}
 use Rattle.cedar_extensions.specs.Answering.{FunctionAnswers}
 use Rattle.cedar_extensions.specs.declared.evaluation_error.EvaluationError.{EvaluationError}
-use Rattle.cedar_interpreter.specs.Depths.{evaluation_depth}
-use Rattle.cedar_interpreter.specs.Holding.{held_by, Serves, Deep}
+use Rattle.cedar_interpreter.specs.Holding.{held_by, Serves}
 use Rattle.cedar_interpreter.specs.declared.evaluator.Evaluator.{Evaluator}
-use Rattle.cedar_interpreter.proofs.Serving.{serves_and_right, deep_and_right}
+use Rattle.cedar_interpreter.proofs.Serving.{serves_and_right}
 use Rattle.cedar_trees.specs.declared.expr.Expr.{Expr}
 use Rattle.cedar_evaluator.specs.Evaluating.{found_by, JudgesAt}
 use Rattle.cedar_evaluator.specs.Evaluations.{Finds, found_read}
@@ -55,21 +54,9 @@ module _ {F : Type 0} (answers : F → FunctionAnswers) (ev : Evaluator F) where
   serves_right facts (Lit (Boolean a)) (Lit (Boolean b)) s = record { entities = s.entities; functions = s.functions; names_nothing = s.names_nothing }
   serves_right facts l r s = serves_and_right answers ev facts l r s
 
-  pub deep_right : (depth : ℕ) (l r : Tree) → Deep answers ev depth r → Deep answers ev depth (conjunction l r)
-  deep_right depth (Lit (Boolean a)) (Lit (Boolean b)) d = λ facts s.
-      let (slots, h) = d facts (record { entities = s.entities; functions = s.functions; names_nothing = s.names_nothing }) in
-      (slots, h)
-  deep_right depth l r d = λ facts s.
-      let (slots, h) = deep_and_right answers ev depth l r d facts s in
-      let k : depth < evaluation_depth facts (held_by ev slots) (And l r) = omega (arith, h) in
-      (slots, k)
-
   module _ (s : grammar.Policy) (t : Tree) (body : s.body ≡ Some t) where
     pub clauses_served : (facts : Facts) → Serves answers ev facts (condition s) → Serves answers ev facts t
     clauses_served facts serves = serves_right facts (scope_tree s) t (subst (λ (o : Option Tree). Serves answers ev facts (with_body (scope_tree s) o)) body serves)
-
-    pub clauses_deep : (depth : ℕ) → Deep answers ev depth t → Deep answers ev depth (condition s)
-    clauses_deep depth deep = subst (λ (o : Option Tree). Deep answers ev depth (with_body (scope_tree s) o)) (sym body) (deep_right depth (scope_tree s) t deep)
 
     pub clauses_found : (facts : Facts) (slots bs : Bindings) → slots ≡ bs → partial_in facts (held_by ev bs) (scope_tree s) ≡ Evaluated (Plain (Boolean true)) → (result : Result (Either Bool (Expr (Unit {0}))) EvaluationError) →
         JudgesAt (last_answer (And (Lit (Boolean true))) (partial_in facts (held_by ev slots) t)) result → JudgesAt (partial_in facts (held_by ev bs) (condition s)) result

@@ -11,7 +11,7 @@ use Rattle.cedar_language.specs.Uid.{Text}
 use Rattle.cedar_entities.specs.declared.store.Entities.{Entities}
 use Rattle.cedar_extensions.specs.Table.{Table}
 use Rattle.cedar_extensions.specs.Answering.{FunctionAnswers}
-use Rattle.cedar_interpreter.specs.Asking.{Inquiry}
+use Rattle.cedar_evaluator.specs.Asking.{Inquiry}
 use Rattle.cedar_interpreter.specs.declared.evaluator.Evaluator.{Evaluator}
 use Rattle.cedar_policies.specs.Policies.{policy_id}
 use Rattle.cedar_policies.specs.declared.policies.Policy.{Policy}

@@ -3,7 +3,7 @@ use Rattle.std.proofs.Common.{ℕ, inl, inr, List, [], ◌∷◌, refl, subst}
 use Rattle.cedar_language.specs.Uid.{Text}
 use Rattle.cedar_entities.specs.declared.store.Entities.{Entities}
 use Rattle.cedar_extensions.specs.Table.{Table}
-use Rattle.cedar_interpreter.specs.Asking.{Inquiry}
+use Rattle.cedar_evaluator.specs.Asking.{Inquiry}
 use Rattle.cedar_policy_set.specs.Entries.{Entry, Entries}
 use Rattle.cedar_evaluator.specs.Evaluations.{Kept, IsKept, AreKept}
 use Rattle.cedar_evaluator.proofs.Lists.{IsAmong}

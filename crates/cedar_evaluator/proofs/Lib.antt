@@ -1,3 +1,4 @@
+pub mod Asked
 mod Answered
 mod Evaluated
 mod Apart
@@ -22,6 +23,8 @@ mod Again
 mod Scoped
 mod Judged
 mod ReadConditions
+mod ScopeDepths
+mod Deepening
 mod Unmet
 mod OutOfScope
 mod Thinned
@@ -39,6 +42,8 @@ mod Paired
 mod Erring
 pub mod AskedSo
 mod AskedAgain
+mod Expressions
+mod MadeStores
 mod Answering
 mod AnsweringKnown
 mod AnsweringAgain

@@ -14,7 +14,7 @@ use Rattle.cedar_policy_parts.specs.Bindings.{binding_of}
 use Rattle.cedar_entities.specs.declared.store.Entities.{Entities}
 use Rattle.cedar_extensions.specs.Failures.{Failure, OfKind, LimitMet, MemoryRanOut}
 use Rattle.cedar_extensions.specs.Table.{Table}
-use Rattle.cedar_interpreter.specs.Asking.{Inquiry, variable_asked, request_held}
+use Rattle.cedar_evaluator.specs.Asking.{Inquiry, variable_asked, request_held}
 use Rattle.cedar_interpreter.specs.Holding.{is_evaluated}
 use Rattle.cedar_policy_set.specs.Entries.{Entry, Entries}
 use Rattle.cedar_policy_set.specs.Texts.{condition_in}
@@ -22,7 +22,7 @@ use Rattle.cedar_evaluator.specs.Evaluations.{Found, Satisfied, Unsatisfied, Err
 use Rattle.cedar_evaluator.specs.Known.{HasGiven, judged_in, IsKnownPolicy, meets_limit}
 use Rattle.cedar_evaluator.specs.Responses.{error_id, errors_of}
 use Rattle.cedar_evaluator.proofs.Standings as standings
-use Rattle.cedar_evaluator.proofs.Standings.{standing_found, is_settled, stands_as_found}
+use Rattle.cedar_evaluator.proofs.Standings.{is_settled, stands_as_found}
 
 -- ---- answers that are known
 

@@ -16,7 +16,7 @@ use Rattle.cedar_grammar.specs.Bindings.{Bindings}
 use Rattle.cedar_policy_parts.specs.Bindings.{unbound}
 use Rattle.cedar_entities.specs.declared.store.Entities.{Entities}
 use Rattle.cedar_operators.specs.Store.{HasFacts}
-use Rattle.cedar_interpreter.specs.Asking.{Inquiry, variable_asked, request_held}
+use Rattle.cedar_evaluator.specs.Asking.{Inquiry, variable_asked, request_held}
 use Rattle.cedar_interpreter.specs.declared.given.GivenEntity.{GivenEntity}
 use Rattle.cedar_policy_set.specs.Entries.{Entry, Entries, static_policy, template, link, is_policy}
 use Rattle.cedar_policy_set.specs.Scopes.{IsEntryFound, Covers}

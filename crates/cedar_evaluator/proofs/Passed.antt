@@ -12,7 +12,7 @@ use Rattle.cedar_language.specs.Order.{same_text}
 use Rattle.cedar_entities.specs.declared.store.Entities.{Entities}
 use Rattle.cedar_extensions.specs.Table.{Table}
 use Rattle.cedar_grammar.specs.Policy.{scope_tree}
-use Rattle.cedar_interpreter.specs.Asking.{Inquiry, request_held}
+use Rattle.cedar_evaluator.specs.Asking.{Inquiry, request_held}
 use Rattle.cedar_policy_set.specs.Entries.{Entry, Entries, policies_of}
 use Rattle.cedar_policy_set.proofs.Distinct.{distinct_apart}
 use Rattle.cedar_policy_set.specs.Scopes.{policy_stood}
@@ -74,6 +74,7 @@ module _ (i : Inquiry) (store : Entities) (table : Table) (depth : ℕ) where
     annotations = refl;
     found = λ facts served. out_of_scope facts (request_held i (bindings_in e.1)) (scope_tree (syntax_in e.1)) (syntax_in e.1).body (out facts served.entities);
     limit = λ met. absurd (cc met);
+    named_limit = λ met. absurd (cc met);
     read = λ facts served. out_of_scope_read (syntax_in e.1) facts (request_held i (bindings_in e.1)) (out facts served.entities);
     read_limit = λ met. absurd (cc met);
   }

@@ -1,5 +1,5 @@
 -- Conditions that are read: a scope calls nothing, and the clauses behind it are read.
-use Rattle.std.proofs.Common.{◌≡◌, ◌≤◌, ◌∙◌, ℕ, arith, Bool, true, false, Option, Some, None, option_map, List, [], ◌∷◌, map, inl, inr, refl, sym, ap, subst}
+use Rattle.std.proofs.Common.{◌≡◌, ◌∙◌, Bool, true, false, Option, Some, None, option_map, List, [], ◌∷◌, map, inl, inr, refl, sym, ap, subst}
 use Rattle.std.specs.Prelude.{◌||◌, Result, Ok, Err, IfSome}
 use Rattle.either.specs.declared.Either.{Either}
 use Rattle.cedar_language.specs.Facts.{Facts}
@@ -20,8 +20,7 @@ use Rattle.cedar_extensions.specs.Giving.{fails_on}
 use Rattle.cedar_extensions.specs.Holding.{are_named}
 use Rattle.cedar_extensions.specs.Tables.{functions_in}
 use Rattle.cedar_extensions.specs.declared.evaluation_error.EvaluationError.{EvaluationError}
-use Rattle.cedar_interpreter.specs.Depths.{evaluation_depth}
-use Rattle.cedar_interpreter.specs.Holding.{held_by, ServesRead, is_naming, IsDeepRead}
+use Rattle.cedar_interpreter.specs.Holding.{held_by, ServesRead, is_naming}
 use Rattle.cedar_interpreter.specs.Naming.{naming_in, as_read}
 use Rattle.cedar_interpreter.specs.declared.evaluator.Evaluator.{Evaluator}
 use Rattle.cedar_interpreter.proofs.NamingDepths.{IsAppliedRead, applied_read}
@@ -54,10 +53,6 @@ last_none false y h = h
 right_calls : (l r : Tree) → calls_unknown (conjunction l r) ≡ false → calls_unknown r ≡ false
 right_calls (Lit (Boolean a)) (Lit (Boolean b)) h = refl
 right_calls l r h = last_none (calls_unknown l) (calls_unknown r) h
-
-right_low : (facts : Facts) (holds : LeafAnswers) (l r : Tree) → evaluation_depth facts holds r ≤ evaluation_depth facts holds (conjunction l r)
-right_low facts holds (Lit (Boolean a)) (Lit (Boolean b)) = omega arith
-right_low facts holds l r = omega arith
 
 -- ---- a scope
 
@@ -99,7 +94,7 @@ module _ (s : grammar.Policy) where
   body_read (Some t) = conjunction_read (scope_tree s) t scope_read
 
   -- the clauses of a condition are read
-  condition_read : read_unknowns (condition s) ≡ with_body (scope_tree s) (option_map read_unknowns s.body)
+  pub condition_read : read_unknowns (condition s) ≡ with_body (scope_tree s) (option_map read_unknowns s.body)
   condition_read = body_read s.body
 
   module _ (facts : Facts) (holds : LeafAnswers) where
@@ -157,13 +152,6 @@ module _ {F : Type 0} (answers : F → FunctionAnswers) (ev : Evaluator F) (s : 
 
   pub clauses_served_read : (facts : Facts) → ServesRead answers ev facts (condition s) → ServesRead answers ev facts t
   clauses_served_read facts serves = record { knows = serves.knows; naming = serves.naming; written = written_read serves.written; variables = serves.variables }
-
-  pub clauses_deep_read : (depth : ℕ) → IsDeepRead answers ev depth t → IsDeepRead answers ev depth (condition s)
-  clauses_deep_read depth deep = λ facts serves.
-      let (slots, h) = deep facts (clauses_served_read facts serves) in
-      let low = right_low facts (held_by ev slots) (scope_tree s) (read_unknowns t) in
-      let k : depth ≤ evaluation_depth facts (held_by ev slots) (conjunction (scope_tree s) (read_unknowns t)) = omega (arith, h, low) in
-      (slots, subst (λ (u : Tree). depth ≤ evaluation_depth facts (held_by ev slots) u) (sym (condition_read s ∙ ap (λ (o : Option Tree). with_body (scope_tree s) (option_map read_unknowns o)) body)) k)
 
   module _ (unread : UnknownsAreRead) (named : are_named (functions_in ev.extensions.now) ≡ true) (facts : Facts) (slots bs : Bindings) (same : slots ≡ bs) (serves : ServesRead answers ev facts (condition s)) where
     clauses_read_as : partial_in facts (held_by ev slots) (read_unknowns t) ≡ as_read (naming_in (is_naming answers ev) facts (held_by ev slots) t)

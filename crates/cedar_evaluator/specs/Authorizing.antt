@@ -8,7 +8,7 @@ use Rattle.cedar_extensions.specs.Answering.{FunctionAnswers}
 use Rattle.cedar_extensions.specs.Table.{Table, as_table}
 use Rattle.cedar_policy_set.specs.Entries.{Entries, policies_of}
 use Rattle.cedar_requests.specs.Holding.{RequestParts}
-use Rattle.cedar_interpreter.specs.Asking.{Inquiry, IsEvaluatorOf}
+use Rattle.cedar_evaluator.specs.Asking.{Inquiry, IsEvaluatorOf}
 use Rattle.cedar_interpreter.specs.declared.evaluator.Evaluator.{Evaluator}
 use Rattle.cedar_evaluator.specs.Evaluations.{Kept, AreKept}
 use Rattle.cedar_evaluator.specs.Holding.{request_asked, holding_in}

@@ -12,7 +12,7 @@ use Rattle.cedar_partial_evaluation.specs.Partial.{Evaluated, partial_in}
 use Rattle.cedar_entities.specs.declared.store.Entities.{Entities}
 use Rattle.cedar_operators.specs.Hierarchy.{is_within_entity}
 use Rattle.cedar_operators.specs.Store.{HasFacts}
-use Rattle.cedar_interpreter.specs.Asking.{Inquiry, request_held}
+use Rattle.cedar_evaluator.specs.Asking.{Inquiry, request_held}
 use Rattle.cedar_interpreter.specs.declared.given.GivenEntity.{GivenEntity}
 use Rattle.cedar_policy_set.specs.Entries.{Entry, Entries, is_policy}
 use Rattle.cedar_policy_set.specs.Scopes.{policy_stood}

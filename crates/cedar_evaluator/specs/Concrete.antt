@@ -10,7 +10,7 @@ use Rattle.cedar_entities.specs.declared.store.Entities.{Entities}
 use Rattle.cedar_extensions.specs.Causes.{Cause, Residual, cause_of}
 use Rattle.cedar_extensions.specs.Failures.{Failure, OfKind}
 use Rattle.cedar_extensions.specs.Table.{Table}
-use Rattle.cedar_interpreter.specs.Asking.{Inquiry}
+use Rattle.cedar_evaluator.specs.Asking.{Inquiry}
 use Rattle.cedar_policy_parts.specs.Decisions.{decision_of}
 use Rattle.cedar_policy_set.specs.Entries.{Entries}
 use Rattle.cedar_trees.specs.Bare.{bare}

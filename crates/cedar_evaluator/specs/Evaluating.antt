@@ -8,13 +8,14 @@ use Rattle.cedar_language.specs.Authorization.{standing_of}
 use Rattle.cedar_language.specs.Facts.{Facts}
 use Rattle.cedar_language.specs.Height.{height}
 use Rattle.cedar_language.specs.Meaning.{Request, meaning}
-use Rattle.cedar_language.specs.Tree.{Tree}
-use Rattle.cedar_language.specs.Value.{Outcome, NonValue}
+use Rattle.cedar_language.specs.Tree.{Boolean, Tree}
+use Rattle.cedar_language.specs.Value.{Plain, Outcome, NonValue}
 use Rattle.cedar_grammar.specs.Policy as grammar
+use Rattle.cedar_grammar.specs.Policy.{scope_tree}
 use Rattle.cedar_partial_evaluation.specs.Early.{standing_of_answer}
 use Rattle.cedar_partial_evaluation.specs.Leaves.{is_left}
 use Rattle.cedar_partial_evaluation.specs.Mentions.{mentions_only}
-use Rattle.cedar_partial_evaluation.specs.Partial.{Answer, LeafAnswers, partial_in}
+use Rattle.cedar_partial_evaluation.specs.Partial.{Answer, Evaluated, LeafAnswers, partial_in}
 use Rattle.cedar_partial_evaluation.specs.ReadUnknowns.{read_unknowns}
 use Rattle.cedar_policies.specs.Policies.{bindings_of, policy_syntax}
 use Rattle.cedar_policies.specs.declared.policies.Policy.{Policy}
@@ -25,7 +26,9 @@ use Rattle.cedar_extensions.specs.Answering.{FunctionAnswers}
 use Rattle.cedar_extensions.specs.Giving.{GivesBy}
 use Rattle.cedar_extensions.specs.Table.{Table}
 use Rattle.cedar_extensions.specs.declared.evaluation_error.EvaluationError.{EvaluationError}
-use Rattle.cedar_interpreter.specs.Asking.{Inquiry, request_held, is_known_in, IsEvaluatorOf, IsHeldOf}
+use Rattle.cedar_interpreter.specs.Asking.{is_known_in, IsHeldOf}
+use Rattle.cedar_evaluator.specs.Asking.{Inquiry, request_held, IsEvaluatorOf}
+use Rattle.cedar_interpreter.specs.Holding.{held_by}
 use Rattle.cedar_interpreter.specs.declared.evaluator.Evaluator.{Evaluator}
 use Rattle.cedar_evaluator.specs.Evaluations.{Found, Satisfied, Unsatisfied, Open, Finds, found_read, IsServed, IsServedRead}
 use Rattle.cedar_evaluator.specs.Scopes.{AreScopesOf}
@@ -34,6 +37,10 @@ use Rattle.cedar_evaluator.specs.declared.scopes.Scopes.{Scopes}
 -- the condition of a policy, its template's; slots stand there unbound
 abbrev pub condition_of : Policy → Tree
 condition_of p = grammar.condition (policy_syntax p)
+
+-- the scope of a policy holds
+abbrev pub IsInScope : {F : Type 0} → Evaluator F → Facts → Policy → Type 0
+IsInScope ev facts p = partial_in facts (held_by ev (bindings_of p)) (scope_tree (policy_syntax p)) ≡ Evaluated (Plain (Boolean true))
 
 -- satisfied or not, or what is left of the condition
 abbrev pub found_by : Either Bool (Expr (Unit {0})) → Found

@@ -14,10 +14,10 @@ use Rattle.cedar_extensions.specs.Failures.{Failure, OfKind, LimitMet, MemoryRan
 use Rattle.cedar_extensions.specs.Table.{Table}
 use Rattle.cedar_entities.specs.declared.store.Entities.{Entities}
 use Rattle.cedar_operators.specs.Store.{HasFacts}
-use Rattle.cedar_interpreter.specs.Asking.{Inquiry, variable_asked, request_held}
+use Rattle.cedar_evaluator.specs.Asking.{Inquiry, variable_asked, request_held}
 use Rattle.cedar_interpreter.specs.Depths.{evaluation_depth}
 use Rattle.cedar_interpreter.specs.Holding.{is_evaluated}
-use Rattle.cedar_interpreter.specs.Naming.{IsPlain}
+use Rattle.cedar_interpreter.specs.Naming.{naming_depth, IsPlain}
 use Rattle.cedar_interpreter.specs.Operating.{HasFunctions, NamesNothing}
 use Rattle.cedar_policy_set.specs.Entries.{Entry, static_policy, template, link, Entries}
 pub use Rattle.cedar_policy_set.specs.Texts.{condition_in}
@@ -76,9 +76,15 @@ module _ (i : Inquiry) (store : Entities) (table : Table) (depth : ℕ) where
   abbrev pub policy_answer : Facts → Entry → Answer
   policy_answer facts e = partial_in facts (request_held i (bindings_in e)) (condition_in e)
 
-  -- with its slots bound in some way, the evaluation of the policy's condition nests deeper than the limit
-  abbrev pub IsTooDeep : Entry → Type 0
-  IsTooDeep e = (facts : Facts) → IsServed facts (condition_in e) → (slots : Bindings) × (depth < evaluation_depth facts (request_held i slots) (condition_in e))
+  -- with its slots bound so, the evaluation of a condition nests deeper than the limit
+  abbrev pub IsTooDeep : Bindings → Tree → Type 0
+  IsTooDeep slots t = (facts : Facts) → IsServed facts t → depth < evaluation_depth facts (request_held i slots) t
+
+  -- the same, whatever calls in the condition may name
+  abbrev pub NestsTooDeep : Bindings → Tree → Type 0
+  NestsTooDeep slots t =
+      (facts : Facts) → HasFacts store facts → HasFunctions table facts →
+      depth < naming_depth table.has_unknown facts (request_held i slots) t
 
   -- these are the facts, and each call of `unknown`, which the table has, is on one string literal in the tree; none stands in what is
   -- left of the request's context
@@ -93,9 +99,9 @@ module _ (i : Inquiry) (store : Entities) (table : Table) (depth : ℕ) where
   abbrev pub read_answer : Facts → Entry → Answer
   read_answer facts e = partial_in facts (request_held i (bindings_in e)) (read_unknowns (condition_in e))
 
-  -- with its slots bound in some way, the evaluation of that nests as deep as the limit: a call is a level above its text
-  abbrev pub IsTooDeepRead : Entry → Type 0
-  IsTooDeepRead e = (facts : Facts) → IsServedRead facts (condition_in e) → (slots : Bindings) × (depth ≤ evaluation_depth facts (request_held i slots) (read_unknowns (condition_in e)))
+  -- with unknowns in the places of these calls, the evaluation of a condition nests as deep as the limit: a call is a level above its text
+  abbrev pub IsTooDeepRead : Bindings → Tree → Type 0
+  IsTooDeepRead slots t = (facts : Facts) → IsServedRead facts t → depth ≤ evaluation_depth facts (request_held i slots) (read_unknowns t)
 
   -- what is kept of the policy of this id
   pub record IsKept (e : Text × Entry) (k : Kept) : Type 0 where
@@ -103,9 +109,10 @@ module _ (i : Inquiry) (store : Entities) (table : Table) (depth : ℕ) where
     pub effect : k.effect ≡ (syntax_in e.1).effect
     pub annotations : k.annotations ≡ (syntax_in e.1).annotations
     pub found : (facts : Facts) → IsServed facts (condition_in e.1) → Finds (policy_answer facts e.1) k.found
-    pub limit : k.found ≡ Erred LimitMet → IsTooDeep e.1
+    pub limit : k.found ≡ Erred LimitMet → IsTooDeep (bindings_in e.1) (condition_in e.1)
+    pub named_limit : k.found ≡ Erred LimitMet → NestsTooDeep (bindings_in e.1) (condition_in e.1)
     pub read : (facts : Facts) → IsServedRead facts (condition_in e.1) → Finds (read_answer facts e.1) (found_read k.found)
-    pub read_limit : k.found ≡ Erred LimitMet → IsTooDeepRead e.1
+    pub read_limit : k.found ≡ Erred LimitMet → IsTooDeepRead (bindings_in e.1) (condition_in e.1)
 
   -- what is kept of each policy, one after another
   abbrev pub AreKept : Entries → List Kept → Type 0

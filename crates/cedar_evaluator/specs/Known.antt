@@ -15,7 +15,7 @@ use Rattle.cedar_policy_parts.specs.Decisions.{decision_of}
 use Rattle.cedar_entities.specs.declared.store.Entities.{Entities}
 use Rattle.cedar_extensions.specs.Failures.{Failure, OfKind, LimitMet, MemoryRanOut}
 use Rattle.cedar_extensions.specs.Table.{Table}
-use Rattle.cedar_interpreter.specs.Asking.{Inquiry, variable_asked}
+use Rattle.cedar_evaluator.specs.Asking.{Inquiry, variable_asked}
 use Rattle.cedar_policy_set.specs.Entries.{Entry, Entries, policies_of}
 use Rattle.cedar_policy_set.specs.Texts.{syntax_in, condition_in}
 use Rattle.cedar_requests.specs.Holding.{RequestParts}

@@ -1,3 +1,4 @@
+pub mod Asking
 pub mod Evaluations
 pub mod Responses
 pub mod Evaluating
@@ -17,6 +18,8 @@ pub mod Scopes
 pub mod Candidates
 pub mod IdsLeft
 pub mod Questions
+pub mod Expressions
+pub mod MadeStores
 pub use Rattle.cedar_value_operators.specs.Operands
 pub use Rattle.cedar_value_operators.specs.Comparing
 pub use Rattle.cedar_value_operators.specs.Sets
@@ -34,7 +37,7 @@ pub use Rattle.cedar_requests.specs.Residuals as ContextResiduals
 pub use Rattle.cedar_requests.specs.Sameness
 pub use Rattle.cedar_requests.specs.Telling
 pub use Rattle.cedar_requests.specs.ToldContexts
-pub use Rattle.cedar_interpreter.specs.Asking
+pub use Rattle.cedar_interpreter.specs.Asking as EvaluatorAsking
 pub use Rattle.cedar_interpreter.specs.Holding as EvaluatorHolding
 pub use Rattle.cedar_interpreter.specs.Meeting
 pub use Rattle.cedar_interpreter.specs.Operating

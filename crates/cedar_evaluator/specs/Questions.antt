@@ -26,7 +26,7 @@ use Rattle.cedar_partial_evaluation.specs.Unknowns.{EachUnknownOf}
 use Rattle.cedar_entities.specs.declared.store.Entities.{Entities}
 use Rattle.cedar_extensions.specs.Failures.{OfKind}
 use Rattle.cedar_extensions.specs.Table.{Table}
-use Rattle.cedar_interpreter.specs.Asking.{Inquiry, untold}
+use Rattle.cedar_evaluator.specs.Asking.{Inquiry, untold}
 use Rattle.cedar_interpreter.specs.Operating.{HasFunctions, NamesNothing}
 use Rattle.cedar_operators.specs.Store.{HasFacts}
 use Rattle.cedar_policy_set.specs.Entries.{Entries, policies_of}

@@ -10,7 +10,7 @@ use Rattle.cedar_grammar.specs.Policy.{Constraint, anything, equals, within, of_
 use Rattle.cedar_grammar.specs.Scopes.{and_then_met}
 use Rattle.cedar_partial_evaluation.specs.Partial.{Answer, Evaluated, LeafAnswers, partial_in}
 use Rattle.cedar_entities.specs.declared.store.Entities.{Entities}
-use Rattle.cedar_interpreter.specs.Asking.{Inquiry, variable_asked}
+use Rattle.cedar_evaluator.specs.Asking.{Inquiry, variable_asked}
 use Rattle.cedar_interpreter.specs.Seen.{IsSeen}
 use Rattle.cedar_interpreter.specs.declared.given.GivenEntity.{GivenEntity}
 use Rattle.cedar_policy_parts.specs.References.{target_bound}

@@ -15,6 +15,7 @@ pub use cedar_policy_parts::annotations::Annotations;
 pub use cedar_policy_parts::bindings::SlotEnv;
 pub use cedar_policy_parts::{Effect, PolicyID};
 pub use cedar_policy_set::errors::PolicySetError;
+pub use cedar_policy_set::policy_map::PolicyMap;
 pub use cedar_policy_set::sets::PolicySet;
 pub use cedar_requests::{
     Context, ContextCreationError, ContextEntries, EntityUIDEntry, NotARecord, Request,

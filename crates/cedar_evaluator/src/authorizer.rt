@@ -3,13 +3,14 @@
 //! unknown; `is_authorized_without_false` where nothing is asked of the policies that aren't satisfied.
 ghost use Rattle.std.specs.Prelude.{◌≡◌, [], IfOk};
 ghost use Rattle.cedar_extensions.specs.Table.{as_table};
-ghost use Rattle.cedar_interpreter.specs.Asking.{untold, IsEvaluatorOf};
+ghost use Rattle.cedar_evaluator.specs.Asking.{untold, IsEvaluatorOf};
 ghost use Rattle.cedar_requests.specs.Holding.{request_parts};
 ghost use Rattle.cedar_substitution.specs.Told.{told_for};
 ghost use Rattle.cedar_evaluator.specs.Authorizing.{table_of, limit_of, Responds, RespondsWithoutFalse, RespondsBy};
 ghost use Rattle.cedar_evaluator.specs.Grouping.{held_in};
 ghost use Rattle.cedar_evaluator.specs.Responses.{holding_of};
 
+use crate::asking::EvaluateRequest;
 use crate::groups::Groups;
 use crate::partial_response::PartialResponse;
 use crate::scopes::Scopes;
@@ -22,6 +23,7 @@ use cedar_requests::Request;
 use cedar_values::values::Value;
 use std::alloc::{AllocError, Global};
 use std::collections::BTreeMap;
+use std::fmt;
 use std::rc::RcStr;
 
 /// Answers requests by policies and entities; policies may call the functions of its extensions, and no
@@ -29,6 +31,15 @@ use std::rc::RcStr;
 pub struct Authorizer<'e, 'f, F = NoFunction> {
     pub(crate) extensions: &'e Extensions<'f, F>,
     pub(crate) depth: u32,
+}
+
+impl<F> fmt::Debug for Authorizer<'_, '_, F> {
+    fn fmt<W: fmt::Write>(&self, f: &mut fmt::Formatter<W>) -> fmt::Result {
+        f.debug_struct("Authorizer")
+            .field("extensions", &self.extensions)
+            .field("depth", &self.depth)
+            .finish()
+    }
 }
 
 impl<F> Drop for Authorizer<'_, '_, F> {

@@ -1,11 +1,11 @@
 // Which policies of a set may be in scope of a request: those that its index finds by the entities that are given.
-ghost use Rattle.std.specs.Prelude.{◌≡◌, IsTrue, IfOk, OnOk, IfSome};
+ghost use Rattle.std.specs.Prelude.{IsTrue, IfOk, OnOk, IfSome};
 ghost use Rattle.std.specs.FinSet as set;
 ghost use Rattle.std.specs.List.Sorted.{IsStrictlyIncreasing};
 ghost use Rattle.std.specs.Option.{option_copied};
 ghost use Rattle.cedar_entities.specs.Data.{ancestors_of};
 ghost use Rattle.cedar_entities.specs.declared.store.Entities.{Entities as Store};
-ghost use Rattle.cedar_interpreter.specs.Asking.{Inquiry};
+ghost use Rattle.cedar_evaluator.specs.Asking.{Inquiry};
 ghost use Rattle.cedar_policy_set.specs.ScopeFinding.{AreAmong};
 ghost use Rattle.cedar_evaluator.specs.Candidates.{is_in_given, is_in_known, HasListed, HasPaired, HasFound, AreCandidates};
 ghost use Rattle.cedar_evaluator.specs.Scopes.{AreScopesOf};

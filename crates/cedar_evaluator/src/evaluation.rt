@@ -2,12 +2,15 @@
 //! is left of its condition. All policies of a set together are an `Authorizer`'s to evaluate.
 ghost use Rattle.std.specs.Prelude.{◌<◌, ⊤, ℕ};
 ghost use Rattle.cedar_language.specs.Facts.{Facts};
+ghost use Rattle.cedar_language.specs.Tree.{Tree};
 ghost use Rattle.cedar_language.specs.Value.{Outcome};
-ghost use Rattle.cedar_partial_evaluation.specs.Partial.{Answer, partial_in};
+ghost use Rattle.cedar_partial_evaluation.specs.Partial.{Answer, LeafAnswers, partial_in};
 ghost use Rattle.cedar_partial_evaluation.specs.ReadUnknowns.{read_unknowns};
 ghost use Rattle.cedar_extensions.specs.Giving.{Gives};
 ghost use Rattle.cedar_policies.specs.Policies.{bindings_of};
-ghost use Rattle.cedar_interpreter.specs.Holding.{held_by, Serves, ServesRead, Deep, IsDeepRead, depth_of};
+ghost use Rattle.cedar_policy_parts.specs.Bindings.{Bindings};
+ghost use Rattle.cedar_interpreter.specs.Depths.{evaluation_depth};
+ghost use Rattle.cedar_interpreter.specs.Holding.{held_by, Serves, ServesRead, Deep, NestsBeyond, IsDeepRead, depth_of};
 ghost use Rattle.cedar_interpreter.specs.Meeting.{MeetsAt, ValueAt, IsLimit};
 ghost use Rattle.cedar_evaluator.specs.Evaluating.{condition_of, JudgesAt, JudgesReadAt, MeansStanding, StandsAt, StandsBy};
 
@@ -25,6 +28,15 @@ use std::alloc::Global;
 
 /// Evaluators of policies; their type stands below the policies.
 pub trait EvaluatePolicy {
+    // these are facts by which it evaluates a tree
+    ghost serves: { Self → Facts → Tree → Type 0 };
+
+    // what is held of variables, of unknowns and of slots that are bound so
+    ghost holds: { Self → Bindings → LeafAnswers };
+
+    // no evaluation nests deeper
+    ghost depth: { Self → ℕ };
+
     /// Whether a policy is satisfied, or what is left of its condition where some of what it reads isn't
     /// known.
     ///
@@ -35,23 +47,34 @@ pub trait EvaluatePolicy {
         &self,
         alloc: Global,
         policy: &Policy,
-    ) -> Result<Either<bool, Expr>, EvaluationError>;
+    ) -> Result<Either<bool, Expr>, EvaluationError>
+        ensures found { (facts : Facts) → serves self.now facts (condition_of policy.now) → JudgesAt (partial_in facts (holds self.now (bindings_of policy.now)) (condition_of policy.now)) result }
+        ensures limit { IsLimit result → (facts : Facts) → serves self.now facts (condition_of policy.now) → depth self.now < evaluation_depth facts (holds self.now (bindings_of policy.now)) (condition_of policy.now) };
 
     /// Whether a policy is satisfied. It errs besides with `NonValue` where something is left of its
     /// condition.
-    fn evaluate(&self, alloc: Global, policy: &Policy) -> Result<bool, EvaluationError>;
+    fn evaluate(&self, alloc: Global, policy: &Policy) -> Result<bool, EvaluationError>
+        ensures found { (facts : Facts) → serves self.now facts (condition_of policy.now) → StandsAt (partial_in facts (holds self.now (bindings_of policy.now)) (condition_of policy.now)) result }
+        ensures limit { IsLimit result → (facts : Facts) → serves self.now facts (condition_of policy.now) → depth self.now < evaluation_depth facts (holds self.now (bindings_of policy.now)) (condition_of policy.now) };
 }
 
 impl<'s, 'e, 'f, F: ExtensionFunctionObject> EvaluatePolicy for Evaluator<'s, 'e, 'f, F> {
+    ghost serves = { λ ev facts t. Serves F.answers ev facts t };
+
+    ghost holds = { λ ev slots. held_by ev slots };
+
+    ghost depth = { λ ev. depth_of ev };
+
     fn partial_evaluate(
         &self,
         alloc: Global,
         policy: &Policy,
     ) -> Result<Either<bool, Expr>, EvaluationError>
         ensures found { (facts : Facts) → Serves F.answers self.now facts (condition_of policy.now) → JudgesAt (partial_in facts (held_by self.now (bindings_of policy.now)) (condition_of policy.now)) result }
-        ensures limit { IsLimit result → Deep F.answers self.now (depth_of self.now) (condition_of policy.now) }
+        ensures limit { IsLimit result → Deep F.answers self.now (bindings_of policy.now) (depth_of self.now) (condition_of policy.now) }
+        ensures named_limit { IsLimit result → NestsBeyond F.answers self.now (bindings_of policy.now) (depth_of self.now) (condition_of policy.now) }
         ensures read { (facts : Facts) → ServesRead F.answers self.now facts (condition_of policy.now) → JudgesReadAt (partial_in facts (held_by self.now (bindings_of policy.now)) (read_unknowns (condition_of policy.now))) result }
-        ensures read_limit { IsLimit result → IsDeepRead F.answers self.now (depth_of self.now) (condition_of policy.now) }
+        ensures read_limit { IsLimit result → IsDeepRead F.answers self.now (bindings_of policy.now) (depth_of self.now) (condition_of policy.now) }
     {
         unknowns_are_read();
         let condition = policy.condition(alloc)?;
@@ -62,9 +85,10 @@ impl<'s, 'e, 'f, F: ExtensionFunctionObject> EvaluatePolicy for Evaluator<'s, 'e
     fn evaluate(&self, alloc: Global, policy: &Policy) -> Result<bool, EvaluationError>
         ensures means { (facts : Facts) → Serves F.answers self.now facts (condition_of policy.now) → MeansStanding facts (held_by self.now (bindings_of policy.now)) (depth_of self.now) (condition_of policy.now) result }
         ensures found { (facts : Facts) → Serves F.answers self.now facts (condition_of policy.now) → StandsAt (partial_in facts (held_by self.now (bindings_of policy.now)) (condition_of policy.now)) result }
-        ensures limit { IsLimit result → Deep F.answers self.now (depth_of self.now) (condition_of policy.now) }
+        ensures limit { IsLimit result → Deep F.answers self.now (bindings_of policy.now) (depth_of self.now) (condition_of policy.now) }
+        ensures named_limit { IsLimit result → NestsBeyond F.answers self.now (bindings_of policy.now) (depth_of self.now) (condition_of policy.now) }
         ensures read { (facts : Facts) → ServesRead F.answers self.now facts (condition_of policy.now) → StandsAt (partial_in facts (held_by self.now (bindings_of policy.now)) (read_unknowns (condition_of policy.now))) result }
-        ensures read_limit { IsLimit result → IsDeepRead F.answers self.now (depth_of self.now) (condition_of policy.now) }
+        ensures read_limit { IsLimit result → IsDeepRead F.answers self.now (bindings_of policy.now) (depth_of self.now) (condition_of policy.now) }
     {
         let condition = policy.condition(alloc)?;
         let answer = self.interpret(alloc, &condition, policy.env());

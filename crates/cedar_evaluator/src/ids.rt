@@ -83,7 +83,9 @@ impl<'a> Iterator for ResidualIds<'a> {
 }
 
 impl PartialResponse {
-    /// The ids of the policies that erred, permits before forbids. Takes no memory.
+    /// The ids of the policies that erred, permits before forbids, as they stand among those that aren't satisfied:
+    /// none in a response without these (`Authorizer::is_authorized_without_false`), whose `errors` tell them. Takes
+    /// no memory.
     pub fn definitely_errored(&self) -> ErroredIds<'_>
         ensures { errored_ids_left result ≡ erring_ids (holding_in self.now).false_permits ++ erring_ids (holding_in self.now).false_forbids }
     {

@@ -1,21 +1,21 @@
 // How a policy stands for a request: its scope is looked at first, since most scopes don't hold, and then
 // nothing else of the policy is read.
-ghost use Rattle.std.specs.Prelude.{◌≡◌, ℕ, true};
+ghost use Rattle.std.specs.Prelude.{◌<◌, ◌≤◌, ℕ};
 ghost use Rattle.cedar_language.specs.Facts.{Facts};
-ghost use Rattle.cedar_language.specs.Tree.{Boolean};
-ghost use Rattle.cedar_language.specs.Value.{Plain};
-ghost use Rattle.cedar_grammar.specs.Policy.{scope_tree};
-ghost use Rattle.cedar_partial_evaluation.specs.Partial.{Evaluated, partial_in};
+ghost use Rattle.cedar_partial_evaluation.specs.Partial.{partial_in};
 ghost use Rattle.cedar_partial_evaluation.specs.ReadUnknowns.{read_unknowns};
 ghost use Rattle.cedar_entities.specs.declared.store.Entities.{Entities as Store};
 ghost use Rattle.cedar_extensions.specs.Table.{Table};
 ghost use Rattle.cedar_operators.specs.Store.{HasFacts};
-ghost use Rattle.cedar_interpreter.specs.Asking.{Inquiry, request_held, IsEvaluatorOf};
-ghost use Rattle.cedar_interpreter.specs.Holding.{held_by, Serves, ServesRead, Deep, IsDeepRead, depth_of};
+ghost use Rattle.cedar_evaluator.specs.Asking.{Inquiry, request_held, IsEvaluatorOf};
+ghost use Rattle.cedar_interpreter.specs.Depths.{evaluation_depth};
+ghost use Rattle.cedar_interpreter.specs.Holding.{held_by, Knows, Serves, ServesRead, is_naming, depth_of};
 ghost use Rattle.cedar_interpreter.specs.Meeting.{IsLimit};
-ghost use Rattle.cedar_policies.specs.Policies.{bindings_of, policy_syntax};
-ghost use Rattle.cedar_evaluator.specs.Evaluating.{condition_of, JudgesAt, JudgesBy, JudgesReadAt, JudgesReadBy};
-ghost use Rattle.cedar_evaluator.specs.Evaluations.{IsServedRead};
+ghost use Rattle.cedar_interpreter.specs.Naming.{naming_depth};
+ghost use Rattle.cedar_policies.specs.Policies.{bindings_of};
+ghost use Rattle.cedar_evaluator.specs.Evaluating.{condition_of, IsInScope, JudgesAt, JudgesBy, JudgesReadAt, JudgesReadBy};
+ghost use Rattle.cedar_evaluator.specs.Evaluations.{IsServedRead, IsTooDeep, NestsTooDeep, IsTooDeepRead};
+ghost use Rattle.cedar_evaluator.specs.Grouping.{ForEach};
 ghost use Rattle.cedar_evaluator.specs.Scopes.{IsDecided, AreScopesOf};
 
 use crate::evaluation::{EvaluatePolicy, judged};
@@ -63,9 +63,10 @@ pub(crate) fn evaluated_in_full<F: ExtensionFunctionObject>(
     policy: &Policy,
 ) -> Result<Either<bool, Expr>, EvaluationError>
     ensures found { JudgesBy F.answers evaluator.now scopes.now policy.now result }
-    ensures limit { IsLimit result → Deep F.answers evaluator.now (depth_of evaluator.now) (condition_of policy.now) }
+    ensures limit { IsLimit result → ForEach F.answers evaluator.now scopes.now (λ i store table depth. IsTooDeep i store table depth (bindings_of policy.now) (condition_of policy.now)) }
+    ensures named_limit { IsLimit result → ForEach F.answers evaluator.now scopes.now (λ i store table depth. NestsTooDeep i store table depth (bindings_of policy.now) (condition_of policy.now)) }
     ensures read { JudgesReadBy F.answers evaluator.now scopes.now policy.now result }
-    ensures read_limit { IsLimit result → IsDeepRead F.answers evaluator.now (depth_of evaluator.now) (condition_of policy.now) }
+    ensures read_limit { IsLimit result → ForEach F.answers evaluator.now scopes.now (λ i store table depth. IsTooDeepRead i store table depth (bindings_of policy.now) (condition_of policy.now)) }
 {
     match scopes.hold(policy) {
         Some(true) => in_scope(alloc, evaluator, policy),
@@ -79,10 +80,11 @@ fn in_scope<F: ExtensionFunctionObject>(
     evaluator: &Evaluator<'_, '_, '_, F>,
     policy: &Policy,
 ) -> Result<Either<bool, Expr>, EvaluationError>
-    ensures found { (facts : Facts) → Serves F.answers evaluator.now facts (condition_of policy.now) → partial_in facts (held_by evaluator.now (bindings_of policy.now)) (scope_tree (policy_syntax policy.now)) ≡ Evaluated (Plain (Boolean true)) → JudgesAt (partial_in facts (held_by evaluator.now (bindings_of policy.now)) (condition_of policy.now)) result }
-    ensures limit { IsLimit result → Deep F.answers evaluator.now (depth_of evaluator.now) (condition_of policy.now) }
-    ensures read { (facts : Facts) → ServesRead F.answers evaluator.now facts (condition_of policy.now) → partial_in facts (held_by evaluator.now (bindings_of policy.now)) (scope_tree (policy_syntax policy.now)) ≡ Evaluated (Plain (Boolean true)) → JudgesReadAt (partial_in facts (held_by evaluator.now (bindings_of policy.now)) (read_unknowns (condition_of policy.now))) result }
-    ensures read_limit { IsLimit result → IsDeepRead F.answers evaluator.now (depth_of evaluator.now) (condition_of policy.now) }
+    ensures found { (facts : Facts) → Serves F.answers evaluator.now facts (condition_of policy.now) → IsInScope evaluator.now facts policy.now → JudgesAt (partial_in facts (held_by evaluator.now (bindings_of policy.now)) (condition_of policy.now)) result }
+    ensures limit { IsLimit result → (facts : Facts) → Serves F.answers evaluator.now facts (condition_of policy.now) → IsInScope evaluator.now facts policy.now → depth_of evaluator.now < evaluation_depth facts (held_by evaluator.now (bindings_of policy.now)) (condition_of policy.now) }
+    ensures named_limit { IsLimit result → (facts : Facts) → Knows F.answers evaluator.now facts → IsInScope evaluator.now facts policy.now → depth_of evaluator.now < naming_depth (is_naming F.answers evaluator.now) facts (held_by evaluator.now (bindings_of policy.now)) (condition_of policy.now) }
+    ensures read { (facts : Facts) → ServesRead F.answers evaluator.now facts (condition_of policy.now) → IsInScope evaluator.now facts policy.now → JudgesReadAt (partial_in facts (held_by evaluator.now (bindings_of policy.now)) (read_unknowns (condition_of policy.now))) result }
+    ensures read_limit { IsLimit result → (facts : Facts) → ServesRead F.answers evaluator.now facts (condition_of policy.now) → IsInScope evaluator.now facts policy.now → depth_of evaluator.now ≤ evaluation_depth facts (held_by evaluator.now (bindings_of policy.now)) (read_unknowns (condition_of policy.now)) }
 {
     unknowns_are_read();
     match policy.non_scope_constraints() {

@@ -2,11 +2,43 @@
 //! can cite it by a call. They say what a response says of the question that a request asks, also once values are
 //! told, which stores have the facts of which contracts speak, that `==` of contexts is sameness, places aside,
 //! and what a context is once values are told for its unknowns.
+ghost use Rattle.cedar_extensions.specs.Table.{as_table};
+ghost use Rattle.cedar_evaluator.specs.Expressions.{ExpressionsAnswerRequests};
+ghost use Rattle.cedar_evaluator.specs.MadeStores.{StoresAreMade, MakesValues};
 ghost use Rattle.cedar_evaluator.specs.Questions.{ResponsesAnswerRequests, KnownRequestsAreAnswered, LaterResponsesAnswerRequests};
 
+use cedar_extensions::extensions::Extensions;
+use cedar_extensions::objects::ExtensionFunctionObject;
 pub use cedar_operators::stores_have_facts;
 pub use cedar_requests::laws as contexts;
 use cedar_requests::laws::told_contexts_stay;
+
+/// A closed store of built values that isn't partial has facts of which the other laws speak, with the functions of
+/// a table that makes values.
+pub fn stores_are_made()
+    ensures { StoresAreMade }
+{
+    stores_have_facts();
+}
+
+/// Each table makes values: what its functions give is built.
+pub fn tables_make_values<F: ExtensionFunctionObject>(extensions: &Extensions<'_, F>)
+    ensures { MakesValues (as_table F.answers extensions.now) }
+{
+    let _same = extensions;
+}
+
+/// What `Evaluator::partial_interpret` answers to an expression, by an evaluator of a request, means under each filling
+/// of a question that the request asks what the expression means, and is a result to which it settles, where there is
+/// one. (Cedar language reference, "Partial evaluation".)
+pub fn expressions_answer_requests()
+    ensures { ExpressionsAnswerRequests }
+{
+    cedar_partial_evaluation::question_answers_are_fair();
+    cedar_partial_evaluation::question_answers_are_prompt();
+    cedar_partial_evaluation::filled_is_meant();
+    cedar_partial_evaluation::answers_are_prompt();
+}
 
 /// What a response says of a question that its request asks holds under each filling of it, and is as sharp as
 /// what is settled of the conditions; what settles to an error is told, with a kind to which it settles.

@@ -9,6 +9,7 @@
 //! authorized (`asking`).
 #![tactic(auto)]
 
+mod asking;
 pub mod ast;
 pub mod authorizer;
 mod candidates;

@@ -18,6 +18,7 @@ use cedar_policy_set::policy_map::PolicyMap;
 use cedar_requests::Request;
 use cedar_trees::expr::Expr;
 use std::alloc::{AllocError, Global};
+use std::fmt;
 use std::rc::Rc;
 
 /// Whether a policy that isn't satisfied erred.
@@ -64,6 +65,16 @@ impl Drop for PartialResponse {
             errors: _errors,
             request: _request,
         } = self;
+    }
+}
+
+/// What is decided, and the errors.
+impl fmt::Debug for PartialResponse {
+    fn fmt<W: fmt::Write>(&self, f: &mut fmt::Formatter<W>) -> fmt::Result {
+        f.debug_struct("PartialResponse")
+            .field("decision", &self.decision())
+            .field("errors", &self.errors)
+            .finish_non_exhaustive()
     }
 }
 

@@ -5,7 +5,7 @@ ghost use Rattle.std.specs.Prelude.{◌≡◌, ◌++◌, map, IfOk, OnOk};
 ghost use Rattle.std.specs.Map.{keys_of};
 ghost use Rattle.cedar_language.specs.Answering.{known_decision, in_must};
 ghost use Rattle.cedar_policy_parts.specs.Decisions.{decision_of};
-ghost use Rattle.cedar_interpreter.specs.Asking.{untold};
+ghost use Rattle.cedar_evaluator.specs.Asking.{untold};
 ghost use Rattle.cedar_requests.specs.Holding.{request_parts};
 ghost use Rattle.cedar_trees.specs.Bare.{bare};
 ghost use Rattle.cedar_language.specs.Answering.{ids_with};
@@ -122,7 +122,7 @@ fn open_error(alloc: Global, id: &PolicyID, rest: &Expr) -> Result<Authorization
 }
 
 // Appends the errors of a group of open policies.
-fn push_open(
+fn push_open_errors(
     alloc: Global,
     errors: &mut Vec<AuthorizationError>,
     group: &PolicyMap<(Rc<Expr>, Rc<Annotations>)>,
@@ -163,8 +163,8 @@ impl PartialResponse {
         ensures { IfOk result (λ errors. map cause_seen errors.items ≡ all_causes self) }
     {
         let mut errors = Vec::new(alloc);
-        push_open(alloc, &mut errors, &self.residual_forbids)?;
-        push_open(alloc, &mut errors, &self.residual_permits)?;
+        push_open_errors(alloc, &mut errors, &self.residual_forbids)?;
+        push_open_errors(alloc, &mut errors, &self.residual_permits)?;
         errors.append(&mut self.errors)?;
         Ok(errors)
     }

@@ -16,7 +16,7 @@ ghost use Rattle.cedar_entities.specs.declared.store.Entities.{Entities as Store
 ghost use Rattle.cedar_extensions.specs.Table.{Table};
 ghost use Rattle.cedar_operators.specs.Hierarchy.{is_within_entity};
 ghost use Rattle.cedar_operators.specs.Store.{HasFacts};
-ghost use Rattle.cedar_interpreter.specs.Asking.{Inquiry, request_held, IsEvaluatorOf};
+ghost use Rattle.cedar_evaluator.specs.Asking.{Inquiry, request_held, IsEvaluatorOf};
 ghost use Rattle.cedar_policies.specs.Policies.{bindings_of, policy_syntax};
 ghost use Rattle.cedar_evaluator.specs.Scopes.{IsDecided, IsGivenAs, AreScopesOf, constraint_met, unasked};
 

@@ -18,6 +18,7 @@ use Rattle.cedar_interpreter.specs.Depths.{left_height, read_again, evaluation_d
 use Rattle.cedar_interpreter.specs.Holding.{held_by, Knows, is_naming, is_evaluated, NestsBeyond}
 use Rattle.cedar_interpreter.specs.Meeting.{part_answer}
 use Rattle.cedar_interpreter.specs.Naming.{naming_in, naming_depth, naming_depths}
+use Rattle.cedar_interpreter.proofs.Branches.{branch_low, behind_low}
 use Rattle.cedar_interpreter.specs.declared.evaluator.Evaluator.{Evaluator}
 
 and_left : (a b : Bool) → (a && b) ≡ true → a ≡ true
@@ -57,14 +58,14 @@ module _ (law : KnownIsNeverLeft) (facts : Facts) (mentioned : Variable → Bool
     known_depth (Slot s) m = omega arith
     known_depth (Unknown n ty) m = omega arith
     known_depth (If t y n) m =
-        omega (arith, known_depth t (and_left _ _ m), known_depth y (and_left _ _ (and_right _ _ m)), known_depth n (and_right _ _ (and_right _ _ m)))
-    known_depth (And l r) m = omega (arith, known_depth l (and_left _ _ m), known_depth r (and_right _ _ m))
-    known_depth (Or l r) m = omega (arith, known_depth l (and_left _ _ m), known_depth r (and_right _ _ m))
+        omega (arith, known_depth t (and_left _ _ m), known_depth y (and_left _ _ (and_right _ _ m)), known_depth n (and_right _ _ (and_right _ _ m)), branch_low (partial_in facts holds t) (evaluation_depth facts holds y) (evaluation_depth facts holds n))
+    known_depth (And l r) m = omega (arith, known_depth l (and_left _ _ m), known_depth r (and_right _ _ m), branch_low (partial_in facts holds l) (evaluation_depth facts holds r) 0)
+    known_depth (Or l r) m = omega (arith, known_depth l (and_left _ _ m), known_depth r (and_right _ _ m), branch_low (partial_in facts holds l) 0 (evaluation_depth facts holds r))
     known_depth (Apply op ts) m = omega (arith, known_depths ts m, nothing_again op ts m)
 
     known_depths : (ts : Trees) → all_mention_only mentioned slots ts ≡ true → evaluation_depths facts holds ts ≤ heights ts
     known_depths no_trees m = omega arith
-    known_depths (a_tree t ts) m = omega (arith, known_depth t (and_left _ _ m), known_depths ts (and_right _ _ m))
+    known_depths (a_tree t ts) m = omega (arith, known_depth t (and_left _ _ m), known_depths ts (and_right _ _ m), behind_low (partial_in facts holds t) (evaluation_depths facts holds ts))
 
 -- ---- what is projected
 
@@ -80,13 +81,12 @@ module _ (naming : Bool) (facts : Facts) (holds : LeafAnswers) where
 
     projectable_depths : (ts : Trees) → are_projectable ts ≡ true → naming_depths naming facts holds ts ≤ heights ts
     projectable_depths no_trees p = omega arith
-    projectable_depths (a_tree t ts) p = omega (arith, projectable_depth t (and_left _ _ p), projectable_depths ts (and_right _ _ p))
+    projectable_depths (a_tree t ts) p = omega (arith, projectable_depth t (and_left _ _ p), projectable_depths ts (and_right _ _ p), behind_low (naming_in naming facts holds t) (naming_depths naming facts holds ts))
 
 -- an entry that is evaluated again, of what is left of what an attribute is read of
 pub entry_deep : {F : Type 0} (answers : F → FunctionAnswers) (ev : Evaluator F) (slots : Bindings) (depth : ℕ) (a : Text) (of e : Tree) (part : Either Value Tree) (facts : Facts)
     → Knows answers ev facts → naming_in (is_naming answers ev) facts (held_by ev slots) of ≡ part_answer part → height e < left_height (part_answer part) → is_projectable e ≡ true
-    → NestsBeyond answers ev depth e → (bs : Bindings) × (suc depth < naming_depth (is_naming answers ev) facts (held_by ev bs) (Apply (GetAttr a) (a_tree of no_trees)))
+    → NestsBeyond answers ev slots depth e → suc depth < naming_depth (is_naming answers ev) facts (held_by ev slots) (Apply (GetAttr a) (a_tree of no_trees))
 entry_deep answers ev slots depth a of e part facts has found low plain deep =
-    let (other, d) = deep facts has in
     let l : height e < left_height (naming_in (is_naming answers ev) facts (held_by ev slots) of) = subst (λ (b : Answer). height e < left_height b) (sym found) low in
-    (slots, omega (arith, d, l, projectable_depth (is_naming answers ev) facts (held_by ev other) e plain))
+    omega (arith, deep facts has, l, projectable_depth (is_naming answers ev) facts (held_by ev slots) e plain)

@@ -1,5 +1,6 @@
 pub mod Constructs
 pub mod Naming
+pub mod Branches
 pub mod NamingDepths
 pub mod Read
 pub mod Nesting

@@ -76,14 +76,13 @@ module _ (law : LeavesDontMatter) (known : KnownIsMeaning) (facts : Facts) (hold
 
 -- an evaluator's value
 module _ {F : Type 0} (answers : F → FunctionAnswers) (law : LeavesDontMatter) (known : KnownIsMeaning) (never : KnownIsNeverLeft) (ev : Evaluator F) (slots : Bindings) (depth : ℕ) (t : Tree) (result : Result Value EvaluationError)
-    (found : (facts : Facts) → Serves answers ev facts t → ValueAt ⊤ (partial_in facts (held_by ev slots) t) result) (limit : IsLimit result → Deep answers ev depth t)
+    (found : (facts : Facts) → Serves answers ev facts t → ValueAt ⊤ (partial_in facts (held_by ev slots) t) result) (limit : IsLimit result → Deep answers ev slots depth t)
     (facts : Facts) (serves : Serves answers ev facts t) where
-  -- what is met is met however slots are bound, and nothing of these is left
+  -- nothing of what it mentions is left
   high : IsLimit result → mentions_only (is_known_in (held_by ev slots)) true t ≡ true → depth < height t
   high l only =
-      let (bs, deep) = limit l facts serves in
-      let low = known_depth never facts (is_held ev) true (held_by ev bs) (record { variable = λ v k. held_known (variable_held ev v) k; slot = λ i k. slot_known (binding_of bs i) }) t only in
-      omega (arith, deep, low)
+      let low = known_depth never facts (is_held ev) true (held_by ev slots) (record { variable = λ v k. held_known (variable_held ev v) k; slot = λ i k. slot_known (binding_of slots i) }) t only in
+      omega (arith, limit l facts serves, low)
 
   pub means_tree : MeansTree facts (held_by ev slots) depth t result
   means_tree = means law known facts (held_by ev slots) t depth result (found facts serves) high

@@ -1,5 +1,5 @@
 -- How deep an evaluation nests where calls name unknowns.
-use Rattle.std.proofs.Common.{◌≡◌, ◌≤◌, suc, arith, refl, sym, ap, subst, inl, inr, Bool, true, false, ◌&&◌, ◌||◌, None}
+use Rattle.std.proofs.Common.{◌≡◌, ◌≤◌, ℕ, suc, arith, refl, sym, ap, subst, inl, inr, Bool, true, false, ◌&&◌, ◌||◌, None}
 use Rattle.std.specs.Prelude.{◌⊎◌}
 use Rattle.cedar_language.specs.Uid.{Text, Name}
 use Rattle.cedar_language.specs.Tree.{Literal, String, Operator, GetAttr, Call, Tree, Lit, Var, Slot, Unknown, If, And, Or, Apply, Trees, no_trees, a_tree}
@@ -8,8 +8,9 @@ use Rattle.cedar_language.specs.Height.{height, heights}
 use Rattle.cedar_language.specs.Order.{same_name}
 use Rattle.cedar_partial_evaluation.specs.Partial.{Answer, Evaluated, ResidualTree, Failed, LeafAnswers, partial_in}
 use Rattle.cedar_partial_evaluation.specs.ReadUnknowns.{unknown_function, unknown_or_call, read_call, read_unknowns, all_read, is_unknown_call, calls_unknown, some_calls_unknown, UnknownsAreRead}
-use Rattle.cedar_interpreter.specs.Depths.{left_height, read_again, evaluation_depth, evaluation_depths}
+use Rattle.cedar_interpreter.specs.Depths.{left_height, read_again, branch_depth, depth_behind, evaluation_depth, evaluation_depths}
 use Rattle.cedar_interpreter.specs.Naming.{naming_again, naming_depth, naming_depths, naming_in, as_read, ArePlain, GivesTexts, NamesAreRead}
+use Rattle.cedar_interpreter.proofs.Branches.{branch_read, behind_read}
 use Rattle.cedar_interpreter.proofs.Naming.{none_left, none_right, first_none, last_none, without, reads, operands_plain, as_read_is}
 
 -- ---- where nothing is named
@@ -27,16 +28,16 @@ module _ (naming : Bool) (facts : Facts) (holds : LeafAnswers) where
     depth_without (Unknown n ty) h = refl
     depth_without (If t y n) h =
         let rest = none_right naming (calls_unknown t) (calls_unknown y || calls_unknown n) h in
-        rw (depth_without t (none_left naming (calls_unknown t) (calls_unknown y || calls_unknown n) h), depth_without y (none_left naming (calls_unknown y) (calls_unknown n) rest), depth_without n (none_right naming (calls_unknown y) (calls_unknown n) rest)) refl
-    depth_without (And l r) h = rw (depth_without l (none_left naming (calls_unknown l) (calls_unknown r) h), depth_without r (none_right naming (calls_unknown l) (calls_unknown r) h)) refl
-    depth_without (Or l r) h = rw (depth_without l (none_left naming (calls_unknown l) (calls_unknown r) h), depth_without r (none_right naming (calls_unknown l) (calls_unknown r) h)) refl
+        rw (without naming facts holds t (none_left naming (calls_unknown t) (calls_unknown y || calls_unknown n) h), depth_without t (none_left naming (calls_unknown t) (calls_unknown y || calls_unknown n) h), depth_without y (none_left naming (calls_unknown y) (calls_unknown n) rest), depth_without n (none_right naming (calls_unknown y) (calls_unknown n) rest)) refl
+    depth_without (And l r) h = rw (without naming facts holds l (none_left naming (calls_unknown l) (calls_unknown r) h), depth_without l (none_left naming (calls_unknown l) (calls_unknown r) h), depth_without r (none_right naming (calls_unknown l) (calls_unknown r) h)) refl
+    depth_without (Or l r) h = rw (without naming facts holds l (none_left naming (calls_unknown l) (calls_unknown r) h), depth_without l (none_left naming (calls_unknown l) (calls_unknown r) h), depth_without r (none_right naming (calls_unknown l) (calls_unknown r) h)) refl
     depth_without (Apply op ts) h =
         let inside = none_right naming (is_unknown_call op) (some_calls_unknown ts) h in
         rw (depths_without ts inside, again_without op ts inside) refl
 
     depths_without : (ts : Trees) → (naming && some_calls_unknown ts) ≡ false → naming_depths naming facts holds ts ≡ evaluation_depths facts holds ts
     depths_without no_trees h = refl
-    depths_without (a_tree t ts) h = rw (depth_without t (none_left naming (calls_unknown t) (some_calls_unknown ts) h), depths_without ts (none_right naming (calls_unknown t) (some_calls_unknown ts) h)) refl
+    depths_without (a_tree t ts) h = rw (without naming facts holds t (none_left naming (calls_unknown t) (some_calls_unknown ts) h), depth_without t (none_left naming (calls_unknown t) (some_calls_unknown ts) h), depths_without ts (none_right naming (calls_unknown t) (some_calls_unknown ts) h)) refl
 
 -- ---- where calls are read as unknowns
 
@@ -110,6 +111,14 @@ module _ (unread : UnknownsAreRead) (facts : Facts) (holds : LeafAnswers) (gives
   is_read : (t : Tree) → calls_unknown (read_unknowns t) ≡ false → partial_in facts holds (read_unknowns t) ≡ as_read (naming_in true facts holds t)
   is_read t h = as_read_is unread _ _ (reads unread facts holds leaves gives t h)
 
+  branch_at : (t : Tree) → calls_unknown (read_unknowns t) ≡ false → (yes no more other : ℕ) → yes ≤ suc more → no ≤ suc other →
+      branch_depth (naming_in true facts holds t) yes no ≤ suc (branch_depth (partial_in facts holds (read_unknowns t)) more other)
+  branch_at t h yes no more other k l = subst (λ (b : Answer). branch_depth (naming_in true facts holds t) yes no ≤ suc (branch_depth b more other)) (sym (is_read t h)) (branch_read (naming_in true facts holds t) yes no more other k l)
+
+  behind_at : (t : Tree) → calls_unknown (read_unknowns t) ≡ false → (depth more : ℕ) → depth ≤ suc more →
+      depth_behind (naming_in true facts holds t) depth ≤ suc (depth_behind (partial_in facts holds (read_unknowns t)) more)
+  behind_at t h depth more k = subst (λ (b : Answer). depth_behind (naming_in true facts holds t) depth ≤ suc (depth_behind b more)) (sym (is_read t h)) (behind_read (naming_in true facts holds t) depth more k)
+
   again_read : (op : Operator) (ts : Trees) → some_calls_unknown (all_read ts) ≡ false → naming_again true facts holds op ts ≤ suc (read_again facts holds op (all_read ts))
   again_read (GetAttr a) (a_tree t no_trees) h =
       subst (λ b. left_height (naming_in true facts holds t) ≤ suc (left_height b)) (sym (is_read t (first_none (calls_unknown (read_unknowns t)) false h))) (left_read (naming_in true facts holds t))
@@ -128,16 +137,16 @@ module _ (unread : UnknownsAreRead) (facts : Facts) (holds : LeafAnswers) (gives
     depth_read (Unknown n ty) h = omega arith
     depth_read (If t y n) h =
         let rest = last_none (calls_unknown (read_unknowns t)) (calls_unknown (read_unknowns y) || calls_unknown (read_unknowns n)) h in
-        omega (arith, depth_read t (first_none _ _ h), depth_read y (first_none _ _ rest), depth_read n (last_none _ _ rest))
-    depth_read (And l r) h = omega (arith, depth_read l (first_none _ _ h), depth_read r (last_none _ _ h))
-    depth_read (Or l r) h = omega (arith, depth_read l (first_none _ _ h), depth_read r (last_none _ _ h))
+        omega (arith, depth_read t (first_none _ _ h), branch_at t (first_none _ _ h) (naming_depth true facts holds y) (naming_depth true facts holds n) (evaluation_depth facts holds (read_unknowns y)) (evaluation_depth facts holds (read_unknowns n)) (depth_read y (first_none _ _ rest)) (depth_read n (last_none _ _ rest)))
+    depth_read (And l r) h = omega (arith, depth_read l (first_none _ _ h), branch_at l (first_none _ _ h) (naming_depth true facts holds r) 0 (evaluation_depth facts holds (read_unknowns r)) 0 (depth_read r (last_none _ _ h)) (omega arith))
+    depth_read (Or l r) h = omega (arith, depth_read l (first_none _ _ h), branch_at l (first_none _ _ h) 0 (naming_depth true facts holds r) 0 (evaluation_depth facts holds (read_unknowns r)) (omega arith) (depth_read r (last_none _ _ h)))
     depth_read (Apply op ts) h =
         let inside = operands_plain unread facts holds leaves op (all_read ts) (is_unknown_call op) refl h in
         construct_depth op ts (depths_read ts inside) (again_read op ts inside) (applied_read op (all_read ts))
 
     depths_read : (ts : Trees) → some_calls_unknown (all_read ts) ≡ false → naming_depths true facts holds ts ≤ suc (evaluation_depths facts holds (all_read ts))
     depths_read no_trees h = omega arith
-    depths_read (a_tree t ts) h = omega (arith, depth_read t (first_none _ _ h), depths_read ts (last_none _ _ h))
+    depths_read (a_tree t ts) h = omega (arith, depth_read t (first_none _ _ h), behind_at t (first_none _ _ h) (naming_depths true facts holds ts) (evaluation_depths facts holds (all_read ts)) (depths_read ts (last_none _ _ h)))
 
 pub names_are_read : UnknownsAreRead → NamesAreRead
 names_are_read unread = record {

@@ -1,5 +1,5 @@
 -- How deep an evaluation nests, from the parts of a construct to it, and parts one after another.
-use Rattle.std.proofs.Common.{◌≡◌, ◌∙◌, ℕ, ◌<◌, ◌+◌, refl, ap, sym, subst, List, [], ◌∷◌, ◌++◌, append_assoc, length-append, length, suc, map, arith, Bool, true}
+use Rattle.std.proofs.Common.{◌≡◌, ◌∙◌, ℕ, ◌≤◌, ◌<◌, ◌+◌, refl, ap, sym, subst, List, [], ◌∷◌, ◌++◌, append_assoc, length-append, length, suc, map, arith, Bool, true}
 use Rattle.std.proofs.Common.{inl, inr}
 use Rattle.std.proofs.lemmas.List.{append-nil, map-append}
 use Rattle.std.specs.Prelude.{⊤, ◌⊎◌, Result}
@@ -23,6 +23,8 @@ use Rattle.cedar_interpreter.specs.Meeting.{part_answer, MeetsAt}
 use Rattle.cedar_interpreter.specs.Naming.{construct_answer, naming_in, all_naming_in, naming_depth, naming_depths}
 use Rattle.cedar_interpreter.specs.Operating.{operated}
 use Rattle.cedar_interpreter.specs.declared.evaluator.Evaluator.{Evaluator}
+use Rattle.cedar_interpreter.specs.Depths.{branch_depth}
+use Rattle.cedar_interpreter.proofs.Branches.{behind_part}
 use Rattle.cedar_interpreter.proofs.Constructs.{construct_fails}
 use Rattle.cedar_interpreter.proofs.Gathering.{fails_behind, gathered_all}
 use Rattle.cedar_interpreter.proofs.Steps.{meets_anyhow}
@@ -33,45 +35,50 @@ either_deep (inr b) f g = g b
 
 -- ---- depth
 
-module _ {F : Type 0} (answers : F → FunctionAnswers) (ev : Evaluator F) (depth : ℕ) where
+module _ {F : Type 0} (answers : F → FunctionAnswers) (ev : Evaluator F) (slots : Bindings) (depth : ℕ) where
   module _ (l r : Tree) where
-    pub deep_and_left : NestsBeyond answers ev depth l → NestsBeyond answers ev (suc depth) (And l r)
-    deep_and_left d facts has = let (slots, h) = d facts has in (slots, omega (arith, h))
+    pub deep_and_left : NestsBeyond answers ev slots depth l → NestsBeyond answers ev slots (suc depth) (And l r)
+    deep_and_left d facts has = omega (arith, d facts has)
 
-    pub deep_and_right : NestsBeyond answers ev depth r → NestsBeyond answers ev (suc depth) (And l r)
-    deep_and_right d facts has = let (slots, h) = d facts has in (slots, omega (arith, h))
+    -- the right operand, where it is evaluated
+    pub deep_and_right : ((facts : Facts) → Knows answers ev facts → naming_depth (is_naming answers ev) facts (held_by ev slots) r ≤ branch_depth (naming_in (is_naming answers ev) facts (held_by ev slots) l) (naming_depth (is_naming answers ev) facts (held_by ev slots) r) 0) → NestsBeyond answers ev slots depth r → NestsBeyond answers ev slots (suc depth) (And l r)
+    deep_and_right taken d facts has = omega (arith, d facts has, taken facts has)
 
-    pub deep_or_left : NestsBeyond answers ev depth l → NestsBeyond answers ev (suc depth) (Or l r)
-    deep_or_left d facts has = let (slots, h) = d facts has in (slots, omega (arith, h))
+    pub deep_or_left : NestsBeyond answers ev slots depth l → NestsBeyond answers ev slots (suc depth) (Or l r)
+    deep_or_left d facts has = omega (arith, d facts has)
 
-    pub deep_or_right : NestsBeyond answers ev depth r → NestsBeyond answers ev (suc depth) (Or l r)
-    deep_or_right d facts has = let (slots, h) = d facts has in (slots, omega (arith, h))
+    pub deep_or_right : ((facts : Facts) → Knows answers ev facts → naming_depth (is_naming answers ev) facts (held_by ev slots) r ≤ branch_depth (naming_in (is_naming answers ev) facts (held_by ev slots) l) 0 (naming_depth (is_naming answers ev) facts (held_by ev slots) r)) → NestsBeyond answers ev slots depth r → NestsBeyond answers ev slots (suc depth) (Or l r)
+    deep_or_right taken d facts has = omega (arith, d facts has, taken facts has)
 
   module _ (t y n : Tree) where
-    pub deep_if_test : NestsBeyond answers ev depth t → NestsBeyond answers ev (suc depth) (If t y n)
-    deep_if_test d facts has = let (slots, h) = d facts has in (slots, omega (arith, h))
+    pub deep_if_test : NestsBeyond answers ev slots depth t → NestsBeyond answers ev slots (suc depth) (If t y n)
+    deep_if_test d facts has = omega (arith, d facts has)
 
-    pub deep_if_yes : NestsBeyond answers ev depth y → NestsBeyond answers ev (suc depth) (If t y n)
-    deep_if_yes d facts has = let (slots, h) = d facts has in (slots, omega (arith, h))
+    pub deep_if_yes : ((facts : Facts) → Knows answers ev facts → naming_depth (is_naming answers ev) facts (held_by ev slots) y ≤ branch_depth (naming_in (is_naming answers ev) facts (held_by ev slots) t) (naming_depth (is_naming answers ev) facts (held_by ev slots) y) (naming_depth (is_naming answers ev) facts (held_by ev slots) n)) → NestsBeyond answers ev slots depth y → NestsBeyond answers ev slots (suc depth) (If t y n)
+    deep_if_yes taken d facts has = omega (arith, d facts has, taken facts has)
 
-    pub deep_if_no : NestsBeyond answers ev depth n → NestsBeyond answers ev (suc depth) (If t y n)
-    deep_if_no d facts has = let (slots, h) = d facts has in (slots, omega (arith, h))
+    pub deep_if_no : ((facts : Facts) → Knows answers ev facts → naming_depth (is_naming answers ev) facts (held_by ev slots) n ≤ branch_depth (naming_in (is_naming answers ev) facts (held_by ev slots) t) (naming_depth (is_naming answers ev) facts (held_by ev slots) y) (naming_depth (is_naming answers ev) facts (held_by ev slots) n)) → NestsBeyond answers ev slots depth n → NestsBeyond answers ev slots (suc depth) (If t y n)
+    deep_if_no taken d facts has = omega (arith, d facts has, taken facts has)
 
-  pub deep_operand : (op : Operator) (t : Tree) → NestsBeyond answers ev depth t → NestsBeyond answers ev (suc depth) (Apply op (a_tree t no_trees))
-  deep_operand op t d facts has = let (slots, h) = d facts has in (slots, omega (arith, h))
+  pub deep_operand : (op : Operator) (t : Tree) → NestsBeyond answers ev slots depth t → NestsBeyond answers ev slots (suc depth) (Apply op (a_tree t no_trees))
+  deep_operand op t d facts has = omega (arith, d facts has)
 
   module _ (op : Operator) (l r : Tree) where
-    pub deep_left : NestsBeyond answers ev depth l → NestsBeyond answers ev (suc depth) (Apply op (a_tree l (a_tree r no_trees)))
-    deep_left d facts has = let (slots, h) = d facts has in (slots, omega (arith, h))
+    pub deep_left : NestsBeyond answers ev slots depth l → NestsBeyond answers ev slots (suc depth) (Apply op (a_tree l (a_tree r no_trees)))
+    deep_left d facts has = omega (arith, d facts has)
 
-    pub deep_right : NestsBeyond answers ev depth r → NestsBeyond answers ev (suc depth) (Apply op (a_tree l (a_tree r no_trees)))
-    deep_right d facts has = let (slots, h) = d facts has in (slots, omega (arith, h))
+    -- the right operand, where the left one doesn't err
+    pub deep_right : (p : Either Value Tree) → ((facts : Facts) → Knows answers ev facts → naming_in (is_naming answers ev) facts (held_by ev slots) l ≡ part_answer p) → NestsBeyond answers ev slots depth r → NestsBeyond answers ev slots (suc depth) (Apply op (a_tree l (a_tree r no_trees)))
+    deep_right p found d facts has =
+        let rest = naming_depths (is_naming answers ev) facts (held_by ev slots) (a_tree r no_trees) in
+        omega (arith, d facts has, behind_part p (naming_in (is_naming answers ev) facts (held_by ev slots) l) rest (found facts has))
 
-  later_deep : (t : Tree) (ts : List Tree) → SomeNestsBeyond answers ev depth ts → SomeNestsBeyond answers ev depth (t ∷ ts)
-  later_deep t ts d facts has = let (slots, h) = d facts has in (slots, omega (arith, h))
+  later_deep : (t : Tree) (ts : List Tree) (p : Either Value Tree) → ((facts : Facts) → Knows answers ev facts → naming_in (is_naming answers ev) facts (held_by ev slots) t ≡ part_answer p) → SomeNestsBeyond answers ev slots depth ts → SomeNestsBeyond answers ev slots depth (t ∷ ts)
+  later_deep t ts p found d facts has =
+      omega (arith, d facts has, behind_part p (naming_in (is_naming answers ev) facts (held_by ev slots) t) (naming_depths (is_naming answers ev) facts (held_by ev slots) (trees ts)) (found facts has))
 
-  pub first_deep : (t : Tree) (ts : List Tree) → NestsBeyond answers ev depth t → SomeNestsBeyond answers ev depth (t ∷ ts)
-  first_deep t ts d facts has = let (slots, h) = d facts has in (slots, omega (arith, h))
+  pub first_deep : (t : Tree) (ts : List Tree) → NestsBeyond answers ev slots depth t → SomeNestsBeyond answers ev slots depth (t ∷ ts)
+  first_deep t ts d facts has = omega (arith, d facts has)
 
 pub positive : (naming : Bool) (facts : Facts) (holds : LeafAnswers) (t : Tree) → 0 < naming_depth naming facts holds t
 positive naming facts holds (Lit l) = omega arith
@@ -84,10 +91,9 @@ positive naming facts holds (Or l r) = omega arith
 positive naming facts holds (Apply op ts) = omega arith
 
 -- what is deep below one level is deep at it
-pub lowered : {F : Type 0} (answers : F → FunctionAnswers) (ev : Evaluator F) (depth below : ℕ) (t u : Tree) → t ≡ u → depth ≡ below + 1 → NestsBeyond answers ev (suc below) u → NestsBeyond answers ev depth t
-lowered answers ev depth below t u is step h facts has =
-    let (slots, k) = h facts has in
-    (slots, subst (λ x. depth < naming_depth (is_naming answers ev) facts (held_by ev slots) x) (sym is) (omega (arith, k, step)))
+pub lowered : {F : Type 0} (answers : F → FunctionAnswers) (ev : Evaluator F) (slots : Bindings) (depth below : ℕ) (t u : Tree) → t ≡ u → depth ≡ below + 1 → NestsBeyond answers ev slots (suc below) u → NestsBeyond answers ev slots depth t
+lowered answers ev slots depth below t u is step h facts has =
+    subst (λ x. depth < naming_depth (is_naming answers ev) facts (held_by ev slots) x) (sym is) (omega (arith, h facts has, step))
 
 -- ---- calls, sets and records
 
@@ -121,25 +127,24 @@ module _ (naming : Bool) (facts : Facts) (holds : LeafAnswers) where
   list_fails (And l r) k s h = cc
   list_fails (Or l r) k s h = cc
 
-pub list_deep : {F : Type 0} (answers : F → FunctionAnswers) (ev : Evaluator F) (depth : ℕ) (t : Tree) → is_of_list t ≡ true → SomeNestsBeyond answers ev depth (parts t) → NestsBeyond answers ev (suc depth) t
-list_deep answers ev depth (Apply op ts) s d = λ facts has.
-    let (slots, h) = d facts has in
-    let k : depth < naming_depths (is_naming answers ev) facts (held_by ev slots) ts = subst (λ us. depth < naming_depths (is_naming answers ev) facts (held_by ev slots) us) (listed_again ts) h in
-    (slots, omega (arith, k))
-list_deep answers ev depth (Lit l) s d = cc
-list_deep answers ev depth (Var v) s d = cc
-list_deep answers ev depth (Slot j) s d = cc
-list_deep answers ev depth (Unknown n ty) s d = cc
-list_deep answers ev depth (If t y n) s d = cc
-list_deep answers ev depth (And l q) s d = cc
-list_deep answers ev depth (Or l q) s d = cc
+pub list_deep : {F : Type 0} (answers : F → FunctionAnswers) (ev : Evaluator F) (slots : Bindings) (depth : ℕ) (t : Tree) → is_of_list t ≡ true → SomeNestsBeyond answers ev slots depth (parts t) → NestsBeyond answers ev slots (suc depth) t
+list_deep answers ev slots depth (Apply op ts) s d = λ facts has.
+    let k : depth < naming_depths (is_naming answers ev) facts (held_by ev slots) ts = subst (λ us. depth < naming_depths (is_naming answers ev) facts (held_by ev slots) us) (listed_again ts) (d facts has) in
+    omega (arith, k)
+list_deep answers ev slots depth (Lit l) s d = cc
+list_deep answers ev slots depth (Var v) s d = cc
+list_deep answers ev slots depth (Slot j) s d = cc
+list_deep answers ev slots depth (Unknown n ty) s d = cc
+list_deep answers ev slots depth (If t y n) s d = cc
+list_deep answers ev slots depth (And l q) s d = cc
+list_deep answers ev slots depth (Or l q) s d = cc
 
 -- ---- parts one by one
 
 -- these parts are answered, and those are to come
 pub record Goes {F : Type 0} (answers : F → FunctionAnswers) (ev : Evaluator F) (slots : Bindings) (depth : ℕ) (rest : List Tree) (done : List (Either Value Tree)) (all : List Tree) : Type 0 where
   pub found : (facts : Facts) → Knows answers ev facts → map (naming_in (is_naming answers ev) facts (held_by ev slots)) all ≡ map part_answer done ++ map (naming_in (is_naming answers ev) facts (held_by ev slots)) rest
-  pub deep : SomeNestsBeyond answers ev depth rest → SomeNestsBeyond answers ev depth all
+  pub deep : SomeNestsBeyond answers ev slots depth rest → SomeNestsBeyond answers ev slots depth all
   pub count : length all ≡ length done + length rest
 
 module _ {F : Type 0} (answers : F → FunctionAnswers) (ev : Evaluator F) (slots : Bindings) (depth : ℕ) where
@@ -155,7 +160,7 @@ module _ {F : Type 0} (answers : F → FunctionAnswers) (ev : Evaluator F) (slot
           ∙ ap (λ b. map part_answer done ++ b ∷ others) (found facts s)
           ∙ sym (append_assoc (map part_answer done) (part_answer p ∷ []) others)
           ∙ ap (λ bs. bs ++ others) (sym (map-append part_answer done (p ∷ [])));
-      deep = λ d. goes.deep (later_deep answers ev depth t later d);
+      deep = λ d. goes.deep (later_deep answers ev slots depth t later p found d);
       count = omega (arith, goes.count, length-append done (p ∷ []));
     }
 
@@ -167,8 +172,8 @@ module _ {F : Type 0} (answers : F → FunctionAnswers) (ev : Evaluator F) (slot
         ∙ fails_behind facts done (map (naming_in (is_naming answers ev) facts (held_by ev slots)) (t ∷ later)) k (ap (λ a. and_next facts a (gathered facts (map (naming_in (is_naming answers ev) facts (held_by ev slots)) later))) e))
         (λ d. d) (h s)
 
-    pub goes_deep : NestsBeyond answers ev depth t → SomeNestsBeyond answers ev depth all
-    goes_deep d = goes.deep (first_deep answers ev depth t later d)
+    pub goes_deep : NestsBeyond answers ev slots depth t → SomeNestsBeyond answers ev slots depth all
+    goes_deep d = goes.deep (first_deep answers ev slots depth t later d)
 
   module _ (all : List Tree) (done : List (Either Value Tree)) (goes : Goes answers ev slots depth [] done all) where
     pub goes_end : (facts : Facts) → Knows answers ev facts → map (naming_in (is_naming answers ev) facts (held_by ev slots)) all ≡ map part_answer done
@@ -188,7 +193,7 @@ module _ {F : Type 0} (answers : F → FunctionAnswers) (ev : Evaluator F) (slot
     pub cut_fails : (f : Failure) (facts : Facts) → Knows answers ev facts → (Knows answers ev facts → FailsBy ⊤ (λ k. naming_in (is_naming answers ev) facts (held_by ev slots) t ≡ Failed k) f) → FailsBy ⊤ (λ k. gathered facts (map (naming_in (is_naming answers ev) facts (held_by ev slots)) all) ≡ SomeFailed k) f
     cut_fails = goes_fails later all t done goes_cut
 
-    pub cut_deep : NestsBeyond answers ev depth t → SomeNestsBeyond answers ev depth all
+    pub cut_deep : NestsBeyond answers ev slots depth t → SomeNestsBeyond answers ev slots depth all
     cut_deep = goes_deep later all t done goes_cut
 
   module _ (rest all : List Tree) (done : List (Either Value Tree)) (goes : Goes answers ev slots depth rest done all) (none : rest ≡ []) where

@@ -8,10 +8,11 @@ use Rattle.cedar_language.specs.Facts.{Facts}
 use Rattle.cedar_partial_evaluation.specs.Partial.{Answer, Failed, AllEvaluated, and_next, LeafAnswers, apply_answer}
 use Rattle.cedar_partial_evaluation.specs.ReadUnknowns.{is_unknown_call}
 use Rattle.cedar_grammar.specs.Build.{unary, binary}
+use Rattle.cedar_policy_parts.specs.Bindings.{Bindings}
 use Rattle.cedar_extensions.specs.Answering.{FunctionAnswers}
 use Rattle.cedar_extensions.specs.declared.evaluation_error.EvaluationError.{EvaluationError}
 use Rattle.cedar_restricted.specs.declared.partial_values.PartialValue.{PartialValue}
-use Rattle.cedar_interpreter.specs.Holding.{NestsBeyond}
+use Rattle.cedar_interpreter.specs.Holding.{held_by, Knows, is_naming, NestsBeyond}
 use Rattle.cedar_interpreter.specs.Meeting.{part_answer, MeetsAt}
 use Rattle.cedar_interpreter.specs.Naming.{naming_in}
 use Rattle.cedar_interpreter.specs.declared.evaluator.Evaluator.{Evaluator}
@@ -35,8 +36,8 @@ module _ (t : Tree) (op : Operator) (u : Tree) (is : t ≡ unary op u) (calls : 
   one_meets naming facts holds p r found h =
       meets_anyhow r _ (subst (λ b. MeetsAt ⊥ b r) (sym (one_is naming facts holds (part_answer p) found)) h)
 
-  pub one_deep : {F : Type 0} (answers : F → FunctionAnswers) (ev : Evaluator F) (depth : ℕ) → NestsBeyond answers ev depth u → NestsBeyond answers ev (suc depth) t
-  one_deep answers ev depth d = subst (NestsBeyond answers ev (suc depth)) (sym is) (deep_operand answers ev depth op u d)
+  pub one_deep : {F : Type 0} (answers : F → FunctionAnswers) (ev : Evaluator F) (slots : Bindings) (depth : ℕ) → NestsBeyond answers ev slots depth u → NestsBeyond answers ev slots (suc depth) t
+  one_deep answers ev slots depth d = subst (NestsBeyond answers ev slots (suc depth)) (sym is) (deep_operand answers ev slots depth op u d)
 
 module _ (t : Tree) (op : Operator) (l r : Tree) (is : t ≡ binary op l r) (calls : is_unknown_call op ≡ false) where
   two_are : (naming : Bool) (facts : Facts) (holds : LeafAnswers) →
@@ -65,8 +66,9 @@ module _ (t : Tree) (op : Operator) (l r : Tree) (is : t ≡ binary op l r) (cal
       MeetsAt ⊥ (apply_answer facts holds op (and_next facts (part_answer p) (and_next facts (part_answer q) (AllEvaluated no_values)))) res → MeetsAt ⊤ (naming_in naming facts holds t) res
   two_meet naming facts holds p q res found other h = meets_anyhow res _ (subst (λ b. MeetsAt ⊥ b res) (sym (both_found naming facts holds p found (part_answer q) other)) h)
 
-  pub left_deep : {F : Type 0} (answers : F → FunctionAnswers) (ev : Evaluator F) (depth : ℕ) → NestsBeyond answers ev depth l → NestsBeyond answers ev (suc depth) t
-  left_deep answers ev depth d = subst (NestsBeyond answers ev (suc depth)) (sym is) (deep_left answers ev depth op l r d)
+  pub left_deep : {F : Type 0} (answers : F → FunctionAnswers) (ev : Evaluator F) (slots : Bindings) (depth : ℕ) → NestsBeyond answers ev slots depth l → NestsBeyond answers ev slots (suc depth) t
+  left_deep answers ev slots depth d = subst (NestsBeyond answers ev slots (suc depth)) (sym is) (deep_left answers ev slots depth op l r d)
 
-  pub right_deep : {F : Type 0} (answers : F → FunctionAnswers) (ev : Evaluator F) (depth : ℕ) → NestsBeyond answers ev depth r → NestsBeyond answers ev (suc depth) t
-  right_deep answers ev depth d = subst (NestsBeyond answers ev (suc depth)) (sym is) (deep_right answers ev depth op l r d)
+  pub right_deep : {F : Type 0} (answers : F → FunctionAnswers) (ev : Evaluator F) (slots : Bindings) (depth : ℕ) (p : Either Value Tree) → ((facts : Facts) → Knows answers ev facts → naming_in (is_naming answers ev) facts (held_by ev slots) l ≡ part_answer p) →
+      NestsBeyond answers ev slots depth r → NestsBeyond answers ev slots (suc depth) t
+  right_deep answers ev slots depth p found d = subst (NestsBeyond answers ev slots (suc depth)) (sym is) (deep_right answers ev slots depth op l r p found d)

@@ -79,39 +79,36 @@ module _ {F : Type 0} (answers : F → FunctionAnswers) (unread : UnknownsAreRea
     found_served facts s =
         meets_as result _ _ (sym ((names_are_read unread).without (is_naming answers ev) facts (held_by ev slots) t s.names_nothing).0) (found facts (knows_served facts s))
 
-  pub deep_served : NestsBeyond answers ev depth t → Deep answers ev depth t
+  pub deep_served : NestsBeyond answers ev slots depth t → Deep answers ev slots depth t
   deep_served d facts s =
-      let (bs, h) = d facts (knows_served facts s) in
-      (bs, subst (λ n. depth < n) ((names_are_read unread).without (is_naming answers ev) facts (held_by ev bs) t s.names_nothing).1 h)
+      subst (λ n. depth < n) ((names_are_read unread).without (is_naming answers ev) facts (held_by ev slots) t s.names_nothing).1 (d facts (knows_served facts s))
 
   module _ (named : are_named (functions_in ev.extensions.now) ≡ true) (facts : Facts) (s : ServesRead answers ev facts t) where
     pub gives_texts : GivesTexts facts
     gives_texts f is n =
         ap (λ o. called o (a_value (Plain (String n)) no_values)) (s.knows.functions f ∙ unknown_is_found answers f is (functions_in ev.extensions.now) named s.naming)
 
-    are_plain : (bs : Bindings) → ArePlain (held_by ev bs)
-    are_plain bs = record {
+    are_plain : ArePlain (held_by ev slots)
+    are_plain = record {
       variable = s.variables;
       unknown = λ n ty. name_plain (value_told ev.told n) n ty;
-      slot = λ i. slot_plain (binding_of bs i);
+      slot = λ i. slot_plain (binding_of slots i);
     }
 
-    read_at : (bs : Bindings) →
-        (partial_in facts (held_by ev bs) (read_unknowns t) ≡ as_read (naming_in true facts (held_by ev bs) t)) × (naming_depth true facts (held_by ev bs) t ≤ suc (evaluation_depth facts (held_by ev bs) (read_unknowns t)))
-    read_at bs = (names_are_read unread).reads facts (held_by ev bs) gives_texts (are_plain bs) t s.written
+    read_at :
+        (partial_in facts (held_by ev slots) (read_unknowns t) ≡ as_read (naming_in true facts (held_by ev slots) t)) × (naming_depth true facts (held_by ev slots) t ≤ suc (evaluation_depth facts (held_by ev slots) (read_unknowns t)))
+    read_at = (names_are_read unread).reads facts (held_by ev slots) gives_texts are_plain t s.written
 
   module _ (named : are_named (functions_in ev.extensions.now) ≡ true) where
     -- what partial evaluation answers to the tree that is read, by what is answered
     pub read_answer : (facts : Facts) → ServesRead answers ev facts t → partial_in facts (held_by ev slots) (read_unknowns t) ≡ as_read (naming_in (is_naming answers ev) facts (held_by ev slots) t)
-    read_answer facts s = (read_at named facts s slots).0 ∙ ap (λ b. as_read (naming_in b facts (held_by ev slots) t)) (sym s.naming)
+    read_answer facts s = (read_at named facts s).0 ∙ ap (λ b. as_read (naming_in b facts (held_by ev slots) t)) (sym s.naming)
 
     pub found_read : (result : Result PartialValue EvaluationError) → ((facts : Facts) → Knows answers ev facts → MeetsAt ⊤ (naming_in (is_naming answers ev) facts (held_by ev slots) t) result) →
         (facts : Facts) → ServesRead answers ev facts t → ReadsAt ⊤ (partial_in facts (held_by ev slots) (read_unknowns t)) result
     found_read result found facts s = reads_as result _ _ (read_answer facts s) (found facts s.knows)
 
-    pub deep_read : NestsBeyond answers ev depth t → IsDeepRead answers ev depth t
+    pub deep_read : NestsBeyond answers ev slots depth t → IsDeepRead answers ev slots depth t
     deep_read d facts s =
-        let (bs, h) = d facts s.knows in
-        let k : depth < naming_depth true facts (held_by ev bs) t = subst (λ b. depth < naming_depth b facts (held_by ev bs) t) s.naming h in
-        let l = (read_at named facts s bs).1 in
-        (bs, omega (arith, k, l))
+        let k : depth < naming_depth true facts (held_by ev slots) t = subst (λ b. depth < naming_depth b facts (held_by ev slots) t) s.naming (d facts s.knows) in
+        omega (arith, k, (read_at named facts s).1)

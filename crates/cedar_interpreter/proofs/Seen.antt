@@ -1,12 +1,11 @@
 -- What is looked up of an entity that is given is what the facts have of it.
-use Rattle.std.proofs.Common.{◌≡◌, ◌∙◌, ℕ, IfSome, refl, sym, ap, subst, codes, Bor}
+use Rattle.std.proofs.Common.{◌≡◌, ◌∙◌, ℕ, IfSome, refl, sym, ap, subst, Bor}
 use Rattle.std.specs.Prelude.{Option, Some, None}
 use Rattle.std.specs.Option.{option_map, option_copied}
 use Rattle.cedar_language.specs.Uid.{Text, Uid}
 use Rattle.cedar_language.specs.Tree.{Entity, Variable, Principal, Action, Resource, Context, Tree}
 use Rattle.cedar_language.specs.Value.{Value, Plain}
-use Rattle.cedar_partial_evaluation.specs.Partial.{Evaluated, LeafAnswers}
-use Rattle.cedar_partial_evaluation.specs.Question.{Part, Given, Missing, part_held}
+use Rattle.cedar_partial_evaluation.specs.Partial.{Answer, Evaluated, LeafAnswers}
 use Rattle.cedar_policy_parts.specs.Bindings.{unbound}
 use Rattle.cedar_entities.specs.Data.{EntityData}
 use Rattle.cedar_entities.specs.Held.{held_of}
@@ -21,8 +20,7 @@ use Rattle.either.specs.declared.Either.TheVariants.{Left, Right}
 use Rattle.cedar_restricted.specs.PartialValues.{partial_of}
 use Rattle.cedar_restricted.specs.declared.partial_values.PartialValue.{PartialValue}
 use Rattle.cedar_restricted_evaluation.specs.Evaluations.{part_answer}
-use Rattle.cedar_values.specs.Readers.{uid_in}
-use Rattle.cedar_interpreter.specs.Asking.{Inquiry, variable_asked, uid_given, entity_asked, IsEvaluatorOf}
+use Rattle.cedar_interpreter.specs.Asking.{entity_in, entity_among, AnswersFor}
 use Rattle.cedar_interpreter.specs.Holding.{variable_held, entity_held}
 use Rattle.cedar_interpreter.specs.Seen.{IsSeen, IsSeenFor, uid_standing}
 use Rattle.cedar_interpreter.specs.declared.evaluator.EntityVariable.{EntityVariable}
@@ -54,30 +52,31 @@ pub given_held : {F : Type 0} (ev : Evaluator F) (v : Variable) (x : EntityVaria
     IfSome given (λ g. (variable_held ev v ≡ Evaluated (Plain (Entity g.uid.now))) × IsSeen ev.entities.now g.uid.now (option_copied g.entity))
 given_held ev v x given is seen k = if_some given (λ g h. (sym is ∙ h.0, h.1)) (k ev.entities.now seen)
 
--- ---- of an inquiry that is asked
+-- ---- of what is asked
 
-module _ {F : Type 0} (answers : F → FunctionAnswers) (ev : Evaluator F) (i : Inquiry) (store : Entities) (table : Table) (depth : ℕ) (is : IsEvaluatorOf answers i store table depth ev) where
-  asked_as : (v : Variable) → variable_asked i.request v ≡ variable_held ev v
+module _ {F : Type 0} (answers : F → FunctionAnswers) (ev : Evaluator F) (variables : Variable → Answer) (told : Text → Option Value) (store : Entities) (table : Table) (depth : ℕ) (is : AnswersFor answers variables told store table depth ev) where
+  asked_as : (v : Variable) → variables v ≡ variable_held ev v
   asked_as v = sym (ap (λ (holds : LeafAnswers). holds.variable v) (is.holds unbound))
 
-  -- an entity is one that the request gives
-  part_given : (e : Either Value Tree) (p : Part) (n : Text) → part_held p None n ≡ part_answer e → uid_standing e ≡ uid_given p
-  part_given (Left v) (Given u) n same = let is : Plain (Entity u) ≡ v = cc in sym (ap uid_in is)
-  part_given (Left v) (Missing ty) n same = cc
-  part_given (Right t) (Given u) n same = cc
-  part_given (Right t) (Missing ty) n same = refl
+  -- an entity is one that stands there
+  stands_in : (e : Either Value Tree) → uid_standing e ≡ entity_in (part_answer e)
+  stands_in (Left v) = refl
+  stands_in (Right t) = refl
 
-  pub entity_given : (v : Variable) → entity_held ev v ≡ entity_asked i.request v
-  entity_given Principal = part_given (partial_of ev.variables.principal.part) i.request.principal (codes "principal") (asked_as Principal)
-  entity_given Action = part_given (partial_of ev.variables.action.part) i.request.action (codes "action") (asked_as Action)
-  entity_given Resource = part_given (partial_of ev.variables.resource.part) i.request.resource (codes "resource") (asked_as Resource)
+  part_given : (v : Variable) (e : Either Value Tree) → variables v ≡ part_answer e → uid_standing e ≡ entity_in (variables v)
+  part_given v e same = stands_in e ∙ ap entity_in (sym same)
+
+  pub entity_given : (v : Variable) → entity_held ev v ≡ entity_among variables v
+  entity_given Principal = part_given Principal (partial_of ev.variables.principal.part) (asked_as Principal)
+  entity_given Action = part_given Action (partial_of ev.variables.action.part) (asked_as Action)
+  entity_given Resource = part_given Resource (partial_of ev.variables.resource.part) (asked_as Resource)
   entity_given Context = refl
 
-  seen_asked : (v : Variable) (uid : Uid) (seen : Option EntityData) → (variable_held ev v ≡ Evaluated (Plain (Entity uid))) × IsSeen ev.entities.now uid seen → (variable_asked i.request v ≡ Evaluated (Plain (Entity uid))) × IsSeen store uid seen
+  seen_asked : (v : Variable) (uid : Uid) (seen : Option EntityData) → (variable_held ev v ≡ Evaluated (Plain (Entity uid))) × IsSeen ev.entities.now uid seen → (variables v ≡ Evaluated (Plain (Entity uid))) × IsSeen store uid seen
   seen_asked v uid seen held = (asked_as v ∙ held.0, subst (λ s. IsSeen s uid seen) is.store held.1)
 
   -- what an evaluator gives for a variable stands for it in what is asked
   pub given_asked : {X : Type 0} (v : Variable) (uid_of : X → Uid) (seen_of : X → Option EntityData) (given : Option X) →
       IfSome given (λ x. (variable_held ev v ≡ Evaluated (Plain (Entity (uid_of x)))) × IsSeen ev.entities.now (uid_of x) (seen_of x)) →
-      IfSome given (λ x. (variable_asked i.request v ≡ Evaluated (Plain (Entity (uid_of x)))) × IsSeen store (uid_of x) (seen_of x))
+      IfSome given (λ x. (variables v ≡ Evaluated (Plain (Entity (uid_of x)))) × IsSeen store (uid_of x) (seen_of x))
   given_asked v uid_of seen_of given = if_some given (λ x. seen_asked v (uid_of x) (seen_of x))

@@ -1,12 +1,12 @@
--- What is served and how deep it is, from a conjunction to its right operand.
-use Rattle.std.proofs.Common.{◌≡◌, ℕ, refl, suc, arith, Bool, true, false}
+-- What is served, from a conjunction to its right operand.
+use Rattle.std.proofs.Common.{◌≡◌, refl, Bool, true, false}
 use Rattle.std.specs.Prelude.{◌&&◌, ◌||◌}
 use Rattle.cedar_language.specs.Tree.{Tree, And}
 use Rattle.cedar_language.specs.Facts.{Facts}
 use Rattle.cedar_partial_evaluation.specs.ReadUnknowns.{calls_unknown}
 use Rattle.cedar_extensions.specs.Answering.{FunctionAnswers}
 use Rattle.cedar_extensions.specs.Table.{as_table}
-use Rattle.cedar_interpreter.specs.Holding.{Serves, Deep}
+use Rattle.cedar_interpreter.specs.Holding.{Serves}
 use Rattle.cedar_interpreter.specs.declared.evaluator.Evaluator.{Evaluator}
 
 nothing_right : (b x y : Bool) → (b && (x || y)) ≡ false → (b && y) ≡ false
@@ -20,6 +20,3 @@ serves_and_right answers ev facts l r s = record {
   functions = s.functions;
   names_nothing = nothing_right (as_table answers ev.extensions.now).has_unknown (calls_unknown l) (calls_unknown r) s.names_nothing;
 }
-
-pub deep_and_right : {F : Type 0} (answers : F → FunctionAnswers) (ev : Evaluator F) (depth : ℕ) (l r : Tree) → Deep answers ev depth r → Deep answers ev (suc depth) (And l r)
-deep_and_right answers ev depth l r d facts has = let (slots, h) = d facts (serves_and_right answers ev facts l r has) in (slots, omega (arith, h))

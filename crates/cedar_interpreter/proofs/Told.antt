@@ -1,9 +1,17 @@
 -- Values that are told for unknowns: the type that is stated, and what stands for an unknown.
-use Rattle.std.proofs.Common.{◌≡◌, ◌∙◌, refl, ap, sym, true, false}
+use Rattle.std.proofs.Common.{◌≡◌, ◌∙◌, List, refl, ap, sym, true, false}
+use Rattle.std.proofs.lemmas.Map.Text.{is_eq-slice_cmp}
+use Rattle.std.specs.BTreeMap.{is_at}
 use Rattle.std.specs.Prelude.{Some}
 use Rattle.std.specs.Bool.{Decides, one_answer}
-use Rattle.std.specs.Cmp.Lexicographic.{pointwise_decides, bytes_decides}
-use Rattle.cedar_language.specs.Uid.{Name}
+use Rattle.std.specs.Cmp.Lexicographic.{pointwise_decides, bytes_decides, slice_cmp}
+use Rattle.std.specs.Map.{lookup}
+use Rattle.std.specs.Ordering.{nat_cmp}
+use Rattle.std.specs.Rc.{rc_str_bytes}
+use Rattle.std.specs.Str.{bytes_eq}
+use Rattle.std.specs.declared.alloc.Global.{Global}
+use Rattle.std.specs.declared.rc.RcStr.{RcStr}
+use Rattle.cedar_language.specs.Uid.{Text, Name}
 use Rattle.cedar_language.specs.Tree.{Boolean, Long, String, Entity, ValueType, BooleanType, LongType, StringType, SetType, RecordType, EntityType, ExtensionType}
 use Rattle.cedar_language.specs.Value.{Value, Plain, SetOf, RecordOf, ExtensionOf, TypeError}
 use Rattle.cedar_language.specs.Order.{same_name}
@@ -12,6 +20,11 @@ use Rattle.cedar_values.specs.Types.{type_of_value}
 use Rattle.cedar_partial_evaluation.specs.Partial.{Evaluated, Failed}
 use Rattle.cedar_partial_evaluation.specs.Question.{value_held}
 use Rattle.cedar_partial_evaluation.specs.Unknowns.{is_of_type, fits}
+
+-- ---- what an ordered map finds by a text
+
+pub looked_up : (name : Text) (told : List (RcStr Global × Value)) → lookup (is_at (λ k. slice_cmp nat_cmp name (rc_str_bytes k))) told ≡ lookup (λ k. bytes_eq name (rc_str_bytes k)) told
+looked_up name told = λ i. lookup (λ k. is_eq-slice_cmp name (rc_str_bytes k) i) told
 
 -- ---- a value is of a type where that is the value's
 

@@ -2,6 +2,9 @@
 use Rattle.std.specs.Prelude.{◌≡◌, ◌<◌, ◌≤◌, ℕ, Bool, true, false, Option, Some, None, List}
 use Rattle.std.specs.BTreeMap.{BTreeMap}
 use Rattle.std.specs.Borrow.{Bor}
+use Rattle.std.specs.Map.{lookup}
+use Rattle.std.specs.Rc.{rc_str_bytes}
+use Rattle.std.specs.Str.{bytes_eq}
 use Rattle.std.specs.declared.alloc.Global.{Global}
 use Rattle.std.specs.declared.rc.RcStr.{RcStr}
 use Rattle.cedar_language.specs.Uid.{Text, Uid}
@@ -20,7 +23,6 @@ use Rattle.cedar_restricted.specs.declared.partial_values.PartialValue.{PartialV
 use Rattle.cedar_extensions.specs.Answering.{FunctionAnswers}
 use Rattle.cedar_extensions.specs.Table.{as_table}
 use Rattle.cedar_restricted_evaluation.specs.Evaluations.{part_answer}
-use Rattle.cedar_substitution.specs.Told.{told_for}
 use Rattle.cedar_interpreter.specs.Depths.{evaluation_depth}
 use Rattle.cedar_interpreter.specs.Naming.{naming_depth, naming_depths, IsPlain}
 use Rattle.cedar_interpreter.specs.Operating.{HasFunctions, NamesNothing}
@@ -51,7 +53,7 @@ depth_of ev = ev.depth
 -- the value that is told for an unknown of this name
 abbrev pub value_told : Option (Bor (BTreeMap (RcStr Global) Value)) → Text → Option Value
 value_told None n = None
-value_told (Some told) n = told_for told.now.entries n
+value_told (Some told) n = lookup (λ k. bytes_eq n (rc_str_bytes k)) told.now.entries
 
 -- what stands for variables, unknowns and slots; a told value of another type than the one that an unknown states is a TypeError
 abbrev pub held_by : {F : Type 0} → Evaluator F → Bindings → LeafAnswers
@@ -79,9 +81,9 @@ is_evaluated _ = false
 abbrev pub is_held : {F : Type 0} → Evaluator F → Variable → Bool
 is_held ev v = is_evaluated (variable_held ev v)
 
--- with its slots bound in some way, the evaluation of a tree nests deeper than the limit
-abbrev pub Deep : {F : Type 0} → (F → FunctionAnswers) → Evaluator F → ℕ → Tree → Type 0
-Deep answers ev depth t = (facts : Facts) → Serves answers ev facts t → (slots : Bindings) × (depth < evaluation_depth facts (held_by ev slots) t)
+-- with its slots bound so, the evaluation of a tree nests deeper than the limit
+abbrev pub Deep : {F : Type 0} → (F → FunctionAnswers) → Evaluator F → Bindings → ℕ → Tree → Type 0
+Deep answers ev slots depth t = (facts : Facts) → Serves answers ev facts t → depth < evaluation_depth facts (held_by ev slots) t
 
 -- ---- trees that call `unknown`
 
@@ -102,14 +104,14 @@ pub record ServesRead {F : Type 0} (answers : F → FunctionAnswers) (ev : Evalu
   pub written : calls_unknown (read_unknowns t) ≡ false
   pub variables : (v : Variable) → IsPlain (variable_held ev v)
 
--- with its slots bound in some way, the evaluation of a tree nests deeper than the limit
-abbrev pub NestsBeyond : {F : Type 0} → (F → FunctionAnswers) → Evaluator F → ℕ → Tree → Type 0
-NestsBeyond answers ev depth t = (facts : Facts) → Knows answers ev facts → (slots : Bindings) × (depth < naming_depth (is_naming answers ev) facts (held_by ev slots) t)
+-- with its slots bound so, the evaluation of a tree nests deeper than the limit, whatever calls in it may name
+abbrev pub NestsBeyond : {F : Type 0} → (F → FunctionAnswers) → Evaluator F → Bindings → ℕ → Tree → Type 0
+NestsBeyond answers ev slots depth t = (facts : Facts) → Knows answers ev facts → depth < naming_depth (is_naming answers ev) facts (held_by ev slots) t
 
 -- the same of one among these
-abbrev pub SomeNestsBeyond : {F : Type 0} → (F → FunctionAnswers) → Evaluator F → ℕ → List Tree → Type 0
-SomeNestsBeyond answers ev depth ts = (facts : Facts) → Knows answers ev facts → (slots : Bindings) × (depth < naming_depths (is_naming answers ev) facts (held_by ev slots) (trees ts))
+abbrev pub SomeNestsBeyond : {F : Type 0} → (F → FunctionAnswers) → Evaluator F → Bindings → ℕ → List Tree → Type 0
+SomeNestsBeyond answers ev slots depth ts = (facts : Facts) → Knows answers ev facts → depth < naming_depths (is_naming answers ev) facts (held_by ev slots) (trees ts)
 
 -- the evaluation of the tree with unknowns in the places of such calls nests as deep as the limit: a call is a level above its text
-abbrev pub IsDeepRead : {F : Type 0} → (F → FunctionAnswers) → Evaluator F → ℕ → Tree → Type 0
-IsDeepRead answers ev depth t = (facts : Facts) → ServesRead answers ev facts t → (slots : Bindings) × (depth ≤ evaluation_depth facts (held_by ev slots) (read_unknowns t))
+abbrev pub IsDeepRead : {F : Type 0} → (F → FunctionAnswers) → Evaluator F → Bindings → ℕ → Tree → Type 0
+IsDeepRead answers ev slots depth t = (facts : Facts) → ServesRead answers ev facts t → depth ≤ evaluation_depth facts (held_by ev slots) (read_unknowns t)

@@ -9,7 +9,7 @@ use Rattle.cedar_language.specs.Operators.{called}
 use Rattle.cedar_language.specs.Order.{same_name}
 use Rattle.cedar_partial_evaluation.specs.Partial.{Answer, Evaluated, ResidualTree, Answers, AllEvaluated, answer_of, LeafAnswers, and_next, and_answer, or_answer, if_answer, apply_answer, partial_in}
 use Rattle.cedar_partial_evaluation.specs.ReadUnknowns.{unknown_function, read_unknowns, calls_unknown}
-use Rattle.cedar_interpreter.specs.Depths.{left_height, evaluation_depth}
+use Rattle.cedar_interpreter.specs.Depths.{left_height, branch_depth, depth_behind, evaluation_depth}
 
 -- ---- what is answered
 
@@ -63,14 +63,14 @@ abbrev mutual
   naming_depth naming facts holds (Slot s) = 1
   naming_depth naming facts holds (Unknown n ty) = 1
   naming_depth naming facts holds (If t y n) =
-      suc (max (naming_depth naming facts holds t) (max (naming_depth naming facts holds y) (naming_depth naming facts holds n)))
-  naming_depth naming facts holds (And l r) = suc (max (naming_depth naming facts holds l) (naming_depth naming facts holds r))
-  naming_depth naming facts holds (Or l r) = suc (max (naming_depth naming facts holds l) (naming_depth naming facts holds r))
+      suc (max (naming_depth naming facts holds t) (branch_depth (naming_in naming facts holds t) (naming_depth naming facts holds y) (naming_depth naming facts holds n)))
+  naming_depth naming facts holds (And l r) = suc (max (naming_depth naming facts holds l) (branch_depth (naming_in naming facts holds l) (naming_depth naming facts holds r) 0))
+  naming_depth naming facts holds (Or l r) = suc (max (naming_depth naming facts holds l) (branch_depth (naming_in naming facts holds l) 0 (naming_depth naming facts holds r)))
   naming_depth naming facts holds (Apply op ts) = max (suc (naming_depths naming facts holds ts)) (naming_again naming facts holds op ts)
 
   pub naming_depths : Bool → Facts → LeafAnswers → Trees → ℕ
   naming_depths naming facts holds no_trees = 0
-  naming_depths naming facts holds (a_tree t ts) = max (naming_depth naming facts holds t) (naming_depths naming facts holds ts)
+  naming_depths naming facts holds (a_tree t ts) = max (naming_depth naming facts holds t) (depth_behind (naming_in naming facts holds t) (naming_depths naming facts holds ts))
 
 -- ---- against the tree whose calls are read as unknowns
 

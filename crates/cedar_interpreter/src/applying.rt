@@ -48,7 +48,7 @@ pub(crate) fn known(value: Result<Value, EvaluationError>) -> Result<PartialValu
 }
 
 // What is left, if the store doesn't know what was looked up, and else what was found.
-fn open_or(
+fn left_or_found(
     left: Option<PartialValue>,
     found: Result<Value, EvaluationError>,
 ) -> Result<PartialValue, EvaluationError>
@@ -76,12 +76,12 @@ pub(crate) fn apply_to_one(
         UnaryOperator::Has(attr) => {
             let found = has_attr(alloc, entities, &value, attr);
             let rest = open_has(alloc, &found, entities, &value, attr)?;
-            open_or(rest, found)
+            left_or_found(rest, found)
         }
         UnaryOperator::HasPath(attrs) => {
             let found = has_path(alloc, entities, &value, attrs);
             let rest = open_path(alloc, &found, entities, &value, attrs)?;
-            open_or(rest, found)
+            left_or_found(rest, found)
         }
         UnaryOperator::Like(pattern) => known(is_like(alloc, &value, pattern)),
         UnaryOperator::Is(entity_type) => known(is_of_type(alloc, &value, entity_type)),
@@ -114,17 +114,17 @@ pub(crate) fn apply_to_two<F>(
         BinaryOp::In => {
             let found = is_in(alloc, entities, &left, &right);
             let rest = open_pair(alloc, &found, entities, op, &left, right)?;
-            open_or(rest, found)
+            left_or_found(rest, found)
         }
         BinaryOp::GetTag => {
             let found = get_tag(alloc, entities, &left, &right, loc);
             let rest = open_pair(alloc, &found, entities, op, &left, right)?;
-            open_or(rest, found)
+            left_or_found(rest, found)
         }
         BinaryOp::HasTag => {
             let found = has_tag(alloc, entities, &left, &right);
             let rest = open_pair(alloc, &found, entities, op, &left, right)?;
-            open_or(rest, found)
+            left_or_found(rest, found)
         }
     }
 }

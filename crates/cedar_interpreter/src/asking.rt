@@ -1,18 +1,16 @@
 // An evaluator made, and asked.
-ghost use Rattle.std.specs.Prelude.{◌≡◌, ⊤, ℕ, option_map, IfOk};
+ghost use Rattle.std.specs.Prelude.{⊤, ℕ, Option, Some, IfOk};
 ghost use Rattle.cedar_language.specs.Facts.{Facts};
+ghost use Rattle.cedar_language.specs.Tree.{Variable};
+ghost use Rattle.cedar_language.specs.Uid.{Text};
+ghost use Rattle.cedar_language.specs.Value.{Value as Meant};
 ghost use Rattle.cedar_partial_evaluation.specs.Partial.{Answer, partial_in};
 ghost use Rattle.cedar_partial_evaluation.specs.ReadUnknowns.{read_unknowns};
 ghost use Rattle.cedar_entities.specs.declared.store.Entities.{Entities as Store};
 ghost use Rattle.cedar_extensions.specs.Table.{Table, as_table};
 ghost use Rattle.cedar_trees.specs.Bare.{bare};
-ghost use Rattle.cedar_restricted.specs.PartialValues.{partial_of};
-ghost use Rattle.cedar_restricted_evaluation.specs.Evaluations.{part_answer};
-ghost use Rattle.cedar_requests.specs.Contexts.{context_part};
-ghost use Rattle.cedar_requests.specs.Holding.{RequestParts, request_parts};
-ghost use Rattle.cedar_substitution.specs.Told.{told_for};
-ghost use Rattle.cedar_interpreter.specs.Asking.{context_asked, untold, StandFor, IsEvaluatorOf, MeansTree};
-ghost use Rattle.cedar_interpreter.specs.Holding.{held_by, Knows, Serves, ServesRead, is_naming, Deep, IsDeepRead, depth_of};
+ghost use Rattle.cedar_interpreter.specs.Asking.{answer_asked, nothing_told, StandFor, AnswersFor, MeansTree};
+ghost use Rattle.cedar_interpreter.specs.Holding.{held_by, value_told, Knows, Serves, ServesRead, is_naming, Deep, NestsBeyond, IsDeepRead, depth_of};
 ghost use Rattle.cedar_interpreter.specs.Meeting.{MeetsAt, ReadsAt, ValueAt, IsLimit};
 ghost use Rattle.cedar_interpreter.specs.Naming.{naming_in};
 ghost use Rattle.cedar_interpreter.specs.Seen.{AreSeen};
@@ -22,36 +20,46 @@ use cedar_entities::store::Entities;
 use cedar_extensions::evaluation_error::EvaluationError;
 use cedar_extensions::extensions::Extensions;
 use cedar_extensions::objects::ExtensionFunctionObject;
-use cedar_literals::variables::Var;
 use cedar_names::shared::Shared;
 use cedar_partial_evaluation::{
     known_is_meaning, known_is_never_left, leaves_dont_matter, unknowns_are_read,
 };
 use cedar_policy_parts::bindings::SlotEnv;
-use cedar_requests::{Context, Request};
 use cedar_restricted::partial_values::PartialValue;
 use cedar_trees::expr::Expr;
-use cedar_trees::unknowns::Unknown;
 use cedar_values::values::Value;
 use std::alloc::{AllocError, Global};
 use std::collections::BTreeMap;
 use std::rc::RcStr;
 
+/// What stands for the variables of a request: for the principal, the action and the resource an entity or an
+/// unknown; for the context a record, what is left of one, or an unknown.
+#[derive(Drop)]
+pub struct AskedVariables {
+    /// For the principal.
+    pub principal: PartialValue,
+    /// For the action.
+    pub action: PartialValue,
+    /// For the resource.
+    pub resource: PartialValue,
+    /// For the context.
+    pub context: PartialValue,
+}
+
 impl<'s, 'e, 'f, F: ExtensionFunctionObject> Evaluator<'s, 'e, 'f, F> {
-    /// The evaluator of a request over these entities and functions. What the request doesn't give is
-    /// unknown, and named as its variable. No evaluation nests deeper than `depth`, the outermost
-    /// expression being at 1. Refused for memory alone. (Cedar language reference, "Request".)
-    pub fn new(
+    /// The evaluator for which these stand for the variables, over these entities and functions. No evaluation
+    /// nests deeper than `depth`, the outermost expression being at 1. Refused for memory alone. (Cedar language
+    /// reference, "Request".)
+    pub fn asked(
         alloc: Global,
-        request: &Request,
+        asked: AskedVariables,
         entities: &'s Entities,
         extensions: &'e Extensions<'f, F>,
         depth: u32,
     ) -> Result<Evaluator<'s, 'e, 'f, F>, AllocError>
-        ensures { IfOk result (λ ev. IsEvaluatorOf F.answers (untold (request_parts request.now)) entities.now (as_table F.answers extensions.now) depth ev) }
+        ensures { IfOk result (λ ev. AnswersFor F.answers (answer_asked asked) nothing_told entities.now (as_table F.answers extensions.now) depth ev) }
     {
-        let stands = variables_of(alloc, request, entities)?;
-        let variables = Shared::new(alloc, stands)?;
+        let variables = Shared::new(alloc, Variables::seen(entities, asked))?;
         Ok(Evaluator {
             variables,
             entities,
@@ -64,9 +72,9 @@ impl<'s, 'e, 'f, F: ExtensionFunctionObject> Evaluator<'s, 'e, 'f, F> {
     /// The evaluator for which unknowns of these names have these values: an unknown with another type
     /// than its value's errs with `TypeError`.
     pub fn with_told(self, told: &'s BTreeMap<RcStr, Value>) -> Evaluator<'s, 'e, 'f, F>
-        ensures { (r : RequestParts) (entities : Store) (table : Table) (depth : ℕ) →
-            IsEvaluatorOf F.answers (untold r) entities table depth self.entry →
-            IsEvaluatorOf F.answers (record { request = r; told = told_for told.now.entries }) entities table depth result }
+        ensures { (variables : Variable → Answer) (before : Text → Option Meant) (store : Store) (table : Table) (depth : ℕ) →
+            AnswersFor F.answers variables before store table depth self.entry →
+            AnswersFor F.answers variables (value_told (Some told)) store table depth result }
     {
         Evaluator {
             variables: self.variables,
@@ -91,10 +99,11 @@ impl<'s, 'e, 'f, F: ExtensionFunctionObject> Evaluator<'s, 'e, 'f, F> {
         slots: &SlotEnv,
     ) -> Result<PartialValue, EvaluationError>
         ensures found { (facts : Facts) → Serves F.answers self.now facts (bare expr.now) → MeetsAt ⊤ (partial_in facts (held_by self.now slots.now) (bare expr.now)) result }
-        ensures limit { IsLimit result → Deep F.answers self.now (depth_of self.now) (bare expr.now) }
+        ensures limit { IsLimit result → Deep F.answers self.now slots.now (depth_of self.now) (bare expr.now) }
         ensures named { (facts : Facts) → Knows F.answers self.now facts → MeetsAt ⊤ (naming_in (is_naming F.answers self.now) facts (held_by self.now slots.now) (bare expr.now)) result }
+        ensures named_limit { IsLimit result → NestsBeyond F.answers self.now slots.now (depth_of self.now) (bare expr.now) }
         ensures read { (facts : Facts) → ServesRead F.answers self.now facts (bare expr.now) → ReadsAt ⊤ (partial_in facts (held_by self.now slots.now) (read_unknowns (bare expr.now))) result }
-        ensures read_limit { IsLimit result → IsDeepRead F.answers self.now (depth_of self.now) (bare expr.now) }
+        ensures read_limit { IsLimit result → IsDeepRead F.answers self.now slots.now (depth_of self.now) (bare expr.now) }
     {
         unknowns_are_read();
         self.interpret_within(alloc, expr, slots, self.depth)
@@ -110,9 +119,10 @@ impl<'s, 'e, 'f, F: ExtensionFunctionObject> Evaluator<'s, 'e, 'f, F> {
     ) -> Result<Value, EvaluationError>
         ensures means { (facts : Facts) → Serves F.answers self.now facts (bare expr.now) → MeansTree facts (held_by self.now slots.now) (depth_of self.now) (bare expr.now) result }
         ensures found { (facts : Facts) → Serves F.answers self.now facts (bare expr.now) → ValueAt ⊤ (partial_in facts (held_by self.now slots.now) (bare expr.now)) result }
-        ensures limit { IsLimit result → Deep F.answers self.now (depth_of self.now) (bare expr.now) }
+        ensures limit { IsLimit result → Deep F.answers self.now slots.now (depth_of self.now) (bare expr.now) }
+        ensures named_limit { IsLimit result → NestsBeyond F.answers self.now slots.now (depth_of self.now) (bare expr.now) }
         ensures read { (facts : Facts) → ServesRead F.answers self.now facts (bare expr.now) → ValueAt ⊤ (partial_in facts (held_by self.now slots.now) (read_unknowns (bare expr.now))) result }
-        ensures read_limit { IsLimit result → IsDeepRead F.answers self.now (depth_of self.now) (bare expr.now) }
+        ensures read_limit { IsLimit result → IsDeepRead F.answers self.now slots.now (depth_of self.now) (bare expr.now) }
     {
         unknowns_are_read();
         known_is_meaning();
@@ -137,37 +147,17 @@ fn value_of(
     }
 }
 
-// What stands for the variables of a request, with what a store holds of the entities among it; refused for memory
-// alone.
-fn variables_of<'s>(
-    alloc: Global,
-    request: &Request,
-    entities: &'s Entities,
-) -> Result<Variables<'s>, AllocError>
-    ensures stand { IfOk result (λ vs. StandFor (request_parts request.now) vs) }
-    ensures seen { IfOk result (λ vs. AreSeen entities.now vs) }
-{
-    let principal = request.principal().evaluate(alloc, Var::Principal)?;
-    let action = request.action().evaluate(alloc, Var::Action)?;
-    let resource = request.resource().evaluate(alloc, Var::Resource)?;
-    let context = context_of(alloc, request.context())?;
-    Ok(Variables {
-        principal: EntityVariable::of(entities, principal),
-        action: EntityVariable::of(entities, action),
-        resource: EntityVariable::of(entities, resource),
-        context,
-    })
-}
-
-// What stands for the context, which is shared; refused for memory alone.
-fn context_of(alloc: Global, context: Option<&Context>) -> Result<PartialValue, AllocError>
-    ensures { IfOk result (λ p. part_answer (partial_of p) ≡ context_asked (option_map (λ given. context_part given.now) context.entry)) }
-{
-    match context {
-        Some(context) => Ok(PartialValue::from(context.clone(alloc)?)),
-        None => {
-            let name = RcStr::from_str(alloc, "context")?;
-            Ok(PartialValue::unknown(Unknown::new_untyped(name)))
+impl<'s> Variables<'s> {
+    // What stands for the variables, with what a store holds of the entities among it.
+    fn seen(entities: &'s Entities, asked: AskedVariables) -> Variables<'s>
+        ensures stand { StandFor asked result }
+        ensures seen { AreSeen entities.now result }
+    {
+        Variables {
+            principal: EntityVariable::of(entities, asked.principal),
+            action: EntityVariable::of(entities, asked.action),
+            resource: EntityVariable::of(entities, asked.resource),
+            context: asked.context,
         }
     }
 }

@@ -9,6 +9,7 @@ use cedar_names::shared::Shared;
 use cedar_restricted::partial_values::PartialValue;
 use cedar_values::values::Value;
 use std::collections::BTreeMap;
+use std::fmt;
 use std::rc::RcStr;
 
 // What stands for the principal, the action or the resource of a request: an entity or an unknown, and with
@@ -40,4 +41,15 @@ pub struct Evaluator<'s, 'e, 'f, F = NoFunction> {
     pub(crate) depth: u32,
     pub(crate) told: Option<&'s BTreeMap<RcStr, Value>>,
     ghost are_seen: { AreSeen entities.now variables } by { are_seen_prop entities.now variables },
+}
+
+/// What stands for the principal, the action and the resource.
+impl<F> fmt::Debug for Evaluator<'_, '_, '_, F> {
+    fn fmt<W: fmt::Write>(&self, f: &mut fmt::Formatter<W>) -> fmt::Result {
+        let variables = self.variables.get();
+        let principal = &variables.principal.part;
+        let action = &variables.action.part;
+        let resource = &variables.resource.part;
+        write!(f, "<evaluator of {principal}, {action}, {resource}>")
+    }
 }

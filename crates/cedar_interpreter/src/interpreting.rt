@@ -40,7 +40,7 @@ impl<'s, 'e, 'f, F: ExtensionFunctionObject> Evaluator<'s, 'e, 'f, F> {
         depth: u32,
     ) -> Result<PartialValue, EvaluationError>
         ensures found { (facts : Facts) → Knows F.answers self.now facts → MeetsAt ⊤ (naming_in (is_naming F.answers self.now) facts (held_by self.now slots.now) (bare expr.now)) result }
-        ensures limit { IsLimit result → NestsBeyond F.answers self.now depth (bare expr.now) }
+        ensures limit { IsLimit result → NestsBeyond F.answers self.now slots.now depth (bare expr.now) }
     {
         at_place(alloc, self.interpret_form(alloc, expr, slots, depth), expr)
     }
@@ -56,7 +56,7 @@ impl<'s, 'e, 'f, F: ExtensionFunctionObject> Evaluator<'s, 'e, 'f, F> {
         depth: u32,
     ) -> Result<PartialValue, EvaluationError>
         ensures found { (facts : Facts) → Knows F.answers self.now facts → MeetsAt ⊤ (naming_in (is_naming F.answers self.now) facts (held_by self.now slots.now) (bare expr.now)) result }
-        ensures limit { IsLimit result → NestsBeyond F.answers self.now depth (bare expr.now) }
+        ensures limit { IsLimit result → NestsBeyond F.answers self.now slots.now depth (bare expr.now) }
     {
         let Some(below) = depth.checked_sub(1) else {
             return Err(EvaluationError::recursion_limit(None));
@@ -90,7 +90,7 @@ impl<'s, 'e, 'f, F: ExtensionFunctionObject> Evaluator<'s, 'e, 'f, F> {
         depth: u32,
     ) -> Result<PartialValue, EvaluationError>
         ensures found { (facts : Facts) → Knows F.answers self.now facts → MeetsAt ⊤ (naming_in (is_naming F.answers self.now) facts (held_by self.now slots.now) (tree.If (bare test.now) (bare yes.now.value) (bare no.now.value))) result }
-        ensures limit { IsLimit result → NestsBeyond F.answers self.now (suc depth) (tree.If (bare test.now) (bare yes.now.value) (bare no.now.value)) }
+        ensures limit { IsLimit result → NestsBeyond F.answers self.now slots.now (suc depth) (tree.If (bare test.now) (bare yes.now.value) (bare no.now.value)) }
     {
         match test_answer(alloc, self.interpret_within(alloc, test, slots, depth))? {
             Tested::Yes => self.interpret_within(alloc, yes, slots, depth),
@@ -114,7 +114,7 @@ impl<'s, 'e, 'f, F: ExtensionFunctionObject> Evaluator<'s, 'e, 'f, F> {
         depth: u32,
     ) -> Result<PartialValue, EvaluationError>
         ensures found { (facts : Facts) → Knows F.answers self.now facts → MeetsAt ⊤ (naming_in (is_naming F.answers self.now) facts (held_by self.now slots.now) (tree.And (bare left.now) (bare right.now.value))) result }
-        ensures limit { IsLimit result → NestsBeyond F.answers self.now (suc depth) (tree.And (bare left.now) (bare right.now.value)) }
+        ensures limit { IsLimit result → NestsBeyond F.answers self.now slots.now (suc depth) (tree.And (bare left.now) (bare right.now.value)) }
     {
         match test_answer(alloc, self.interpret_within(alloc, left, slots, depth))? {
             Tested::No => Ok(truth(false)),
@@ -137,7 +137,7 @@ impl<'s, 'e, 'f, F: ExtensionFunctionObject> Evaluator<'s, 'e, 'f, F> {
         depth: u32,
     ) -> Result<PartialValue, EvaluationError>
         ensures found { (facts : Facts) → Knows F.answers self.now facts → MeetsAt ⊤ (naming_in (is_naming F.answers self.now) facts (held_by self.now slots.now) (tree.Or (bare left.now) (bare right.now.value))) result }
-        ensures limit { IsLimit result → NestsBeyond F.answers self.now (suc depth) (tree.Or (bare left.now) (bare right.now.value)) }
+        ensures limit { IsLimit result → NestsBeyond F.answers self.now slots.now (suc depth) (tree.Or (bare left.now) (bare right.now.value)) }
     {
         match test_answer(alloc, self.interpret_within(alloc, left, slots, depth))? {
             Tested::Yes => Ok(truth(true)),
@@ -161,7 +161,7 @@ impl<'s, 'e, 'f, F: ExtensionFunctionObject> Evaluator<'s, 'e, 'f, F> {
         depth: u32,
     ) -> Result<PartialValue, EvaluationError>
         ensures found { (facts : Facts) → Knows F.answers self.now facts → MeetsAt ⊤ (naming_in (is_naming F.answers self.now) facts (held_by self.now slots.now) (unary (tree.GetAttr (rc_str_bytes attr.now)) (bare of.now))) result }
-        ensures limit { IsLimit result → NestsBeyond F.answers self.now (suc depth) (unary (tree.GetAttr (rc_str_bytes attr.now)) (bare of.now)) }
+        ensures limit { IsLimit result → NestsBeyond F.answers self.now slots.now (suc depth) (unary (tree.GetAttr (rc_str_bytes attr.now)) (bare of.now)) }
     {
         let part = self.interpret_within(alloc, of, slots, depth)?;
         match attribute(alloc, part, attr, loc, self.entities)? {
@@ -181,7 +181,7 @@ impl<'s, 'e, 'f, F: ExtensionFunctionObject> Evaluator<'s, 'e, 'f, F> {
     ) -> Result<PartialValue, EvaluationError>
         requires { IsOperands (bare expr.now) operands }
         ensures found { (facts : Facts) → Knows F.answers self.now facts → MeetsAt ⊤ (naming_in (is_naming F.answers self.now) facts (held_by self.now slots.now) (bare expr.now)) result }
-        ensures limit { IsLimit result → NestsBeyond F.answers self.now (suc depth) (bare expr.now) }
+        ensures limit { IsLimit result → NestsBeyond F.answers self.now slots.now (suc depth) (bare expr.now) }
     {
         match operands {
             Operands::One(op, of) => {
@@ -212,7 +212,7 @@ impl<'s, 'e, 'f, F: ExtensionFunctionObject> Evaluator<'s, 'e, 'f, F> {
         depth: u32,
     ) -> Result<Vec<PartialValue>, EvaluationError>
         ensures found { (facts : Facts) → Knows F.answers self.now facts → MeetEachAt facts (map (naming_in (is_naming F.answers self.now) facts (held_by self.now slots.now)) (map (λ e. bare e.now) parts.now)) result }
-        ensures limit { IsLimit result → SomeNestsBeyond F.answers self.now depth (map (λ e. bare e.now) parts.now) }
+        ensures limit { IsLimit result → SomeNestsBeyond F.answers self.now slots.now depth (map (λ e. bare e.now) parts.now) }
         ensures count { IfOk result (λ answers. length answers.items ≡ length (map (λ e. bare e.now) parts.now)) }
     {
         let mut answers = Vec::new(alloc);

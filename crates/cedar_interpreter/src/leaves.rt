@@ -1,5 +1,5 @@
 // Expressions without parts.
-ghost use Rattle.std.specs.Prelude.{◌≡◌, Bool, true, None, option_map, IfOk};
+ghost use Rattle.std.specs.Prelude.{◌≡◌, Bool, true, Some, None, option_map, IfOk};
 ghost use Rattle.std.specs.Option.{option_copied};
 ghost use Rattle.cedar_language.specs.Facts.{Facts};
 ghost use Rattle.cedar_language.specs.Meaning.{slot_outcome};
@@ -31,7 +31,6 @@ use cedar_literals::types::StaticallyTyped;
 use cedar_literals::variables::Var;
 use cedar_policy_parts::bindings::SlotEnv;
 use cedar_restricted::partial_values::PartialValue;
-use cedar_substitution::finding::find_told;
 use cedar_trees::expr::{Expr, ExprKind};
 use cedar_trees::unknowns::Unknown;
 use cedar_values::values::Value;
@@ -138,9 +137,16 @@ fn value_for<'s>(told: Option<&'s BTreeMap<RcStr, Value>>, unknown: &Unknown) ->
     ensures { option_copied result ≡ value_told told.entry (unknown_name unknown.now) }
 {
     match told {
-        Some(told) => find_told(told, unknown.name.as_str()),
+        Some(told) => found_for(told, unknown.name.as_str()),
         None => None,
     }
+}
+
+// The value that is told for a name.
+fn found_for<'s>(told: &'s BTreeMap<RcStr, Value>, name: &str) -> Option<&'s Value>
+    ensures { option_copied result ≡ value_told (Some told) name.now }
+{
+    told.get(name)
 }
 
 // A value for an unknown. It errs with `TypeError` where the unknown states another type.

@@ -27,6 +27,7 @@ mod seeing;
 mod stated;
 mod waiting;
 
+pub use asking::AskedVariables;
 pub use evaluator::Evaluator;
 pub use given::GivenEntity;
 pub use lazy::last_of_and;

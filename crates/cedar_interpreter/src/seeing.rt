@@ -1,16 +1,17 @@
 // What stands for the variables of a request. What a store holds of the entities among it is looked up once.
-ghost use Rattle.std.specs.Prelude.{◌≡◌, ℕ, Some, IfSome};
+ghost use Rattle.std.specs.Prelude.{◌≡◌, ℕ, Option, Some, IfSome};
 ghost use Rattle.std.specs.Option.{option_map, option_copied};
 ghost use Rattle.cedar_entities.specs.declared.store.Entities.{Entities as Store};
 ghost use Rattle.cedar_extensions.specs.Table.{Table};
 ghost use Rattle.cedar_language.specs.Tree as tree;
-ghost use Rattle.cedar_language.specs.Uid.{Uid};
-ghost use Rattle.cedar_language.specs.Value.{Plain};
+ghost use Rattle.cedar_language.specs.Tree.{Variable};
+ghost use Rattle.cedar_language.specs.Uid.{Text, Uid};
+ghost use Rattle.cedar_language.specs.Value.{Plain, Value as Meant};
 ghost use Rattle.cedar_literals.specs.Variables.{variable_of};
-ghost use Rattle.cedar_partial_evaluation.specs.Partial.{Evaluated};
+ghost use Rattle.cedar_partial_evaluation.specs.Partial.{Answer, Evaluated};
 ghost use Rattle.cedar_restricted.specs.PartialValues.{partial_of};
 ghost use Rattle.cedar_restricted_evaluation.specs.Evaluations.{part_answer};
-ghost use Rattle.cedar_interpreter.specs.Asking.{Inquiry, variable_asked, entity_asked, IsEvaluatorOf};
+ghost use Rattle.cedar_interpreter.specs.Asking.{entity_among, AnswersFor};
 ghost use Rattle.cedar_interpreter.specs.Holding.{variable_in, variable_held, entity_held};
 ghost use Rattle.cedar_interpreter.specs.Seen.{IsSeen, IsSeenFor, uid_standing};
 
@@ -88,13 +89,13 @@ impl<'s> Variables<'s> {
 }
 
 impl<'s, 'e, 'f, F: ExtensionFunctionObject> Evaluator<'s, 'e, 'f, F> {
-    /// The entity that the request gives as the principal, the action or the resource, with what the store holds
-    /// of it; `None` exactly where it gives none, and for the context. Nothing is looked up, and no memory taken.
+    /// The entity that stands for the principal, the action or the resource, with what the store holds of it;
+    /// `None` exactly where none does, and for the context. Nothing is looked up, and no memory taken.
     pub fn given_entity(&self, var: Var) -> Option<GivenEntity<'_, 's>>
-        ensures given { (i : Inquiry) (store : Store) (table : Table) (depth : ℕ) → IsEvaluatorOf F.answers i store table depth self.now →
-            option_map (λ given. given.uid.now) result ≡ entity_asked i.request (variable_of var) }
-        ensures seen { (i : Inquiry) (store : Store) (table : Table) (depth : ℕ) → IsEvaluatorOf F.answers i store table depth self.now →
-            IfSome result (λ given. (variable_asked i.request (variable_of var) ≡ Evaluated (Plain (tree.Entity given.uid.now))) × IsSeen store given.uid.now (option_copied given.entity)) }
+        ensures given { (variables : Variable → Answer) (told : Text → Option Meant) (store : Store) (table : Table) (depth : ℕ) → AnswersFor F.answers variables told store table depth self.now →
+            option_map (λ given. given.uid.now) result ≡ entity_among variables (variable_of var) }
+        ensures seen { (variables : Variable → Answer) (told : Text → Option Meant) (store : Store) (table : Table) (depth : ℕ) → AnswersFor F.answers variables told store table depth self.now →
+            IfSome result (λ given. (variables (variable_of var) ≡ Evaluated (Plain (tree.Entity given.uid.now))) × IsSeen store given.uid.now (option_copied given.entity)) }
     {
         self.given(var)
     }

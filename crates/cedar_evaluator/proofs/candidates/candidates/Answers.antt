@@ -3,7 +3,7 @@ use Rattle.std.proofs.Common.{◌≡◌, ◌≤◌, length, arith, Option, Some,
 use Rattle.std.specs.Prelude.{IfSome}
 use Rattle.std.specs.Option.{option_copied, option_and}
 use Rattle.cedar_language.specs.Tree.{Principal}
-use Rattle.cedar_interpreter.specs.Asking.{variable_asked}
+use Rattle.cedar_evaluator.specs.Asking.{variable_asked}
 use Rattle.cedar_policy_set.specs.ScopeFinding.{covered, stands_at}
 use Rattle.cedar_evaluator.specs.Candidates.{HasFound}
 use Rattle.cedar_evaluator.specs.Scopes.{IsGivenAs}

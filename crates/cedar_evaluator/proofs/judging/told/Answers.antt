@@ -9,11 +9,12 @@ use Rattle.cedar_partial_evaluation.specs.Partial.{Evaluated, LeafAnswers, parti
 use Rattle.cedar_partial_evaluation.specs.ReadUnknowns.{read_unknowns}
 use Rattle.cedar_entities.specs.declared.store.Entities.{Entities}
 use Rattle.cedar_operators.specs.Store.{HasFacts}
-use Rattle.cedar_interpreter.specs.Asking.{request_held}
+use Rattle.cedar_evaluator.specs.Asking.{request_held}
 use Rattle.cedar_interpreter.specs.Holding.{is_naming}
 use Rattle.cedar_policies.specs.Policies.{bindings_of, policy_syntax}
 use Rattle.cedar_trees.specs.Bare.{bare}
 use Rattle.cedar_evaluator.specs.Evaluating.{condition_of}
+use Rattle.cedar_evaluator.proofs.Asked.{asked_plain}
 use Rattle.cedar_evaluator.proofs.Judged.{scope_decided, told_by_scope, told_by_clauses}
 use Rattle.cedar_evaluator.proofs.ReadConditions.{out_of_scope_read, told_by_scope_read, told_by_clauses_read, glanced_read}
 use Rattle.cedar_evaluator.proofs.Scoped.{out_of_scope}
@@ -70,7 +71,7 @@ returns-in-Some-clause-read g c = λ i store table depth is scopes facts served.
     let holds = request_held i bs in
     let body : s.body ≡ Some t = sym c.non_scope_constraints.ensures ∙ ap (λ o. option_map bare (option_copied o)) c.in-Some.is in
     let scope = scope_decided facts holds s c.hold.result _ _ c.in-Some-true.is c.in-Some-true.field-0-test (c.hold.ensures i store facts scopes served.entities) in
-    let serves = is.reads facts (condition_of c.args.policy.now) served.entities served.functions served.naming served.written served.context in
+    let serves = is.reads facts (condition_of c.args.policy.now) served.entities served.functions served.naming served.written (asked_plain i.request served.context) in
     told_by_clauses_read s facts holds scope t body c.glance.result
     (subst (λ (h : LeafAnswers). IfSome c.glance.result (λ b. partial_in facts h (read_unknowns t) ≡ Evaluated (Plain (Boolean b)))) (is.holds bs)
     (glanced_read g.F.ExtensionFunctionObject.answers ev s t body c.unknowns_are_read.ensures ev.extensions.now.named facts bs serves c.glance.result

@@ -32,10 +32,10 @@ pub returns-in-ContainsAny : goal.returns-in-ContainsAny
 returns-in-ContainsAny g c = λ facts has. c.known-in-ContainsAny.ensures (applied facts (binary_operator_of c.args.op) (two c.args.left c.args.right)) (rw c.in-ContainsAny.is (c.contains_any.ensures facts))
 
 pub returns-in_ok-rest-in-In : goal.returns-in_ok-rest-in-In
-returns-in_ok-rest-in-In g c = λ facts has. c.open_or.ensures (applied facts (binary_operator_of c.args.op) (two c.args.left c.args.right)) (c.in_ok-rest-in-In.ensures facts has) (rw c.in-In.is (c.is_in-found.ensures facts has))
+returns-in_ok-rest-in-In g c = λ facts has. c.left_or_found.ensures (applied facts (binary_operator_of c.args.op) (two c.args.left c.args.right)) (c.in_ok-rest-in-In.ensures facts has) (rw c.in-In.is (c.is_in-found.ensures facts has))
 
 pub returns-in_ok-rest-in-GetTag : goal.returns-in_ok-rest-in-GetTag
-returns-in_ok-rest-in-GetTag g c = λ facts has. c.open_or-in-GetTag.ensures (applied facts (binary_operator_of c.args.op) (two c.args.left c.args.right)) (c.in_ok-rest-in-GetTag.ensures facts has) (rw c.in-GetTag.is (c.get_tag-found.ensures facts has))
+returns-in_ok-rest-in-GetTag g c = λ facts has. c.left_or_found-in-GetTag.ensures (applied facts (binary_operator_of c.args.op) (two c.args.left c.args.right)) (c.in_ok-rest-in-GetTag.ensures facts has) (rw c.in-GetTag.is (c.get_tag-found.ensures facts has))
 
 pub returns-in_ok-rest-in-HasTag : goal.returns-in_ok-rest-in-HasTag
-returns-in_ok-rest-in-HasTag g c = λ facts has. c.open_or-in-HasTag.ensures (applied facts (binary_operator_of c.args.op) (two c.args.left c.args.right)) (c.in_ok-rest-in-HasTag.ensures facts has) (rw c.in-HasTag.is (c.has_tag-found.ensures facts has))
+returns-in_ok-rest-in-HasTag g c = λ facts has. c.left_or_found-in-HasTag.ensures (applied facts (binary_operator_of c.args.op) (two c.args.left c.args.right)) (c.in_ok-rest-in-HasTag.ensures facts has) (rw c.in-HasTag.is (c.has_tag-found.ensures facts has))

@@ -1,5 +1,5 @@
 -- What is found of the policies, and the response that this is.
-use Rattle.cedar_interpreter.specs.Asking.{untold}
+use Rattle.cedar_evaluator.specs.Asking.{untold}
 use Rattle.cedar_requests.specs.Holding.{request_parts}
 use Rattle.cedar_evaluator.specs.Authorizing.{table_of, limit_of}
 use Rattle.cedar_evaluator.proofs.ByRules.{answers_by_rules}

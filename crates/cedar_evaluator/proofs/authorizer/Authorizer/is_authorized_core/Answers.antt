@@ -1,6 +1,6 @@
 -- The evaluator is one of the request of which nothing is told.
 use Rattle.std.proofs.Common.{Bool, refl, subst}
-use Rattle.cedar_interpreter.specs.Asking.{untold}
+use Rattle.cedar_evaluator.specs.Asking.{untold}
 use Rattle.cedar_requests.specs.Holding.{request_parts}
 use Rattle.cedar_evaluator.specs.Authorizing.{table_of, limit_of, RespondsWith}
 use Rattle.cedar_evaluator.proofs.Responding.{if_ok}

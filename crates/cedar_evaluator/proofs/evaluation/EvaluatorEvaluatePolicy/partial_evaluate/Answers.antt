@@ -2,7 +2,7 @@
 use Rattle.cedar_policies.specs.Policies.{bindings_of}
 use Rattle.cedar_trees.specs.Bare.{bare}
 use Rattle.cedar_evaluator.specs.Evaluating.{condition_of}
-use Rattle.cedar_evaluator.proofs.Evaluated.{judged_so, limited_so, judged_read_so, limited_read_so}
+use Rattle.cedar_evaluator.proofs.Evaluated.{judged_so, limited_so, limited_named_so, judged_read_so, limited_read_so}
 use Rattle.cedar_evaluator.proofs.evaluation.EvaluatorEvaluatePolicy.partial_evaluate.Goals as goal
 
 pub returns-clause-found : goal.returns-clause-found
@@ -28,3 +28,9 @@ returns-clause-read_limit g c =
     let p = c.args.policy.now in
     limited_read_so g.F.ExtensionFunctionObject.answers c.args.self.now (bare c.in_ok-condition.condition) (condition_of p) c.in_ok-condition.ensures c.env.result.now (bindings_of p) c.env.ensures.bindings
     c.partial_interpret-answer.result c.judged.result c.partial_interpret-answer.ensures.read_limit c.judged.ensures.limit
+
+pub returns-clause-named_limit : goal.returns-clause-named_limit
+returns-clause-named_limit g c =
+    let p = c.args.policy.now in
+    limited_named_so g.F.ExtensionFunctionObject.answers c.args.self.now (bare c.in_ok-condition.condition) (condition_of p) c.in_ok-condition.ensures c.env.result.now (bindings_of p) c.env.ensures.bindings
+    c.partial_interpret-answer.result c.judged.result c.partial_interpret-answer.ensures.named_limit c.judged.ensures.limit

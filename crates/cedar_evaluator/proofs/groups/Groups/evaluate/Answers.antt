@@ -17,7 +17,7 @@ returns-in-Some-true-clause-keeps g c =
     (λ adds es keeps.
     keeps_more answers before.with_false ev c.args.scopes.now es before c.keep_satisfied.new.self p Satisfied keeps adds
     (λ i store table depth is scopes.
-    is_kept_told answers i store table depth ev is p c.in-Some-true.field-0 true c.in-Some-true.field-0-test (c.in-Some-true.ensures.found i store table depth is scopes) (c.in-Some-true.ensures.read i store table depth is scopes)))
+    is_kept_told i store table depth p c.in-Some-true.field-0 true c.in-Some-true.field-0-test (c.in-Some-true.ensures.found i store table depth is scopes) (c.in-Some-true.ensures.read i store table depth is scopes)))
     c.keep_satisfied.ensures.held
 
 pub returns-in-Some-false-clause-keeps : goal.returns-in-Some-false-clause-keeps
@@ -30,5 +30,5 @@ returns-in-Some-false-clause-keeps g c =
     (λ adds es keeps.
     keeps_more answers before.with_false ev c.args.scopes.now es before c.keep_false.new.self p Unsatisfied keeps (adds_unsatisfied before.with_false p before c.keep_false.new.self adds)
     (λ i store table depth is scopes.
-    is_kept_told answers i store table depth ev is p c.in-Some-false.field-0 false c.in-Some-false.field-0-test (c.in-Some-false.ensures.found i store table depth is scopes) (c.in-Some-false.ensures.read i store table depth is scopes)))
+    is_kept_told i store table depth p c.in-Some-false.field-0 false c.in-Some-false.field-0-test (c.in-Some-false.ensures.found i store table depth is scopes) (c.in-Some-false.ensures.read i store table depth is scopes)))
     (c.keep_false.ensures.held Unsatisfied refl)

@@ -16,6 +16,7 @@ returns-clause-keeps g c =
     (λ held keepable es keeps.
     keeps_more answers before.with_false ev c.args.scopes.now es before c.keep.new.self p (found_in answer) keeps held
     (λ i store table depth is scopes.
-    is_kept answers i store table depth ev is p answer (c.evaluated_in_full-answer.ensures.found i store table depth is scopes) c.evaluated_in_full-answer.ensures.limit
-    (c.evaluated_in_full-answer.ensures.read i store table depth is scopes) c.evaluated_in_full-answer.ensures.read_limit keepable))
+    is_kept i store table depth p answer (c.evaluated_in_full-answer.ensures.found i store table depth is scopes) (λ met. c.evaluated_in_full-answer.ensures.limit met i store table depth is scopes)
+    (λ met. c.evaluated_in_full-answer.ensures.named_limit met i store table depth is scopes) (c.evaluated_in_full-answer.ensures.read i store table depth is scopes)
+    (λ met. c.evaluated_in_full-answer.ensures.read_limit met i store table depth is scopes) keepable))
     c.keep.ensures.held c.keep.ensures.keepable

@@ -4,7 +4,7 @@ use Rattle.std.specs.Prelude.{IfSome}
 use Rattle.std.specs.List.Sorted.{IsStrictlyIncreasing}
 use Rattle.std.proofs.lemmas.Result.{on_ok_weaker}
 use Rattle.cedar_entities.specs.declared.store.Entities.{Entities}
-use Rattle.cedar_interpreter.specs.Asking.{Inquiry}
+use Rattle.cedar_evaluator.specs.Asking.{Inquiry}
 use Rattle.cedar_policy_set.specs.Entries.{policies_of}
 use Rattle.cedar_evaluator.specs.Candidates.{AreCandidates, policies_at}
 use Rattle.cedar_evaluator.specs.Grouping.{Keeps}

@@ -1,7 +1,7 @@
 -- What the scope asks of the action.
 use Rattle.std.proofs.Common.{subst}
 use Rattle.cedar_grammar.specs.Policy.{ActionConstraint, action_tree}
-use Rattle.cedar_interpreter.specs.Asking.{request_held}
+use Rattle.cedar_evaluator.specs.Asking.{request_held}
 use Rattle.cedar_policies.specs.Policies.{bindings_of}
 use Rattle.cedar_evaluator.specs.Scopes.{IsDecided}
 use Rattle.cedar_evaluator.proofs.scopes.Scopes.action_meets.Goals as goal

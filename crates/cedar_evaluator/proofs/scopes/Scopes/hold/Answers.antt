@@ -3,7 +3,7 @@ use Rattle.std.proofs.Common.{Bool, false, Some, None, subst}
 use Rattle.cedar_language.specs.Tree.{Principal, Resource, PrincipalSlot, ResourceSlot}
 use Rattle.cedar_grammar.specs.Build.{conjunction}
 use Rattle.cedar_grammar.specs.Policy.{constraint_tree, action_tree}
-use Rattle.cedar_interpreter.specs.Asking.{request_held}
+use Rattle.cedar_evaluator.specs.Asking.{request_held}
 use Rattle.cedar_policies.specs.Policies.{bindings_of, policy_syntax}
 use Rattle.cedar_evaluator.specs.Scopes.{IsDecided}
 use Rattle.cedar_evaluator.proofs.Scoped.{both_decided}

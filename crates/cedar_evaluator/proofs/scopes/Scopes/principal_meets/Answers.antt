@@ -6,7 +6,7 @@ use Rattle.cedar_grammar.specs.Policy.{Constraint, constraint_tree}
 use Rattle.cedar_partial_evaluation.specs.Partial.{answer_of}
 use Rattle.cedar_policy_parts.specs.Asked.{constraint_of}
 use Rattle.cedar_policy_parts.specs.Bindings.{Bindings, binding_of}
-use Rattle.cedar_interpreter.specs.Asking.{request_held}
+use Rattle.cedar_evaluator.specs.Asking.{request_held}
 use Rattle.cedar_policies.specs.Policies.{bindings_of, policy_syntax}
 use Rattle.cedar_policies.specs.Templates.{syntax_of}
 use Rattle.cedar_policies.specs.declared.templates.Template.{Template}

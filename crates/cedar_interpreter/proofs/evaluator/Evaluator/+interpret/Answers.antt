@@ -6,7 +6,7 @@ use Rattle.cedar_restricted.proofs.Writing.{cut_items}
 use Rattle.std.specs.Prelude.{⊤}
 use Rattle.std.specs.Rc.{rc_str_bytes}
 use Rattle.cedar_language.specs.Tree as tree
-use Rattle.cedar_language.specs.Tree.{Boolean, no_trees, a_tree}
+use Rattle.cedar_language.specs.Tree.{Boolean}
 use Rattle.cedar_language.specs.Value.{Plain, no_values}
 use Rattle.cedar_partial_evaluation.specs.Alike.{gathered}
 use Rattle.cedar_partial_evaluation.specs.Partial.{Evaluated, ResidualTree, Failed, SomeFailed, AllEvaluated, and_next, apply_answer}
@@ -21,10 +21,11 @@ use Rattle.cedar_restricted.specs.declared.partial_values.PartialValue.{PartialV
 use Rattle.cedar_interpreter.specs.Forms.{unary_operator, is_of_list, IsOperands}
 use Rattle.cedar_interpreter.specs.Holding.{held_by, is_naming, NestsBeyond, SomeNestsBeyond}
 use Rattle.cedar_interpreter.specs.Meeting.{part_answer, tested_answer, IsTested}
-use Rattle.cedar_interpreter.specs.Naming.{naming_in}
+use Rattle.cedar_interpreter.specs.Naming.{naming_in, naming_depth}
 use Rattle.cedar_interpreter.specs.Projecting.{IsProjected}
 use Rattle.cedar_interpreter.proofs.Constructs.{unary_calls_nothing, binary_calls_nothing}
 use Rattle.cedar_interpreter.proofs.Nesting.{deep_and_left, deep_and_right, deep_or_left, deep_or_right, deep_if_test, deep_if_yes, deep_if_no, deep_operand, either_deep, positive, lowered, list_meets, list_fails, list_deep, Goes, goes_first, goes_on, cut_fails, cut_deep, ends, ends_count}
+use Rattle.cedar_interpreter.proofs.Branches.{branch_taken, branch_else, branch_first, branch_second}
 use Rattle.cedar_interpreter.proofs.Depths.{entry_deep}
 use Rattle.cedar_interpreter.proofs.Read.{entry_is}
 use Rattle.cedar_interpreter.proofs.Pairs.{one_fails, one_meets, one_deep, left_fails, right_fails, two_meet, left_deep, right_deep}
@@ -118,7 +119,7 @@ interpret_form-returns-in-And-clause-found g t c =
 pub interpret_form-returns-in-And-clause-limit : goal.interpret_form-returns-in-And-clause-limit
 interpret_form-returns-in-And-clause-limit g t c =
     let step : c.args.depth ≡ c.in-Some.below + 1 = search rules in
-    λ l. lowered g.F.ExtensionFunctionObject.answers c.args.self.now c.args.depth c.in-Some.below (bare c.args.expr.now) (tree.And (bare c.in-And.left.now) (bare c.in-And.right.now.value)) c.in-And.ensures step (c.interpret_and.ensures.limit l)
+    λ l. lowered g.F.ExtensionFunctionObject.answers c.args.self.now c.args.slots.now c.args.depth c.in-Some.below (bare c.args.expr.now) (tree.And (bare c.in-And.left.now) (bare c.in-And.right.now.value)) c.in-And.ensures step (c.interpret_and.ensures.limit l)
 
 pub interpret_form-returns-in-Or-clause-found : goal.interpret_form-returns-in-Or-clause-found
 interpret_form-returns-in-Or-clause-found g t c =
@@ -127,7 +128,7 @@ interpret_form-returns-in-Or-clause-found g t c =
 pub interpret_form-returns-in-Or-clause-limit : goal.interpret_form-returns-in-Or-clause-limit
 interpret_form-returns-in-Or-clause-limit g t c =
     let step : c.args.depth ≡ c.in-Some.below + 1 = search rules in
-    λ l. lowered g.F.ExtensionFunctionObject.answers c.args.self.now c.args.depth c.in-Some.below (bare c.args.expr.now) (tree.Or (bare c.in-Or.left.now) (bare c.in-Or.right.now.value)) c.in-Or.ensures step (c.interpret_or.ensures.limit l)
+    λ l. lowered g.F.ExtensionFunctionObject.answers c.args.self.now c.args.slots.now c.args.depth c.in-Some.below (bare c.args.expr.now) (tree.Or (bare c.in-Or.left.now) (bare c.in-Or.right.now.value)) c.in-Or.ensures step (c.interpret_or.ensures.limit l)
 
 pub interpret_form-returns-in-If-clause-found : goal.interpret_form-returns-in-If-clause-found
 interpret_form-returns-in-If-clause-found g t c =
@@ -136,7 +137,7 @@ interpret_form-returns-in-If-clause-found g t c =
 pub interpret_form-returns-in-If-clause-limit : goal.interpret_form-returns-in-If-clause-limit
 interpret_form-returns-in-If-clause-limit g t c =
     let step : c.args.depth ≡ c.in-Some.below + 1 = search rules in
-    λ l. lowered g.F.ExtensionFunctionObject.answers c.args.self.now c.args.depth c.in-Some.below (bare c.args.expr.now) (tree.If (bare c.in-If.test.now) (bare c.in-If.yes.now.value) (bare c.in-If.no.now.value)) c.in-If.ensures step (c.interpret_if.ensures.limit l)
+    λ l. lowered g.F.ExtensionFunctionObject.answers c.args.self.now c.args.slots.now c.args.depth c.in-Some.below (bare c.args.expr.now) (tree.If (bare c.in-If.test.now) (bare c.in-If.yes.now.value) (bare c.in-If.no.now.value)) c.in-If.ensures step (c.interpret_if.ensures.limit l)
 
 pub interpret_form-returns-in-GetAttr-clause-found : goal.interpret_form-returns-in-GetAttr-clause-found
 interpret_form-returns-in-GetAttr-clause-found g t c =
@@ -145,7 +146,7 @@ interpret_form-returns-in-GetAttr-clause-found g t c =
 pub interpret_form-returns-in-GetAttr-clause-limit : goal.interpret_form-returns-in-GetAttr-clause-limit
 interpret_form-returns-in-GetAttr-clause-limit g t c =
     let step : c.args.depth ≡ c.in-Some.below + 1 = search rules in
-    λ l. lowered g.F.ExtensionFunctionObject.answers c.args.self.now c.args.depth c.in-Some.below (bare c.args.expr.now) (unary (tree.GetAttr (rc_str_bytes c.in-GetAttr.attr.now)) (bare c.in-GetAttr.of.now)) c.in-GetAttr.ensures step (c.interpret_attribute.ensures.limit l)
+    λ l. lowered g.F.ExtensionFunctionObject.answers c.args.self.now c.args.slots.now c.args.depth c.in-Some.below (bare c.args.expr.now) (unary (tree.GetAttr (rc_str_bytes c.in-GetAttr.attr.now)) (bare c.in-GetAttr.of.now)) c.in-GetAttr.ensures step (c.interpret_attribute.ensures.limit l)
 
 pub interpret_form-returns-in-Strict-clause-found : goal.interpret_form-returns-in-Strict-clause-found
 interpret_form-returns-in-Strict-clause-found g t c =
@@ -154,7 +155,7 @@ interpret_form-returns-in-Strict-clause-found g t c =
 pub interpret_form-returns-in-Strict-clause-limit : goal.interpret_form-returns-in-Strict-clause-limit
 interpret_form-returns-in-Strict-clause-limit g t c =
     let step : c.args.depth ≡ c.in-Some.below + 1 = search rules in
-    λ l. lowered g.F.ExtensionFunctionObject.answers c.args.self.now c.args.depth c.in-Some.below (bare c.args.expr.now) (bare c.args.expr.now) refl step (c.interpret_strict.ensures.limit l)
+    λ l. lowered g.F.ExtensionFunctionObject.answers c.args.self.now c.args.slots.now c.args.depth c.in-Some.below (bare c.args.expr.now) (bare c.args.expr.now) refl step (c.interpret_strict.ensures.limit l)
 
 pub interpret_form-interpret_strict-requires : goal.interpret_form-interpret_strict-requires
 interpret_form-interpret_strict-requires g t c κs outlives =
@@ -177,7 +178,7 @@ interpret_form-returns-in_default-clause-limit g t c =
     let low : c.args.depth < 1 = search rules in
     λ l facts has.
     let above = positive (is_naming g.F.ExtensionFunctionObject.answers c.args.self.now) facts (held_by c.args.self.now c.args.slots.now) (bare c.args.expr.now) in
-    (c.args.slots.now, omega (arith, above, low))
+    omega (arith, above, low)
 
 pub interpret_form-returns-in_default-clause-found : goal.interpret_form-returns-in_default-clause-found
 interpret_form-returns-in_default-clause-found g t c =
@@ -190,7 +191,7 @@ interpret_and-returns-in_err-test_answer-clause-found g t c =
 
 pub interpret_and-returns-in_err-test_answer-clause-limit : goal.interpret_and-returns-in_err-test_answer-clause-limit
 interpret_and-returns-in_err-test_answer-clause-limit g t c =
-    λ l. deep_and_left g.F.ExtensionFunctionObject.answers c.args.self.now c.args.depth (bare c.args.left.now) (bare c.args.right.now.value) (c.interpret_within.ensures.limit (c.in_err-test_answer.ensures.limit (limit_passed c.in_err-test_answer.field-0.0 c.from_residual.result c.from_residual.ensures l)))
+    λ l. deep_and_left g.F.ExtensionFunctionObject.answers c.args.self.now c.args.slots.now c.args.depth (bare c.args.left.now) (bare c.args.right.now.value) (c.interpret_within.ensures.limit (c.in_err-test_answer.ensures.limit (limit_passed c.in_err-test_answer.field-0.0 c.from_residual.result c.from_residual.ensures l)))
 
 pub interpret_and-returns-in-No-clause-found : goal.interpret_and-returns-in-No-clause-found
 interpret_and-returns-in-No-clause-found g t c =
@@ -211,7 +212,7 @@ interpret_and-returns-in-Yes-clause-found g t c =
 
 pub interpret_and-returns-in-Yes-clause-limit : goal.interpret_and-returns-in-Yes-clause-limit
 interpret_and-returns-in-Yes-clause-limit g t c =
-    λ l. deep_and_right g.F.ExtensionFunctionObject.answers c.args.self.now c.args.depth (bare c.args.left.now) (bare c.args.right.now.value) (subst (λ (e : Expr (Unit {0})). NestsBeyond g.F.ExtensionFunctionObject.answers c.args.self.now c.args.depth (bare e)) c.deref.ensures (c.interpret_within-in-Yes.ensures.limit (c.last_of_and.ensures.limit l)))
+    λ l. deep_and_right g.F.ExtensionFunctionObject.answers c.args.self.now c.args.slots.now c.args.depth (bare c.args.left.now) (bare c.args.right.now.value) (λ facts has. branch_taken (naming_in (is_naming g.F.ExtensionFunctionObject.answers c.args.self.now) facts (held_by c.args.self.now c.args.slots.now) (bare c.args.left.now)) (naming_depth (is_naming g.F.ExtensionFunctionObject.answers c.args.self.now) facts (held_by c.args.self.now c.args.slots.now) (bare c.args.right.now.value)) 0 (subst (IsTested (tested_answer (naming_in (is_naming g.F.ExtensionFunctionObject.answers c.args.self.now) facts (held_by c.args.self.now c.args.slots.now) (bare c.args.left.now)))) c.in-Yes.is (c.in_ok-test_answer.ensures.found (naming_in (is_naming g.F.ExtensionFunctionObject.answers c.args.self.now) facts (held_by c.args.self.now c.args.slots.now) (bare c.args.left.now)) (c.interpret_within.ensures.found facts has)))) (subst (λ (e : Expr (Unit {0})). NestsBeyond g.F.ExtensionFunctionObject.answers c.args.self.now c.args.slots.now c.args.depth (bare e)) c.deref.ensures (c.interpret_within-in-Yes.ensures.limit (c.last_of_and.ensures.limit l)))
 
 pub interpret_and-returns-in-Open-clause-found : goal.interpret_and-returns-in-Open-clause-found
 interpret_and-returns-in-Open-clause-found g t c =
@@ -222,7 +223,7 @@ interpret_and-returns-in-Open-clause-found g t c =
 
 pub interpret_and-returns-in-Open-clause-limit : goal.interpret_and-returns-in-Open-clause-limit
 interpret_and-returns-in-Open-clause-limit g t c =
-    λ l. deep_and_right g.F.ExtensionFunctionObject.answers c.args.self.now c.args.depth (bare c.args.left.now) (bare c.args.right.now.value) (subst (λ (e : Expr (Unit {0})). NestsBeyond g.F.ExtensionFunctionObject.answers c.args.self.now c.args.depth (bare e)) c.deref-in-Open.ensures (c.interpret_within-answer.ensures.limit (c.open_and.ensures.limit l)))
+    λ l. deep_and_right g.F.ExtensionFunctionObject.answers c.args.self.now c.args.slots.now c.args.depth (bare c.args.left.now) (bare c.args.right.now.value) (λ facts has. branch_first (naming_in (is_naming g.F.ExtensionFunctionObject.answers c.args.self.now) facts (held_by c.args.self.now c.args.slots.now) (bare c.args.left.now)) (naming_depth (is_naming g.F.ExtensionFunctionObject.answers c.args.self.now) facts (held_by c.args.self.now c.args.slots.now) (bare c.args.right.now.value)) 0 (bare c.in-Open.rest) (subst (IsTested (tested_answer (naming_in (is_naming g.F.ExtensionFunctionObject.answers c.args.self.now) facts (held_by c.args.self.now c.args.slots.now) (bare c.args.left.now)))) c.in-Open.is (c.in_ok-test_answer.ensures.found (naming_in (is_naming g.F.ExtensionFunctionObject.answers c.args.self.now) facts (held_by c.args.self.now c.args.slots.now) (bare c.args.left.now)) (c.interpret_within.ensures.found facts has)))) (subst (λ (e : Expr (Unit {0})). NestsBeyond g.F.ExtensionFunctionObject.answers c.args.self.now c.args.slots.now c.args.depth (bare e)) c.deref-in-Open.ensures (c.interpret_within-answer.ensures.limit (c.open_and.ensures.limit l)))
 
 pub interpret_or-returns-in_err-test_answer-clause-found : goal.interpret_or-returns-in_err-test_answer-clause-found
 interpret_or-returns-in_err-test_answer-clause-found g t c =
@@ -231,7 +232,7 @@ interpret_or-returns-in_err-test_answer-clause-found g t c =
 
 pub interpret_or-returns-in_err-test_answer-clause-limit : goal.interpret_or-returns-in_err-test_answer-clause-limit
 interpret_or-returns-in_err-test_answer-clause-limit g t c =
-    λ l. deep_or_left g.F.ExtensionFunctionObject.answers c.args.self.now c.args.depth (bare c.args.left.now) (bare c.args.right.now.value) (c.interpret_within.ensures.limit (c.in_err-test_answer.ensures.limit (limit_passed c.in_err-test_answer.field-0.0 c.from_residual.result c.from_residual.ensures l)))
+    λ l. deep_or_left g.F.ExtensionFunctionObject.answers c.args.self.now c.args.slots.now c.args.depth (bare c.args.left.now) (bare c.args.right.now.value) (c.interpret_within.ensures.limit (c.in_err-test_answer.ensures.limit (limit_passed c.in_err-test_answer.field-0.0 c.from_residual.result c.from_residual.ensures l)))
 
 pub interpret_or-returns-in-Yes-clause-found : goal.interpret_or-returns-in-Yes-clause-found
 interpret_or-returns-in-Yes-clause-found g t c =
@@ -252,7 +253,7 @@ interpret_or-returns-in-No-clause-found g t c =
 
 pub interpret_or-returns-in-No-clause-limit : goal.interpret_or-returns-in-No-clause-limit
 interpret_or-returns-in-No-clause-limit g t c =
-    λ l. deep_or_right g.F.ExtensionFunctionObject.answers c.args.self.now c.args.depth (bare c.args.left.now) (bare c.args.right.now.value) (subst (λ (e : Expr (Unit {0})). NestsBeyond g.F.ExtensionFunctionObject.answers c.args.self.now c.args.depth (bare e)) c.deref.ensures (c.interpret_within-in-No.ensures.limit (c.last_of_or.ensures.limit l)))
+    λ l. deep_or_right g.F.ExtensionFunctionObject.answers c.args.self.now c.args.slots.now c.args.depth (bare c.args.left.now) (bare c.args.right.now.value) (λ facts has. branch_else (naming_in (is_naming g.F.ExtensionFunctionObject.answers c.args.self.now) facts (held_by c.args.self.now c.args.slots.now) (bare c.args.left.now)) 0 (naming_depth (is_naming g.F.ExtensionFunctionObject.answers c.args.self.now) facts (held_by c.args.self.now c.args.slots.now) (bare c.args.right.now.value)) (subst (IsTested (tested_answer (naming_in (is_naming g.F.ExtensionFunctionObject.answers c.args.self.now) facts (held_by c.args.self.now c.args.slots.now) (bare c.args.left.now)))) c.in-No.is (c.in_ok-test_answer.ensures.found (naming_in (is_naming g.F.ExtensionFunctionObject.answers c.args.self.now) facts (held_by c.args.self.now c.args.slots.now) (bare c.args.left.now)) (c.interpret_within.ensures.found facts has)))) (subst (λ (e : Expr (Unit {0})). NestsBeyond g.F.ExtensionFunctionObject.answers c.args.self.now c.args.slots.now c.args.depth (bare e)) c.deref.ensures (c.interpret_within-in-No.ensures.limit (c.last_of_or.ensures.limit l)))
 
 pub interpret_or-returns-in-Open-clause-found : goal.interpret_or-returns-in-Open-clause-found
 interpret_or-returns-in-Open-clause-found g t c =
@@ -263,7 +264,7 @@ interpret_or-returns-in-Open-clause-found g t c =
 
 pub interpret_or-returns-in-Open-clause-limit : goal.interpret_or-returns-in-Open-clause-limit
 interpret_or-returns-in-Open-clause-limit g t c =
-    λ l. deep_or_right g.F.ExtensionFunctionObject.answers c.args.self.now c.args.depth (bare c.args.left.now) (bare c.args.right.now.value) (subst (λ (e : Expr (Unit {0})). NestsBeyond g.F.ExtensionFunctionObject.answers c.args.self.now c.args.depth (bare e)) c.deref-in-Open.ensures (c.interpret_within-answer.ensures.limit (c.open_or.ensures.limit l)))
+    λ l. deep_or_right g.F.ExtensionFunctionObject.answers c.args.self.now c.args.slots.now c.args.depth (bare c.args.left.now) (bare c.args.right.now.value) (λ facts has. branch_second (naming_in (is_naming g.F.ExtensionFunctionObject.answers c.args.self.now) facts (held_by c.args.self.now c.args.slots.now) (bare c.args.left.now)) 0 (naming_depth (is_naming g.F.ExtensionFunctionObject.answers c.args.self.now) facts (held_by c.args.self.now c.args.slots.now) (bare c.args.right.now.value)) (bare c.in-Open.rest) (subst (IsTested (tested_answer (naming_in (is_naming g.F.ExtensionFunctionObject.answers c.args.self.now) facts (held_by c.args.self.now c.args.slots.now) (bare c.args.left.now)))) c.in-Open.is (c.in_ok-test_answer.ensures.found (naming_in (is_naming g.F.ExtensionFunctionObject.answers c.args.self.now) facts (held_by c.args.self.now c.args.slots.now) (bare c.args.left.now)) (c.interpret_within.ensures.found facts has)))) (subst (λ (e : Expr (Unit {0})). NestsBeyond g.F.ExtensionFunctionObject.answers c.args.self.now c.args.slots.now c.args.depth (bare e)) c.deref-in-Open.ensures (c.interpret_within-answer.ensures.limit (c.open_or.ensures.limit l)))
 
 pub interpret_if-returns-in_err-test_answer-clause-found : goal.interpret_if-returns-in_err-test_answer-clause-found
 interpret_if-returns-in_err-test_answer-clause-found g t c =
@@ -272,7 +273,7 @@ interpret_if-returns-in_err-test_answer-clause-found g t c =
 
 pub interpret_if-returns-in_err-test_answer-clause-limit : goal.interpret_if-returns-in_err-test_answer-clause-limit
 interpret_if-returns-in_err-test_answer-clause-limit g t c =
-    λ l. deep_if_test g.F.ExtensionFunctionObject.answers c.args.self.now c.args.depth (bare c.args.test.now) (bare c.args.yes.now.value) (bare c.args.no.now.value) (c.interpret_within.ensures.limit (c.in_err-test_answer.ensures.limit (limit_passed c.in_err-test_answer.field-0.0 c.from_residual.result c.from_residual.ensures l)))
+    λ l. deep_if_test g.F.ExtensionFunctionObject.answers c.args.self.now c.args.slots.now c.args.depth (bare c.args.test.now) (bare c.args.yes.now.value) (bare c.args.no.now.value) (c.interpret_within.ensures.limit (c.in_err-test_answer.ensures.limit (limit_passed c.in_err-test_answer.field-0.0 c.from_residual.result c.from_residual.ensures l)))
 
 pub interpret_if-returns-in-Yes-clause-found : goal.interpret_if-returns-in-Yes-clause-found
 interpret_if-returns-in-Yes-clause-found g t c =
@@ -283,7 +284,7 @@ interpret_if-returns-in-Yes-clause-found g t c =
 
 pub interpret_if-returns-in-Yes-clause-limit : goal.interpret_if-returns-in-Yes-clause-limit
 interpret_if-returns-in-Yes-clause-limit g t c =
-    λ l. deep_if_yes g.F.ExtensionFunctionObject.answers c.args.self.now c.args.depth (bare c.args.test.now) (bare c.args.yes.now.value) (bare c.args.no.now.value) (subst (λ (e : Expr (Unit {0})). NestsBeyond g.F.ExtensionFunctionObject.answers c.args.self.now c.args.depth (bare e)) c.deref.ensures (c.interpret_within-in-Yes.ensures.limit l))
+    λ l. deep_if_yes g.F.ExtensionFunctionObject.answers c.args.self.now c.args.slots.now c.args.depth (bare c.args.test.now) (bare c.args.yes.now.value) (bare c.args.no.now.value) (λ facts has. branch_taken (naming_in (is_naming g.F.ExtensionFunctionObject.answers c.args.self.now) facts (held_by c.args.self.now c.args.slots.now) (bare c.args.test.now)) (naming_depth (is_naming g.F.ExtensionFunctionObject.answers c.args.self.now) facts (held_by c.args.self.now c.args.slots.now) (bare c.args.yes.now.value)) (naming_depth (is_naming g.F.ExtensionFunctionObject.answers c.args.self.now) facts (held_by c.args.self.now c.args.slots.now) (bare c.args.no.now.value)) (subst (IsTested (tested_answer (naming_in (is_naming g.F.ExtensionFunctionObject.answers c.args.self.now) facts (held_by c.args.self.now c.args.slots.now) (bare c.args.test.now)))) c.in-Yes.is (c.in_ok-test_answer.ensures.found (naming_in (is_naming g.F.ExtensionFunctionObject.answers c.args.self.now) facts (held_by c.args.self.now c.args.slots.now) (bare c.args.test.now)) (c.interpret_within.ensures.found facts has)))) (subst (λ (e : Expr (Unit {0})). NestsBeyond g.F.ExtensionFunctionObject.answers c.args.self.now c.args.slots.now c.args.depth (bare e)) c.deref.ensures (c.interpret_within-in-Yes.ensures.limit l))
 
 pub interpret_if-returns-in-No-clause-found : goal.interpret_if-returns-in-No-clause-found
 interpret_if-returns-in-No-clause-found g t c =
@@ -294,7 +295,7 @@ interpret_if-returns-in-No-clause-found g t c =
 
 pub interpret_if-returns-in-No-clause-limit : goal.interpret_if-returns-in-No-clause-limit
 interpret_if-returns-in-No-clause-limit g t c =
-    λ l. deep_if_no g.F.ExtensionFunctionObject.answers c.args.self.now c.args.depth (bare c.args.test.now) (bare c.args.yes.now.value) (bare c.args.no.now.value) (subst (λ (e : Expr (Unit {0})). NestsBeyond g.F.ExtensionFunctionObject.answers c.args.self.now c.args.depth (bare e)) c.deref-in-No.ensures (c.interpret_within-in-No.ensures.limit l))
+    λ l. deep_if_no g.F.ExtensionFunctionObject.answers c.args.self.now c.args.slots.now c.args.depth (bare c.args.test.now) (bare c.args.yes.now.value) (bare c.args.no.now.value) (λ facts has. branch_else (naming_in (is_naming g.F.ExtensionFunctionObject.answers c.args.self.now) facts (held_by c.args.self.now c.args.slots.now) (bare c.args.test.now)) (naming_depth (is_naming g.F.ExtensionFunctionObject.answers c.args.self.now) facts (held_by c.args.self.now c.args.slots.now) (bare c.args.yes.now.value)) (naming_depth (is_naming g.F.ExtensionFunctionObject.answers c.args.self.now) facts (held_by c.args.self.now c.args.slots.now) (bare c.args.no.now.value)) (subst (IsTested (tested_answer (naming_in (is_naming g.F.ExtensionFunctionObject.answers c.args.self.now) facts (held_by c.args.self.now c.args.slots.now) (bare c.args.test.now)))) c.in-No.is (c.in_ok-test_answer.ensures.found (naming_in (is_naming g.F.ExtensionFunctionObject.answers c.args.self.now) facts (held_by c.args.self.now c.args.slots.now) (bare c.args.test.now)) (c.interpret_within.ensures.found facts has)))) (subst (λ (e : Expr (Unit {0})). NestsBeyond g.F.ExtensionFunctionObject.answers c.args.self.now c.args.slots.now c.args.depth (bare e)) c.deref-in-No.ensures (c.interpret_within-in-No.ensures.limit l))
 
 pub interpret_if-returns-in-Open-clause-found : goal.interpret_if-returns-in-Open-clause-found
 interpret_if-returns-in-Open-clause-found g t c =
@@ -307,8 +308,8 @@ interpret_if-returns-in-Open-clause-found g t c =
 pub interpret_if-returns-in-Open-clause-limit : goal.interpret_if-returns-in-Open-clause-limit
 interpret_if-returns-in-Open-clause-limit g t c =
     λ l. either_deep (c.open_if.ensures.limit l)
-    (λ y. deep_if_yes g.F.ExtensionFunctionObject.answers c.args.self.now c.args.depth (bare c.args.test.now) (bare c.args.yes.now.value) (bare c.args.no.now.value) (subst (λ (e : Expr (Unit {0})). NestsBeyond g.F.ExtensionFunctionObject.answers c.args.self.now c.args.depth (bare e)) c.deref-in-Open.ensures (c.interpret_within-yes_answer.ensures.limit y)))
-    (λ n. deep_if_no g.F.ExtensionFunctionObject.answers c.args.self.now c.args.depth (bare c.args.test.now) (bare c.args.yes.now.value) (bare c.args.no.now.value) (subst (λ (e : Expr (Unit {0})). NestsBeyond g.F.ExtensionFunctionObject.answers c.args.self.now c.args.depth (bare e)) c.deref-in-Open-2.ensures (c.interpret_within-no_answer.ensures.limit n)))
+    (λ y. deep_if_yes g.F.ExtensionFunctionObject.answers c.args.self.now c.args.slots.now c.args.depth (bare c.args.test.now) (bare c.args.yes.now.value) (bare c.args.no.now.value) (λ facts has. branch_first (naming_in (is_naming g.F.ExtensionFunctionObject.answers c.args.self.now) facts (held_by c.args.self.now c.args.slots.now) (bare c.args.test.now)) (naming_depth (is_naming g.F.ExtensionFunctionObject.answers c.args.self.now) facts (held_by c.args.self.now c.args.slots.now) (bare c.args.yes.now.value)) (naming_depth (is_naming g.F.ExtensionFunctionObject.answers c.args.self.now) facts (held_by c.args.self.now c.args.slots.now) (bare c.args.no.now.value)) (bare c.in-Open.rest) (subst (IsTested (tested_answer (naming_in (is_naming g.F.ExtensionFunctionObject.answers c.args.self.now) facts (held_by c.args.self.now c.args.slots.now) (bare c.args.test.now)))) c.in-Open.is (c.in_ok-test_answer.ensures.found (naming_in (is_naming g.F.ExtensionFunctionObject.answers c.args.self.now) facts (held_by c.args.self.now c.args.slots.now) (bare c.args.test.now)) (c.interpret_within.ensures.found facts has)))) (subst (λ (e : Expr (Unit {0})). NestsBeyond g.F.ExtensionFunctionObject.answers c.args.self.now c.args.slots.now c.args.depth (bare e)) c.deref-in-Open.ensures (c.interpret_within-yes_answer.ensures.limit y)))
+    (λ n. deep_if_no g.F.ExtensionFunctionObject.answers c.args.self.now c.args.slots.now c.args.depth (bare c.args.test.now) (bare c.args.yes.now.value) (bare c.args.no.now.value) (λ facts has. branch_second (naming_in (is_naming g.F.ExtensionFunctionObject.answers c.args.self.now) facts (held_by c.args.self.now c.args.slots.now) (bare c.args.test.now)) (naming_depth (is_naming g.F.ExtensionFunctionObject.answers c.args.self.now) facts (held_by c.args.self.now c.args.slots.now) (bare c.args.yes.now.value)) (naming_depth (is_naming g.F.ExtensionFunctionObject.answers c.args.self.now) facts (held_by c.args.self.now c.args.slots.now) (bare c.args.no.now.value)) (bare c.in-Open.rest) (subst (IsTested (tested_answer (naming_in (is_naming g.F.ExtensionFunctionObject.answers c.args.self.now) facts (held_by c.args.self.now c.args.slots.now) (bare c.args.test.now)))) c.in-Open.is (c.in_ok-test_answer.ensures.found (naming_in (is_naming g.F.ExtensionFunctionObject.answers c.args.self.now) facts (held_by c.args.self.now c.args.slots.now) (bare c.args.test.now)) (c.interpret_within.ensures.found facts has)))) (subst (λ (e : Expr (Unit {0})). NestsBeyond g.F.ExtensionFunctionObject.answers c.args.self.now c.args.slots.now c.args.depth (bare e)) c.deref-in-Open-2.ensures (c.interpret_within-no_answer.ensures.limit n)))
 
 pub interpret_attribute-returns-in_err-part-clause-found : goal.interpret_attribute-returns-in_err-part-clause-found
 interpret_attribute-returns-in_err-part-clause-found g t c =
@@ -317,7 +318,7 @@ interpret_attribute-returns-in_err-part-clause-found g t c =
 
 pub interpret_attribute-returns-in_err-part-clause-limit : goal.interpret_attribute-returns-in_err-part-clause-limit
 interpret_attribute-returns-in_err-part-clause-limit g t c =
-    λ l. deep_operand g.F.ExtensionFunctionObject.answers c.args.self.now c.args.depth (tree.GetAttr (rc_str_bytes c.args.attr.now)) (bare c.args.of.now) (c.in_err-part.ensures.limit (limit_passed c.in_err-part.field-0.0 c.from_residual.result c.from_residual.ensures l))
+    λ l. deep_operand g.F.ExtensionFunctionObject.answers c.args.self.now c.args.slots.now c.args.depth (tree.GetAttr (rc_str_bytes c.args.attr.now)) (bare c.args.of.now) (c.in_err-part.ensures.limit (limit_passed c.in_err-part.field-0.0 c.from_residual.result c.from_residual.ensures l))
 
 pub interpret_attribute-returns-in_err-answer-clause-found : goal.interpret_attribute-returns-in_err-answer-clause-found
 interpret_attribute-returns-in_err-answer-clause-found g t c =
@@ -379,7 +380,7 @@ interpret_strict-returns-in_err-part-in-One-clause-found g t c =
 pub interpret_strict-returns-in_err-part-in-One-clause-limit : goal.interpret_strict-returns-in_err-part-in-One-clause-limit
 interpret_strict-returns-in_err-part-in-One-clause-limit g t c =
     let is : bare c.args.expr.now ≡ unary (unary_operator c.in-One.op) (bare c.in-One.of.now) = subst (IsOperands (bare c.args.expr.now)) c.in-One.is c.requires in
-    λ l. one_deep (bare c.args.expr.now) (unary_operator c.in-One.op) (bare c.in-One.of.now) is (unary_calls_nothing c.in-One.op) g.F.ExtensionFunctionObject.answers c.args.self.now c.args.depth (c.in_err-part-in-One.ensures.limit (limit_passed c.in_err-part-in-One.field-0.0 c.from_residual.result c.from_residual.ensures l))
+    λ l. one_deep (bare c.args.expr.now) (unary_operator c.in-One.op) (bare c.in-One.of.now) is (unary_calls_nothing c.in-One.op) g.F.ExtensionFunctionObject.answers c.args.self.now c.args.slots.now c.args.depth (c.in_err-part-in-One.ensures.limit (limit_passed c.in_err-part-in-One.field-0.0 c.from_residual.result c.from_residual.ensures l))
 
 pub interpret_strict-returns-in_ok-part-in-One-clause-found : goal.interpret_strict-returns-in_ok-part-in-One-clause-found
 interpret_strict-returns-in_ok-part-in-One-clause-found g t c =
@@ -403,7 +404,7 @@ interpret_strict-returns-in_err-left-in-Two-clause-found g t c =
 pub interpret_strict-returns-in_err-left-in-Two-clause-limit : goal.interpret_strict-returns-in_err-left-in-Two-clause-limit
 interpret_strict-returns-in_err-left-in-Two-clause-limit g t c =
     let is : bare c.args.expr.now ≡ binary (binary_operator_of c.in-Two.op) (bare c.in-Two.left.now) (bare c.in-Two.right.now) = subst (IsOperands (bare c.args.expr.now)) c.in-Two.is c.requires in
-    λ l. left_deep (bare c.args.expr.now) (binary_operator_of c.in-Two.op) (bare c.in-Two.left.now) (bare c.in-Two.right.now) is (binary_calls_nothing c.in-Two.op) g.F.ExtensionFunctionObject.answers c.args.self.now c.args.depth (c.in_err-left-in-Two.ensures.limit (limit_passed c.in_err-left-in-Two.field-0.0 c.from_residual-in_err-left-in-Two.result c.from_residual-in_err-left-in-Two.ensures l))
+    λ l. left_deep (bare c.args.expr.now) (binary_operator_of c.in-Two.op) (bare c.in-Two.left.now) (bare c.in-Two.right.now) is (binary_calls_nothing c.in-Two.op) g.F.ExtensionFunctionObject.answers c.args.self.now c.args.slots.now c.args.depth (c.in_err-left-in-Two.ensures.limit (limit_passed c.in_err-left-in-Two.field-0.0 c.from_residual-in_err-left-in-Two.result c.from_residual-in_err-left-in-Two.ensures l))
 
 pub interpret_strict-returns-in_err-right-in-Two-clause-found : goal.interpret_strict-returns-in_err-right-in-Two-clause-found
 interpret_strict-returns-in_err-right-in-Two-clause-found g t c =
@@ -416,7 +417,7 @@ interpret_strict-returns-in_err-right-in-Two-clause-found g t c =
 pub interpret_strict-returns-in_err-right-in-Two-clause-limit : goal.interpret_strict-returns-in_err-right-in-Two-clause-limit
 interpret_strict-returns-in_err-right-in-Two-clause-limit g t c =
     let is : bare c.args.expr.now ≡ binary (binary_operator_of c.in-Two.op) (bare c.in-Two.left.now) (bare c.in-Two.right.now) = subst (IsOperands (bare c.args.expr.now)) c.in-Two.is c.requires in
-    λ l. right_deep (bare c.args.expr.now) (binary_operator_of c.in-Two.op) (bare c.in-Two.left.now) (bare c.in-Two.right.now) is (binary_calls_nothing c.in-Two.op) g.F.ExtensionFunctionObject.answers c.args.self.now c.args.depth (c.in_err-right-in-Two.ensures.limit (limit_passed c.in_err-right-in-Two.field-0.0 c.from_residual-in_err-right-in-Two.result c.from_residual-in_err-right-in-Two.ensures l))
+    λ l. right_deep (bare c.args.expr.now) (binary_operator_of c.in-Two.op) (bare c.in-Two.left.now) (bare c.in-Two.right.now) is (binary_calls_nothing c.in-Two.op) g.F.ExtensionFunctionObject.answers c.args.self.now c.args.slots.now c.args.depth (partial_of c.in_ok-left-in-Two.left) (λ facts has. c.in_ok-left-in-Two.ensures.found facts has) (c.in_err-right-in-Two.ensures.limit (limit_passed c.in_err-right-in-Two.field-0.0 c.from_residual-in_err-right-in-Two.result c.from_residual-in_err-right-in-Two.ensures l))
 
 pub interpret_strict-returns-in_ok-right-in-Two-clause-found : goal.interpret_strict-returns-in_ok-right-in-Two-clause-found
 interpret_strict-returns-in_ok-right-in-Two-clause-found g t c =
@@ -446,7 +447,7 @@ interpret_strict-returns-in_err-parts-in-List-clause-found g t c =
 pub interpret_strict-returns-in_err-parts-in-List-clause-limit : goal.interpret_strict-returns-in_err-parts-in-List-clause-limit
 interpret_strict-returns-in_err-parts-in-List-clause-limit g t c =
     let list : is_of_list (bare c.args.expr.now) ≡ true = subst (IsOperands (bare c.args.expr.now)) c.in-List.is c.requires in
-    λ l. list_deep g.F.ExtensionFunctionObject.answers c.args.self.now c.args.depth (bare c.args.expr.now) list (subst (λ ts. SomeNestsBeyond g.F.ExtensionFunctionObject.answers c.args.self.now c.args.depth ts) (ap (map (λ (e : Bor (Expr (Unit {0}))). bare e.now)) c.deref.ensures.value ∙ c.in_ok-listed-in-List.ensures) (c.in_err-parts-in-List.ensures.limit (limit_passed c.in_err-parts-in-List.field-0.0 c.from_residual-in_err-parts-in-List.result c.from_residual-in_err-parts-in-List.ensures l)))
+    λ l. list_deep g.F.ExtensionFunctionObject.answers c.args.self.now c.args.slots.now c.args.depth (bare c.args.expr.now) list (subst (λ ts. SomeNestsBeyond g.F.ExtensionFunctionObject.answers c.args.self.now c.args.slots.now c.args.depth ts) (ap (map (λ (e : Bor (Expr (Unit {0}))). bare e.now)) c.deref.ensures.value ∙ c.in_ok-listed-in-List.ensures) (c.in_err-parts-in-List.ensures.limit (limit_passed c.in_err-parts-in-List.field-0.0 c.from_residual-in_err-parts-in-List.result c.from_residual-in_err-parts-in-List.ensures l)))
 
 pub interpret_strict-operate_on_list-requires-clause-list : goal.interpret_strict-operate_on_list-requires-clause-list
 interpret_strict-operate_on_list-requires-clause-list g t c = subst (IsOperands (bare c.args.expr.now)) c.in-List.is c.requires

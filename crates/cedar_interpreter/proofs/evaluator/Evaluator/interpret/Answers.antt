@@ -25,3 +25,6 @@ returns-clause-read g c = λ facts serves.
 
 pub returns-clause-read_limit : goal.returns-clause-read_limit
 returns-clause-read_limit g c = λ l. c.partial_interpret.ensures.read_limit (c.value_of.ensures.limit l)
+
+pub returns-clause-named_limit : goal.returns-clause-named_limit
+returns-clause-named_limit g c = λ l. c.partial_interpret.ensures.named_limit (c.value_of.ensures.limit l)

@@ -22,3 +22,6 @@ returns-clause-read_limit g c =
 
 pub returns-clause-named : goal.returns-clause-named
 returns-clause-named g c = c.interpret_within.ensures.found
+
+pub returns-clause-named_limit : goal.returns-clause-named_limit
+returns-clause-named_limit g c = c.interpret_within.ensures.limit

@@ -1,5 +1,5 @@
 -- Nothing is left, so it is what was found.
-use Rattle.cedar_interpreter.proofs.applying.open_or.Goals as goal
+use Rattle.cedar_interpreter.proofs.applying.left_or_found.Goals as goal
 
 pub returns-in-Some : goal.returns-in-Some
 returns-in-Some c = λ o none given. cc
