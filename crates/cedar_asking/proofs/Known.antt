@@ -11,17 +11,10 @@ use Rattle.cedar_world.specs.Question.{is_missing, has_name, IsKnown}
 use Rattle.cedar_world.specs.Bodies.{is_restricted, are_restricted, some_name, some_name_of}
 use Rattle.cedar_world.specs.First.{IsData}
 use Rattle.cedar_evaluator.proofs.Lists.{and_left, and_right, and_both}
+use Rattle.cedar_lemmas.proofs.Booleans.{or_first as or_false_left, or_second as or_false_right}
 
 text_itself : (id : Text) → text_eq id id ≡ true
 text_itself id = ap is_eq (tied_itself text_cmp_total id)
-
-or_false_left : (a b : Bool) → (a || b) ≡ false → a ≡ false
-or_false_left true b h = cc
-or_false_left false b h = refl
-
-or_false_right : (a b : Bool) → (a || b) ≡ false → b ≡ false
-or_false_right true b h = cc
-or_false_right false b h = h
 
 is_there : (p : Part) (n : Text) → (is_missing p && text_eq n n) ≡ false → is_given p ≡ true
 is_there (Given u) n h = refl

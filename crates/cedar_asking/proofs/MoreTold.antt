@@ -25,6 +25,7 @@ use Rattle.cedar_held.specs.Built.{IsBuilt, AreBuiltEntries}
 use Rattle.cedar_asking.specs.Keeping.{AreTold}
 use Rattle.cedar_asking.specs.TellLaws.{MoreIsTold}
 use Rattle.cedar_telling.specs.Tells.{told_in, TellMore}
+use Rattle.cedar_lemmas.proofs.Booleans.{or_first as first_false, or_second as rest_false, not_is_false as not_so}
 
 -- ---- a map of told values
 
@@ -66,18 +67,6 @@ told_before : (told : Told) (es : Portion) (n : Text) (v : Value) → finite.get
 told_before told [] n v h = inl h
 told_before told (e ∷ es) n v h =
     put_or_before told e es n v (eq_by_cmp text_cmp n e.0) refl (sym (finite.get-insert text_cmp_total (told_with told es) e.0 e.1 n) ∙ h) (told_before told es n v)
-
-first_false : (a b : Bool) → (a || b) ≡ false → a ≡ false
-first_false true b h = h
-first_false false b h = refl
-
-rest_false : (a b : Bool) → (a || b) ≡ false → b ≡ false
-rest_false true b h = cc
-rest_false false b h = h
-
-not_so : (b : Bool) → not b ≡ false → b ≡ true
-not_so true h = refl
-not_so false h = cc
 
 -- a test that no pair fails holds of each
 passes : (test : Text → Value → Bool) (es : Portion) → some_pair (λ n v. not (test n v)) es ≡ false → (n : Text) (v : Value) → Among n v es → test n v ≡ true

@@ -8,6 +8,8 @@ use Rattle.cedar_partial_evaluation.specs.ReadUnknowns.{is_unknown_call, calls_u
 use Rattle.cedar_grammar.specs.Calls.{calls_none_but, calls_only, all_call_only}
 use Rattle.cedar_grammar.specs.Functions.{is_the_unknown}
 use Rattle.cedar_evaluator.proofs.Lists.{and_left, and_right, and_both}
+use Rattle.std.proofs.lemmas.Bool.{or_from as neither}
+use Rattle.cedar_lemmas.proofs.Booleans.{not_is_true as not_so}
 
 -- ---- no unknown stands in them
 
@@ -34,13 +36,6 @@ module _ (passes : Name → Bool) where
 
 abbrev pub is_other : Name → Bool
 is_other name = not (is_the_unknown name)
-
-neither : (a b : Bool) → a ≡ false → b ≡ false → (a || b) ≡ false
-neither a b h k = rw h k
-
-not_so : (b : Bool) → not b ≡ true → b ≡ false
-not_so true h = cc
-not_so false h = refl
 
 other_call : (op : Operator) → calls_none_but is_other op ≡ true → is_unknown_call op ≡ false
 other_call (Call f) h = not_so (is_the_unknown f) h

@@ -15,6 +15,8 @@ use Rattle.cedar_extensions.specs.Table.{Table}
 use Rattle.cedar_held.specs.Built.{GivesBuilt}
 use Rattle.cedar_restricted_evaluation.specs.Evaluations.{HasFunctions}
 use Rattle.cedar_restricted_evaluation.proofs.Made.{built_is_made}
+pub use Rattle.cedar_lemmas.proofs.Booleans.{or_first as or_left, or_second as or_right, and_first as and_left, and_second as and_right}
+use Rattle.std.proofs.lemmas.Bool.{or_from as neither}
 
 -- ---- functions without entities
 
@@ -30,25 +32,6 @@ module _ (by : Setting) (table : Table) (gives : GivesBuilt table) (has : HasFun
   }
 
 -- ---- data that calls no `unknown`
-
-pub or_left : (a b : Bool) → (a || b) ≡ false → a ≡ false
-or_left true b h = cc
-or_left false b h = refl
-
-pub or_right : (a b : Bool) → (a || b) ≡ false → b ≡ false
-or_right true b h = cc
-or_right false b h = h
-
-neither : (a b : Bool) → a ≡ false → b ≡ false → (a || b) ≡ false
-neither a b h k = rw h k
-
-pub and_left : (a b : Bool) → (a && b) ≡ true → a ≡ true
-and_left true b h = refl
-and_left false b h = h
-
-pub and_right : (a b : Bool) → (a && b) ≡ true → b ≡ true
-and_right true b h = h
-and_right false b h = cc
 
 mutual
   pub calls_none : (t : Tree) → is_restricted t ≡ true → holds_call t ≡ false → calls_unknown t ≡ false

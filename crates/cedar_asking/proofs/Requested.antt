@@ -16,6 +16,7 @@ use Rattle.cedar_substitution.specs.Told.{told_for}
 use Rattle.cedar_evaluator.specs.Concretizing.{part_conflict, part_told}
 use Rattle.cedar_asking.specs.Keeping.{IsNamed, AreTold}
 use Rattle.cedar_asking.proofs.Plainness.{and_left, or_left}
+use Rattle.std.proofs.lemmas.Bool.{or_right as or_true_right, or_left as or_true_left}
 
 -- ---- parts
 
@@ -96,13 +97,6 @@ no_variable n is (WithEntries ks ts) h e = all_absent (text_eq n) (is_one_of var
 
 is_principal : (m : Text) → text_eq (codes "principal") m ≡ true → is_one_of variable_names m ≡ true
 is_principal m h = rw h refl
-
-or_true_right : (a b : Bool) → b ≡ true → (a || b) ≡ true
-or_true_right true b h = refl
-or_true_right false b h = h
-
-or_true_left : (a b : Bool) → a ≡ true → (a || b) ≡ true
-or_true_left a b h = rw h refl
 
 is_action : (m : Text) → text_eq (codes "action") m ≡ true → is_one_of variable_names m ≡ true
 is_action m h = or_true_right (text_eq (codes "principal") m) _ (or_true_left (text_eq (codes "action") m) _ h)

@@ -23,6 +23,7 @@ use Rattle.cedar_evaluator.proofs.ByRules.{errors_are}
 use Rattle.cedar_evaluator.proofs.Meant.{IsClosed, AreClosed, are_judged}
 use Rattle.cedar_evaluator.proofs.Paired.{exact_of}
 use Rattle.cedar_evaluator.proofs.Standings.{standing_found, judged}
+use Rattle.std.proofs.lemmas.Bool.{and_right as and_false}
 
 -- ---- policies of which nothing is left
 
@@ -45,10 +46,6 @@ not_residual (Erred (OfKind k)) c = refl
 not_residual (Erred LimitMet) c = refl
 not_residual (Erred MemoryRanOut) c = refl
 not_residual (Open t) c = absurd (cc c.1)
-
-and_false : (a b : Bool) → b ≡ false → (a && b) ≡ false
-and_false true b h = h
-and_false false b h = refl
 
 none_residual : (test : Judged → Bool) → ((j : Judged) → is_residual j.standing ≡ false → test j ≡ false) → (ks : List Kept) → AreClosed ks → some test (map judged ks) ≡ false
 none_residual test none [] c = refl

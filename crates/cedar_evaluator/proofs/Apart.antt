@@ -18,12 +18,9 @@ use Rattle.cedar_evaluator.specs.Grouping.{held_in, held_with, ids_of, IsNew}
 use Rattle.cedar_evaluator.specs.Holding.{has_erred}
 use Rattle.cedar_evaluator.specs.Responses.{Holding, if_effect, satisfied_id, false_id, open_id, satisfied_of, false_of, open_of, holding_of, without_false}
 use Rattle.cedar_evaluator.specs.declared.groups.Groups.{Groups}
+use Rattle.std.proofs.lemmas.Bool.{or_parts as either_false}
 
 -- ---- any group
-
-either_false : (a b : Bool) → (a || b) ≡ false → (a ≡ false) × (b ≡ false)
-either_false true b h = absurd (true≢false h)
-either_false false b h = (refl, h)
 
 -- entries have nothing at an id that isn't among theirs
 nothing_at : {V : Type 0} (es : List (Text × V)) (ids : List Text) (id : Text) → keys_of es ≡ ids → is_member same_text ids id ≡ false → lookup (same_text id) es ≡ None

@@ -24,6 +24,7 @@ use Rattle.cedar_evaluator.specs.declared.response.Response.{Response}
 use Rattle.cedar_evaluator.proofs.Deciding.{has_satisfied_permit, has_satisfied_forbid, must_held}
 use Rattle.cedar_evaluator.proofs.Meant.{IsClosed, AreClosed, are_judged}
 use Rattle.cedar_evaluator.proofs.Standings.{standing_found, judged}
+use Rattle.cedar_lemmas.proofs.Booleans.{or_second as or_right, or_nothing as or_false}
 
 -- ---- the satisfied policies of an effect
 
@@ -106,14 +107,6 @@ errors_are [] c = refl
 errors_are (k ∷ ks) c = one_error k.id k.found (errors_of ks) _ c.0 (errors_are ks c.1)
 
 -- ---- the response
-
-or_right : (a b : Bool) → (a || b) ≡ false → b ≡ false
-or_right true b h = absurd (cc h)
-or_right false b h = h
-
-or_false : (b : Bool) → (b || false) ≡ b
-or_false true = refl
-or_false false = refl
 
 module _ (ks : List Kept) (whole : Response) (concrete : IsConcrete (holding_of ks) whole) where
   abbrev h : Holding

@@ -5,16 +5,9 @@ use Rattle.cedar_language.specs.Uid.{Text}
 use Rattle.cedar_language.specs.Answering.{Effect, Permit, Forbid, Standing, Satisfied, Unsatisfied, Residual, Judged, some, satisfied_permit, satisfied_forbid, residual_permit, residual_forbid, decision, decision_by, in_must, in_may, ids_with}
 use Rattle.cedar_evaluator.specs.Responses.{Holding, judged_held, stands}
 use Rattle.cedar_evaluator.specs.Deciding.{has_any}
+use Rattle.cedar_lemmas.proofs.Booleans.{or_nothing as or_false, or_grouped as or_assoc}
 
 -- ---- of two lists, and of one group
-
-or_false : (b : Bool) → (b || false) ≡ b
-or_false true = refl
-or_false false = refl
-
-or_assoc : (a b c : Bool) → (a || (b || c)) ≡ ((a || b) || c)
-or_assoc true b c = refl
-or_assoc false b c = refl
 
 some_append : (f : Judged → Bool) (js ks : List Judged) → some f (js ++ ks) ≡ (some f js || some f ks)
 some_append f [] ks = refl

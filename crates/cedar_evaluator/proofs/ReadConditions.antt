@@ -29,6 +29,7 @@ use Rattle.cedar_evaluator.specs.Evaluating.{found_by, JudgesAt, JudgesReadAt}
 use Rattle.cedar_evaluator.specs.Evaluations.{Found, Satisfied, Unsatisfied, Erred, Open, Finds, found_read}
 use Rattle.cedar_evaluator.specs.Scopes.{IsDecided}
 use Rattle.cedar_evaluator.proofs.Scoped.{right_decides, out_of_scope}
+use Rattle.cedar_lemmas.proofs.Booleans.{or_second as last_none}
 
 -- ---- a conjunction whose left operand is read already
 
@@ -45,10 +46,6 @@ behind_literal a r = refl
 conjunction_read : (l r : Tree) → read_unknowns l ≡ l → read_unknowns (conjunction l r) ≡ conjunction l (read_unknowns r)
 conjunction_read (Lit (Boolean a)) r h = behind_literal a r
 conjunction_read l r h = ap (λ u. And u (read_unknowns r)) h
-
-last_none : (x y : Bool) → (x || y) ≡ false → y ≡ false
-last_none true y h = cc
-last_none false y h = h
 
 right_calls : (l r : Tree) → calls_unknown (conjunction l r) ≡ false → calls_unknown r ≡ false
 right_calls (Lit (Boolean a)) (Lit (Boolean b)) h = refl

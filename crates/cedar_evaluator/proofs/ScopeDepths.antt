@@ -17,6 +17,7 @@ use Rattle.cedar_interpreter.specs.Naming.{naming_in, naming_depth}
 use Rattle.cedar_interpreter.proofs.Branches.{branch_taken}
 use Rattle.cedar_interpreter.proofs.Naming.{without}
 use Rattle.cedar_evaluator.proofs.ReadConditions.{condition_read}
+use Rattle.std.proofs.lemmas.Bool.{and_right as none_at}
 
 -- ---- a conjunction whose left operand holds
 
@@ -59,10 +60,6 @@ action_calls (action_within_any us) = rw (uids_call us) refl
 both_call : (l r : Tree) → calls_unknown l ≡ false → calls_unknown r ≡ false → calls_unknown (conjunction l r) ≡ false
 both_call (Lit (Boolean a)) (Lit (Boolean b)) h k = refl
 both_call l r h k = or_from (calls_unknown l) (calls_unknown r) h k
-
-none_at : (naming x : Bool) → x ≡ false → (naming && x) ≡ false
-none_at true x h = h
-none_at false x h = refl
 
 module _ (s : grammar.Policy) where
   scope_calls : calls_unknown (scope_tree s) ≡ false

@@ -20,14 +20,7 @@ use Rattle.cedar_interpreter.specs.Meeting.{part_answer}
 use Rattle.cedar_interpreter.specs.Naming.{naming_in, naming_depth, naming_depths}
 use Rattle.cedar_interpreter.proofs.Branches.{branch_low, behind_low}
 use Rattle.cedar_interpreter.specs.declared.evaluator.Evaluator.{Evaluator}
-
-and_left : (a b : Bool) → (a && b) ≡ true → a ≡ true
-and_left true b h = refl
-and_left false b h = h
-
-and_right : (a b : Bool) → (a && b) ≡ true → b ≡ true
-and_right true b h = h
-and_right false b h = cc
+use Rattle.cedar_lemmas.proofs.Booleans.{and_first as and_left, and_second as and_right}
 
 -- ---- what is known
 

@@ -14,6 +14,9 @@ use Rattle.cedar_partial_evaluation.specs.Partial.{Answer, Evaluated, ResidualTr
 use Rattle.cedar_partial_evaluation.specs.ReadUnknowns.{unknown_function, unknown_or_call, read_call, read_unknowns, all_read, is_unknown_call, calls_unknown, some_calls_unknown, UnknownsAreRead}
 use Rattle.cedar_interpreter.specs.Naming.{named_or, call_answer, construct_answer, naming_in, all_naming_in, as_read, IsPlain, ArePlain, GivesTexts}
 use Rattle.cedar_interpreter.proofs.Constructs.{other_construct}
+use Rattle.std.proofs.lemmas.Bool.{or_from as neither}
+pub use Rattle.cedar_lemmas.proofs.Booleans.{or_first as first_none, or_second as last_none}
+use Rattle.cedar_lemmas.proofs.Booleans.{and_both as both_true}
 
 -- ---- Booleans
 
@@ -26,22 +29,6 @@ pub none_right : (b x y : Bool) → (b && (x || y)) ≡ false → (b && y) ≡ f
 none_right false x y h = refl
 none_right true false y h = h
 none_right true true y h = cc
-
-neither : (x y : Bool) → x ≡ false → y ≡ false → (x || y) ≡ false
-neither true y h k = cc
-neither false y h k = k
-
-pub first_none : (x y : Bool) → (x || y) ≡ false → x ≡ false
-first_none true y h = cc
-first_none false y h = refl
-
-pub last_none : (x y : Bool) → (x || y) ≡ false → y ≡ false
-last_none true y h = cc
-last_none false y h = h
-
-both_true : (x y : Bool) → (x && y) ≡ true → (x ≡ true) × (y ≡ true)
-both_true true y h = (refl, h)
-both_true false y h = cc
 
 true_then : (x y : Bool) → x ≡ true → (x || y) ≡ false → ⊥
 true_then true y e h = cc

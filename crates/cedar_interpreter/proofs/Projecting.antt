@@ -19,10 +19,7 @@ use Rattle.cedar_partial_evaluation.specs.ReadUnknowns.{calls_unknown, some_call
 use Rattle.cedar_grammar.specs.Build.{trees, keys}
 use Rattle.cedar_trees.specs.Bare.{bare, bare_entries}
 use Rattle.cedar_trees.specs.declared.expr.Expr.{Expr}
-
-and_true : (a b : Bool) → (a && b) ≡ true → (a ≡ true) × (b ≡ true)
-and_true true b h = (refl, h)
-and_true false b h = cc
+use Rattle.cedar_lemmas.proofs.Booleans.{and_both as and_true}
 
 -- ---- trees that may be projected
 

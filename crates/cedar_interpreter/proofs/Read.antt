@@ -32,10 +32,7 @@ use Rattle.cedar_interpreter.proofs.Naming.{without}
 use Rattle.cedar_interpreter.proofs.NamingDepths.{names_are_read}
 use Rattle.cedar_interpreter.proofs.Projecting.{projectable_calls}
 use Rattle.cedar_interpreter.proofs.Steps.{meets_as}
-
-none_at : (b x : Bool) → x ≡ false → (b && x) ≡ false
-none_at true x h = h
-none_at false x h = refl
+use Rattle.std.proofs.lemmas.Bool.{and_right as none_at}
 
 -- an entry that is projected names nothing
 pub entry_is : (naming : Bool) (facts : Facts) (holds : LeafAnswers) (e : Tree) → is_projectable e ≡ true → naming_in naming facts holds e ≡ partial_in facts holds e

@@ -9,6 +9,7 @@ use Rattle.cedar_grammar.specs.Functions.{Functions, the_unknown, unknown_functi
 use Rattle.cedar_world.specs.NameLaws.{NamesAreFound}
 use Rattle.cedar_grammar.specs.Syntax.{PolicySyntax, condition}
 use Rattle.cedar_parser.specs.Strict.{LacksUnknown}
+pub use Rattle.cedar_lemmas.proofs.Booleans.{and_first as left_of, and_second as right_of}
 
 -- where `unknown` isn't called
 module _ (found : (functions : Functions) → NamesAreFound functions) (functions : Functions) (lacks : functions.has_unknown ≡ false) where
@@ -26,14 +27,6 @@ module _ (found : (functions : Functions) → NamesAreFound functions) (function
   )
 
 -- ---- calls that pass one test pass a weaker one
-
-pub left_of : (a b : Bool) → (a && b) ≡ true → a ≡ true
-left_of true b h = refl
-left_of false b h = h
-
-pub right_of : (a b : Bool) → (a && b) ≡ true → b ≡ true
-right_of true b h = h
-right_of false b h = absurd (true≢false (sym h))
 
 both_still : (a b c d : Bool) → (a ≡ true → c ≡ true) → (b ≡ true → d ≡ true) → (a && b) ≡ true → (c && d) ≡ true
 both_still true b c d left right h = ap (λ x. x && d) (left refl) ∙ right h

@@ -14,14 +14,7 @@ use Rattle.cedar_grammar.specs.Functions.{is_the_unknown}
 use Rattle.cedar_world.specs.Orders.{text_eq}
 use Rattle.cedar_world.proofs.Parts.{same_some}
 use Rattle.cedar_asking.specs.Keeping.{StatesNoTypes}
-
-and_left : (a b : Bool) → (a && b) ≡ true → a ≡ true
-and_left true b h = refl
-and_left false b h = h
-
-and_right : (a b : Bool) → (a && b) ≡ true → b ≡ true
-and_right true b h = h
-and_right false b h = cc
+use Rattle.cedar_lemmas.proofs.Booleans.{and_first as and_left, and_second as and_right}
 
 abbrev HasNoType : uid.Text → Option ValueType → Type 0
 HasNoType n ty = ty ≡ None
