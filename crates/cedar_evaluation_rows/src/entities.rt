@@ -97,8 +97,18 @@ pub(crate) fn part(
         return no_case(alloc);
     };
     match verb {
-        "attr" => restrict(alloc, name, RestrictedExpr::new(alloc, expr), &mut held.attrs),
-        "tag" => restrict(alloc, name, RestrictedExpr::new(alloc, expr), &mut held.tags),
+        "attr" => restrict(
+            alloc,
+            name,
+            RestrictedExpr::new(alloc, expr),
+            &mut held.attrs,
+        ),
+        "tag" => restrict(
+            alloc,
+            name,
+            RestrictedExpr::new(alloc, expr),
+            &mut held.tags,
+        ),
         "open" => hold(alloc, name, PartialValue::from(expr), &mut held.open),
         _ => no_case(alloc),
     }
@@ -128,7 +138,9 @@ pub(crate) fn make(
         "whole" => {
             let attrs = mem::replace(&mut held.open, BTreeMap::new(alloc));
             let tags = BTreeMap::new(alloc);
-            let entity = Entity::new_with_attr_partial_value(alloc, uid, attrs, beside, parents, tags);
+            let entity = Entity::new_with_attr_partial_value(
+                alloc, uid, attrs, beside, parents, tags,
+            );
             push(alloc, &mut held.entities, entity)
         }
         "bare" => push(alloc, &mut held.entities, Entity::with_uid(alloc, uid)),
@@ -215,12 +227,20 @@ pub(crate) fn fill(
         "add" => {
             let entities = mem::replace(&mut held.entities, Vec::new(alloc));
             let store = mem::replace(&mut held.store, Entities::new(alloc));
-            kept(alloc, &mut held.store, store.add_entities(alloc, entities, computation))
+            kept(
+                alloc,
+                &mut held.store,
+                store.add_entities(alloc, entities, computation),
+            )
         }
         "put" => {
             let entities = mem::replace(&mut held.entities, Vec::new(alloc));
             let store = mem::replace(&mut held.store, Entities::new(alloc));
-            kept(alloc, &mut held.store, store.upsert_entities(alloc, entities, computation))
+            kept(
+                alloc,
+                &mut held.store,
+                store.upsert_entities(alloc, entities, computation),
+            )
         }
         "of" | "of-closed" | "of-enforced" => {
             let entities = mem::replace(&mut held.entities, Vec::new(alloc));
@@ -231,7 +251,11 @@ pub(crate) fn fill(
             Ok(uids) => {
                 let gone = uids.into_iter().collect(alloc)?;
                 let store = mem::replace(&mut held.store, Entities::new(alloc));
-                kept(alloc, &mut held.store, store.remove_entities(alloc, &gone, computation))
+                kept(
+                    alloc,
+                    &mut held.store,
+                    store.remove_entities(alloc, &gone, computation),
+                )
             }
             Err(error) => refused(alloc, error),
         },
@@ -244,13 +268,7 @@ pub(crate) fn fill(
 }
 
 /// What the store is asked.
-fn asked(
-    alloc: Global,
-    verb: &str,
-    id: &str,
-    table: &Extensions<'_>,
-    held: &mut Stores,
-) -> Answer {
+fn asked(alloc: Global, verb: &str, id: &str, table: &Extensions<'_>, held: &mut Stores) -> Answer {
     match verb {
         "show" => held.store.to_string(alloc),
         "at" => match user(alloc, id) {

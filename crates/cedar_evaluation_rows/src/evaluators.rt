@@ -1,6 +1,7 @@
 // What evaluators answer of an expression.
 use crate::entities::user;
 use crate::requests::word_depth;
+use cedar_evaluator::evaluator::EvaluateRequest;
 use cedar_extensions::extensions::Extensions;
 use cedar_interpreter::{Evaluator, RestrictedEvaluator};
 use cedar_parser::ExtStyles;

@@ -109,7 +109,16 @@ fn evaluated(alloc: Global, section: &str, step: &Step<'_>, held: &mut Held) -> 
         "policies" => policies::answer(alloc, verb, one, other, &held.sets.set, store, table),
         "told" => policies::told(alloc, verb, &held.told, &held.sets.set, store, table),
         "made" => responses::answer(alloc, verb, one),
-        "request" => requests::answer(alloc, verb, one, other, exprs, &held.told, table, &mut held.requests),
+        "request" => requests::answer(
+            alloc,
+            verb,
+            one,
+            other,
+            exprs,
+            &held.told,
+            table,
+            &mut held.requests,
+        ),
         "tell" => told(alloc, verb, exprs, &mut held.told),
         _ => no_case(alloc),
     }

@@ -4,6 +4,7 @@ use crate::requests::word_depth;
 use cedar_evaluator::authorizer::Authorizer;
 use cedar_evaluator::errors::AuthorizationError;
 use cedar_evaluator::evaluation::EvaluatePolicy;
+use cedar_evaluator::evaluator::EvaluateRequest;
 use cedar_evaluator::partial_response::PartialResponse;
 use cedar_evaluator::response::Response;
 use cedar_extensions::extensions::Extensions;

@@ -27,7 +27,10 @@ pub(crate) fn answer(alloc: Global, verb: &str, id: &str) -> Answer {
             let error = EvaluationError::recursion_limit(None);
             let of_policy = id.clone()?;
             false_permits.push((id, (ErrorState::Error, annotations)))?;
-            errors.push(AuthorizationError::PolicyEvaluationError { id: of_policy, error })?;
+            errors.push(AuthorizationError::PolicyEvaluationError {
+                id: of_policy,
+                error,
+            })?;
         }
         _ => return no_case(alloc),
     }
