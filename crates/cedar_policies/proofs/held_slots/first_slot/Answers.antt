@@ -9,7 +9,7 @@ use Rattle.cedar_policies.proofs.held_slots.first_slot.Goals as goal
 pub returns-then-is_same : goal.returns-then-is_same
 returns-then-is_same c =
     let s = c.args.id in
-    ap (λ x. x ∷ []) c.in_ok-to_slot.ensures
+    ap (λ x. x ∷ []) c.in_ok-to_slot.ensures.slot
     ∙ met_here s (bare c.args.expr.now) c.in-Some.slot.id _ (sym c.is_same.ensures ∙ c.if-is_same.true) (ap (list_any (is_slot s)) (sym c.in-Some.ensures.steps) ∙ c.loop-slot.invariant)
 
 pub returns : goal.returns
