@@ -14,6 +14,7 @@ pub mod Refusals
 pub mod Concretizing
 pub mod Reasons
 pub mod Reauthorizing
+pub mod Copies
 pub mod Scopes
 pub mod Candidates
 pub mod IdsLeft

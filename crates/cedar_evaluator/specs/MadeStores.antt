@@ -26,7 +26,10 @@ pub record MakesValues (table : Table) : Type 0 where
   pub built : GivesBuilt table
   pub constructs : table.function the_constructor ≡ Some constructor_function
 
--- a closed store of built values that isn't partial has facts with such functions, and all that these hold is made again
+-- it has facts with these functions, and all that they hold is made again
+abbrev pub HasMadeFacts : Entities → Table → Type 0
+HasMadeFacts store table = (facts : Facts) × HasFacts store facts × HasFunctions table facts × HoldsMade facts
+
+-- a closed store of built values that isn't partial has such facts
 abbrev pub StoresAreMade : Type 0
-StoresAreMade = (store : Entities) (table : Table) → is_partial_store store ≡ false → IsClosed store → HoldsValues store → HoldsBuilt store → MakesValues table →
-    (facts : Facts) × HasFacts store facts × HasFunctions table facts × HoldsMade facts
+StoresAreMade = (store : Entities) (table : Table) → is_partial_store store ≡ false → IsClosed store → HoldsValues store → HoldsBuilt store → MakesValues table → HasMadeFacts store table

@@ -14,6 +14,7 @@ pub mod ast;
 pub mod authorizer;
 mod candidates;
 mod concretizing;
+mod copies;
 pub mod entities;
 pub mod errors;
 pub mod evaluation;

@@ -71,8 +71,9 @@ impl Drop for PartialResponse {
 /// What is decided, and the errors.
 impl fmt::Debug for PartialResponse {
     fn fmt<W: fmt::Write>(&self, f: &mut fmt::Formatter<W>) -> fmt::Result {
+        let decision = self.decision();
         f.debug_struct("PartialResponse")
-            .field("decision", &self.decision())
+            .field("decision", &decision)
             .field("errors", &self.errors)
             .finish_non_exhaustive()
     }

@@ -17,7 +17,7 @@ use std::{fmt, slice};
 /// choice of ids makes it slow. Contracts see the ids.
 #[derive(Drop)]
 pub struct Reasons {
-    ids: PolicyMap<()>,
+    pub(crate) ids: PolicyMap<()>,
 }
 
 impl Model for Reasons {
