@@ -4,7 +4,7 @@ use Rattle.cedar_language.specs.Tree.{SlotId}
 use Rattle.cedar_language.specs.Uid.{Text}
 use Rattle.cedar_grammar.specs.Policy.{Policy, slots}
 use Rattle.cedar_extensions.specs.Table.{Table}
-use Rattle.cedar_policies.specs.Validation as template
+use Rattle.cedar_policies.specs.Validation as validation
 use Rattle.cedar_policies.specs.Validation.{Validates}
 use Rattle.cedar_policies.specs.declared.errors.TemplateValidationError.{TemplateValidationError}
 use Rattle.cedar_policy_set.specs.Entries.{Entry, static_policy, template, link, Entries}
@@ -53,7 +53,7 @@ ValidatesAll table (e ∷ es) r = (ValidatesOne table e.0 e.1 accepted × Valida
 
 -- the same is told
 abbrev pub TellsSame : PolicySetValidationError → PolicySetValidationError → Type 0
-TellsSame (InvalidTemplate i e) (InvalidTemplate j f) = (j ≡ i) × template.TellsSame e f
+TellsSame (InvalidTemplate i e) (InvalidTemplate j f) = (j ≡ i) × validation.TellsSame e f
 TellsSame (LinkToSlotlessTemplate i) (LinkToSlotlessTemplate j) = j ≡ i
 TellsSame (Memory e) (Memory f) = ⊤
 TellsSame e f = ⊥
