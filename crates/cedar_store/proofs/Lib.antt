@@ -4,3 +4,4 @@ pub mod Numbering
 pub mod Numbers
 pub mod RenamingLaws
 pub mod Wholes
+pub mod Given

@@ -3,7 +3,7 @@ use Rattle.std.proofs.Common.{◌≡◌, ℕ, zero, suc, ◌+◌, ◌-◌, ◌�
 use Rattle.std.specs.List.{IsDistinct, AllByRecursion}
 use Rattle.std.specs.Set.{is_member}
 use Rattle.std.specs.Cmp.Lexicographic.{nat_list_eq_equiv}
-use Rattle.std.proofs.lemmas.Bool.{cases_lt, or_left, or_right}
+use Rattle.std.proofs.lemmas.Bool.{cases_lt, or_from, or_left, or_right}
 use Rattle.std.proofs.lemmas.Fmt.{decimal_injective}
 use Rattle.std.proofs.lemmas.List.{append_cancel_left}
 use Rattle.std.proofs.lemmas.Map.Made.{length-le_from_is_member}
@@ -11,9 +11,9 @@ use Rattle.cedar_language.specs.Uid.{Text}
 use Rattle.cedar_language.specs.Order.{same_text}
 use Rattle.cedar_grammar.specs.Syntax.{numbered}
 use Rattle.cedar_policy_set.specs.Entries.{Entries, is_bound}
-use Rattle.cedar_policy_set.specs.Numbers.{BindsNumbers}
+use Rattle.cedar_policy_set.specs.Numbers.{BindsNumbers, IsNextUnbound}
 use Rattle.cedar_policy_set.proofs.Finding.{same_id, id_apart}
-use Rattle.cedar_store.specs.Renaming.{is_taken}
+use Rattle.cedar_store.specs.Renaming.{IsNextFree, is_taken}
 use Rattle.cedar_store.specs.Room.{HasRoom}
 
 pub numbered_injective : (m n : ℕ) → m < 2 ^ 64 → n < 2 ^ 64 → numbered m ≡ numbered n → m ≡ n
@@ -78,6 +78,15 @@ taken_up mine theirs from next end before passed k low high = by (cases_lt k nex
     by : (k < next) ⊎ (next ≤ k) → is_taken mine theirs (numbered k) ≡ true
     by (inl early) = before k low early
     by (inr late) = or_left (is_bound mine (numbered k)) (is_bound theirs (numbered k)) (passed k late high)
+
+-- the next one that is bound in neither
+pub free_on : (mine theirs : Entries) (from next n : ℕ) → from ≤ next → AreTaken mine theirs from next → IsNextUnbound mine next n → is_bound theirs (numbered n) ≡ false → IsNextFree mine theirs from n
+free_on mine theirs from next n reached before found free = record {
+  reached = let on = found.reached in omega arith;
+  fits = let small = found.small in omega arith;
+  free = or_from (is_bound mine (numbered n)) (is_bound theirs (numbered n)) found.free free;
+  passed = taken_up mine theirs from next n before found.passed;
+}
 
 -- so with room the counter meets a free id
 pub room_is_enough : (mine theirs : Entries) (from : ℕ) → HasRoom mine theirs from → (end : ℕ) → end ≡ 2 ^ 64 - 1

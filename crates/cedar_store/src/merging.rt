@@ -6,7 +6,7 @@ ghost use Rattle.cedar_store.specs.Renaming.{IsRenaming, conflicting};
 ghost use Rattle.cedar_store.specs.Merged.{joined, KeepsMine, KeepsTheirs, IsMergeRefusal, RefusesAny};
 
 use crate::joining::joining;
-use crate::renaming::{Renaming, renaming_of};
+use crate::renaming::{Renaming, copied, renaming_of};
 use cedar_policy_set::errors::PolicySetError;
 use cedar_policy_set::sets::PolicySet;
 use std::alloc::{AllocError, Global};
@@ -84,8 +84,8 @@ impl Merging for PolicySet {
 fn refuse_any(renaming: &Renaming) -> Result<(), PolicySetError>
     ensures { RefusesAny (keys_of renaming.now) result }
 {
-    match renaming.iter().next() {
+    match renaming.get_index(0) {
         None => Ok(()),
-        Some((id, _)) => Err(PolicySetError::Occupied { id: id.clone()? }),
+        Some((id, _)) => Err(PolicySetError::Occupied { id: copied(id)? }),
     }
 }

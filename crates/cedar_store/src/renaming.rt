@@ -1,7 +1,5 @@
 // What a merge renames.
 ghost use Rattle.std.specs.Prelude.{◌≡◌, ◌-◌, ◌^◌, ◌<◌, IfNone, IfOk, IfSome, None};
-ghost use Rattle.std.specs.Map.{lookup};
-ghost use Rattle.cedar_language.specs.Order.{same_text};
 ghost use Rattle.cedar_grammar.specs.Syntax.{numbered};
 ghost use Rattle.cedar_policy_set.specs.Bounds.{bound_id, entry_of};
 ghost use Rattle.cedar_store.specs.Renaming.{IsNextFree, IsRenaming, conflicts, new_id};
