@@ -1,15 +1,21 @@
 -- What is copied is sound where its source is, and binds the same.
-use Rattle.std.proofs.Common.{◌≡◌, List, [], ◌∷◌, ◌++◌, map, refl, sym, subst, ◌∙◌}
-use Rattle.std.proofs.lemmas.List.Elements.{AllZip-push}
+use Rattle.std.proofs.Common.{◌≡◌, List, [], ◌∷◌, map, refl, sym, subst, ◌∙◌}
+use Rattle.std.specs.List.{AllZip}
 use Rattle.std.specs.Map.{keys_of, values_of}
 use Rattle.cedar_language.specs.Uid.{Text}
 use Rattle.cedar_policy_set.specs.Entries.{IsWhole}
 use Rattle.cedar_policy_set.specs.declared.bounds.Bound.{Bound}
-use Rattle.cedar_policy_set.specs.Places.{AreCopies}
 use Rattle.cedar_policy_set.specs.Bounds.{bound_id, entries_of, IsNamed, ListTheirSlots, IsCopy, IsSound}
 
-pub copies_push : {V : Type 0} (is_clone : V → V → Type 0) (es fs : List (Text × V)) (e f : Text × V) → AreCopies is_clone es fs → f.0 ≡ e.0 → is_clone e.1 f.1 → AreCopies is_clone (es ++ e ∷ []) (fs ++ f ∷ [])
-copies_push is_clone es fs e f h id is = AllZip-push (λ x y. (y.0 ≡ x.0) × is_clone x.1 y.1) es fs e f h (id, is)
+pub zip_weaker : {A B : Type 0} {R S : A → B → Type 0} → ((a : A) (b : B) → R a b → S a b) → (xs : List A) (ys : List B) → AllZip R xs ys → AllZip S xs ys
+zip_weaker so [] [] h = tt
+zip_weaker so [] (y ∷ ys) h = absurd h
+zip_weaker so (x ∷ xs) [] h = absurd h
+zip_weaker so (x ∷ xs) (y ∷ ys) h = (so x y h.0, zip_weaker so xs ys h.1)
+
+-- each key with its copy
+abbrev pub AreCopies : {V : Type 0} → (V → V → Type 0) → List (Text × V) → List (Text × V) → Type 0
+AreCopies is_clone es fs = AllZip (λ e f. (f.0 ≡ e.0) × is_clone e.1 f.1) es fs
 
 pub same_keys : {V : Type 0} (is_clone : V → V → Type 0) (es fs : List (Text × V)) → AreCopies is_clone es fs → keys_of fs ≡ keys_of es
 same_keys is_clone [] [] h = refl

@@ -1,7 +1,7 @@
 -- Where ids stand in an order.
 use Rattle.std.specs.Prelude.{◌≡◌, List, [], ◌∷◌, Option, IfSome, length, option_map, position, if◌then◌else◌}
 use Rattle.std.specs.BTreeMap.{get}
-use Rattle.std.specs.List.{AllZip, IsDistinct}
+use Rattle.std.specs.List.{IsDistinct}
 use Rattle.cedar_language.specs.Uid.{Text}
 use Rattle.cedar_language.specs.Order.{same_text, text_cmp}
 use Rattle.cedar_policy_set.specs.ClosedPlaces.{position_of}
@@ -22,7 +22,3 @@ pub record AreKept (places : Option Places) (ids : List Text) : Type 0 where
 abbrev pub put : {V : Type 0} → List (Text × V) → Text → V → List (Text × V)
 put [] id v = (id, v) ∷ []
 put (e ∷ es) id v = if same_text id e.0 then (e.0, v) ∷ es else e ∷ put es id v
-
--- the ids in their order, each with a copy of what stands there
-abbrev pub AreCopies : {V : Type 0} → (V → V → Type 0) → List (Text × V) → List (Text × V) → Type 0
-AreCopies is_clone es fs = AllZip (λ e f. (f.0 ≡ e.0) × is_clone e.1 f.1) es fs

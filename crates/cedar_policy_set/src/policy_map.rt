@@ -7,7 +7,7 @@ ghost use Rattle.std.specs.Option.{option_copied, unwrap_or};
 ghost use Rattle.std.specs.Slice.Iter.{iter_rest};
 ghost use Rattle.cedar_language.specs.Uid.{Text};
 ghost use Rattle.cedar_language.specs.Order.{same_text};
-ghost use Rattle.cedar_policy_set.specs.Places.{put, AreCopies, AreKept, Tells};
+ghost use Rattle.cedar_policy_set.specs.Places.{put, AreKept, Tells};
 
 use crate::map_values::{IntoValues, Values};
 use crate::places::Places;
@@ -55,14 +55,13 @@ impl<V: fmt::Debug> fmt::Debug for PolicyMap<V> {
 
 /// Each id with a copy of what stands there.
 impl<V: Clone> Clone for PolicyMap<V> {
-    ghost use Rattle.cedar_policy_set.specs.Places.{AreCopies};
+    ghost use Rattle.std.specs.List.{AllZip};
 
-    ghost is_clone = { AreCopies V.is_clone };
+    ghost is_clone = { λ map copy. AllZip (λ e f. (f.0 ≡ e.0) × V.is_clone e.1 f.1) map copy };
 
     fn clone(&self) -> Result<PolicyMap<V>, AllocError> {
-        let alloc = *self.entries.allocator();
-        let entries = copies_of(alloc, &self.entries)?;
-        let places = places_like(alloc, &self.places, &entries)?;
+        let entries = self.entries.clone()?;
+        let places = places_like(*entries.allocator(), &self.places, &entries)?;
         Ok(PolicyMap { places, entries })
     }
 }
@@ -84,7 +83,7 @@ impl<V> PolicyMap<V> {
     pub fn clone(&self, _alloc: Global) -> Result<PolicyMap<V>, AllocError>
     where
         V: Clone,
-        ensures { IfOk result (AreCopies V.is_clone self.now) }
+        ensures { IfOk result (AllZip (λ e f. (f.0 ≡ e.0) × V.is_clone e.1 f.1) self.now) }
     {
         Clone::clone(self)
     }
@@ -356,22 +355,6 @@ fn thin_out<V>(alloc: Global, places: &mut Option<Places>, entries: &[(PolicyID,
     if is_sparse {
         *places = places_of(alloc, entries).ok();
     }
-}
-
-// What stands under the ids again, each with its id.
-fn copies_of<V: Clone>(
-    alloc: Global,
-    entries: &[(PolicyID, V)],
-) -> Result<Vec<(PolicyID, V)>, AllocError>
-    ensures { IfOk result (λ copies. AreCopies V.is_clone entries.now copies.items) }
-{
-    let mut copies = Vec::new(alloc);
-    for (id, value) in entries {
-        let own = copy_of(id)?;
-        let held = value.clone()?;
-        copies.push((own, held))?;
-    }
-    Ok(copies)
 }
 
 // The places of these ids, where there are places.

@@ -8,10 +8,10 @@ use Rattle.cedar_policy_set.specs.declared.bounds.Bound.TheVariants.{Policy, Tem
 use Rattle.cedar_policy_set.specs.Bounds.{entry_by, IsCopy}
 use Rattle.cedar_policy_set.proofs.bounds.BoundClone.clone.Goals as goal
 
-pub returns-in-Policy : goal.returns-in-Policy
-returns-in-Policy c =
-    let copy = c.in_ok-clone.field-0 in
-    let same = c.in_ok-clone.ensures.cases in
+pub returns-in_ok-clone-in-Policy : goal.returns-in_ok-clone-in-Policy
+returns-in_ok-clone-in-Policy c =
+    let copy = c.in_ok-clone-in-Policy.field-0 in
+    let same = c.in_ok-clone-in-Policy.ensures.cases in
     let shares : IsCopy (Policy c.in-Policy.policy.now) (Policy copy) =
     record {
       id = λ i. unwrap_or (same.link i) (template_id (same.template i));
@@ -21,8 +21,8 @@ returns-in-Policy c =
     in
     record { cases = subst (λ b. IsCopy b (Policy copy)) (sym c.in-Policy.is) shares }
 
-pub returns-in-Template : goal.returns-in-Template
-returns-in-Template c =
+pub returns-in_ok-clone-in-Template : goal.returns-in_ok-clone-in-Template
+returns-in_ok-clone-in-Template c =
     let copy = c.in_ok-clone-in-Template.field-0 in
     let same = c.in_ok-clone-in-Template.ensures.cases in
     let shares : IsCopy (Template c.in-Template.template.now) (Template copy) =

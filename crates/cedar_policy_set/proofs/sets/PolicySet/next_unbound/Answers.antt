@@ -7,8 +7,8 @@ use Rattle.cedar_policy_set.proofs.sets.PolicySet.next_unbound.Goals as goal
 pub loop-number-preserved : goal.loop-number-preserved
 loop-number-preserved c = record {
   reached = omega arith;
-  passed = binds_on c.args.self.now c.args.from c.loop-number.number c.skip_bound.result c.loop-number.invariant.passed
-      (ap (is_bound c.args.self.now) (sym c.in_ok-id.ensures) ∙ sym c.is_bound.ensures ∙ c.if-not-is_bound.false) c.skip_bound.ensures.bound;
+  passed = binds_on c.args.self.now c.args.from c.loop-number.number c.skip_bound-number-in-loop-number.result c.loop-number.invariant.passed
+      (ap (is_bound c.args.self.now) (sym c.in_ok-id.ensures) ∙ sym c.is_bound.ensures ∙ c.if-not-is_bound.false) c.skip_bound-number-in-loop-number.ensures.bound;
 }
 
 pub returns-then-not-is_bound : goal.returns-then-not-is_bound
