@@ -10,7 +10,8 @@ has as many.
 A crate may also stand before the words: a heading of docs/DEFINITIONS.md names the crate of the words in brackets below it, and
 a row of docs/PROOFS.md that begins with a crate in bold is one of its calls, as are the rows after it. In docs/ARCHITECTURE.md
 each crate has a row, whose last cell is what tools/rooms.py finds nearest below it. No paragraph has more than 100 words, and
-the pages of docs/ have 16,000 at most.
+the pages of docs/ have 16,000 at most. README.md says that each call that may be refused is shown to succeed: tools/called.py
+finds those that no program, example or row makes.
 
 Prints a line for each that isn't so, and ends with status 1 where there is any."""
 
@@ -21,6 +22,7 @@ import subprocess
 import sys
 
 sys.dont_write_bytecode = True
+import called
 import rooms
 
 NUMBERS = "no one two three four five six seven eight nine ten eleven twelve".split()
@@ -216,6 +218,7 @@ def main():
     words = sum(len(text_of(page).split()) for page in pages if page.startswith("docs/"))
     if words > WHOLE:
         faults.append(f"docs: {words} words, more than {WHOLE}")
+    faults += [f"{where}: no program, example or row calls `{name}`" for where, name in called.uncalled()]
     print("\n".join(faults) if faults else f"{len(pages)} pages name nothing that isn't there")
     return 1 if faults else 0
 

@@ -1,12 +1,16 @@
 #!/usr/bin/env python3
-"""gate_costs.py [--of PID] [WORDS..]: runs the words (`rt ci` where none are given), or watches a process that runs already, and
-prints what each check below it took, as the table of docs/GATE.md: processor seconds of the user and the system together, and
-the most memory that was held, by the crate that was checked.
+"""gate_costs.py [--of PID | --made [COUNT]] [WORDS..]: runs the words (`rt ci` where none are given), or watches a process that
+runs already, and prints what each check below it took, as the table of docs/GATE.md: processor seconds of the user and the system
+together, and the most memory that was held, by the crate that was checked.
+
+--made [COUNT]   times nothing: prints the functions (40, or so many) for which checks that are kept made the most text, from which
+                 the dear ones are told, and what was made in each crate. A cycle is one function, named by its first with a plus.
 
 It looks every half second, so that a check of less isn't seen, and the last half second of each is left out. What a crate costs
 is the sum of its checks, and of the compilers of its programs."""
 
 import collections
+import json
 import os
 import re
 import subprocess
@@ -14,6 +18,8 @@ import sys
 import time
 
 TICKS = os.sysconf("SC_CLK_TCK")
+# The modules that a check makes for a function.
+MADE = {"Lts", "View", "Given", "Goals", "Kinds", "Tie", "Carried", "Proof", "Mir", "Named", "Layout", "Code", "Reads", "Statement"}
 
 
 def text_of(path):
@@ -83,8 +89,38 @@ def table(seen):
     return "\n".join(["| room | seconds | GB |", "|---|---|---|", *rows, "", whole])
 
 
+def function_of(path):
+    """The function for which a module was made: what stands before the name of its layout, its goals or its proof."""
+    parts = path.split("/")[1:]
+    ends = [at for at, it in enumerate(parts) if it.partition("-")[0] in MADE]
+    return "::".join(parts[: ends[0]] if ends else parts[:-1])
+
+
+def made():
+    """The bytes that checks made, by crate and function, of the libraries that lie in crates/."""
+    sizes = collections.Counter()
+    for crate in sorted(os.listdir("crates")):
+        for line in text_of(f"crates/{crate}/out/rlib/{crate}.rlib/toolchain/made.json").splitlines():
+            path, _, size = json.loads(line)[:3]
+            if path.startswith("proofs/"):
+                sizes[crate, function_of(path)] += size
+    return sizes
+
+
+def table_of_made(sizes, count):
+    crates = collections.Counter()
+    for (crate, _), size in sizes.items():
+        crates[crate] += size
+    rows = [f"| `{crate}` | `{name}` | {size / 1e6:.1f} |" for (crate, name), size in sizes.most_common(count)]
+    whole = [f"| `{crate}` | {size / 1e6:.0f} |" for crate, size in crates.most_common()]
+    return "\n".join(["| room | function | MB |", "|---|---|---|", *rows, "", "| room | MB |", "|---|---|", *whole])
+
+
 def main():
     words = sys.argv[1:]
+    if words[:1] == ["--made"]:
+        print(table_of_made(made(), int(words[1]) if words[1:] else 40))
+        return 0
     if words[:1] == ["--of"]:
         root, status = int(words[1]), 0
         seen = watched(root, lambda: os.path.exists(f"/proc/{root}"))

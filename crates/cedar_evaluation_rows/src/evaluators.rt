@@ -10,12 +10,13 @@ use cedar_parser::strict::parse_expr_strict;
 use cedar_policy_parts::bindings::SlotEnv;
 use cedar_requests::{Context, EntityUIDEntry, Request};
 use cedar_restricted::borrowed::BorrowedRestrictedExpr;
+use cedar_rows::trees::slot;
 use cedar_rows::{Answer, no_case, push, refused, show};
 use cedar_store::entities::Entities;
 use cedar_trees::expr::Expr;
 use std::alloc::{AllocError, Global};
 
-/// Puts the expression of a text on the stack. The words on both sides of a bar are one text.
+/// Puts the expression of a text, or a slot, on the stack.
 pub(crate) fn read(
     alloc: Global,
     verb: &str,
@@ -24,8 +25,9 @@ pub(crate) fn read(
     exprs: &mut Vec<Expr>,
 ) -> Answer {
     let styles = ExtStyles::from_extensions(alloc, table)?;
-    match verb {
-        "text" => push(alloc, exprs, parse_expr_strict(alloc, text, &styles, 64)),
+    match (verb, slot(text)) {
+        ("text", _) => push(alloc, exprs, parse_expr_strict(alloc, text, &styles, 64)),
+        ("slot", Some(slot)) => push(alloc, exprs, Ok::<_, AllocError>(Expr::slot(slot))),
         _ => no_case(alloc),
     }
 }

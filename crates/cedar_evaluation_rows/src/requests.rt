@@ -299,28 +299,6 @@ fn refused(alloc: Global, table: &Extensions<'_>, state: &mut Requests) -> Answe
     }
 }
 
-/// What the schemas answer of the request's parts.
-fn asked(alloc: Global, verb: &str, table: &Extensions<'_>, request: &Request) -> Answer {
-    let (Some(context), Some(action)) = (request.context(), request.action().uid()) else {
-        return no_case(alloc);
-    };
-    let all = RequestSchemaAllPass;
-    match verb {
-        "context-passes" => {
-            all.validate_context(context, action, table)
-                .unwrap_infallible();
-            said(alloc, true)
-        }
-        "scope-passes" => {
-            all.validate_scope_variables(None, Some(action), None)
-                .unwrap_infallible();
-            said(alloc, true)
-        }
-        "validated" => said(alloc, RefusesAll.validate_request(request, table).is_ok()),
-        _ => no_case(alloc),
-    }
-}
-
 /// What is read of the request.
 fn parts(alloc: Global, verb: &str, table: &Extensions<'_>, state: &Requests) -> Answer {
     let Some(request) = &state.request else {
@@ -339,7 +317,8 @@ fn parts(alloc: Global, verb: &str, table: &Extensions<'_>, state: &Requests) ->
             None => String::from_str(alloc, "none"),
         },
         "again" => request.clone(alloc)?.to_string(alloc),
-        _ => asked(alloc, verb, table, request),
+        "validated" => said(alloc, RefusesAll.validate_request(request, table).is_ok()),
+        _ => no_case(alloc),
     }
 }
 

@@ -7,8 +7,13 @@ use cedar_policies::linking::TemplateLinks;
 use cedar_policies::policies::Policy;
 use cedar_policies::static_policies::StaticPolicy;
 use cedar_policies::templates::Template;
+use cedar_policy_parts::actions::ActionConstraint;
+use cedar_policy_parts::bindings::SlotEnv;
+use cedar_policy_parts::constraints::PrincipalOrResource;
 use cedar_policy_parts::errors::UnexpectedSlotError;
+use cedar_policy_parts::resources::ResourceConstraint;
 use cedar_policy_parts::{ExpectedStaticPolicy, PolicyID};
+use cedar_policy_set::sets::PolicySet;
 use cedar_rows::{Answer, append, no_case, show};
 use std::alloc::{AllocError, Global};
 use std::convert::AsStr;
@@ -41,12 +46,59 @@ pub(crate) fn of_template(
         }
         "validate" => match template.try_validate(alloc, table) {
             Ok(()) => String::from_str(alloc, "valid"),
-            Err(error) => error.to_string(alloc),
+            Err(error) => show(alloc, error.clone(alloc)),
         },
+        "annotations" => show(alloc, template.annotations().clone(alloc)),
+        "action-types" => action_types(alloc, template),
+        "unlinked" => unlinked(alloc, template),
+        "displayed" => {
+            let constraint = template.principal_constraint().clone(alloc)?.into_inner();
+            constraint.display(alloc, PrincipalOrResource::Resource)
+        }
+        "made-static" => show(alloc, made_static(alloc, template)),
         "principal" => show(alloc, template.body().principal_constraint_expr(alloc)),
         "action" => show(alloc, template.body().action_constraint_expr(alloc)),
         "resource" => show(alloc, template.body().resource_constraint_expr(alloc)),
         _ => of_static(alloc, verb, StaticPolicy::try_from(template.clone(alloc)?)),
+    }
+}
+
+/// The static policy of the template's effect and of scopes that name nothing but its principal.
+fn made_static(alloc: Global, template: &Template) -> Result<StaticPolicy, UnexpectedSlotError> {
+    let id = PolicyID::from_string(alloc, "z")?;
+    StaticPolicy::new(
+        alloc,
+        id,
+        None,
+        template.annotations().clone(alloc)?,
+        template.effect(),
+        template.principal_constraint().clone(alloc)?,
+        ActionConstraint::any(),
+        ResourceConstraint::any(),
+        None,
+    )
+}
+
+/// What is told of the types of actions in the template's scope.
+fn action_types(alloc: Global, template: &Template) -> Answer {
+    let constraint = template.action_constraint().clone(alloc)?;
+    match constraint.contains_only_action_types(alloc) {
+        Ok(constraint) => constraint.to_string(alloc),
+        Err(error) => show(alloc, error.clone(alloc)),
+    }
+}
+
+/// What is told where the template is linked with no entities.
+fn unlinked(alloc: Global, template: &Template) -> Answer {
+    let shared = Rc::new(alloc, template.clone(alloc)?)?;
+    match Template::link(
+        alloc,
+        shared,
+        PolicyID::from_string(alloc, "z")?,
+        SlotEnv::new(),
+    ) {
+        Ok(policy) => policy.to_string(alloc),
+        Err(error) => show(alloc, error.clone(alloc)),
     }
 }
 
@@ -60,6 +112,10 @@ fn of_static(alloc: Global, verb: &str, own: Result<StaticPolicy, UnexpectedSlot
         "static-renamed" => show(alloc, own.new_id(alloc, PolicyID::from_string(alloc, "z")?)),
         "static-condition" => show(alloc, own.condition(alloc)),
         "static-policy" => show(alloc, Policy::from_in(alloc, own)),
+        "static-alone" => show(
+            alloc,
+            PolicySet::singleton(alloc, Policy::from_in(alloc, own)?),
+        ),
         "static-template" => show(alloc, Rc::<Template>::from_in(alloc, own)),
         "static-linked" => match Template::link_static_policy(alloc, own) {
             Ok((_template, policy)) => policy.to_string(alloc),

@@ -2,7 +2,7 @@
 use Rattle.std.proofs.Common.{◌≡◌, ◌≢◌, List, [], ◌∷◌, length, None, refl}
 use Rattle.cedar_language.specs.Value.{Value}
 use Rattle.cedar_language.specs.Order.{all_of}
-use Rattle.cedar_layer_rows.specs.Ranks.{rank_answer, up_answer, label_answer}
+use Rattle.cedar_layer_rows.specs.Ranks.{rank_answer, up_answer}
 
 pub rank_answer_none : (vs : List Value) → length vs ≢ 1 → rank_answer (all_of vs) ≡ None
 rank_answer_none [] others = refl
@@ -13,8 +13,3 @@ pub up_answer_none : (vs : List Value) → length vs ≢ 1 → up_answer (all_of
 up_answer_none [] others = refl
 up_answer_none (v ∷ []) others = absurd (others refl)
 up_answer_none (v ∷ w ∷ vs) others = refl
-
-pub label_answer_none : (vs : List Value) → length vs ≢ 1 → label_answer (all_of vs) ≡ None
-label_answer_none [] others = refl
-label_answer_none (v ∷ []) others = absurd (others refl)
-label_answer_none (v ∷ w ∷ vs) others = refl

@@ -5,15 +5,14 @@ use Rattle.std.specs.Str.{bytes_eq}
 use Rattle.std.proofs.Common.{subst}
 use Rattle.std.proofs.lemmas.Bool.{ltb-true}
 use Rattle.cedar_language.specs.Uid.{Text, Name}
-use Rattle.cedar_language.specs.Tree.{String}
-use Rattle.cedar_language.specs.Value.{Extension, Value, Plain, ExtensionOf, Values, no_values, a_value}
+use Rattle.cedar_language.specs.Value.{Extension, Value, ExtensionOf, Values, no_values, a_value}
 use Rattle.cedar_language.specs.Order.{same_text, same_name}
 use Rattle.cedar_values.specs.Readers.{text_in}
 use Rattle.cedar_extensions.specs.Answering.{FunctionAnswers, IsBuilt}
 use Rattle.cedar_layer_rows.specs.declared.ranks.Level.{Level}
 use Rattle.cedar_layer_rows.specs.declared.ranks.Level.TheVariants.{Low, Mid, High}
 use Rattle.cedar_layer_rows.specs.declared.ranks.Ranks.{Ranks}
-use Rattle.cedar_layer_rows.specs.declared.ranks.Ranks.TheVariants.{Rank, Up, Label}
+use Rattle.cedar_layer_rows.specs.declared.ranks.Ranks.TheVariants.{Rank, Up}
 
 -- ---- ranks
 
@@ -68,18 +67,9 @@ abbrev pub up_answer : Values → Option Level
 up_answer (a_value v no_values) = option_and_then next_level (level_in v)
 up_answer vs = None
 
--- the level of a rank
-abbrev pub label_answer : Values → Option Level
-label_answer (a_value v no_values) = level_in v
-label_answer vs = None
-
-abbrev pub label_of : Level → Value
-label_of level = Plain (String (name_of level))
-
 abbrev pub value_given : Ranks → Values → Option Value
 value_given Rank vs = option_map rank_of (rank_answer vs)
 value_given Up vs = option_map rank_of (up_answer vs)
-value_given Label vs = option_map label_of (label_answer vs)
 
 -- ranks and texts are built
 rank_built : (l : Level) → IsBuilt (rank_of l)
@@ -94,14 +84,9 @@ ranks_built : (o : Option Level) (v : Value) → option_map rank_of o ≡ Some v
 ranks_built None v is = cc
 ranks_built (Some l) v is = subst IsBuilt (same_value (rank_of l) v is) (rank_built l)
 
-labels_built : (o : Option Level) (v : Value) → option_map label_of o ≡ Some v → IsBuilt v
-labels_built None v is = cc
-labels_built (Some l) v is = subst IsBuilt (same_value (label_of l) v is) tt
-
 pub values_built : (f : Ranks) (vs : Values) (v : Value) → value_given f vs ≡ Some v → IsBuilt v
 values_built Rank vs v is = ranks_built (rank_answer vs) v is
 values_built Up vs v is = ranks_built (up_answer vs) v is
-values_built Label vs v is = labels_built (label_answer vs) v is
 
 abbrev pub answers_of : Ranks → FunctionAnswers
 answers_of f = record { given = value_given f; built = values_built f }

@@ -3,7 +3,7 @@ ghost use Rattle.std.specs.Prelude.{◌≡◌, IfOk, true, option_map};
 ghost use Rattle.std.specs.List.{flat_map};
 ghost use Rattle.cedar_language.specs.Order.{all_of, same_name};
 ghost use Rattle.cedar_extensions.specs.Holding.{extension_functions, is_named, are_named};
-ghost use Rattle.cedar_layer_rows.specs.Ranks.{rank_type, rank_of, key_of, name_of, label_of, next_level, level_of_key, level_of, level_in, level_named, rank_answer, up_answer, label_answer};
+ghost use Rattle.cedar_layer_rows.specs.Ranks.{rank_type, rank_of, key_of, name_of, next_level, level_of_key, level_of, level_in, level_named, rank_answer, up_answer};
 
 use cedar_extensions::extension::Extension;
 use cedar_extensions::extensions::Extensions;
@@ -25,8 +25,6 @@ pub(crate) enum Ranks {
     Rank,
     /// The rank above this one.
     Up,
-    /// The name of this rank.
-    Label,
 }
 
 /// How high a rank is.
@@ -60,7 +58,6 @@ impl Ranks {
         match self {
             Ranks::Rank => ranked(alloc, rank_answer(args)),
             Ranks::Up => ranked(alloc, up_answer(args)),
-            Ranks::Label => labelled(alloc, label_answer(args)),
         }
     }
 
@@ -69,7 +66,6 @@ impl Ranks {
         match self {
             Ranks::Rank => "it takes the name of a rank",
             Ranks::Up => "it takes a rank that isn't the highest",
-            Ranks::Label => "it takes a rank",
         }
     }
 }
@@ -79,18 +75,6 @@ fn ranked(alloc: Global, level: Option<Level>) -> Result<Option<Value>, AllocErr
 {
     match level {
         Some(level) => Ok(Some(rank_of(alloc, level)?)),
-        None => Ok(None),
-    }
-}
-
-fn labelled(alloc: Global, level: Option<Level>) -> Result<Option<Value>, AllocError>
-    ensures { IfOk result (λ value. value ≡ option_map label_of level) }
-{
-    match level {
-        Some(level) => {
-            let name = RcStr::from_str(alloc, name_of(level))?;
-            Ok(Some(Value::from(Literal::String(name))))
-        }
         None => Ok(None),
     }
 }
@@ -113,16 +97,6 @@ fn up_answer(args: &[Value]) -> Option<Level>
         return None;
     };
     next_level(level_in(rank)?)
-}
-
-#[tactic(auto, using(crate::proofs::Counts::label_answer_none))]
-fn label_answer(args: &[Value]) -> Option<Level>
-    ensures { result ≡ label_answer (all_of args.now) }
-{
-    let [rank] = args else {
-        return None;
-    };
-    level_in(rank)
 }
 
 fn next_level(level: Level) -> Option<Level>
@@ -267,7 +241,7 @@ fn extensions(alloc: Global) -> Result<Vec<Extension<Ranks>>, AllocError>
     ensures { IfOk result (λ extensions. are_named (flat_map extension_functions extensions.items) ≡ true) }
 {
     let name = Name::of_identifier(alloc, "ranks")?;
-    let functions = vec![in alloc; unknown(alloc)?, rank(alloc)?, up(alloc)?, label(alloc)?]?;
+    let functions = vec![in alloc; unknown(alloc)?, rank(alloc)?, up(alloc)?]?;
     let ordered = vec![in alloc; Name::of_identifier(alloc, "rank")?]?;
     let extension = Extension::new(name, functions, ordered);
     Ok(vec![in alloc; extension]?)
@@ -297,14 +271,6 @@ fn up(alloc: Global) -> Result<ExtensionFunction<Ranks>, AllocError>
     let (style, arg) = (CallStyle::MethodStyle, of_ranks(alloc)?);
     let ty = of_ranks(alloc)?;
     ExtensionFunction::unary(alloc, name, style, Ranks::Up, ty, arg)
-}
-
-fn label(alloc: Global) -> Result<ExtensionFunction<Ranks>, AllocError>
-    ensures { IfOk result (λ function. is_named function ≡ true) }
-{
-    let name = Name::of_identifier(alloc, "label")?;
-    let (style, arg) = (CallStyle::FunctionStyle, of_ranks(alloc)?);
-    ExtensionFunction::unary(alloc, name, style, Ranks::Label, SchemaType::String, arg)
 }
 
 /// The type of ranks.

@@ -5,7 +5,6 @@
 
 mod annotations;
 mod conversion;
-mod errors;
 mod loose;
 mod nodes;
 mod strict;
@@ -40,7 +39,6 @@ fn answered(alloc: Global, section: &str, verb: &str, text: &str, held: &mut Hel
         "tokens" => tokens::answer(alloc, verb, text),
         "loose" => loose::read(alloc, verb, text, &mut held.told),
         "read" if verb == "expected" => loose::expected(alloc, &held.told),
-        "kinds" if verb == "told" => errors::expected(alloc, text),
         "number" => nodes::of_number(alloc, verb, text),
         "maybe" => nodes::of_maybe(alloc, verb, text),
         "names" => conversion::listed(alloc, verb, text, &mut held.styles),

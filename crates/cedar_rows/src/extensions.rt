@@ -7,13 +7,10 @@ ghost use Rattle.cedar_extensions.specs.Holding.{extension_functions, are_named}
 use crate::partial_values::told;
 use crate::trees::type_of;
 use crate::{Answer, append, no_case, refused, said, tell};
-use cedar_extensions::collecting::{CollectError, collect_no_duplicates};
 use cedar_extensions::evaluation_error::EvaluationError;
 use cedar_extensions::extension::Extension;
 use cedar_extensions::extensions::Extensions;
-use cedar_extensions::functions::{
-    CallStyle, ExtensionFunction, ExtensionOutputValue, SchemaType,
-};
+use cedar_extensions::functions::{CallStyle, ExtensionFunction, ExtensionOutputValue, SchemaType};
 use cedar_extensions::lookups::ExtensionFunctionLookupError;
 use cedar_extensions::table_errors::{
     ExtensionInitializationError, FuncMultiplyDefinedError, MultipleConstructorsSameSignatureError,
@@ -23,8 +20,7 @@ use cedar_names::names::Name;
 use cedar_names::reading::FromNormalizedStr;
 use cedar_restricted::partial_values::PartialValue;
 use cedar_values::values::Value;
-use std::alloc::{AllocError, Global};
-use std::collections::HashMap;
+use std::alloc::Global;
 
 /// An extension of this name, with the built-in `unknown` alone.
 fn with_unknown(alloc: Global, name: &str) -> Result<Extension, ParseNameError>
@@ -110,6 +106,7 @@ fn told_function(
 pub fn sought(alloc: Global, verb: &str, name: &str, table: &Extensions<'_>) -> Answer {
     match (verb, Name::from_normalized_str(alloc, name)) {
         ("ext_names", _) => joined(alloc, table.ext_names()),
+        ("shown", _) => format!(in alloc; "{table:?}"),
         ("func", Ok(name)) => told_function(alloc, table.func(alloc, &name)),
         (_, Err(error)) => error.to_string(alloc),
         _ => no_case(alloc),
@@ -124,10 +121,7 @@ fn unknown(alloc: Global, name: &str, ty: &str) -> Result<ExtensionFunction, Par
 }
 
 /// The value or the unknown that a function gave, or why it gave none.
-fn told_output(
-    alloc: Global,
-    output: Result<ExtensionOutputValue, EvaluationError>,
-) -> Answer {
+fn told_output(alloc: Global, output: Result<ExtensionOutputValue, EvaluationError>) -> Answer {
     match output {
         Ok(ExtensionOutputValue::Known(value)) => told(alloc, &PartialValue::from(value)),
         Ok(ExtensionOutputValue::Unknown(unknown)) => unknown.to_string(alloc),
@@ -175,23 +169,4 @@ pub fn refusal(alloc: Global, verb: &str, name: &str) -> Answer {
         ExtensionInitializationError::from(error)
     };
     error.to_string(alloc)
-}
-
-fn at_keys(alloc: Global, found: Result<HashMap<u8, u8>, CollectError<u8>>) -> Answer {
-    match found {
-        Ok(map) => tell(alloc, (map.get(&1).copied(), map.get(&2).copied())),
-        Err(error) => refused(alloc, error),
-    }
-}
-
-/// The numbers from 7 on at the keys, of which those at 1 and 2 are told.
-pub fn gathered(alloc: Global, keys: &str) -> Answer {
-    let mut pairs = Vec::new(alloc);
-    for (key, item) in keys.split(',').zip([7u8, 8, 9]) {
-        let Ok(key) = key.parse::<u8>() else {
-            return no_case(alloc);
-        };
-        pairs.push((key, item))?;
-    }
-    at_keys(alloc, collect_no_duplicates(alloc, pairs))
 }

@@ -5,10 +5,8 @@
 #![tactic(auto)]
 
 mod answers;
-mod bounded;
 mod builders;
 mod errors;
-mod evaluation;
 mod extensions;
 pub mod names;
 mod partial_values;
@@ -21,12 +19,9 @@ pub mod stack;
 mod steps;
 pub mod substitution;
 pub mod trees;
-mod validation;
 pub mod values;
 
-pub use answers::{
-    Answer, append, maybe, no_case, put, refused, said, show, spell, tell,
-};
-pub use registers::{count_of, has, has_each, hold, mapped, paired, push, taken};
+pub use answers::{Answer, append, maybe, no_case, put, refused, said, show, spell, tell};
+pub use registers::{count_of, has, has_each, mapped, paired, push, taken};
 pub use sections::{Held, answer, none};
 pub use steps::{Step, cut, index, number, plain, read};

@@ -1,7 +1,7 @@
 // Values that are written as expressions and read back, and partial values.
 use crate::stack::{is_place, place, told_place, top};
 use crate::trees::unknown;
-use crate::{Answer, no_case, push};
+use crate::{Answer, no_case, push, show};
 use cedar_names::conversions::FromIn;
 use cedar_names::errors::ParseNameError;
 use cedar_restricted::from_expr::{NotValue, TryFromExpr};
@@ -123,6 +123,11 @@ pub fn converted(
         "to_expr" => push(alloc, stack, partial.to_expr(alloc)),
         "from_in" => push(alloc, stack, Expr::from_in(alloc, partial)),
         "value" => push(alloc, values, Value::try_from(partial)),
+        "copied" => told(alloc, &partial.clone(alloc)?),
+        "why" => match Value::try_from(partial) {
+            Ok(value) => value.to_string(alloc),
+            Err(error) => show(alloc, error.clone(alloc)),
+        },
         _ => no_case(alloc),
     }
 }

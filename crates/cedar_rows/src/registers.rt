@@ -1,5 +1,5 @@
 // What is kept of what a step makes: one thing at a place, or many on a stack.
-use crate::answers::{Answer, refused, tell};
+use crate::answers::{Answer, refused};
 use crate::steps::index;
 use std::alloc::{AllocError, Global};
 use std::collections::BTreeMap;
@@ -20,22 +20,6 @@ pub fn push<T: Display + Drop, E: Display + Drop>(
 ) -> Answer {
     match found {
         Ok(value) => push_made(alloc, stack, value),
-        Err(error) => refused(alloc, error),
-    }
-}
-
-/// Puts what may be too long to be shown on the stack, and answers how many stand there; or answers why it
-/// was not made.
-pub fn hold<T: Drop, E: Display + Drop>(
-    alloc: Global,
-    stack: &mut Vec<T>,
-    found: Result<T, E>,
-) -> Answer {
-    match found {
-        Ok(value) => {
-            stack.push(value)?;
-            tell(alloc, stack.len())
-        }
         Err(error) => refused(alloc, error),
     }
 }

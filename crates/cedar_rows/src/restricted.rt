@@ -1,14 +1,16 @@
 // Restricted expressions on a stack of their own, and what is read of the one on its top.
 use crate::trees::unknown;
-use crate::values::{Stack, is_key, rank};
+use crate::values::{Stack, rank};
 use crate::{
-    Answer, count_of, has, has_each, maybe, no_case, number, paired, push, refused, said, taken,
+    Answer, count_of, has, has_each, maybe, no_case, number, paired, push, refused, said, show,
+    taken,
 };
 use cedar_names::conversions::FromIn;
 use cedar_names::errors::ParseNameError;
 use cedar_names::names::Name;
 use cedar_names::reading::FromNormalizedStr;
 use cedar_restricted::elements::RestrictedElements;
+use cedar_restricted::errors::RestrictedExpressionError;
 use cedar_restricted::partial_values::PartialValue;
 use cedar_restricted::restricted::RestrictedExpr;
 use cedar_restricted::shapes::RestrictedExprShapeOnly;
@@ -44,13 +46,7 @@ fn of_unknown(unknown: Result<Unknown, ParseNameError>) -> Result<RestrictedExpr
 }
 
 /// A construct of those on top: as many as the word says, or as it has keys; or an unknown of this name.
-pub fn joined(
-    alloc: Global,
-    verb: &str,
-    word: &str,
-    name: &str,
-    stack: &mut Restricted,
-) -> Answer {
+pub fn joined(alloc: Global, verb: &str, word: &str, name: &str, stack: &mut Restricted) -> Answer {
     match verb {
         "unknown" => put(alloc, stack, of_unknown(unknown(alloc, word, ""))),
         "set" if has(word, stack) => {
@@ -107,9 +103,6 @@ fn of_rank(
 }
 
 pub fn ranked(alloc: Global, text: &str, key: &str, func: &str, stack: &mut Restricted) -> Answer {
-    if !is_key(key) {
-        return no_case(alloc);
-    }
     put(alloc, stack, of_rank(alloc, rank(alloc, key, func, text)))
 }
 
@@ -141,7 +134,19 @@ pub fn of_exprs(
             Some(expr) => put(alloc, stack, RestrictedExpr::new(alloc, expr)),
             None => no_case(alloc),
         },
+        "why" => match exprs.pop() {
+            Some(expr) => why(alloc, RestrictedExpr::new(alloc, expr)),
+            None => no_case(alloc),
+        },
         _ => no_case(alloc),
+    }
+}
+
+/// A copy of the error of what is no restricted expression.
+fn why(alloc: Global, made: Result<RestrictedExpr, RestrictedExpressionError>) -> Answer {
+    match made {
+        Ok(made) => made.to_string(alloc),
+        Err(error) => show(alloc, error.clone(alloc)),
     }
 }
 

@@ -1,14 +1,13 @@
 // Which section knows a step of the layer of expressions, and what steps leave to later ones.
 use crate::restricted::Restricted;
-use crate::stack::is_place;
+use crate::stack::{is_place, place};
 use crate::values::Stack;
 use crate::{
-    Answer, Step, bounded, builders, cut, errors, evaluation, extensions, names, no_case,
-    partial_values, raw_names, read, restricted, shapes, substitution, trees, validation, values,
+    Answer, Step, builders, cut, errors, extensions, names, partial_values, raw_names, read,
+    restricted, shapes, substitution, trees, values,
 };
 use cedar_builders::expr_builder::ExprBuilder as _;
 use cedar_builders::own_builder::ExprBuilder;
-use cedar_extensions::evaluation_error::EvaluationError;
 use cedar_extensions::extensions::Extensions;
 use cedar_restricted::partial_values::PartialValue;
 use cedar_trees::expr::Expr;
@@ -23,7 +22,6 @@ pub struct Held {
     values: Stack,
     restricted: Restricted,
     partials: Vec<PartialValue>,
-    errors: Vec<EvaluationError>,
     told_exprs: BTreeMap<RcStr, Expr>,
     told_values: BTreeMap<RcStr, Value>,
     builder: ExprBuilder,
@@ -37,7 +35,6 @@ impl Drop for Held {
             values: _,
             restricted: _,
             partials: _,
-            errors: _,
             told_exprs: _,
             told_values: _,
             builder: _,
@@ -53,7 +50,6 @@ pub fn none(alloc: Global) -> Held {
         values: Vec::new(alloc),
         restricted: Vec::new(alloc),
         partials: Vec::new(alloc),
-        errors: Vec::new(alloc),
         told_exprs: BTreeMap::new(alloc),
         told_values: BTreeMap::new(alloc),
         builder: ExprBuilder::new(alloc),
@@ -73,10 +69,8 @@ fn named(alloc: Global, section: &str, step: &Step<'_>, held: &mut Held) -> Answ
         "raw" => raw_names::answer(alloc, verb, one),
         "uids" => names::uids(alloc, verb, one),
         "types" => names::types(alloc, verb, one, other),
-        "key" => trees::key(alloc, verb),
-        "data" => trees::data(alloc, verb, one),
         "twice" => extensions::refusal(alloc, verb, one),
-        "gather" => extensions::gathered(alloc, verb),
+        "error" if is_place(other) => errors::answer(alloc, verb, one, place(alloc, other)?),
         _ => of_trees(alloc, section, step, held),
     }
 }
@@ -86,7 +80,6 @@ fn of_trees(alloc: Global, section: &str, step: &Step<'_>, held: &mut Held) -> A
     let (verb, one, other) = (step.verb, step.one.as_str(), step.other.as_str());
     let stack = &mut held.stack;
     match section {
-        "chain" => shapes::chain(alloc, verb, one, stack),
         "shapes" if verb == "only_eq" => shapes::compared(alloc, stack),
         "walk" => shapes::walked(alloc, verb, stack, &held.table),
         "build" => builders::answer(alloc, verb, one, &mut held.builder, stack),
@@ -94,16 +87,8 @@ fn of_trees(alloc: Global, section: &str, step: &Step<'_>, held: &mut Held) -> A
         "rebuild" => substitution::rebuilt(alloc, verb, stack, &held.told_exprs),
         "substitute" => substitution::substituted(alloc, verb, stack, &held.told_values),
         "stand" => substitution::one(alloc, verb, one, other, stack, &held.told_values),
-        "failed" if is_place(other) => errors::called(alloc, verb, one, other, &mut held.errors),
-        "left" if is_place(other) => {
-            errors::left(alloc, verb, one, other, stack, &mut held.errors)
-        }
-        "error" => errors::asked(alloc, verb, one, &mut held.errors),
         "take" => extensions::taken(alloc, verb, one, other, &mut held.table),
         "table" => extensions::sought(alloc, verb, one, &held.table),
-        "evaluate" => evaluation::answer(alloc, verb, stack, &held.table),
-        "validate" => validation::answer(alloc, stack, &held.table),
-        "bounded" => bounded::shown(alloc, verb, one, stack, &held.partials),
         _ => of_values(alloc, section, step, held),
     }
 }
@@ -147,7 +132,6 @@ fn clear(held: &mut Held) {
     held.values.clear();
     held.restricted.clear();
     held.partials.clear();
-    held.errors.clear();
 }
 
 /// What the last step of a line answers. Refused for memory alone.

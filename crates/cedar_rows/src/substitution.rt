@@ -3,9 +3,7 @@ use crate::stack::top;
 use crate::trees::unknown;
 use crate::{Answer, no_case, push, tell};
 use cedar_builders::own_builder::ExprBuilder;
-use cedar_substitution::functions::{
-    SubstitutionFunction, TypedSubstitution, UntypedSubstitution,
-};
+use cedar_substitution::functions::{SubstitutionFunction, TypedSubstitution, UntypedSubstitution};
 use cedar_substitution::into_expr::IntoExpr;
 use cedar_substitution::substitution::SubstituteExprs;
 use cedar_substitution::told_values::Substitute;

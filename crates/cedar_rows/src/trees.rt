@@ -1,7 +1,7 @@
 // Expressions by their constructors, and what they say of themselves.
 use crate::stack::{is_place, place, told_place, top};
 use crate::{
-    Answer, Step, count_of, has, has_each, mapped, no_case, number, paired, push, said, taken, tell,
+    Answer, Step, count_of, has, has_each, mapped, no_case, number, paired, push, said, taken,
 };
 use cedar_literals::literals::Literal;
 use cedar_literals::operators::{BinaryOp, UnaryOp};
@@ -14,8 +14,8 @@ use cedar_names::conversions::FromIn;
 use cedar_names::errors::ParseNameError;
 use cedar_names::names::Name;
 use cedar_names::reading::FromNormalizedStr;
-use cedar_trees::errors::{DuplicateKeyError, ExpressionConstructionError};
-use cedar_trees::expr::{Expr, ExprKind};
+use cedar_trees::errors::ExpressionConstructionError;
+use cedar_trees::expr::Expr;
 use cedar_trees::unknowns::{NonEmpty, Unknown};
 use std::alloc::{AllocError, Global};
 use std::rc::{Rc, RcStr};
@@ -303,12 +303,6 @@ fn record(alloc: Global, verb: &str, keys: &str, stack: &mut Vec<Expr>) -> Answe
     }
 }
 
-/// How a refusal of this key is told in another context.
-pub fn key(alloc: Global, key: &str) -> Answer {
-    let error = DuplicateKeyError::new(RcStr::from_str(alloc, key)?, "in record literal");
-    error.with_context("in context").to_string(alloc)
-}
-
 fn moved(alloc: Global, word: &str, stack: &mut Vec<Expr>) -> Answer {
     let place = place(alloc, word)?;
     let expr = top(stack);
@@ -333,39 +327,6 @@ fn asked(alloc: Global, verb: &str, word: &str, stack: &mut Vec<Expr>) -> Answer
             let copy = expr.clone(alloc);
             push(alloc, stack, copy)
         }
-        _ => no_case(alloc),
-    }
-}
-
-/// The literal 1 with data.
-fn numbered(data: u8) -> Expr<u8> {
-    Expr {
-        expr_kind: ExprKind::Lit(Literal::Long(1)),
-        source_loc: None,
-        data,
-    }
-}
-
-fn kind_of(alloc: Global, expr_kind: ExprKind<u8>) -> Answer {
-    let expr = Expr {
-        expr_kind,
-        source_loc: None,
-        data: 0u8,
-    };
-    expr.to_string(alloc)
-}
-
-/// Of a literal whose data was 7 and is the word's number now.
-pub fn data(alloc: Global, verb: &str, word: &str) -> Answer {
-    let Ok(data) = word.parse::<u8>() else {
-        return no_case(alloc);
-    };
-    let mut expr = numbered(7);
-    expr.set_data(data);
-    match verb {
-        "data" => tell(alloc, *expr.data()),
-        "into_data" => tell(alloc, expr.into_data()),
-        "into_expr_kind" => kind_of(alloc, expr.into_expr_kind()),
         _ => no_case(alloc),
     }
 }

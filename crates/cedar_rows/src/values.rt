@@ -3,8 +3,8 @@ use crate::names::loc;
 use crate::stack::told_place;
 use crate::trees::{is_literal, literal};
 use crate::{
-    Answer, count_of, has, has_each, index, mapped, no_case, number, paired, push, put, said,
-    show, taken, tell,
+    Answer, count_of, has, has_each, index, mapped, no_case, number, paired, push, put, said, show,
+    taken, tell,
 };
 use cedar_literals::bounded_display::BoundedToString;
 use cedar_literals::literals::Literal;
@@ -50,12 +50,7 @@ fn setted(set: Result<Set, AllocError>) -> Result<Value, AllocError> {
     Ok(Value::new(ValueKind::Set(set?), None))
 }
 
-/// Whether a rank has such a key: a number below 256.
-pub fn is_key(word: &str) -> bool {
-    word.parse::<u8>().is_ok()
-}
-
-/// The value of the type `rank` with this key.
+/// The value of the type `rank` with this key, or with 0.
 fn keyed(alloc: Global, key: &str) -> Result<ExtensionValue, ParseNameError> {
     let key = Vec::from_array(alloc, [key.parse::<u8>().unwrap_or(0)])?;
     let typename = Name::parse_unqualified_name(alloc, "rank")?;
@@ -85,9 +80,6 @@ fn extended(
 
 /// Puts the rank with this key on the stack, made by a call of `func`.
 pub fn ranked(alloc: Global, text: &str, key: &str, func: &str, stack: &mut Stack) -> Answer {
-    if !is_key(key) {
-        return no_case(alloc);
-    }
     push(alloc, stack, extended(alloc, rank(alloc, key, func, text)))
 }
 
