@@ -19,14 +19,15 @@ HERE = os.path.dirname(os.path.realpath(__file__))
 ARCHIVE = "crates/cedar_c/out/libcedar_c.a"
 COUNTED, TIMED = 1_000, 100_000
 PYTHON = """
-import sys, time
-import cedar
+import sys
+import cedar_session as cedar
+from cedar_session import Entity
+staff, alice, view, photo = Entity("Group", "staff"), Entity("User", "alice"), Entity("Action", "view"), Entity("Photo", "1")
 with cedar.Session() as session:
-    session.put('[{uid: User::"alice", parents: [Group::"staff"]}]')
+    session.put([Entity("User", "alice", parents=[staff])])
     session.load('permit(principal in Group::"staff", action, resource) when { context.hour < 18 };')
-    question = '{principal: User::"alice", action: Action::"view", resource: Photo::"1", context: {hour: 9}}'
     for _ in range(int(sys.argv[1])):
-        answer = session.ask(question)
+        answer = session.ask(principal=alice, action=view, resource=photo, context={"hour": 9})
 assert answer.must == ("policy0",)
 """
 

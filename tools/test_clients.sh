@@ -3,8 +3,10 @@
 # shows, on crates/cedar_c/out/libcedar_c.a (tools/archive.py makes it) and the program, or on those that are given.
 #
 # Through a handle all sessions of crates/cedar_main/cases are answered as by the program, also with requests for memory refused, under valgrind
-# without a bad access or a leak. Threads with the stacks of docs/C.md hold the deepest texts; copies by the log of a Redis server answer alike.
-# Says what it left out for want of cc, python3, rustc, valgrind or redis-server, and ends with status 1 where anything fails.
+# without a bad access or a leak. Threads with the stacks of docs/C.md hold the deepest texts. The client in Python reads back random values, and
+# is installed without a network; copies answer alike over a PostgreSQL server on loopback that is cut off, ended, killed and restored, and tests
+# see each fault that is planted into them.
+# Says what it left out for want of cc, python3, cargo, valgrind, mypy or PostgreSQL, and ends with status 1 where anything fails.
 set -u
 archive=$(realpath "${1:-crates/cedar_c/out/libcedar_c.a}")
 program=$(realpath "${2:-crates/cedar_main/out/cedar_main}")
@@ -100,17 +102,56 @@ under_valgrind() {
     serves valgrind -q --leak-check=full --show-leak-kinds=all --error-exitcode=99 --main-stacksize=33554432
 }
 
+# One with psycopg, where there is one.
+python=python3
+for it in python3 /usr/bin/python3; do
+    if "$it" -c 'import psycopg' 2> /dev/null; then
+        python=$it
+        break
+    fi
+done
+
 python_tests() {
-    (cd clients/python && PATH="$room/bin:$PATH" CEDAR_LIBRARY="$room/libcedar.so" python3 -B -m unittest -q "tests.$1")
+    (cd clients/python && PATH="$room/bin:$PATH" CEDAR_LIBRARY="$room/libcedar.so" "$python" -B -m unittest -q $(printf 'tests.%s ' "$@"))
+}
+
+# Without a network, and nothing is left in the sources; with the shared object inside nothing has to name it.
+is_installed() {
+    local before
+    before=$(git status --short --ignored clients)
+    "$python" -m pip --disable-pip-version-check wheel -q --no-index --config-settings "library=$room/libcedar.so" -w "$room/wheels" clients/python || return 1
+    "$python" -m pip --disable-pip-version-check install -q --no-index --target "$room/site" "$room"/wheels/*.whl || return 1
+    (cd "$room" && PYTHONPATH="$room/site" "$python" -B -c 'import cedar_session; print(cedar_session.Session().load("permit(principal, action, resource);"))') || return 1
+    [ "$before" = "$(git status --short --ignored clients)" ]
+}
+
+types() {
+    (cd clients/python && mypy --strict --cache-dir "$room/mypy" cedar_session wheels.py)
+}
+
+has_postgres() {
+    (cd clients/python && "$python" -B -c 'import psycopg, tests.postgres as it; raise SystemExit(not it.tools())') 2> /dev/null && return
+    echo 'left out, for want of PostgreSQL, or of psycopg 3: copies'
+    return 1
+}
+
+# Side by side, each part with a server of its own.
+copies() {
+    local part at=0 status=0 running=()
+    for part in 'test_copies.Copies test_pages.Copied' test_copies.Cut 'test_copies.Many test_copies.Keys' \
+        'test_copies.Faults test_copies.Snapshots test_copies.Restarts'; do
+        # shellcheck disable=SC2086
+        python_tests $part > "$room/part.$at" 2>&1 &
+        running+=($!) at=$((at + 1))
+    done
+    for part in "${running[@]}"; do wait "$part" || status=1; done
+    cat "$room"/part.*
+    return $status
 }
 
 rust_tests() {
-    local archives
-    archives=$(for it in "$archive" "$kit"/c/lib*_c.a; do printf ' -C link-arg=%s' "$it"; done)
-    rustc --edition 2024 --crate-type rlib --crate-name cedar -O -D warnings -o "$room/libcedar.rlib" clients/rust/cedar.rs || return 1
-    # shellcheck disable=SC2086
-    rustc --edition 2024 --test -O --extern cedar="$room/libcedar.rlib" $archives -o "$room/tests" clients/rust/tests.rs || return 1
-    RUST_MIN_STACK=8388608 "$room/tests" -q
+    CEDAR_ARCHIVES="$archive $(echo "$kit"/c/lib*_c.a)" RUSTFLAGS='-D warnings' \
+        cargo test -q --offline --manifest-path clients/rust/Cargo.toml --target-dir "$room/target"
 }
 
 [ -f "$archive" ] || { echo "$archive isn't there: python3 tools/archive.py makes it" && exit 1; }
@@ -127,18 +168,28 @@ if has cc 'the examples in C, and all that needs the shared object'; then
     if has python3 'the sessions by a handle, and the client in Python'; then
         try 'sessions by a handle' python3 tools/cases.py --program "$room/frames"
         try 'sessions by a handle, with requests for memory refused' python3 tools/refuse_growths.py --program "$room/frames" --seconds "${SECONDS_OF_REFUSING:-30}"
-        try 'the client in Python' python_tests test_cedar
-        try 'snapshots of copies' python_tests test_replica.Snapshots
-        if [ -x "$program" ]; then
-            try 'what docs/CLIENTS.md shows: the program as a child, and a session for each connection' python_tests test_pages
-            has redis-server 'copies by one log' && try 'copies by one log' python_tests test_replica.Copies
-            has socat 'a session for each connection, by socat' && try 'a session for each connection, by socat' python_tests test_pages.Socat
+        try 'values in Python are read back' python_tests test_values
+        try 'what copies hold' python_tests test_held
+        if "$python" -m pip --version > /dev/null 2>&1; then
+            try 'the client in Python is installed' is_installed
         else
-            echo "left out, for want of $program: the program as a child, a session for each connection, copies by one log"
+            echo 'left out, for want of pip: the client in Python is installed'
+        fi
+        has mypy 'types of the client in Python' && try 'types of the client in Python' types
+        if [ -x "$program" ]; then
+            try 'the client in Python' python_tests test_cedar
+            try 'what docs/CLIENTS.md shows' python_tests test_pages.First test_pages.Child test_pages.Connections test_pages.Service && grep µs "$room/said"
+            has socat 'a session for each connection, by socat' && try 'a session for each connection, by socat' python_tests test_pages.Socat
+            if has_postgres; then
+                try 'copies over PostgreSQL' copies && grep 'edits and' "$room/said"
+                try 'faults that are planted into copies are seen' python_tests test_planted
+            fi
+        else
+            echo "left out, for want of $program: the program as a child, a session for each connection, copies"
         fi
     fi
     has valgrind 'bad accesses and leaks' && try 'sessions by a handle under valgrind' under_valgrind
-    has rustc 'the client in Rust' && try 'the client in Rust' rust_tests
+    has cargo 'the client in Rust' && try 'the client in Rust' rust_tests
 fi
 echo "$passed passed, $failed failed"
 [ $failed -eq 0 ]

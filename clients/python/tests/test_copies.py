@@ -903,7 +903,7 @@ class Cut(WithLog):
         self.assertLess(time.monotonic() - began, 20)
 
 
-class Server_(WithLog):
+class Restarts(WithLog):
     """The database ends, and is what it was, or what it was once."""
 
     def test_it_ends_between_any_two_commands(self):

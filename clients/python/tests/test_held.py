@@ -103,6 +103,23 @@ class Snapshots(unittest.TestCase):
             held.record(verb, body, lines[at - 1])
             self.goes_on(held, commands[at:], lines[at:])
 
+    def test_what_is_added_again_stays(self):
+        commands = [
+            ("put", '[{uid: U::"a", parents: [U::"b"]}, {uid: U::"b", parents: [U::"c"]}]'),
+            ("add", '[{uid: U::"a", parents: [U::"b", U::"c"]}]'),
+            ("load", 'permit(principal in U::"c", action, resource);'),
+            ("ask", '{principal: U::"a"}'),
+            ("remove", '[U::"b"]'),
+            ("ask", '{principal: U::"a"}'),
+        ]
+        _, lines = given(commands)
+        self.assertEqual([it for it in lines if it.startswith("refused")], [])
+        self.assertNotEqual(lines[3], lines[5])
+        held = Held()
+        for at, (verb, body) in enumerate(commands, 1):
+            held.record(verb, body, lines[at - 1])
+            self.goes_on(held, commands[at:], lines[at:])
+
     def test_more_policies_than_one_text_has(self):
         pad = "x" * 8_000
         texts = [f'permit(principal == User::"{at}", action, resource) when {{ context.s != "{pad}" }};' for at in range(200)]

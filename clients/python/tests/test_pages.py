@@ -3,85 +3,88 @@
 import os
 import re
 import shutil
+import signal
 import socket
 import subprocess
+import sys
+import tempfile
 import threading
 import time
 import unittest
 
-import cedar
+import cedar_session as cedar
+from cedar_session import UNKNOWN, Entity
 
-from tests.test_cedar import Answers
+from tests.test_cedar import ANY, Answers, ask
 
 PAGE = os.path.join(os.path.dirname(os.path.abspath(__file__)), "../../../docs/CLIENTS.md")
 ASKS = 2000
 
 
-def shown():
-    """What each block of the page defines."""
+def blocks():
+    """The blocks of the page in Python."""
     with open(PAGE, encoding="utf-8") as it:
-        blocks = re.findall(r"(?ms)^```python\n(.*?)^```", it.read())
-    for block in blocks:
-        names = {"__name__": "shown"}
-        exec(block, names)
-        yield names
+        return re.findall(r"(?ms)^```python\n(.*?)^```", it.read())
 
 
-FIRST, CHILD, ACCEPTOR, COPY = shown()
+def shown(nth):
+    """What a block of the page defines."""
+    names = {"__name__": "shown"}
+    exec(blocks()[nth], names)
+    return names
 
 
 class First(unittest.TestCase):
     def test_decisions(self):
-        self.assertEqual(FIRST["answer"].decision, cedar.Decision.ALLOW)
-        self.assertEqual(FIRST["told"].decision, cedar.Decision.DENY)
-        self.assertEqual(FIRST["why"], "Text")
+        names = shown(0)
+        self.assertEqual(names["answer"].decision, cedar.Decision.ALLOW)
+        self.assertEqual(names["told"].decision, cedar.Decision.DENY)
+        self.assertEqual(names["why"], "Text")
+
+    def test_what_the_page_warns_of(self):
+        """Bodies by hand: the names that it tells ask another question."""
+        with open(PAGE, encoding="utf-8") as it:
+            written, root, admin = re.search(r"so `f'(.*?)'` lets.*?with `(.*?)` he is root, with `(.*?)` he is admin", it.read()).groups()
+        with cedar.Session() as session:
+            session.load('permit(principal == User::"root", action, resource); permit(principal, action, resource) when { context.admin };')
+            for name in (root, admin):
+                self.assertTrue(session.command("ask", written.format(name=name)).startswith("allow"), name)
+                answer = session.ask(principal=Entity("User", name), action=UNKNOWN, resource=UNKNOWN, context={"admin": False})
+                self.assertEqual(answer.decision, cedar.Decision.DENY)
 
 
-class Child(Answers, unittest.TestCase):
-    def opened(self):
-        return CHILD["Child"]()
+def timed(test):
+    """What an ask takes, there and back."""
+    test.session.load("permit(principal, action, resource) when { context.hour < 18 };")
+    began = time.perf_counter()
+    for _ in range(ASKS):
+        ask(test.session, context={"hour": 9})
+    print(f"{type(test).__name__}: {(time.perf_counter() - began) / ASKS * 1e6:.1f} µs an ask")
 
+
+class Child(unittest.TestCase):
     def test_time(self):
-        self.session.load("permit(principal, action, resource) when { context.hour < 18 };")
-        began = time.perf_counter()
-        for _ in range(ASKS):
-            self.session.ask("{context: {hour: 9}}")
-        print(f"{type(self).__name__}: {(time.perf_counter() - began) / ASKS * 1e6:.1f} µs an ask")
-
-
-class Connection(cedar.Commands):
-    def __init__(self, address):
-        self.socket = socket.create_connection(address)
-        self.socket.setsockopt(socket.IPPROTO_TCP, socket.TCP_NODELAY, 1)
-        self.lines = self.socket.makefile("rb")
-
-    def line(self, verb, body):
-        body = body.encode()
-        self.socket.sendall(b"%s %d\n%s\n" % (verb.encode(), len(body), body))
-        return self.lines.readline().decode()[:-1]
-
-    def close(self):
-        self.lines.close()
-        self.socket.close()
+        with cedar.Child() as self.session:
+            timed(self)
 
 
 class Connections(Answers, unittest.TestCase):
     @classmethod
     def setUpClass(cls):
         cls.listener = socket.create_server(("127.0.0.1", 0))
-        threading.Thread(target=ACCEPTOR["serve"], args=(cls.listener,), daemon=True).start()
+        threading.Thread(target=shown(1)["serve"], args=(cls.listener,), daemon=True).start()
 
     def opened(self):
-        return Connection(self.listener.getsockname())
+        return cedar.Connection(self.listener.getsockname())
 
     def test_each_has_its_own(self):
-        self.session.load("permit(principal, action, resource);")
-        other = self.opened()
-        self.assertEqual(other.ask("{}").decision, cedar.Decision.DENY)
-        other.close()
-        self.assertEqual(self.session.ask("{}").decision, cedar.Decision.ALLOW)
+        self.session.load(ANY)
+        with self.opened() as other:
+            self.assertEqual(ask(other).decision, cedar.Decision.DENY)
+        self.assertEqual(ask(self.session).decision, cedar.Decision.ALLOW)
 
-    test_time = Child.test_time
+    def test_time(self):
+        timed(self)
 
 
 @unittest.skipUnless(shutil.which("socat"), "no socat is found")
@@ -102,10 +105,81 @@ class Socat(Connections):
     def opened(self):
         for _ in range(100):
             try:
-                return Connection(self.address)
+                return cedar.Connection(self.address)
+            except cedar.NotOpen:
+                time.sleep(0.05)
+        return cedar.Connection(self.address)
+
+
+class Service(unittest.TestCase):
+    """The block as a program of its own."""
+
+    def started(self, **more):
+        with socket.create_server(("127.0.0.1", 0)) as it:
+            address = it.getsockname()
+        page = tempfile.NamedTemporaryFile("w", suffix=".py")
+        self.addCleanup(page.close)
+        page.write(blocks()[1])
+        page.flush()
+        service = subprocess.Popen([sys.executable, "-B", page.name, str(address[1])], stderr=subprocess.DEVNULL, **more)
+        self.addCleanup(service.wait)
+        self.addCleanup(service.kill)
+        for _ in range(200):
+            try:
+                socket.create_connection(address).close()
+                return service, address
             except ConnectionRefusedError:
                 time.sleep(0.05)
-        return Connection(self.address)
+        raise TimeoutError
+
+    def children(self, service):
+        with open(f"/proc/{service.pid}/task/{service.pid}/children", encoding="utf-8") as it:
+            return it.read().split()
+
+    def test_closed_connections_leave_nothing(self):
+        service, address = self.started()
+        for _ in range(20):
+            with cedar.Connection(address) as session:
+                session.load(ANY)
+        for _ in range(200):
+            if not self.children(service):
+                return
+            time.sleep(0.05)
+        self.fail(self.children(service))
+
+    def test_a_program_that_is_missing_ends_a_connection_alone(self):
+        service, address = self.started(env={**os.environ, "PATH": "/nonexistent"})
+        for _ in range(3):
+            with self.assertRaises(cedar.Ended):
+                cedar.Connection(address).load(ANY)
+        self.assertIsNone(service.poll())
+        service.send_signal(signal.SIGTERM)
+
+
+class Copied(unittest.TestCase):
+    """The block on copies: run where psycopg and a PostgreSQL server are found."""
+
+    def test_the_page(self):
+        from cedar_session import copies
+
+        from tests.postgres import Server
+
+        server = Server()
+        self.addCleanup(server.remove)
+        log = copies.Log(server.database(), "policies")
+        self.addCleanup(log.close)
+        log.create()
+        names = shown(2)
+        with names["begun"](server.database()) as copy, names["begun"](server.database()) as other:
+            [policy] = copy.load(ANY)
+            with self.assertRaises(copies.Moved):
+                names["replaced"](other, policy, ANY)
+            other.follow()
+            names["replaced"](other, policy, "forbid(principal, action, resource);")
+            copy.follow()
+            self.assertEqual((ask(copy).decision, copy.position), (cedar.Decision.DENY, 3))
+            copy.log.keep(copy.snapshot())
+            self.assertEqual(log.snapshot(), copy.snapshot())
 
 
 if __name__ == "__main__":
