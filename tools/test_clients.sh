@@ -112,7 +112,7 @@ for it in python3 /usr/bin/python3; do
 done
 
 python_tests() {
-    (cd clients/python && PATH="$room/bin:$PATH" CEDAR_LIBRARY="$room/libcedar.so" "$python" -B -m unittest -q $(printf 'tests.%s ' "$@"))
+    (cd clients/python && PATH="$room/bin:$PATH" CEDAR_LIBRARY="$room/libcedar.so" "$python" -B -m unittest -q "${@/#/tests.}")
 }
 
 # Without a network, and nothing is left in the sources; with the shared object inside nothing has to name it.

@@ -10,7 +10,9 @@ import tempfile
 
 
 def tools():
-    """Where PostgreSQL's programs are, or None."""
+    """Where PostgreSQL's programs are, or None, also where no account may run them."""
+    if os.getuid() == 0 and "postgres" not in (it.pw_name for it in pwd.getpwall()):
+        return None
     found = sorted(glob.glob("/usr/lib/postgresql/*/bin/initdb"), key=lambda it: int(it.split("/")[4]))
     path = found[-1] if found else shutil.which("initdb")
     return path and os.path.dirname(path)
