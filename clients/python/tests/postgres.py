@@ -66,6 +66,7 @@ class Server:
     def _run(self, tool, *words):
         path = tool if tool == "cp" else os.path.join(tools(), tool)
         given = {"user": self.account, "group": pwd.getpwnam(self.account).pw_gid, "extra_groups": []} if os.getuid() == 0 else {}
-        ran = subprocess.run([path, *words], cwd=self.room, stdin=subprocess.DEVNULL, stdout=subprocess.PIPE, stderr=subprocess.STDOUT, text=True, timeout=120, **given)
+        given |= {"cwd": self.room, "stdin": subprocess.DEVNULL, "stdout": subprocess.PIPE, "stderr": subprocess.STDOUT}
+        ran = subprocess.run([path, *words], text=True, timeout=120, **given)
         if ran.returncode:
             raise RuntimeError(f"{tool}: {ran.stdout}")
