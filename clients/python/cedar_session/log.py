@@ -154,8 +154,8 @@ def _ready(descriptor: int, wanted: int, seconds: float) -> int:
 
 
 class Log:
-    """The log `name` of the database that a connection string of PostgreSQL names. Where the connection breaks off it is opened
-    again; an edit that was under way then isn't done twice, by its key."""
+    """The log `name` of the database that a connection string of PostgreSQL names, for one copy. Where the connection breaks off it
+    is opened again; an edit that was under way then isn't done twice, by its key."""
 
     def __init__(self, database: str, name: str, seconds: float = 30):
         self.database, self.name, self.seconds = database, name, seconds

@@ -22,10 +22,10 @@ class Entity:
     attrs: Mapping[str, "Value"] = field(default_factory=dict, compare=False)
     parents: Collection["Entity"] = field(default=(), compare=False)
     tags: Mapping[str, "Value"] = field(default_factory=dict, compare=False)
+    _name: str = field(default="", init=False, repr=False, compare=False)
 
     def __post_init__(self) -> None:
-        _path(self.type)
-        quoted(self.id)
+        object.__setattr__(self, "_name", f"{_path(self.type)}::{quoted(self.id)}")
 
 
 @dataclass(frozen=True)
@@ -64,7 +64,7 @@ def name_of(entity: Entity) -> str:
     """The expression of an entity's name."""
     if not isinstance(entity, Entity):
         raise NoValue(f"a {type(entity).__name__} is no entity")
-    return f"{entity.type}::{quoted(entity.id)}"
+    return entity._name
 
 
 def names_of(entities: Iterable[Entity]) -> str:

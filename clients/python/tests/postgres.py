@@ -10,7 +10,9 @@ import tempfile
 
 
 def tools():
-    """Where PostgreSQL's programs are, or None."""
+    """Where PostgreSQL's programs are, or None, also where no account may run them."""
+    if os.getuid() == 0 and "postgres" not in (it.pw_name for it in pwd.getpwall()):
+        return None
     found = sorted(glob.glob("/usr/lib/postgresql/*/bin/initdb"), key=lambda it: int(it.split("/")[4]))
     path = found[-1] if found else shutil.which("initdb")
     return path and os.path.dirname(path)
@@ -64,6 +66,7 @@ class Server:
     def _run(self, tool, *words):
         path = tool if tool == "cp" else os.path.join(tools(), tool)
         given = {"user": self.account, "group": pwd.getpwnam(self.account).pw_gid, "extra_groups": []} if os.getuid() == 0 else {}
-        ran = subprocess.run([path, *words], cwd=self.room, stdin=subprocess.DEVNULL, stdout=subprocess.PIPE, stderr=subprocess.STDOUT, text=True, timeout=120, **given)
+        given |= {"cwd": self.room, "stdin": subprocess.DEVNULL, "stdout": subprocess.PIPE, "stderr": subprocess.STDOUT}
+        ran = subprocess.run([path, *words], text=True, timeout=120, **given)
         if ran.returncode:
             raise RuntimeError(f"{tool}: {ran.stdout}")

@@ -10,7 +10,8 @@ import unittest
 from concurrent.futures import ThreadPoolExecutor
 
 HERE = os.path.dirname(os.path.abspath(__file__))
-COPIES, KEYS, FAULTS, SNAPSHOTS = (f"tests.test_copies.{it}" for it in ("Copies", "Keys", "Faults", "Snapshots"))
+COPIES, KEYS, FAULTS, SNAPSHOTS = "tests.test_copies.Copies", "tests.test_copies.Keys", "tests.test_logs.Faults", "tests.test_logs.Snapshots"
+THREADS, NUMBERS = "that began it\")\n        self.session._check()", "range(count) if number not in numbered"
 # The file, what stands there, what is put in its place, and the tests that see it.
 PLANTED = (
     ("log", "return self.hash == chained(", "return True or self.hash == chained(", f"{FAULTS}.test_rows_that_were_changed"),
@@ -24,12 +25,12 @@ PLANTED = (
     ("copies", 'self._why = f"the edit at {edit.position} was broken off"', "pass", f"{COPIES}.test_an_exception_in_an_edit_stops_the_copy"),
     ("copies", "self._fresh = since", "self._fresh = since + 1000", f"{COPIES}.test_a_question_asks_for_a_position_or_an_age"),
     ("copies", 'if line == "refused Memory":\n            self._why', "if False:\n            self._why", f"{COPIES}.test_a_copy_without_memory_goes_on_later"),
-    ("copies", "the copy stays in the process that began it\")\n        self.session._check()", "\")", f"{COPIES}.test_a_copy_of_another_thread_changes_nothing"),
+    ("copies", THREADS, "\")", f"{COPIES}.test_a_copy_of_another_thread_changes_nothing"),
     ("copies", "if self.held.frames() != snapshot.frames:", "if False:", f"{SNAPSHOTS}.test_wrong_snapshots_are_none"),
     ("held", 'if not line.startswith("ok"):', "if False:", f"{COPIES}.test_refused_edits_leave_each_as_it_was"),
     ("held", "self.entities.setdefault(uid, entity)", "self.entities[uid] = entity", "tests.test_held.Snapshots.test_what_is_added_again_stays"),
     ("held", "it if uids.isdisjoint(it.parents) else it.without(uids)", "it", "tests.test_held.Snapshots.test_texts_of_any_form"),
-    ("held", "yield from (_removal(number) for number in range(count) if number not in numbered)", "pass", f"{SNAPSHOTS}.test_snapshots_stand_for_what_is_gone"),
+    ("held", NUMBERS, "()", f"{SNAPSHOTS}.test_snapshots_stand_for_what_is_gone"),
 )
 
 

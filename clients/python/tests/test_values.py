@@ -96,7 +96,8 @@ class Values(unittest.TestCase):
             for way in (self.in_the_context, self.in_attributes, self.told)[: 3 if at % (10 * PORTION) == 0 else 1]:
                 answer = way(given, compared)
                 if set(answer.must) != wanted or answer.erring:
-                    self.fail([(number, given[number], compared[number]) for number in range(PORTION) if (f"policy{number}" in answer.must) != (number % 7 != 0)][:3])
+                    wrong = (number for number in range(PORTION) if (f"policy{number}" in answer.must) != (number % 7 != 0))
+                    self.fail([(given[number], compared[number]) for number in wrong][:3])
         print(f"{CASES} values in {time.perf_counter() - began:.1f} s")
 
     def loaded(self, policies):
@@ -112,7 +113,8 @@ class Values(unittest.TestCase):
 
     def in_attributes(self, given, compared):
         policies = (
-            f"permit(principal == A::\"p\", action, resource) when {{ principal.a{at} == {it} && principal.getTag(\"t{at}\") == {it} }};" for at, it in enumerate(compared)
+            f'permit(principal == A::"p", action, resource) when {{ principal.a{at} == {it} && principal.getTag("t{at}") == {it} }};'
+            for at, it in enumerate(compared)
         )
         principal = Entity("A", "p", {f"a{at}": it for at, it in enumerate(given)}, (), {f"t{at}": it for at, it in enumerate(given)})
         with self.loaded(policies) as session:
@@ -138,7 +140,8 @@ class Values(unittest.TestCase):
                 link = f"l{at}"
                 session.put([Entity(child.type, child.id, parents=[parent])])
                 session.link("policy0", link, principal=parent, resource=place)
-                [policy] = session.load(f"permit(principal == {expression(child)}, action, resource == {expression(place)}) when {{ action == {expression(parent)} }};")
+                scope = f"principal == {expression(child)}, action, resource == {expression(place)}"
+                [policy] = session.load(f"permit({scope}) when {{ action == {expression(parent)} }};")
                 answer = session.ask(principal=child, action=parent, resource=place)
                 self.assertEqual(set(answer.must), {policy, link}, (child, parent, place))
                 session.remove([child])

@@ -27,6 +27,15 @@ impl Entity {
         })
     }
 
+    /// Its type.
+    pub fn kind(&self) -> &str {
+        &self.kind
+    }
+
+    pub fn id(&self) -> &str {
+        &self.id
+    }
+
     fn write(&self, text: &mut String) {
         text.push_str(&self.kind);
         text.push_str("::");

@@ -265,10 +265,9 @@ fn lines_that_answer_nothing() {
     assert!(put.is_err() && load.is_ok() && ask.is_err() && tell.is_err());
     let [put, load, ask, tell] = commands_of(whole);
     assert!(put.is_err() && load.is_err() && ask.is_ok() && tell.is_ok());
-    assert_eq!(
-        commands_of("refused Text"),
-        [const { () }; 4].map(|_| refused("Text"))
-    );
+    for outcome in commands_of("refused Text") {
+        assert_eq!(outcome, refused("Text"));
+    }
 }
 
 /// A sequence of numbers that looks random.
@@ -330,17 +329,8 @@ fn expression(value: &Value) -> String {
                 .map(|(key, value)| format!("\"{}\" : {}", spelled(key), expression(value)));
             format!("{{{}}}", joined(fields.collect()))
         }
+        Value::Entity(entity) => format!("{}::\"{}\"", entity.kind(), spelled(entity.id())),
         other => format!("{other:?}"),
-    }
-}
-
-/// Whether a value has no entity, whose name isn't told again.
-fn is_plain(value: &Value) -> bool {
-    match value {
-        Value::Set(values) => values.iter().all(is_plain),
-        Value::Record(record) => record.values().all(is_plain),
-        Value::Entity(_) => false,
-        _ => true,
     }
 }
 
@@ -348,11 +338,7 @@ fn is_plain(value: &Value) -> bool {
 fn values_are_read_back() -> Result<(), Error> {
     let mut numbers = Numbers(0x9E37_79B9_7F4A_7C15);
     for _ in 0..20 {
-        let values: Vec<Value> = (0..1000)
-            .map(|_| numbers.value(0))
-            .filter(is_plain)
-            .take(500)
-            .collect();
+        let values: Vec<Value> = (0..500).map(|_| numbers.value(0)).collect();
         let policy = |(at, value): (usize, &Value)| {
             format!(
                 "permit(principal, action, resource) when {{ context.k{at} == {} }};",
