@@ -15,7 +15,7 @@ use cedar_rows::{Answer, append, no_case, refused, said, tell};
 use cedar_store::ast::{Renaming, renaming_of};
 use cedar_store::prelude::Merging;
 use cedar_trees::expr::Expr;
-use std::alloc::{AllocError, Global};
+use std::alloc::Global;
 use std::fmt::Display;
 use std::mem;
 
