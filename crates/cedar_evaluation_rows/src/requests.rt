@@ -311,6 +311,7 @@ fn parts(alloc: Global, verb: &str, table: &Extensions<'_>, state: &Requests) ->
         "context" => maybe(alloc, request.context()),
         "type-of" => match request.to_request_type(alloc)? {
             Some(ty) => {
+                let ty = ty.clone(alloc)?;
                 let (principal, action, resource) = (&ty.principal, &ty.action, &ty.resource);
                 format!(in alloc; "{principal} {action} {resource}")
             }

@@ -15,7 +15,7 @@ use cedar_rows::{Answer, append, no_case, refused, said, tell};
 use cedar_store::ast::{Renaming, renaming_of};
 use cedar_store::prelude::Merging;
 use cedar_trees::expr::Expr;
-use std::alloc::{AllocError, Global};
+use std::alloc::Global;
 use std::fmt::Display;
 use std::mem;
 
@@ -47,7 +47,7 @@ pub(crate) fn read(alloc: Global, text: &str, table: &Extensions<'_>, held: &mut
             held.set = policies;
             tell(alloc, held.set.len())
         }
-        Err(errors) => refused(alloc, errors),
+        Err(errors) => refused(alloc, errors.clone(alloc)?),
     }
 }
 
@@ -138,12 +138,12 @@ pub(crate) fn ask(alloc: Global, verb: &str, table: &Extensions<'_>, held: &mut 
             mem::swap(&mut held.set, &mut held.theirs);
             tell(alloc, held.set.len())
         }
-        "show" => held.set.to_string(alloc),
+        "show" => held.set.clone(alloc)?.to_string(alloc),
         "equal" => said(alloc, held.set == held.theirs),
-        "validate" => {
-            let found = held.set.try_validate(alloc, table);
-            done(alloc, &held.set, found)
-        }
+        "validate" => match held.set.try_validate(alloc, table) {
+            Ok(()) => tell(alloc, held.set.len()),
+            Err(error) => refused(alloc, error.clone(alloc)?),
+        },
         _ => no_case(alloc),
     }
 }

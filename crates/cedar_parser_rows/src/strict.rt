@@ -83,7 +83,7 @@ fn body(alloc: Global, read: Result<RestrictedExpr, RestrictedExpressionParseErr
     match read {
         Ok(body) => body.to_string(alloc),
         Err(RestrictedExpressionParseError::Parse(errors)) => all(alloc, &errors),
-        Err(error) => error.to_string(alloc),
+        Err(error) => error.clone(alloc)?.to_string(alloc),
     }
 }
 
@@ -91,7 +91,7 @@ fn literal(alloc: Global, read: Result<Literal, LiteralParseError>) -> Answer {
     match read {
         Ok(literal) => literal.to_string(alloc),
         Err(LiteralParseError::Parse(errors)) => all(alloc, &errors),
-        Err(error) => error.to_string(alloc),
+        Err(error) => error.clone(alloc)?.to_string(alloc),
     }
 }
 
