@@ -1,5 +1,5 @@
 // What commands must be answered, and whether they are.
-ghost use Rattle.std.specs.Prelude.{◌≡◌, All, string_bytes, IfOk, IfNone, OnOk};
+ghost use Rattle.std.specs.Prelude.{◌≡◌, All, string_bytes, IfOk, IfNone, IfSome, OnOk};
 ghost use Rattle.cedar_replies.specs.Replies.{reply_of};
 ghost use Rattle.cedar_authoring.specs.Scripts.{Fits, FitsCommand, TellsTest, answers_step, says};
 ghost use Rattle.cedar_authoring.specs.Telling.{Adds};
@@ -39,7 +39,9 @@ fn says(words: &[u8], line: &[u8]) -> bool
 
 /// The first command whose text is longer than one may be.
 pub(crate) fn first_long(script: &Script) -> Option<&Step>
-    ensures { IfNone result (Fits script.now) }
+    ensures none { IfNone result (Fits script.now) }
+    ensures long { IfSome result (λ step. FitsCommand step.now → ⊥) }
+    ensures some { IfSome result (λ step. Fits script.now → ⊥) }
 {
     if let Some(step) = long_among(script.set_up.as_slice()) {
         return Some(step);
@@ -53,7 +55,9 @@ pub(crate) fn first_long(script: &Script) -> Option<&Step>
 }
 
 fn long_among(steps: &[Step]) -> Option<&Step>
-    ensures { IfNone result (All FitsCommand steps.now) }
+    ensures none { IfNone result (All FitsCommand steps.now) }
+    ensures long { IfSome result (λ step. FitsCommand step.now → ⊥) }
+    ensures some { IfSome result (λ step. All FitsCommand steps.now → ⊥) }
 {
     for step in steps {
         if step.body.len() > BODY_LIMIT {
