@@ -1,6 +1,7 @@
 pub mod Adding
 mod Awaited
 mod Checked
+mod Fitting
 pub mod Lending
 pub mod LinesRead
 mod NamesLeft
