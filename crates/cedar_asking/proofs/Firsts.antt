@@ -21,7 +21,7 @@ use Rattle.cedar_world.specs.Answer.{Answer, ids_of}
 use Rattle.cedar_world.specs.Asking.{Question}
 use Rattle.cedar_world.specs.First.{NamesNoUnknown, EarlyAnswersStand}
 use Rattle.cedar_world.specs.Found.{SaysWhatIsFound}
-use Rattle.cedar_world.specs.Heights.{grown, AreWithin, AsksTooDeep}
+use Rattle.cedar_world.specs.Heights.{grown, AreWithin, BoundTreesGrowAlike, AsksTooDeep}
 use Rattle.cedar_world.specs.Setting.{Setting}
 use Rattle.cedar_world.specs.Standing.{StandsEarly, IsJudged, Judges, ErrOnce, AnswersAreMade}
 use Rattle.cedar_world.specs.Step.{IsFirstAnswer, SomeInForce}
@@ -177,8 +177,8 @@ module _ (r : RequestParts) (store : Entities) (table : Table) (depth : ℕ) whe
         some_in_force es whole slots finds world held e in_set
 
     -- and each evaluation that answers is too deep
-    pub meets_limit : KnownIsNeverLeft → MentionedIsMeant → LinkingKeepsHeight → IsSettingOf table depth by → AreFactsOf by world facts → SomeAtLimit (errors_of ks) → AsksTooDeep by world q
-    meets_limit never meant keeps setting are (id, c) =
+    pub meets_limit : KnownIsNeverLeft → MentionedIsMeant → LinkingKeepsHeight → BoundTreesGrowAlike → IsSettingOf table depth by → AreFactsOf by world facts → SomeAtLimit (errors_of ks) → AsksTooDeep by world q
+    meets_limit never meant keeps alike setting are (id, c) =
         let (k, among, found) = limit_kept ks id c in
         let (e, in_set, of) = kept_of (untold r) store table depth (policies_of es) ks kept k among in
         let (at, policy) = is_bound es whole e in_set in
@@ -191,7 +191,7 @@ module _ (r : RequestParts) (store : Entities) (table : Table) (depth : ℕ) whe
           λ h heights.
               let within : AreWithin h by.depth facts holds =
               subst (AreWithin h by.depth facts) (sym (held_so table q r asked.holds facts served bs)) (held_is_within by world facts q finite.empty finite.empty (binding_of bs) h are heights (λ n v is. is)) in
-              let so : grown h (condition (written_entry e.1)) ≡ grown h (condition_in e.1) = grown_as_written conditions h e.1 in
+              let so : grown h (condition (written_entry e.1)) ≡ grown h (condition_in e.1) = grown_as_written conditions alike h e.1 in
               let above : by.depth < grown h (condition_in e.1) = elim (cases_lt by.depth (grown h (condition_in e.1))) [
                 | inl high ↦ high
                 | inr low ↦ absurd (omega (arith, deep, depth_grows h by.depth facts holds within (condition_in e.1) low, setting.depth_is))

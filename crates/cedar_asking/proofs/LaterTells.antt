@@ -23,7 +23,7 @@ use Rattle.cedar_partial_evaluation.specs.Waiting.{WhatIsLeftWaits}
 use Rattle.cedar_world.specs.Again.{StandsAgain, AgainIsSound}
 use Rattle.cedar_world.specs.ContextErrors.{ContextsErrInParts}
 use Rattle.cedar_world.proofs.OrdinaryAnswers.{rules_list}
-use Rattle.cedar_world.specs.Heights.{Heights, grown, grown_answer, AreWithin, told_height, context_height, AreHeights, SomeGrowsTooHigh}
+use Rattle.cedar_world.specs.Heights.{Heights, grown, grown_answer, AreWithin, told_height, context_height, AreHeights, BoundTreesGrowAlike, SomeGrowsTooHigh}
 use Rattle.cedar_world.proofs.Grown.{grows, some_grown}
 use Rattle.cedar_world.proofs.Written.{slot_within, context_within, held_is_within}
 use Rattle.cedar_world.specs.Joined.{IsJoined, LaterAnswersStand}
@@ -225,7 +225,7 @@ module _ (c : Rests) (by : Setting) (world : World) (q : Question) (first : Part
         other_slots h by.depth facts (request_held inquiry unbound) (request_held inquiry bs) within (λ v. refl) (λ n ty. refl) (λ s. slot_within h (binding_of bs s))
 
     -- each evaluation of what is left is too deep
-    module _ (conditions : LinkConditions) (l : Kept) (in_later : IsAmong l r.kept) (met : l.found ≡ Erred LimitMet) (h : Heights) (heights : AreHeights by world q (told_in told) h) where
+    module _ (conditions : LinkConditions) (alike : BoundTreesGrowAlike) (l : Kept) (in_later : IsAmong l r.kept) (met : l.found ≡ Erred LimitMet) (h : Heights) (heights : AreHeights by world q (told_in told) h) where
       pub too_deep : SomeGrowsTooHigh by world h
       too_deep =
           let (d, in_left, of_later) = kept_of inquiry s table depth (residuals_with is_any first) r.kept r.each l in_later in
@@ -242,7 +242,7 @@ module _ (c : Rests) (by : Setting) (world : World) (q : Question) (first : Part
           subst (λ (x : Entry). grown h (condition_in x) ≤ suc (grown h (clause_of k.found))) (sym left.policy)
           (clause_grows h by.depth facts (request_held inquiry bs) (again_within h heights bs) k.effect left.annotations (clause_of k.found)) in
           let before = first_within h heights (bindings_in e.1) in
-          let so : grown h (condition (written_entry e.1)) ≡ grown h (condition_in e.1) = grown_as_written conditions h e.1 in
+          let so : grown h (condition (written_entry e.1)) ≡ grown h (condition_in e.1) = grown_as_written conditions alike h e.1 in
           let above : by.depth ≤ grown h (condition_in e.1) = elim (cases_lt (grown h (condition_in e.1)) by.depth) [
             | inl below ↦
                 let found = found_grows h _ k.found (grown h (condition_in e.1)) (first_found c.plain c.finds by world facts are_facts q first response k in_ks e in_set of)
@@ -258,10 +258,10 @@ module _ (c : Rests) (by : Setting) (world : World) (q : Question) (first : Part
             omega (arith, above, so),
           )
 
-    pub limits_high : LinkConditions → SomeAtLimit (holding_in again).errors → (h : Heights) → AreHeights by world q (told_in told) h → SomeGrowsTooHigh by world h
-    limits_high conditions (id, some) h heights =
+    pub limits_high : LinkConditions → BoundTreesGrowAlike → SomeAtLimit (holding_in again).errors → (h : Heights) → AreHeights by world q (told_in told) h → SomeGrowsTooHigh by world h
+    limits_high conditions alike (id, some) h heights =
         let (l, in_later, found) = limit_kept r.kept id (subst (λ errors. Contains errors (id, LimitMet)) (ap (λ (h : Holding). h.errors) r.holds) some) in
-        too_deep conditions l in_later found h heights
+        too_deep conditions alike l in_later found h heights
 
   -- ---- what is answered
 

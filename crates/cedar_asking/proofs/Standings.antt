@@ -15,9 +15,8 @@ use Rattle.cedar_partial_evaluation.specs.Question.{held_of}
 use Rattle.cedar_grammar.specs.Laws.{LinkConditions}
 use Rattle.cedar_grammar.specs.Calls.{calls_only}
 use Rattle.cedar_world.specs.Asking.{Question}
-use Rattle.cedar_world.specs.Heights.{Heights, grown}
+use Rattle.cedar_world.specs.Heights.{Heights, grown, BoundTreesGrowAlike}
 use Rattle.cedar_world.specs.Question.{IsKnown}
-use Rattle.cedar_world.proofs.Unread.{bound_trees_grow_alike}
 use Rattle.cedar_world.specs.Setting.{Setting, functions_alone}
 use Rattle.cedar_grammar.specs.Syntax.{condition}
 use Rattle.cedar_asking.proofs.Known.{all_known}
@@ -84,10 +83,10 @@ height_as_written conditions keeps (static_policy s) = refl
 height_as_written conditions keeps (template s) = refl
 height_as_written conditions keeps (link t s b) = ap height (conditions (binding_of b) s) ∙ keeps (binding_of b) (condition s)
 
-pub grown_as_written : LinkConditions → (h : Heights) (e : Entry) → grown h (condition (written_entry e)) ≡ grown h (condition_in e)
-grown_as_written conditions h (static_policy s) = refl
-grown_as_written conditions h (template s) = refl
-grown_as_written conditions h (link t s b) = ap (grown h) (conditions (binding_of b) s) ∙ bound_trees_grow_alike h (binding_of b) (condition s)
+pub grown_as_written : LinkConditions → BoundTreesGrowAlike → (h : Heights) (e : Entry) → grown h (condition (written_entry e)) ≡ grown h (condition_in e)
+grown_as_written conditions alike h (static_policy s) = refl
+grown_as_written conditions alike h (template s) = refl
+grown_as_written conditions alike h (link t s b) = ap (grown h) (conditions (binding_of b) s) ∙ alike h (binding_of b) (condition s)
 
 pub names_as_written : LinkConditions → (e : Entry) → calls_only is_other (condition_in e) ≡ true → mentions_only (λ v. true) true (condition (written_entry e)) ≡ true
 names_as_written conditions (static_policy s) h = no_unknown is_other (condition s) h

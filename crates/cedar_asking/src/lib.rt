@@ -29,6 +29,7 @@ pub fn responses_answer_questions()
     cedar_partial_evaluation::known_is_never_left();
     cedar_partial_evaluation::mentioned_is_meant();
     cedar_partial_evaluation::linking_is_writing_early();
+    cedar_world::answers_stay_within();
     cedar_world::early_answers_stand();
     cedar_world::answers_are_made();
     cedar_held::worlds::policy_sets_are_worlds();
@@ -84,6 +85,7 @@ pub fn tells_are_refused()
     cedar_partial_evaluation::known_is_never_left();
     cedar_partial_evaluation::leaves_dont_matter();
     cedar_partial_evaluation::contexts_stay();
+    cedar_world::answers_stay_within();
     cedar_world::worlds_have_facts();
     cedar_held::worlds::policy_sets_are_worlds();
     cedar_requests::laws::told_contexts_are_evaluated();

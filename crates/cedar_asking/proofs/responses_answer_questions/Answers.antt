@@ -18,5 +18,5 @@ returns c by world facts es s table depth q r ks held asked kept = record {
       c.policy_sets_are_worlds.ensures.finds ks kept by world held.policies facts held.store held.functions q asked some;
   limit = λ setting some.
       meets_limit r s table depth c.linking_is_writing_early.ensures c.linking_binds_the_condition.ensures es held.whole held.slots held.names c.policy_sets_are_worlds.ensures.finds ks kept by world held.policies facts held.store held.functions q asked
-      c.known_is_never_left.ensures c.mentioned_is_meant.ensures c.linking_keeps_height.ensures setting held.are_facts some;
+      c.known_is_never_left.ensures c.mentioned_is_meant.ensures c.linking_keeps_height.ensures c.answers_stay_within.ensures.bound setting held.are_facts some;
 }

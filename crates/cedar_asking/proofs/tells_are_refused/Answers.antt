@@ -30,5 +30,5 @@ returns-clause-limit c by world q first again old told es s table depth last giv
         parts = c.contexts_err_in_parts.ensures;
         tell = c.told_contexts_are_evaluated.ensures;
       })
-      by world q first keeps.response told are es s table gives depth now again taken c.linking_binds_the_condition.ensures some,
+      by world q first keeps.response told are es s table gives depth now again taken c.linking_binds_the_condition.ensures c.answers_stay_within.ensures.bound some,
 )
