@@ -61,7 +61,7 @@ first_is t u ts us h = (cc, cc)
 was_one : (ts : Trees) (l : Literal) → all_read ts ≡ a_tree (Lit l) no_trees → ts ≡ a_tree (Lit l) no_trees
 was_one no_trees l h = cc
 was_one (a_tree t no_trees) l h = ap (λ u. a_tree u no_trees) (was_literal t l (first_is (read_unknowns t) (Lit l) no_trees no_trees h).0)
-was_one (a_tree t (a_tree u us)) l h = let no : a_tree (read_unknowns u) (all_read us) ≡ no_trees = (first_is (read_unknowns t) (Lit l) (a_tree (read_unknowns u) (all_read us)) no_trees h).1 in cc
+was_one (a_tree t (a_tree u us)) l h = let unmet : a_tree (read_unknowns u) (all_read us) ≡ no_trees = (first_is (read_unknowns t) (Lit l) (a_tree (read_unknowns u) (all_read us)) no_trees h).1 in cc
 
 -- a call that is read, and one that stays
 abbrev IsCallRead : Name → Trees → Tree → Type 0
@@ -111,9 +111,9 @@ module _ (unread : UnknownsAreRead) (facts : Facts) (holds : LeafAnswers) (gives
   is_read : (t : Tree) → calls_unknown (read_unknowns t) ≡ false → partial_in facts holds (read_unknowns t) ≡ as_read (naming_in true facts holds t)
   is_read t h = as_read_is unread _ _ (reads unread facts holds leaves gives t h)
 
-  branch_at : (t : Tree) → calls_unknown (read_unknowns t) ≡ false → (yes no more other : ℕ) → yes ≤ suc more → no ≤ suc other →
-      branch_depth (naming_in true facts holds t) yes no ≤ suc (branch_depth (partial_in facts holds (read_unknowns t)) more other)
-  branch_at t h yes no more other k l = subst (λ (b : Answer). branch_depth (naming_in true facts holds t) yes no ≤ suc (branch_depth b more other)) (sym (is_read t h)) (branch_read (naming_in true facts holds t) yes no more other k l)
+  branch_at : (t : Tree) → calls_unknown (read_unknowns t) ≡ false → (met unmet more other : ℕ) → met ≤ suc more → unmet ≤ suc other →
+      branch_depth (naming_in true facts holds t) met unmet ≤ suc (branch_depth (partial_in facts holds (read_unknowns t)) more other)
+  branch_at t h met unmet more other k l = subst (λ (b : Answer). branch_depth (naming_in true facts holds t) met unmet ≤ suc (branch_depth b more other)) (sym (is_read t h)) (branch_read (naming_in true facts holds t) met unmet more other k l)
 
   behind_at : (t : Tree) → calls_unknown (read_unknowns t) ≡ false → (depth more : ℕ) → depth ≤ suc more →
       depth_behind (naming_in true facts holds t) depth ≤ suc (depth_behind (partial_in facts holds (read_unknowns t)) more)

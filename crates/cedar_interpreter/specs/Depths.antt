@@ -19,11 +19,11 @@ read_again facts holds op ts = 0
 
 -- of two branches the one that the test takes is evaluated, both where the test isn't known, and none where it errs or is no Boolean
 abbrev pub branch_depth : Answer → ℕ → ℕ → ℕ
-branch_depth (Evaluated (Plain (Boolean true))) yes no = yes
-branch_depth (Evaluated (Plain (Boolean false))) yes no = no
-branch_depth (Evaluated v) yes no = 0
-branch_depth (ResidualTree r) yes no = max yes no
-branch_depth (Failed k) yes no = 0
+branch_depth (Evaluated (Plain (Boolean true))) met unmet = met
+branch_depth (Evaluated (Plain (Boolean false))) met unmet = unmet
+branch_depth (Evaluated v) met unmet = 0
+branch_depth (ResidualTree r) met unmet = max met unmet
+branch_depth (Failed k) met unmet = 0
 
 -- behind an operand that errs none is evaluated
 abbrev pub depth_behind : Answer → ℕ → ℕ

@@ -301,9 +301,9 @@ pub interpret_if-returns-in-Open-clause-found : goal.interpret_if-returns-in-Ope
 interpret_if-returns-in-Open-clause-found g t c =
     λ facts has.
     let found = subst (IsTested (tested_answer (naming_in (is_naming g.F.ExtensionFunctionObject.answers c.args.self.now) facts (held_by c.args.self.now c.args.slots.now) (bare c.args.test.now)))) c.in-Open.is (c.in_ok-test_answer.ensures.found (naming_in (is_naming g.F.ExtensionFunctionObject.answers c.args.self.now) facts (held_by c.args.self.now c.args.slots.now) (bare c.args.test.now)) (c.interpret_within.ensures.found facts has)) in
-    let yes = meets_as c.interpret_within-yes_answer.result (naming_in (is_naming g.F.ExtensionFunctionObject.answers c.args.self.now) facts (held_by c.args.self.now c.args.slots.now) (bare c.args.yes.now.value)) _ (ap (λ (e : Expr (Unit {0})). naming_in (is_naming g.F.ExtensionFunctionObject.answers c.args.self.now) facts (held_by c.args.self.now c.args.slots.now) (bare e)) (sym c.deref-in-Open.ensures)) (c.interpret_within-yes_answer.ensures.found facts has) in
-    let no = meets_as c.interpret_within-no_answer.result (naming_in (is_naming g.F.ExtensionFunctionObject.answers c.args.self.now) facts (held_by c.args.self.now c.args.slots.now) (bare c.args.no.now.value)) _ (ap (λ (e : Expr (Unit {0})). naming_in (is_naming g.F.ExtensionFunctionObject.answers c.args.self.now) facts (held_by c.args.self.now c.args.slots.now) (bare e)) (sym c.deref-in-Open-2.ensures)) (c.interpret_within-no_answer.ensures.found facts has) in
-    meets_as c.open_if.result _ _ (if_as facts (naming_in (is_naming g.F.ExtensionFunctionObject.answers c.args.self.now) facts (held_by c.args.self.now c.args.slots.now) (bare c.args.test.now)) (naming_in (is_naming g.F.ExtensionFunctionObject.answers c.args.self.now) facts (held_by c.args.self.now c.args.slots.now) (bare c.args.yes.now.value)) (naming_in (is_naming g.F.ExtensionFunctionObject.answers c.args.self.now) facts (held_by c.args.self.now c.args.slots.now) (bare c.args.no.now.value)) (bare c.args.yes.now.value) (bare c.args.no.now.value) (ResidualTree (bare c.in-Open.rest)) found) (c.open_if.ensures.found facts (naming_in (is_naming g.F.ExtensionFunctionObject.answers c.args.self.now) facts (held_by c.args.self.now c.args.slots.now) (bare c.args.yes.now.value)) (naming_in (is_naming g.F.ExtensionFunctionObject.answers c.args.self.now) facts (held_by c.args.self.now c.args.slots.now) (bare c.args.no.now.value)) yes no)
+    let met = meets_as c.interpret_within-yes_answer.result (naming_in (is_naming g.F.ExtensionFunctionObject.answers c.args.self.now) facts (held_by c.args.self.now c.args.slots.now) (bare c.args.yes.now.value)) _ (ap (λ (e : Expr (Unit {0})). naming_in (is_naming g.F.ExtensionFunctionObject.answers c.args.self.now) facts (held_by c.args.self.now c.args.slots.now) (bare e)) (sym c.deref-in-Open.ensures)) (c.interpret_within-yes_answer.ensures.found facts has) in
+    let unmet = meets_as c.interpret_within-no_answer.result (naming_in (is_naming g.F.ExtensionFunctionObject.answers c.args.self.now) facts (held_by c.args.self.now c.args.slots.now) (bare c.args.no.now.value)) _ (ap (λ (e : Expr (Unit {0})). naming_in (is_naming g.F.ExtensionFunctionObject.answers c.args.self.now) facts (held_by c.args.self.now c.args.slots.now) (bare e)) (sym c.deref-in-Open-2.ensures)) (c.interpret_within-no_answer.ensures.found facts has) in
+    meets_as c.open_if.result _ _ (if_as facts (naming_in (is_naming g.F.ExtensionFunctionObject.answers c.args.self.now) facts (held_by c.args.self.now c.args.slots.now) (bare c.args.test.now)) (naming_in (is_naming g.F.ExtensionFunctionObject.answers c.args.self.now) facts (held_by c.args.self.now c.args.slots.now) (bare c.args.yes.now.value)) (naming_in (is_naming g.F.ExtensionFunctionObject.answers c.args.self.now) facts (held_by c.args.self.now c.args.slots.now) (bare c.args.no.now.value)) (bare c.args.yes.now.value) (bare c.args.no.now.value) (ResidualTree (bare c.in-Open.rest)) found) (c.open_if.ensures.found facts (naming_in (is_naming g.F.ExtensionFunctionObject.answers c.args.self.now) facts (held_by c.args.self.now c.args.slots.now) (bare c.args.yes.now.value)) (naming_in (is_naming g.F.ExtensionFunctionObject.answers c.args.self.now) facts (held_by c.args.self.now c.args.slots.now) (bare c.args.no.now.value)) met unmet)
 
 pub interpret_if-returns-in-Open-clause-limit : goal.interpret_if-returns-in-Open-clause-limit
 interpret_if-returns-in-Open-clause-limit g t c =
