@@ -71,7 +71,7 @@ abbrev pub value_given : Ranks → Values → Option Value
 value_given Rank vs = option_map rank_of (rank_answer vs)
 value_given Up vs = option_map rank_of (up_answer vs)
 
--- ranks and texts are built
+-- ranks are built
 rank_built : (l : Level) → IsBuilt (rank_of l)
 rank_built Low = (ltb-true 0 256 refl, tt)
 rank_built Mid = (ltb-true 1 256 refl, tt)
