@@ -12,7 +12,7 @@ pub returns-in_ok-clone-in-Policy : goal.returns-in_ok-clone-in-Policy
 returns-in_ok-clone-in-Policy c =
     let copy = c.in_ok-clone-in-Policy.field-0 in
     let same = c.in_ok-clone-in-Policy.ensures.cases in
-    let shares : IsCopy (Policy c.in-Policy.policy.now) (Policy copy) =
+    let shares : IsCopy (Policy c.in-Policy.policy) (Policy copy) =
     record {
       id = λ i. unwrap_or (same.link i) (template_id (same.template i));
       entry = λ i. entry_by (same.link i) (template_id (same.template i)) (syntax_of (same.template i)) (same.bindings i);
@@ -25,7 +25,7 @@ pub returns-in_ok-clone-in-Template : goal.returns-in_ok-clone-in-Template
 returns-in_ok-clone-in-Template c =
     let copy = c.in_ok-clone-in-Template.field-0 in
     let same = c.in_ok-clone-in-Template.ensures.cases in
-    let shares : IsCopy (Template c.in-Template.template.now) (Template copy) =
+    let shares : IsCopy (Template c.in-Template.template) (Template copy) =
     record {
       id = ap template_id same;
       entry = ap (λ t. template (syntax_of t)) same;
