@@ -74,7 +74,7 @@ impl<'s, 'e, 'f, F: ExtensionFunctionObject> Evaluator<'s, 'e, 'f, F> {
     pub fn with_told(self, told: &'s BTreeMap<RcStr, Value>) -> Evaluator<'s, 'e, 'f, F>
         ensures { (variables : Variable → Answer) (before : Text → Option Meant) (store : Store) (table : Table) (depth : ℕ) →
             AnswersFor F.answers variables before store table depth self.entry →
-            AnswersFor F.answers variables (value_told (Some told)) store table depth result }
+            AnswersFor F.answers variables (value_told (Some told.entry)) store table depth result }
     {
         Evaluator {
             variables: self.variables,

@@ -144,7 +144,7 @@ fn value_for<'s>(told: Option<&'s BTreeMap<RcStr, Value>>, unknown: &Unknown) ->
 
 // The value that is told for a name.
 fn found_for<'s>(told: &'s BTreeMap<RcStr, Value>, name: &str) -> Option<&'s Value>
-    ensures { option_copied result ≡ value_told (Some told) name.now }
+    ensures { option_copied result ≡ value_told (Some told.entry) name.now }
 {
     told.get(name)
 }
