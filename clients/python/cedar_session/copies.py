@@ -38,7 +38,10 @@ class Differs(CedarError):
 
 
 class Stopped(NotOpen):
-    """The copy answers no more, and says why. Another begins anew, where the log is in order."""
+    """The copy answers no more, and says why. Another begins anew, where the log is in order. `key` is that of an edit which was
+    given, and may stand in the log."""
+
+    key: Optional[str] = None
 
 
 class Behind(CedarError):
@@ -54,7 +57,10 @@ class AlreadyDone(CedarError):
 
 
 class Waits(CedarError, MemoryError):
-    """There was no memory to do an edit of the log here. The copy waits before it, and goes on by `follow`."""
+    """There was no memory to do an edit of the log here. The copy waits before it, and goes on by `follow`. `key` is that of an edit
+    which was given, and stands in the log."""
+
+    key: Optional[str] = None
 
 
 class Copy(Commands):
@@ -149,7 +155,7 @@ class Copy(Commands):
             position = self._of_the_log(lambda: self.log.append(verb, body, named, expected, self.place))
             if position > self.position:
                 self._reach(position)
-        except LogError as why:
+        except (LogError, Stopped, Waits) as why:
             why.key = named
             raise
         if named not in self._lines:

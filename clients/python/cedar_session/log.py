@@ -316,7 +316,11 @@ class Log:
             connection = cast(Any, _Connection).connect(self.database, **words)
             self._connection, connection.seconds = connection, self.seconds
             connection.add_notify_handler(lambda _: setattr(connection, "is_told", True))
-            connection.execute("LISTEN cedar_edits")
+            try:
+                connection.execute("LISTEN cedar_edits")
+            except (psycopg.errors.FeatureNotSupported, psycopg.errors.ReadOnlySqlTransaction):
+                # A server that only reads gives no notice, and is asked once a second.
+                pass
             row = connection.execute("SELECT current_setting('fsync'), current_setting('synchronous_commit')").fetchone()
             if row is None or row[0] != "on":
                 raise psycopg.DataError("the server doesn't write edits to disk: fsync is off")

@@ -1,6 +1,7 @@
 """Sessions by the program `cedar_session`, as a child or behind a connection."""
 
 import os
+import select
 import socket
 import subprocess
 from time import monotonic
@@ -26,6 +27,8 @@ class Connection(Commands):
         super().__init__()
         self._socket: Optional[socket.socket] = connected
         self._seconds, self._process, self._is_in_step = seconds, os.getpid(), True
+        self._unasked = select.poll()
+        self._unasked.register(connected, select.POLLIN)
 
     def _check(self) -> None:
         if os.getpid() != self._process:
@@ -38,6 +41,8 @@ class Connection(Commands):
         # (it is in step again only where the whole line has come)
         self._is_in_step = False
         try:
+            if self._unasked.poll(0):
+                raise Ended("the session has ended, or wrote what nobody asked for")
             line = self._line_of(connected, b"%s %d\n%s\n" % (verb.encode(), len(body), body))
         except BaseException:
             self._end()

@@ -16,7 +16,7 @@ from cedar_session import Decision, Entity, copies
 from cedar_session.copies import Copy, Log, Place
 from cedar_session.held import frame_of
 
-from tests.copying import ANY, EDITS, FORBID, PERMIT, REFUSED, WithLog, answers, database, decision, setUpModule  # noqa: F401
+from tests.copying import ANY, EDITS, FORBID, MALLORY, PERMIT, REFUSED, WithLog, answers, database, decision, setUpModule  # noqa: F401
 from tests.test_held import many
 
 
@@ -365,6 +365,21 @@ class Keys(WithLog):
             with self.assertRaises(cedar.Refused) as caught:
                 a.edit(key="mine").load("permit(")
             self.assertEqual((caught.exception.word, self.log.end()), ("Text", 1))
+
+    def test_an_edit_in_which_a_copy_ends_is_done_once(self):
+        for opened, kind in ((Dying, copies.Stopped), (Forgetful, copies.Waits)):
+            with self.subTest(kind=kind):
+                ending, other = self.copy(opened), self.copy()
+                before = other.position
+                ending.load("forbid(principal == ?principal, action, resource);")
+                [template] = sorted(ending.held.policies)[-1:]
+                give = {copies.Stopped: lambda it: it.put(long), copies.Waits: lambda it: it.link(template, f"l{before}", principal=MALLORY)}[kind]
+                long = [Entity("User", str(at)) for at in range(10_000)]
+                with self.assertRaises(kind) as caught:
+                    give(ending)
+                give(other.edit(key=caught.exception.key))
+                give(other.edit(key=caught.exception.key))
+                self.assertEqual((other.position, self.log.end()), (before + 2, before + 2))
 
     def test_an_edit_of_long_ago_has_no_line(self):
         a = self.copy()

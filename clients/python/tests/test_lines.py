@@ -107,6 +107,17 @@ class Lines(unittest.TestCase):
         session.close()
         there.close()
 
+    def test_a_line_that_nobody_asked_for(self):
+        here, there = socket.socketpair()
+        session = cedar.Connection.__new__(cedar.Connection)
+        session._begin(here, 5)
+        there.sendall(b"allow must=[] may=[] erring=[]\n")
+        with self.assertRaises(cedar.Ended):
+            ask(session)
+        with self.assertRaises(cedar.NotOpen):
+            ask(session)
+        there.close()
+
     def test_a_line_that_trickles_is_given_up(self):
         here, there = socket.socketpair()
         session = cedar.Connection.__new__(cedar.Connection)
