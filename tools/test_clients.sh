@@ -138,7 +138,7 @@ has_postgres() {
 # Side by side, each part with a server of its own.
 copies() {
     local part at=0 status=0 running=()
-    for part in 'test_copies test_pages.Copied' test_outages.Cut test_outages.Many 'test_logs test_outages.Restarts'; do
+    for part in 'test_copies test_pages.Copied' test_outages.{CutEdits,CutReads,Many} 'test_logs test_outages.Restarts'; do
         # shellcheck disable=SC2086
         python_tests $part > "$room/part.$at" 2>&1 &
         running+=($!) at=$((at + 1))

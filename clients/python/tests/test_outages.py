@@ -60,14 +60,10 @@ class Proxy:
                 end.shutdown(socket.SHUT_RDWR)
             except OSError:
                 pass
-        if is_reply:
-            time.sleep(0.001)
-            here.close()
-        elif here.fileno() >= 0:
-            here.close()
+        here.close()
 
 
-class Cut(WithLog):
+class WithProxy(WithLog):
     """Each reply of the server is cut behind each of its bytes: nothing is done in part, nothing twice."""
 
     def setUp(self):
@@ -93,6 +89,27 @@ class Cut(WithLog):
         yield from ((left, 1) for left in range(size))
         yield from ((left, 2) for left in range(0, size, 9))
 
+
+class CutEdits(WithProxy):
+    def test_edits_that_are_given(self):
+        copy, failed = self.through(), 0
+        size = self.sent(lambda: copy.load(ANY))
+        for at, (left, cuts) in enumerate(self.cuts(size)):
+            edit = ("load", f'permit(principal == User::"{at}", action, resource);') if at % 2 == 0 else ("remove-static", '"policy1"')
+            self.proxy.arm(left, cuts)
+            try:
+                line = copy.line(*edit)
+            except copies.LogError as why:
+                failed += 1
+                self.proxy.arm(0, 0)
+                line = copy.edit(key=why.key).line(*edit)
+            self.assertEqual((line, copy.position), (("ok", 'ok ["policy1"]')[at % 2 == 0], at + 2), (left, cuts))
+        self.assertGreater(failed, 0)
+        self.assertEqual(self.log.end(), copy.position)
+        self.assertEqual(self.copy().snapshot(), copy.snapshot())
+
+
+class CutReads(WithProxy):
     def test_edits_that_are_read(self):
         copy = self.through()
         first, failed = copy.place, 0
@@ -114,24 +131,6 @@ class Cut(WithLog):
             self.assertEqual((copy.place, copy.snapshot(), decision(copy)), (last, wanted, Decision.DENY), (left, cuts))
         self.assertGreater(failed, 0)
 
-    def test_edits_that_are_given(self):
-        copy, alone, failed = self.through(), cedar.Session(), 0
-        self.addCleanup(alone.close)
-        size = self.sent(lambda: copy.load(ANY))
-        for at, (left, cuts) in enumerate(self.cuts(size)):
-            edit = ("load", f'permit(principal == User::"{at}", action, resource);') if at % 2 == 0 else ("remove-static", '"policy1"')
-            self.proxy.arm(left, cuts)
-            try:
-                line = copy.line(*edit)
-            except copies.LogError as why:
-                failed += 1
-                self.proxy.arm(0, 0)
-                line = copy.edit(key=why.key).line(*edit)
-            self.assertEqual((line, copy.position), (("ok", 'ok ["policy1"]')[at % 2 == 0], at + 2), (left, cuts))
-        self.assertGreater(failed, 0)
-        self.assertEqual(self.log.end(), copy.position)
-        self.assertEqual(self.copy().snapshot(), copy.snapshot())
-
     def test_snapshots_that_are_read(self):
         self.append("load", BOTH)
         copy, failed = self.copy(), 0
@@ -140,7 +139,8 @@ class Cut(WithLog):
         self.addCleanup(read.close)
         read.end()
         for left, cuts in self.cuts(self.sent(read.snapshot)):
-            read.end() if cuts == 2 else None
+            if cuts == 2:
+                read.end()
             self.proxy.arm(left, cuts)
             try:
                 self.assertEqual(read.snapshot(), copy.snapshot())

@@ -41,6 +41,11 @@ class First(unittest.TestCase):
         self.assertEqual(names["told"].decision, cedar.Decision.DENY)
         self.assertEqual(names["why"], "Text")
 
+    def test_the_readme(self):
+        with open(os.path.join(os.path.dirname(PAGE), "../clients/python/README.md"), encoding="utf-8") as it:
+            [block] = re.findall(r"(?ms)^```python\n(.*?)^```", it.read())
+        exec(block, {})
+
     def test_what_the_page_warns_of(self):
         """Bodies by hand: the names that it tells ask another question."""
         with open(PAGE, encoding="utf-8") as it:
