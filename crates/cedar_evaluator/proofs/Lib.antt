@@ -19,7 +19,7 @@ mod HeldIds
 mod Telling
 mod LeftSets
 pub mod Twice
-mod Copies
+mod CopiedParts
 mod Again
 mod Scoped
 mod Judged

@@ -1,5 +1,5 @@
 -- Each group is copied, and so are the errors.
-use Rattle.cedar_evaluator.proofs.Copies.{same_held, same_causes}
+use Rattle.cedar_evaluator.proofs.CopiedParts.{same_held, same_causes}
 use Rattle.cedar_evaluator.proofs.partial_response.PartialResponse.clone.Goals as goal
 
 pub returns-in_ok-clone-clause-held : goal.returns-in_ok-clone-clause-held
