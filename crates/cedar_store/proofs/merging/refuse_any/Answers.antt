@@ -8,7 +8,7 @@ use Rattle.cedar_store.proofs.merging.refuse_any.Goals as goal
 pub returns-in-None : goal.returns-in-None
 returns-in-None c = none_first c.args.renaming.now c.in-None.ensures
 
-pub returns-in-Some : goal.returns-in-Some
-returns-in-Some c =
+pub returns-in_ok-copied-in-Some : goal.returns-in_ok-copied-in-Some
+returns-in_ok-copied-in-Some c =
     let first = some_first c.args.renaming.now (c.in-Some.id.now, c.in-Some.field-0-1.now) c.in-Some.ensures in
-    subst (IsFirst (keys_of c.args.renaming.now)) (sym c.in_ok-copied.ensures) first
+    subst (IsFirst (keys_of c.args.renaming.now)) (sym c.in_ok-copied-in-Some.ensures) first
