@@ -1,7 +1,8 @@
 -- A copy of a response holds the same.
-use Rattle.std.proofs.Common.{◌≡◌, ◌++◌, ◌∷◌, [], List, map, refl, ap, sym, ◌∙◌}
+use Rattle.std.proofs.Common.{◌≡◌, ◌++◌, ◌∷◌, [], Bool, List, map, refl, ap, sym, ◌∙◌}
 use Rattle.std.specs.declared.alloc.Global.{Global}
 use Rattle.std.specs.declared.rc.Rc.{Rc}
+use Rattle.cedar_language.specs.Tree.{Tree}
 use Rattle.cedar_language.specs.Uid.{Text}
 use Rattle.cedar_extensions.specs.Causes.{Cause}
 use Rattle.cedar_extensions.specs.Failures.{Failure, failure_by}
@@ -47,20 +48,28 @@ noted_same = same_read SharesNotes noted (λ e f k s i. (k i, s i))
 state_noted : (es fs : List (Text × (ErrorState × Noted))) → AreCopies SharesState es fs → map noted_behind fs ≡ map noted_behind es
 state_noted = same_read SharesState noted_behind (λ e f k s i. (k i, s.1 i))
 
-state_same : (es fs : List (Text × (ErrorState × Noted))) → AreCopies SharesState es fs → map (λ f. (f.0, has_erred f.1.0)) fs ≡ map (λ e. (e.0, has_erred e.1.0)) es
-state_same = same_read SharesState (λ e. (e.0, has_erred e.1.0)) (λ e f k s i. (k i, has_erred (s.0 i)))
+-- whether it erred, by the id
+abbrev state_of : Text × (ErrorState × Noted) → Text × Bool
+state_of e = (e.0, has_erred e.1.0)
+
+state_same : (es fs : List (Text × (ErrorState × Noted))) → AreCopies SharesState es fs → map state_of fs ≡ map state_of es
+state_same = same_read SharesState state_of (λ e f k s i. (k i, has_erred (s.0 i)))
 
 rest_noted : (es fs : List (Text × (Rc (Expr (Unit {0})) Global × Noted))) → AreCopies SharesRest es fs → map noted_behind fs ≡ map noted_behind es
 rest_noted = same_read SharesRest noted_behind (λ e f k s i. (k i, s.1 i))
 
-rest_same : (es fs : List (Text × (Rc (Expr (Unit {0})) Global × Noted))) → AreCopies SharesRest es fs → map (λ f. (f.0, bare f.1.0.value)) fs ≡ map (λ e. (e.0, bare e.1.0.value)) es
-rest_same = same_read SharesRest (λ e. (e.0, bare e.1.0.value)) (λ e f k s i. (k i, bare (s.0 i)))
+-- what is left, by the id
+abbrev rest_of : Text × (Rc (Expr (Unit {0})) Global × Noted) → Text × Tree
+rest_of e = (e.0, bare e.1.0.value)
+
+rest_same : (es fs : List (Text × (Rc (Expr (Unit {0})) Global × Noted))) → AreCopies SharesRest es fs → map rest_of fs ≡ map rest_of es
+rest_same = same_read SharesRest rest_of (λ e f k s i. (k i, bare (s.0 i)))
 
 left_same : (es fs : List (Text × (Rc (Expr (Unit {0})) Global × Noted))) → AreCopies SharesRest es fs → map left_of fs ≡ map left_of es
 left_same = same_read SharesRest left_of (λ e f k s i. without_value (k i, bare (s.0 i)))
 
 -- an error's kind goes by its cause
-seen : Text × Cause → Text × Failure
+abbrev seen : Text × Cause → Text × Failure
 seen e = (e.0, failure_by e.1)
 
 errors_seen : (es : List AuthorizationError) → map error_seen es ≡ map seen (map cause_seen es)

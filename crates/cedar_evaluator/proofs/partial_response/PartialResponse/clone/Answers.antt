@@ -2,8 +2,8 @@
 use Rattle.cedar_evaluator.proofs.CopiedParts.{same_held, same_causes}
 use Rattle.cedar_evaluator.proofs.partial_response.PartialResponse.clone.Goals as goal
 
-pub returns-in_ok-clone-clause-held : goal.returns-in_ok-clone-clause-held
-returns-in_ok-clone-clause-held c =
+pub returns-clause-held : goal.returns-clause-held
+returns-clause-held c =
     same_held c.args.self.now _ (record {
       satisfied_permits = c.in_ok-satisfied_permits.ensures;
       false_permits = c.in_ok-false_permits.ensures;
@@ -14,8 +14,8 @@ returns-in_ok-clone-clause-held c =
       errors = c.in_ok-errors.ensures;
     })
 
-pub returns-in_ok-clone-clause-causes : goal.returns-in_ok-clone-clause-causes
-returns-in_ok-clone-clause-causes c =
+pub returns-clause-causes : goal.returns-clause-causes
+returns-clause-causes c =
     same_causes c.args.self.now _ (record {
       satisfied_permits = c.in_ok-satisfied_permits.ensures;
       false_permits = c.in_ok-false_permits.ensures;
