@@ -1,4 +1,6 @@
 -- Each group is copied, and so are the errors.
+use Rattle.std.proofs.Common.{◌∙◌, ap, map}
+use Rattle.cedar_evaluator.specs.Concrete.{cause_seen}
 use Rattle.cedar_evaluator.proofs.CopiedParts.{same_held, same_causes}
 use Rattle.cedar_evaluator.proofs.partial_response.PartialResponse.clone.Goals as goal
 
@@ -11,7 +13,7 @@ returns-clause-held c =
       satisfied_forbids = c.in_ok-satisfied_forbids.ensures;
       false_forbids = c.in_ok-false_forbids.ensures;
       residual_forbids = c.in_ok-residual_forbids.ensures;
-      errors = c.in_ok-errors.ensures;
+      errors = c.in_ok-errors.ensures ∙ ap (map cause_seen) c.deref.ensures.value;
     })
 
 pub returns-clause-causes : goal.returns-clause-causes
@@ -23,5 +25,5 @@ returns-clause-causes c =
       satisfied_forbids = c.in_ok-satisfied_forbids.ensures;
       false_forbids = c.in_ok-false_forbids.ensures;
       residual_forbids = c.in_ok-residual_forbids.ensures;
-      errors = c.in_ok-errors.ensures;
+      errors = c.in_ok-errors.ensures ∙ ap (map cause_seen) c.deref.ensures.value;
     })
