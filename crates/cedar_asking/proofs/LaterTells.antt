@@ -1,5 +1,6 @@
 -- A first response taken up again once values are told answers its question, and only its context may be why it isn't.
-use Rattle.std.proofs.Common.{◌≡◌, ◌≤◌, ◌<◌, ◌∙◌, suc, refl, ap, sym, subst, arith, true≢false, Bool, Contains, true, false, Option, Some, None, option_map, List, ◌++◌, map, ℕ, Err}
+use Rattle.std.proofs.Common.{◌≡◌, inl, inr, ◌≤◌, ◌<◌, ◌∙◌, suc, refl, ap, sym, subst, arith, true≢false, Bool, Contains, true, false, Option, Some, None, option_map, List, ◌++◌, map, ℕ, Err}
+use Rattle.std.proofs.lemmas.Bool.{cases_lt}
 use Rattle.std.specs.FinMap as finite
 use Rattle.std.specs.Map.{keys_of}
 use Rattle.std.specs.declared.alloc.Global.{Global}
@@ -20,6 +21,7 @@ use Rattle.cedar_partial_evaluation.specs.Prompt.{IsPrompt}
 use Rattle.cedar_partial_evaluation.specs.Question.{Extends, AreMadeTold, IsAccepted, held_names, context_held, held_of}
 use Rattle.cedar_partial_evaluation.specs.Telling.{ContextsStay}
 use Rattle.cedar_partial_evaluation.specs.Waiting.{WhatIsLeftWaits}
+use Rattle.cedar_grammar.specs.Syntax.{condition}
 use Rattle.cedar_world.specs.Again.{StandsAgain, AgainIsSound}
 use Rattle.cedar_world.specs.ContextErrors.{ContextsErrInParts}
 use Rattle.cedar_world.proofs.OrdinaryAnswers.{rules_list}
