@@ -1,5 +1,6 @@
 -- A response says a first answer to the question, and meets the limit at a known one only where a condition is higher.
 use Rattle.std.proofs.Common.{◌≡◌, ◌<◌, ℕ, Bool, true, false, ◌&&◌, inl, inr, Option, Some, None, is_some, IsSome, List, [], ◌∷◌, map, All, Contains, refl, sym, ◌∙◌, ap, subst, arith}
+use Rattle.std.proofs.lemmas.Bool.{cases_lt}
 use Rattle.std.specs.FinMap as finite
 use Rattle.std.proofs.lemmas.List.Elements.{All-nil, All-cons, All-head, All-tail}
 use Rattle.cedar_language.specs.Uid.{Text}

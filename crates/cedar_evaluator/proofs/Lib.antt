@@ -19,7 +19,6 @@ mod HeldIds
 mod Telling
 mod LeftSets
 pub mod Twice
-mod CopiedParts
 mod Again
 mod Scoped
 mod Judged
