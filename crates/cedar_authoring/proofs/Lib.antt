@@ -1,7 +1,6 @@
 pub mod Adding
 mod Awaited
 mod Checked
-mod Fitting
 pub mod Lending
 pub mod LinesRead
 mod NamesLeft

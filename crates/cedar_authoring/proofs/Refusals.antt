@@ -4,9 +4,6 @@ use Rattle.cedar_language.specs.Answering.{Decision, Allow, Deny}
 use Rattle.cedar_language.specs.Uid.{Text}
 use Rattle.cedar_frames.specs.declared.verb.Verb.{Verb}
 use Rattle.cedar_replies.specs.Refusals.{refusal_of}
-use Rattle.cedar_replies.specs.Replies.{accepted}
-use Rattle.cedar_replies.specs.declared.answer.Reply.{Reply}
-use Rattle.cedar_replies.specs.declared.answer.Reply.TheVariants.{Done, Ids, Answer}
 use Rattle.cedar_replies.specs.declared.refusal.Refusal.{Refusal}
 use Rattle.cedar_replies.specs.declared.refusal.Refusal.TheVariants as refusals
 use Rattle.cedar_world.specs.Commands as world
@@ -14,7 +11,6 @@ use Rattle.cedar_world.specs.Setting.{Setting}
 use Rattle.cedar_world.specs.Step.{Step}
 use Rattle.cedar_world.specs.World.{World}
 use Rattle.cedar_authoring.specs.Explaining.{status_of}
-use Rattle.cedar_authoring.specs.Scripts.{IsFed}
 
 pub never_one : (d : Option Decision) → status_of d ≡ 1 → ⊥
 never_one (Some Allow) is = omega (arith, is)
@@ -51,16 +47,6 @@ other_refusal refusals.NoSuchUnknown other is = absurd (cc)
 other_refusal refusals.AlreadyTold other is = absurd (cc)
 other_refusal refusals.WrongKind other is = absurd (cc)
 other_refusal refusals.Memory other is = other refl
-
--- ---- replies
-
-pub accepted_fed : (r : Reply) → IsFed (accepted r)
-accepted_fed Done is = absurd (cc)
-accepted_fed (Ids ids) is = absurd (cc)
-accepted_fed (Answer answer) is = absurd (cc)
-
-pub refused_fed : (r : Refusal) → (r ≡ refusals.Memory → ⊥) → IsFed (world.Refused (refusal_of r))
-refused_fed r other is = let same : refusal_of r ≡ world.Memory = cc in other_refusal r other same
 
 -- ---- results
 

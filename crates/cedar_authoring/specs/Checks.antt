@@ -1,12 +1,11 @@
 -- What a check tells of a text: the policies under which a fresh session loads it, or why none does.
-use Rattle.std.specs.Prelude.{◌≡◌, ◌≢◌, ◌⊎◌, ◌<◌, List, ◌++◌, codes, length, Option, Some, None, Err, IsUtf8}
+use Rattle.std.specs.Prelude.{◌≡◌, ◌⊎◌, ◌<◌, List, ◌++◌, codes, length, Option, Some, None, Err, IsUtf8}
 use Rattle.std.specs.Str.Lossy.{utf8_valid_len}
 use Rattle.cedar_language.specs.Uid.{Text}
 use Rattle.cedar_grammar.specs.Functions.{policy_names}
 use Rattle.cedar_grammar.specs.LooseReading.{read_policies}
 use Rattle.cedar_frames.specs.Heads.{body_limit}
 use Rattle.cedar_policy_conversion.specs.Shows.{policies_show}
-use Rattle.cedar_parser.specs.Errors.{cause_of, out_of_memory}
 use Rattle.cedar_parser.specs.ErrorsLeft.{errors_of}
 use Rattle.cedar_parser.specs.Faults.{TellOnly, text_shows}
 use Rattle.cedar_parser.specs.Strict.{ReadsSet}
@@ -42,14 +41,13 @@ pub record IsUnread (by : Setting) (text : Text) (errors : ParseErrors) : Type 0
   pub refused : ReadsSet (policy_names by.functions) by.depth text (Err errors)
   pub kinds : TellOnly errors (text_shows read_policies by.depth text (policies_show (policy_names by.functions)))
 
--- No fresh session loads the text, and lines tell of each error by which it isn't read, in order: want of memory is none.
+-- No fresh session loads the text, and lines tell of each error by which it isn't read, in order.
 pub record TellsFaults (name text told : Text) : Type 0 where
   pub by : Setting
   pub program : IsProgramSetting by
   pub unloaded : (ids : List Text) → Loads by text ids → ⊥
   pub errors : ParseErrors
   pub unread : IsUnread by text errors
-  pub fed : cause_of errors.0.head ≢ out_of_memory
   pub lines : TellsEach (TellsFault name text) (errors_of errors) told
 
 -- a text that is longer than a command's may be, or one with faults

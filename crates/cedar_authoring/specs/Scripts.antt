@@ -1,10 +1,10 @@
 -- Scripts of commands: what their tests pass by, and what is told of them.
-use Rattle.std.specs.Prelude.{◌≡◌, ◌≢◌, ◌↔◌, ◌<◌, ◌≤◌, ℕ, List, [], ◌∷◌, ◌++◌, map, length, slice_index, codes, Bool, true, false, not, ◌&&◌, ◌||◌, ◌==◌, nat_eq, count_by, All, Option, Some, None, option_map, string_bytes}
+use Rattle.std.specs.Prelude.{◌≡◌, ◌↔◌, ◌<◌, ◌≤◌, ℕ, List, [], ◌∷◌, ◌++◌, map, length, slice_index, codes, Bool, true, false, not, ◌&&◌, ◌||◌, ◌==◌, nat_eq, count_by, All, Option, Some, None, option_map, string_bytes}
 use Rattle.std.specs.List.{starts_with}
 use Rattle.std.specs.Fmt.{decimal}
 use Rattle.cedar_language.specs.Uid.{Text}
 use Rattle.cedar_frames.specs.Heads.{body_limit}
-use Rattle.cedar_world.specs.Commands.{Memory, Reply, Refused}
+use Rattle.cedar_world.specs.Commands.{Reply, Refused}
 use Rattle.cedar_world.specs.Lines.{line_of}
 use Rattle.cedar_world.specs.Session.{Command, Answers}
 use Rattle.cedar_world.specs.Setting.{Setting}
@@ -45,21 +45,15 @@ as_expected _ _ = false
 
 -- ---- sessions
 
--- a reply, but that memory is wanting
-abbrev pub IsFed : Reply → Type 0
-IsFed reply = reply ≢ Refused Memory
-
--- A session, which has the memory, is given the command of a step, and this says whether it is answered as is expected.
+-- A session is given the command of a step, and this says whether it is answered as is expected.
 abbrev pub IsAnswered : Setting → World → Step → World → Bool → Type 0
-IsAnswered by old s new fine =
-    (reply : Reply) × Steps by old s.verb (string_bytes s.body) reply new × (fine ≡ answers_step s reply) × IsFed reply
+IsAnswered by old s new fine = (reply : Reply) × Steps by old s.verb (string_bytes s.body) reply new × (fine ≡ answers_step s reply)
 
 -- It is given these commands, and this says whether each is answered so.
 pub record AreAnswered (by : Setting) (old : World) (steps : List Step) (new : World) (fine : Bool) : Type 0 where
   pub replies : List Reply
   pub answered : Answers by old (map command_of steps) replies new
   pub expected : fine ≡ as_expected steps replies
-  pub fed : All IsFed replies
 
 -- ---- tests
 

@@ -1,8 +1,7 @@
 // What commands must be answered, and whether they are.
-ghost use Rattle.std.specs.Prelude.{◌≡◌, ◌≢◌, All, string_bytes, IfOk, IfNone, IfSome, OnOk};
+ghost use Rattle.std.specs.Prelude.{◌≡◌, All, string_bytes, IfOk, IfNone, OnOk};
 ghost use Rattle.cedar_replies.specs.Replies.{reply_of};
-ghost use Rattle.cedar_replies.specs.declared.refusal.Refusal.TheVariants as refusals;
-ghost use Rattle.cedar_authoring.specs.Scripts.{Fits, FitsCommand, IsFed, TellsTest, answers_step, says};
+ghost use Rattle.cedar_authoring.specs.Scripts.{Fits, FitsCommand, TellsTest, answers_step, says};
 ghost use Rattle.cedar_authoring.specs.Telling.{Adds};
 
 use crate::scripts::{Script, Step};
@@ -15,35 +14,16 @@ pub(crate) fn is_expected(
     step: &Step,
     outcome: &Result<Reply, Refusal>,
 ) -> Result<bool, AllocError>
-    ensures fine { IfOk result (λ fine. fine ≡ answers_step step.now (reply_of outcome.now)) }
-    ensures fed { IfOk result (λ fine. IsFed (reply_of outcome.now)) }
+    ensures { IfOk result (λ fine. fine ≡ answers_step step.now (reply_of outcome.now)) }
 {
-    had_memory(outcome)?;
+    if let Err(Refusal::Memory) = outcome {
+        return Err(AllocError);
+    }
     let Some(words) = &step.expected else {
         return Ok(outcome.is_ok());
     };
     let line = line_in_memory(alloc, outcome)?;
     Ok(says(words.as_bytes(), line.as_slice()))
-}
-
-/// Refused where a command is refused for want of memory.
-fn had_memory(outcome: &Result<Reply, Refusal>) -> Result<(), AllocError>
-    ensures { OnOk result (IsFed (reply_of outcome.now)) }
-{
-    match outcome {
-        Ok(_) => Ok(()),
-        Err(refusal) => unless_memory(*refusal),
-    }
-}
-
-/// Refused where this is want of memory.
-pub(crate) fn unless_memory(refusal: Refusal) -> Result<(), AllocError>
-    ensures { OnOk result (refusal ≢ refusals.Memory) }
-{
-    match refusal {
-        Refusal::Memory => Err(AllocError),
-        _ => Ok(()),
-    }
 }
 
 /// Whether the line begins with these words, and a space or its line feed stands behind them.
@@ -59,9 +39,7 @@ fn says(words: &[u8], line: &[u8]) -> bool
 
 /// The first command whose text is longer than one may be.
 pub(crate) fn first_long(script: &Script) -> Option<&Step>
-    ensures none { IfNone result (Fits script.now) }
-    ensures long { IfSome result (λ step. FitsCommand step.now → ⊥) }
-    ensures some { IfSome result (λ step. Fits script.now → ⊥) }
+    ensures { IfNone result (Fits script.now) }
 {
     if let Some(step) = long_among(script.set_up.as_slice()) {
         return Some(step);
@@ -75,9 +53,7 @@ pub(crate) fn first_long(script: &Script) -> Option<&Step>
 }
 
 fn long_among(steps: &[Step]) -> Option<&Step>
-    ensures none { IfNone result (All FitsCommand steps.now) }
-    ensures long { IfSome result (λ step. FitsCommand step.now → ⊥) }
-    ensures some { IfSome result (λ step. All FitsCommand steps.now → ⊥) }
+    ensures { IfNone result (All FitsCommand steps.now) }
 {
     for step in steps {
         if step.body.len() > BODY_LIMIT {

