@@ -1,5 +1,5 @@
 -- A response to the request of a question, over the policies and entities of a world, answers the question.
-use Rattle.std.proofs.Common.{◌≡◌, ap, subst, ℕ, List, Ok, Err}
+use Rattle.std.proofs.Common.{refl, ◌≡◌, ap, subst, ℕ, List, Ok, Err}
 use Rattle.cedar_language.specs.Uid.{Text}
 use Rattle.cedar_world.specs.Answer as answers
 use Rattle.cedar_world.specs.Asking.{Question}
