@@ -1,7 +1,7 @@
 // What evaluators answer of an expression.
 use crate::entities::user;
 use crate::requests::word_depth;
-use cedar_evaluator::evaluator::EvaluateRequest;
+use cedar_evaluator::evaluator::evaluator_of;
 use cedar_extensions::extensions::Extensions;
 use cedar_interpreter::{Evaluator, RestrictedEvaluator};
 use cedar_parser::ExtStyles;
@@ -83,7 +83,7 @@ pub(crate) fn answer(
     let Some(request) = question(alloc, missing)? else {
         return no_case(alloc);
     };
-    let evaluator = Evaluator::new(alloc, &request, entities, table, depth)?;
+    let evaluator = evaluator_of(alloc, &request, entities, table, depth)?;
     of(alloc, verb, &evaluator, &expr)
 }
 

@@ -4,7 +4,7 @@ use crate::requests::word_depth;
 use cedar_evaluator::authorizer::Authorizer;
 use cedar_evaluator::errors::AuthorizationError;
 use cedar_evaluator::evaluation::EvaluatePolicy;
-use cedar_evaluator::evaluator::EvaluateRequest;
+use cedar_evaluator::evaluator::evaluator_of;
 use cedar_evaluator::partial_response::PartialResponse;
 use cedar_evaluator::response::Response;
 use cedar_extensions::extensions::Extensions;
@@ -167,7 +167,7 @@ pub(crate) fn answer(
             answered(alloc, &response.clone(alloc)?)
         }
         "value" | "left" => {
-            let evaluator = Evaluator::new(alloc, &request, entities, table, depth)?;
+            let evaluator = evaluator_of(alloc, &request, entities, table, depth)?;
             of_each(alloc, verb, &evaluator, set)
         }
         _ => no_case(alloc),

@@ -1,12 +1,10 @@
 // Evaluators made of requests.
-ghost use Rattle.std.specs.Prelude.{◌≡◌, ℕ, option_map, IfOk};
-ghost use Rattle.cedar_entities.specs.declared.store.Entities.{Entities as Store};
+ghost use Rattle.std.specs.Prelude.{◌≡◌, option_map, IfOk};
 ghost use Rattle.cedar_extensions.specs.Table.{as_table};
-ghost use Rattle.cedar_extensions.specs.declared.extensions.Extensions.{Extensions as Functions};
 ghost use Rattle.cedar_restricted.specs.PartialValues.{partial_of};
 ghost use Rattle.cedar_restricted_evaluation.specs.Evaluations.{part_answer};
 ghost use Rattle.cedar_requests.specs.Contexts.{context_part};
-ghost use Rattle.cedar_requests.specs.Holding.{RequestParts, request_parts};
+ghost use Rattle.cedar_requests.specs.Holding.{request_parts};
 ghost use Rattle.cedar_evaluator.specs.Asking.{context_asked, untold, StandFor, IsEvaluatorOf};
 
 use cedar_entities::store::Entities;
@@ -20,40 +18,20 @@ use cedar_trees::unknowns::Unknown;
 use std::alloc::{AllocError, Global};
 use std::rc::RcStr;
 
-/// Evaluators made of requests; their type stands below the requests.
-pub trait EvaluateRequest<'s, 'e, 'f, F>: Sized {
-    // it answers for the request, over these entities and functions, to this depth
-    ghost answers_for: { RequestParts → Store → Functions F → ℕ → Self → Type 0 };
-
-    /// The evaluator of a request over these entities and functions. What the request doesn't give is
-    /// unknown, and named as its variable. No evaluation nests deeper than `depth`, the outermost
-    /// expression being at 1. Refused for memory alone. (Cedar language reference, "Request".)
-    fn new(
-        alloc: Global,
-        request: &Request,
-        entities: &'s Entities,
-        extensions: &'e Extensions<'f, F>,
-        depth: u32,
-    ) -> Result<Self, AllocError>
-        ensures { IfOk result (answers_for (request_parts request.now) entities.now extensions.now depth) };
-}
-
-impl<'s, 'e, 'f, F: ExtensionFunctionObject> EvaluateRequest<'s, 'e, 'f, F>
-    for Evaluator<'s, 'e, 'f, F> {
-    ghost answers_for = { λ r entities extensions depth ev. IsEvaluatorOf F.answers (untold r) entities (as_table F.answers extensions) depth ev };
-
-    fn new(
-        alloc: Global,
-        request: &Request,
-        entities: &'s Entities,
-        extensions: &'e Extensions<'f, F>,
-        depth: u32,
-    ) -> Result<Evaluator<'s, 'e, 'f, F>, AllocError>
-        ensures { IfOk result (IsEvaluatorOf F.answers (untold (request_parts request.now)) entities.now (as_table F.answers extensions.now) depth) }
-    {
-        let asked = variables_of(alloc, request)?;
-        Evaluator::asked(alloc, asked, entities, extensions, depth)
-    }
+/// The evaluator of a request over these entities and functions. What the request doesn't give is
+/// unknown, and named as its variable. No evaluation nests deeper than `depth`, the outermost
+/// expression being at 1. Refused for memory alone. (Cedar language reference, "Request".)
+pub fn evaluator_of<'s, 'e, 'f, F: ExtensionFunctionObject>(
+    alloc: Global,
+    request: &Request,
+    entities: &'s Entities,
+    extensions: &'e Extensions<'f, F>,
+    depth: u32,
+) -> Result<Evaluator<'s, 'e, 'f, F>, AllocError>
+    ensures { IfOk result (IsEvaluatorOf F.answers (untold (request_parts request.now)) entities.now (as_table F.answers extensions.now) depth) }
+{
+    let asked = variables_of(alloc, request)?;
+    Evaluator::asked(alloc, asked, entities, extensions, depth)
 }
 
 // What stands for the variables of a request; refused for memory alone.

@@ -10,7 +10,7 @@ ghost use Rattle.cedar_evaluator.specs.Authorizing.{table_of, limit_of, Responds
 ghost use Rattle.cedar_evaluator.specs.Grouping.{held_in};
 ghost use Rattle.cedar_evaluator.specs.Responses.{holding_of};
 
-use crate::asking::EvaluateRequest;
+use crate::asking::evaluator_of;
 use crate::groups::Groups;
 use crate::partial_response::PartialResponse;
 use crate::scopes::Scopes;
@@ -69,7 +69,7 @@ impl<'e, 'f, F: ExtensionFunctionObject> Authorizer<'e, 'f, F> {
     ) -> Result<Evaluator<'s, 'e, 'f, F>, AllocError>
         ensures { IfOk result (IsEvaluatorOf F.answers (untold (request_parts request.now)) entities.now (table_of F.answers self.now) (limit_of self.now)) }
     {
-        Evaluator::new(alloc, request, entities, self.extensions, self.depth)
+        evaluator_of(alloc, request, entities, self.extensions, self.depth)
     }
 
     /// What each policy in force, a static policy or a link, comes to for this request. An error of one is

@@ -1,7 +1,7 @@
 //! Expressions evaluated for a request, restricted expressions evaluated alone, what operators give for
 //! values, and why an evaluation has none.
 
-pub use crate::asking::EvaluateRequest;
+pub use crate::asking::evaluator_of;
 pub use crate::evaluation::EvaluatePolicy;
 pub use cedar_extensions::evaluation_error::EvaluationError;
 pub use cedar_interpreter::{AskedVariables, Evaluator, GivenEntity, RestrictedEvaluator};

@@ -3,6 +3,6 @@
 //! calls of this library are generic.
 
 pub use crate::ast::{RequestSchema, UnwrapInfallible};
-pub use crate::evaluator::{EvaluatePolicy, EvaluateRequest};
+pub use crate::evaluator::EvaluatePolicy;
 pub use crate::extensions::ExtensionFunctionObject;
 pub use cedar_names::conversions::FromIn;

@@ -3,7 +3,7 @@ use Rattle.cedar_extensions.specs.Table.{as_table}
 use Rattle.cedar_requests.specs.Holding.{request_parts}
 use Rattle.cedar_evaluator.proofs.Asked.{answers_request}
 use Rattle.cedar_evaluator.proofs.Responding.{if_ok}
-use Rattle.cedar_evaluator.proofs.asking.EvaluatorEvaluateRequest.new.Goals as goal
+use Rattle.cedar_evaluator.proofs.asking.evaluator_of.Goals as goal
 
 pub returns : goal.returns
 returns g c =
