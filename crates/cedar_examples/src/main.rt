@@ -9,7 +9,6 @@ mod editing;
 mod frames;
 mod functions;
 mod linking;
-mod proving;
 mod refusing;
 mod telling;
 
@@ -30,7 +29,6 @@ fn show_each(rt: &impl Print, alloc: Global, extensions: &Extensions<'_>) -> Res
     telling::show(rt, alloc, extensions)?;
     refusing::show(rt, alloc, extensions)?;
     collecting::show(rt, alloc, extensions)?;
-    proving::show(rt, alloc, extensions)?;
     functions::show(rt, alloc)
 }
 
